@@ -1,6 +1,7 @@
 -- How many nodes a tree has of its own: what closes nodes and notes blank lines adds none, what opens a container adds one or
 -- two, and each is paid for by a byte.
-use Rattle.std.proofs.Common.{◌≡◌, ℕ, zero, suc, ◌+◌, ◌<◌, ◌≤◌, ◌==◌, ◌&&◌, Bool, true, false, if◌then◌else◌, List, [], ◌∷◌, length, nat_lt, slice_get, slice_index, Option, Some, None, is_some, refl, sym, ap, subst, ◌∙◌, inl, inr, arith}
+use Rattle.std.proofs.Common.{◌≡◌, ℕ, zero, suc, ◌+◌, ◌<◌, ◌≤◌, ◌==◌, ◌&&◌, Bool, true, false, if◌then◌else◌, List, [], ◌∷◌, length, nat_lt, slice_get}
+use Rattle.std.proofs.Common.{slice_index, Option, Some, None, is_some, refl, sym, ap, subst, ◌∙◌, inl, inr, arith}
 use Rattle.std.specs.Int.RustNames.{bit_and}
 use Rattle.std.specs.Option.{option_and_then}
 use Rattle.std.proofs.lemmas.Bool.{cond_both, cases_Bool}
@@ -26,7 +27,9 @@ use Rattle.first_pass_grammar.specs.Order.{GrowsBy}
 use Rattle.first_pass_grammar.proofs.OwnNodes.{alike_first, alike_tightened, own_first, own_ended, own_changed, own_one, own_added}
 use Rattle.first_pass_open.specs.OpenBlock.{closed_by, with_child}
 use Rattle.first_pass_open.proofs.PlaceLemmas.{option_on, task_shorter}
-use Rattle.first_pass_lists.specs.Closing.{loosened_by, top_body, is_list, is_list_of, is_item, popped_by, popped_at, popped, item_finished_by, item_finished, list_left, gap_tree, gap_noted, list_finished, loosened_top, list_kept, begun, list_continued, emptied, blank_read_by, blank_read}
+use Rattle.first_pass_lists.specs.Closing.{loosened_by, top_body, is_list, is_list_of, is_item, popped_by, popped_at, popped, item_finished_by, item_finished}
+use Rattle.first_pass_lists.specs.Closing.{list_left, gap_tree, gap_noted, list_finished, loosened_top, list_kept, begun, list_continued, emptied}
+use Rattle.first_pass_lists.specs.Closing.{blank_read_by, blank_read}
 use Rattle.first_pass_lists.specs.declared.reading.Reading.{Reading}
 use Rattle.first_pass_text.specs.Between.{AddsBetween, StandsBefore}
 use Rattle.first_pass.specs.Opening.{task_text, GrowsIn}
@@ -77,7 +80,8 @@ popped_count e r = popped_at_count e r r.tree.spine
 -- nor what finishes an empty item
 finished_by_count : (r : Reading) (o : Option ℕ) → count (item_finished_by r o) ≡ count r
 finished_by_count r None = refl
-finished_by_count r (Some e) = cond_both (r.blank && is_item (top_body r.tree)) (popped e r) r (λ (q : Reading). count q ≡ count r) (λ b. popped_count e r) (λ b. refl)
+finished_by_count r (Some e) =
+    cond_both (r.blank && is_item (top_body r.tree)) (popped e r) r (λ (q : Reading). count q ≡ count r) (λ b. popped_count e r) (λ b. refl)
 
 pub item_finished_count : (r : Reading) → count (item_finished r) ≡ count r
 unfolding item_finished
@@ -96,7 +100,8 @@ gap_tree_count f (ix ∷ []) = refl
 gap_tree_count f (ix ∷ outer ∷ rest) = loosened_count f outer (body_at f.nodes outer.0) refl
 
 gap_count : (r : Reading) → count (gap_noted r) ≡ count r
-gap_count r = cond_both r.blank (record r { tree = gap_tree r.tree r.tree.spine; blank = false }) r (λ (q : Reading). count q ≡ count r) (λ b. gap_tree_count r.tree r.tree.spine) (λ b. refl)
+gap_count r = cond_both r.blank (record r { tree = gap_tree r.tree r.tree.spine; blank = false }) r (λ (q : Reading). count q ≡ count r)
+    (λ b. gap_tree_count r.tree r.tree.spine) (λ b. refl)
 
 -- nor what finishes a list
 left_count : (e : ℕ) (r : Reading) → count (list_left e r) ≡ count r
@@ -111,11 +116,13 @@ top_count f [] = refl
 top_count f (ix ∷ rest) = loosened_count f ix (body_at f.nodes ix.0) refl
 
 kept_count : (r : Reading) → count (list_kept r) ≡ count r
-kept_count r = cond_both r.blank (record r { tree = loosened_top r.tree r.tree.spine; blank = false }) r (λ (q : Reading). count q ≡ count r) (λ b. top_count r.tree r.tree.spine) (λ b. refl)
+kept_count r = cond_both r.blank (record r { tree = loosened_top r.tree r.tree.spine; blank = false }) r (λ (q : Reading). count q ≡ count r)
+    (λ b. top_count r.tree r.tree.spine) (λ b. refl)
 
 -- nor a blank line
 emptied_count : (f : Forest Item) (s : List TreeIndex) (columns : ℕ)
-    → option_and_then (λ (ix : TreeIndex). body_at f.nodes ix.0) (slice_get s 0) ≡ Some (ListItemBody columns) → own_nodes (emptied f s).nodes ≡ own_nodes f.nodes
+    → option_and_then (λ (ix : TreeIndex). body_at f.nodes ix.0) (slice_get s 0) ≡ Some (ListItemBody columns)
+    → own_nodes (emptied f s).nodes ≡ own_nodes f.nodes
 emptied_count f [] columns top = refl
 emptied_count f (ix ∷ rest) columns top = own_changed f.nodes ix.0 (ListItemBody columns) (ListItemBody 0) top refl refl
 
@@ -143,7 +150,8 @@ continued_count start byte number r =
     let kept = kept_count s in
     let ended = list_finished_count start s in
     let new = begun_count start (ListBody (list_flags true) byte number) (list_finished start s) in
-    cond_both (is_list_of byte (top_body s.tree)) (list_kept s) (begun start (ListBody (list_flags true) byte number) (list_finished start s)) (λ (q : Reading). count q ≤ count r + 1) (λ b. omega arith) (λ b. omega arith)
+    cond_both (is_list_of byte (top_body s.tree)) (list_kept s) (begun start (ListBody (list_flags true) byte number) (list_finished start s))
+    (λ (q : Reading). count q ≤ count r + 1) (λ b. omega arith) (λ b. omega arith)
 
 pub item_count : (start byte number columns : ℕ) (r : Reading) → count (item_opened start byte number columns r) ≤ count r + 2
 item_count start byte number columns r =
@@ -185,18 +193,21 @@ pub left_before : (p : Place) → 0 < length p.rest.left → offset p < line_end
 left_before p some = (let more = line_len-some p.rest.left some in omega arith)
 
 -- the less is left, the later is the place
-pub offset_before : (text : List ℕ) (line : ℕ) (r s : Rest) → IsPlaceOf text (place_at line r) → IsPlaceOf text (place_at line s) → length s.left < length r.left → offset (place_at line r) < offset (place_at line s)
+pub offset_before : (text : List ℕ) (line : ℕ) (r s : Rest)
+    → IsPlaceOf text (place_at line r) → IsPlaceOf text (place_at line s) → length s.left < length r.left → offset (place_at line r) < offset (place_at line s)
 offset_before text line r s i j less =
     let a = place_length text (place_at line r) i in
     let b = place_length text (place_at line s) j in
     omega arith
 
 -- a task list item marker has a byte
-mark_by : (line : ℕ) (r : Rest) (o : Option (Bool × Rest)) (x : Item) → ((task : Bool × Rest) → o ≡ Some task → task_of r ≡ Some task) → (task_by line r o).0 ≡ Some x → length (task_by line r o).1.left < length r.left
+mark_by : (line : ℕ) (r : Rest) (o : Option (Bool × Rest)) (x : Item)
+    → ((task : Bool × Rest) → o ≡ Some task → task_of r ≡ Some task) → (task_by line r o).0 ≡ Some x → length (task_by line r o).1.left < length r.left
 mark_by line r None x h is = cc
 mark_by line r (Some task) x h is = task_shorter r task (h task refl)
 
-pub mark_shorter : (options : Options) (line : ℕ) (r s : Rest) (marker : Option Item) (x : Item) → marker ≡ (task_behind options line r).0 → s ≡ (task_behind options line r).1 → marker ≡ Some x → length s.left < length r.left
+pub mark_shorter : (options : Options) (line : ℕ) (r s : Rest) (marker : Option Item) (x : Item)
+    → marker ≡ (task_behind options line r).0 → s ≡ (task_behind options line r).1 → marker ≡ Some x → length s.left < length r.left
 mark_shorter options line r s marker x is rest some =
     let less = mark_by line r (if has options 16 then task_of r else None) x (λ task h. option_on (has options 16) (task_of r) task h) (sym is ∙ some) in
     let same = ap (λ (q : Rest). length q.left) rest in

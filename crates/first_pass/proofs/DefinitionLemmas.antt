@@ -1,5 +1,6 @@
 -- A link definition that is found is one more of its run.
-use Rattle.std.proofs.Common.{◌≡◌, inl, inr, ℕ, ◌+◌, ◌-◌, ◌<◌, ◌||◌, Bool, true, false, List, [], ◌∷◌, length, drop, slice_index, Option, Some, None, IsSomeAnd, MatchOption, IsUtf8, IsCharBoundary, refl, sym, ap, subst, ◌∙◌, arith, if◌then◌else◌}
+use Rattle.std.proofs.Common.{◌≡◌, inl, inr, ℕ, ◌+◌, ◌-◌, ◌<◌, ◌||◌, Bool, true, false, List, [], ◌∷◌, length, drop, slice_index, Option, Some, None, IsSomeAnd}
+use Rattle.std.proofs.Common.{MatchOption, IsUtf8, IsCharBoundary, refl, sym, ap, subst, ◌∙◌, arith, if◌then◌else◌}
 use Rattle.std.specs.Option.{option_map}
 use Rattle.std.proofs.lemmas.Bool.{cases_lt, true≢false}
 use Rattle.std.proofs.lemmas.List.{drop_all, get_or-drop, length-drop}
@@ -31,12 +32,14 @@ use Rattle.first_pass.proofs.TagLemmas.{tag_end}
 use Rattle.first_pass.proofs.RunLemmas.{defined_here, IsOneMore}
 
 -- what was found is what stands there, and nothing was found where nothing stands
-pub found_by : {A : Type 0} (o : Option LinkReference) (answer : Option A) (found : A) (P : LinkReference → A → Type 0) → MatchOption o (answer ≡ None) (λ x. IsSomeAnd answer (P x)) → answer ≡ Some found
+pub found_by : {A : Type 0} (o : Option LinkReference) (answer : Option A) (found : A) (P : LinkReference → A → Type 0)
+    → MatchOption o (answer ≡ None) (λ x. IsSomeAnd answer (P x)) → answer ≡ Some found
     → (x : LinkReference) × (o ≡ Some x) × P x found
 found_by {A} None answer found P h is = (let z : Some found ≡ None = sym is ∙ h in cc)
 found_by {A} (Some x) answer found P h is = (x, refl, subst (λ z. IsSomeAnd z (P x)) is h)
 
-pub none_by : {A : Type 0} (o : Option LinkReference) (answer : Option A) (P : LinkReference → A → Type 0) → MatchOption o (answer ≡ None) (λ x. IsSomeAnd answer (P x)) → answer ≡ None → o ≡ None
+pub none_by : {A : Type 0} (o : Option LinkReference) (answer : Option A) (P : LinkReference → A → Type 0)
+    → MatchOption o (answer ≡ None) (λ x. IsSomeAnd answer (P x)) → answer ≡ None → o ≡ None
 none_by {A} None answer P h is = refl
 none_by {A} (Some x) answer P h is = absurd (subst (λ z. IsSomeAnd z (P x)) is h)
 
@@ -66,8 +69,10 @@ behind_boundary text e u b =
     ]
 
 -- What was found is one more.
-pub one_more : (text : List ℕ) (around : Context) (nested : Bool) (q : Place) (at : ℕ) (x : LinkReference) (found : ℕ × CowStr × LinkDef) (before now : Tables) → IsUtf8 text → IsPlaceOf text q → offset q ≡ at
-    → reference_at nested around (drop at text) ≡ Some x → IsReference nested at x found → 0 < found.0 → IsCharBoundary text (at + found.0) → now ≡ told before (link_entry (found.1, found.2) ∷ [])
+pub one_more : (text : List ℕ) (around : Context) (nested : Bool) (q : Place) (at : ℕ) (x : LinkReference) (found : ℕ × CowStr × LinkDef) (before now : Tables)
+    → IsUtf8 text → IsPlaceOf text q → offset q ≡ at
+    → reference_at nested around (drop at text) ≡ Some x → IsReference nested at x found → 0 < found.0 → IsCharBoundary text (at + found.0)
+    → now ≡ told before (link_entry (found.1, found.2) ∷ [])
     → IsOneMore text around nested q (at + found.0) before now
 one_more text around nested q at x found before now u i there here h some b is =
     let ends = reference_last nested around (drop at text) x here in
@@ -90,10 +95,12 @@ one_more text around nested q at x found before now u i there here h some b is =
 
 -- the definition at an offset, as a pass sees it with the same text and the same open blocks
 same_reference : (first now : FirstPass) (at : ℕ) → source_of now ≡ source_of first → reading_of now ≡ reading_of first
-    → reference_at (in_table (tree_of now).nodes (tree_of now).spine) (context_in now) (drop at (source_text now)) ≡ reference_at (in_table (tree_of first).nodes (tree_of first).spine) (context_in first) (drop at (source_text first))
+    → reference_at (in_table (tree_of now).nodes (tree_of now).spine) (context_in now) (drop at (source_text now))
+    ≡ reference_at (in_table (tree_of first).nodes (tree_of first).spine) (context_in first) (drop at (source_text first))
 same_reference first now at source reading =
     ap (λ (z : Source). reference_at (in_table (tree_of now).nodes (tree_of now).spine) (context_of z.options (tree_of now)) (drop at z.text.now)) source
-    ∙ ap (λ (z : Reading). reference_at (in_table z.tree.nodes z.tree.spine) (context_of (source_of first).options z.tree) (drop at (source_text first))) reading
+    ∙ ap (λ (z : Reading). reference_at (in_table z.tree.nodes z.tree.spine) (context_of (source_of first).options z.tree) (drop at (source_text first)))
+    reading
 
 -- what a pass answers to the definition at an offset
 abbrev pub Answers : FirstPass → ℕ → Option (ℕ × CowStr × LinkDef) → Type 0
@@ -101,15 +108,22 @@ Answers pass at answer =
     (let nested : Bool = in_table (tree_of pass).nodes (tree_of pass).spine in
     MatchOption (reference_at nested (context_in pass) (drop at (source_text pass))) (answer ≡ None) (λ x. IsSomeAnd answer (IsReference nested at x)))
 
-pub none_here : (first now : FirstPass) (at : ℕ) (answer : Option (ℕ × CowStr × LinkDef)) → source_of now ≡ source_of first → reading_of now ≡ reading_of first → Answers now at answer → answer ≡ None
+pub none_here : (first now : FirstPass) (at : ℕ) (answer : Option (ℕ × CowStr × LinkDef))
+    → source_of now ≡ source_of first → reading_of now ≡ reading_of first → Answers now at answer → answer ≡ None
     → reference_at (in_table (tree_of first).nodes (tree_of first).spine) (context_in first) (drop at (source_text first)) ≡ None
-none_here first now at answer source reading said is = sym (same_reference first now at source reading) ∙ none_by _ answer (IsReference (in_table (tree_of now).nodes (tree_of now).spine) at) said is
+none_here first now at answer source reading said is =
+    sym (same_reference first now at source reading) ∙ none_by _ answer (IsReference (in_table (tree_of now).nodes (tree_of now).spine) at) said is
 
-pub found_here : (first now : FirstPass) (at : ℕ) (answer : Option (ℕ × CowStr × LinkDef)) (found : ℕ × CowStr × LinkDef) → source_of now ≡ source_of first → reading_of now ≡ reading_of first → Answers now at answer → answer ≡ Some found
-    → (x : LinkReference) × (reference_at (in_table (tree_of first).nodes (tree_of first).spine) (context_in first) (drop at (source_text first)) ≡ Some x) × IsReference (in_table (tree_of first).nodes (tree_of first).spine) at x found
+pub found_here : (first now : FirstPass) (at : ℕ) (answer : Option (ℕ × CowStr × LinkDef)) (found : ℕ × CowStr × LinkDef)
+    → source_of now ≡ source_of first → reading_of now ≡ reading_of first → Answers now at answer → answer ≡ Some found
+    → (x : LinkReference) × (reference_at (in_table (tree_of first).nodes (tree_of first).spine) (context_in first) (drop at (source_text first)) ≡ Some x)
+    × IsReference (in_table (tree_of first).nodes (tree_of first).spine) at x found
 found_here first now at answer found source reading said is =
-    let w = found_by _ answer found (IsReference (in_table (tree_of now).nodes (tree_of now).spine) at) said is in
-    (w.0, sym (same_reference first now at source reading) ∙ w.1, subst (λ (z : Reading). IsReference (in_table z.tree.nodes z.tree.spine) at w.0 found) reading w.2)
+    let w = found_by _ answer found (IsReference (in_table (tree_of now).nodes (tree_of now).spine) at) said is in (
+      w.0,
+      sym (same_reference first now at source reading) ∙ w.1,
+      subst (λ (z : Reading). IsReference (in_table z.tree.nodes z.tree.spine) at w.0 found) reading w.2,
+    )
 
 -- whether the next line continues the run, by what the call returns
 pub stops_by : (t : Bool) (x : Rest) (o : Option Rest) → o ≡ (if t then None else Some x) → o ≡ None → t ≡ true
@@ -140,10 +154,13 @@ pub line_is_there : (text : List ℕ) (around : Context) (next : ℕ) → stops_
 line_is_there text around next goes =
     elim (cases_lt next (length text)) [
       | inl within ↦ within
-      | inr past ↦ (let none : stops_at around (drop next text) ≡ true = ap (stops_at around) (drop_all next text past) ∙ ap (λ t. t || is_blank_rest (all_taken (front around.path (line_rest [])))) (tag_end around) in
+      | inr past ↦ (let none : stops_at around (drop next text) ≡ true =
+          ap (stops_at around) (drop_all next text past) ∙ ap (λ t. t || is_blank_rest (all_taken (front around.path (line_rest [])))) (tag_end around) in
           absurd (true≢false (sym none ∙ goes)))
     ]
 
 -- what the call returns of the next line, as it is said of the text
-pub answered : (around around' : Context) (bs bs' : List ℕ) (o : Option Rest) → around ≡ around' → bs ≡ bs' → o ≡ (if stops_at around bs then None else Some (rest_at around bs)) → o ≡ (if stops_at around' bs' then None else Some (rest_at around' bs'))
-answered around around' bs bs' o a b h = subst (λ z. o ≡ (if stops_at around' z then None else Some (rest_at around' z))) b (subst (λ z. o ≡ (if stops_at z bs then None else Some (rest_at z bs))) a h)
+pub answered : (around around' : Context) (bs bs' : List ℕ) (o : Option Rest) → around ≡ around' → bs ≡ bs'
+    → o ≡ (if stops_at around bs then None else Some (rest_at around bs)) → o ≡ (if stops_at around' bs' then None else Some (rest_at around' bs'))
+answered around around' bs bs' o a b h = subst (λ z. o ≡ (if stops_at around' z then None else Some (rest_at around' z))) b
+    (subst (λ z. o ≡ (if stops_at z bs then None else Some (rest_at z bs))) a h)

@@ -1,5 +1,6 @@
 -- A blank line that an HTML block hands on: the block ends after what the containers take of it, and reading continues at its start.
-use Rattle.std.proofs.Common.{◌≡◌, ◌⊎◌, inl, inr, ℕ, ◌+◌, ◌<◌, ◌≤◌, Bool, true, false, List, [], ◌∷◌, length, drop, Option, Some, None, IsUtf8, IsCharBoundary, refl, sym, ap, subst, ◌∙◌, arith, if◌then◌else◌}
+use Rattle.std.proofs.Common.{◌≡◌, ◌⊎◌, inl, inr, ℕ, ◌+◌, ◌<◌, ◌≤◌, Bool, true, false, List, [], ◌∷◌, length, drop, Option, Some, None, IsUtf8, IsCharBoundary}
+use Rattle.std.proofs.Common.{refl, sym, ap, subst, ◌∙◌, arith, if◌then◌else◌}
 use Rattle.std.proofs.lemmas.Bool.{cases_lt}
 use Rattle.std.specs.Option.{option_map}
 use Rattle.first_pass_items.specs.declared.item.Item.{Item}
@@ -33,22 +34,26 @@ use Rattle.first_pass_items.specs.declared.option_set.Options.{Options}
 abbrev pub StopsBlank : ℕ → List Container → Extent → Type 0
 StopsBlank n path e =
     (e.«end» ≡ start_of n e.left)
-    ⊎ ((line : Place) × (lines : List Place) × (q : Place) × (e.left ≡ line ∷ lines) × (taken path line ≡ Some q) × (is_blank_rest q.rest ≡ true) × (e.«end» ≡ offset q))
+    ⊎ ((line : Place) × (lines : List Place) × (q : Place) × (e.left ≡ line ∷ lines) × (taken path line ≡ Some q) × (is_blank_rest q.rest ≡ true)
+    × (e.«end» ≡ offset q))
 
-stop_line : (n : ℕ) (path : List Container) (line : Place) (lines : List Place) (further : Extent) (q : Place) (t u : Bool) → taken path line ≡ Some q → is_blank_rest q.rest ≡ u → StopsBlank n path further
+stop_line : (n : ℕ) (path : List Container) (line : Place) (lines : List Place) (further : Extent) (q : Place) (t u : Bool)
+    → taken path line ≡ Some q → is_blank_rest q.rest ≡ u → StopsBlank n path further
     → StopsBlank n path (extent_by (if t then Stops line.line else (if u then Stops (offset q) else GoesOn q)) line lines further)
 stop_line n path line lines further q true u is blank rest = inl refl
 stop_line n path line lines further q false true is blank rest = inr (line, lines, q, refl, is, blank, refl)
 stop_line n path line lines further q false false is blank rest = rest
 
-stop_by : (n : ℕ) (path : List Container) (line : Place) (lines : List Place) (further : Extent) (o : Option Place) → taken path line ≡ o → StopsBlank n path further → StopsBlank n path (extent_by (judged blank_judge line o) line lines further)
+stop_by : (n : ℕ) (path : List Container) (line : Place) (lines : List Place) (further : Extent) (o : Option Place)
+    → taken path line ≡ o → StopsBlank n path further → StopsBlank n path (extent_by (judged blank_judge line o) line lines further)
 stop_by n path line lines further None is rest = inl refl
 stop_by n path line lines further (Some q) is rest = stop_line n path line lines further q (at_line_end q.rest.left) (is_blank_rest q.rest) is refl rest
 
 stops_behind : (n : ℕ) (path : List Container) (lines : List Place) → StopsBlank n path (extent (in_containers path blank_judge) n lines)
 unfolding extent
 stops_behind n path [] = inl refl
-stops_behind n path (line ∷ lines) = stop_by n path line lines (extent (in_containers path blank_judge) n lines) (taken path line) refl (stops_behind n path lines)
+stops_behind n path (line ∷ lines) =
+    stop_by n path line lines (extent (in_containers path blank_judge) n lines) (taken path line) refl (stops_behind n path lines)
 
 pub html_stops : (n : ℕ) (path : List Container) (p : Place) (lines : List Place) → StopsBlank n path (until_blank n path p lines)
 html_stops n path p lines = stops_behind n path lines
@@ -71,7 +76,8 @@ line_by path line q None h = cc
 line_by path line q (Some r) h = let e : at_rest line r ≡ q = cc in (r, refl, sym e)
 
 -- What is remembered after such a block is in order up to where reading continues, or the blank line is handed on there.
-pub ordered_stopped : (options : Options) (text : List ℕ) (r : Reading) (path : List Container) (e : Extent) (next : ℕ) → IsCharBoundary text next → r.empty_item ≡ None → path_of options r.tree ≡ path → StopsBlank (length text) path e → lines_from text next ≡ e.left
+pub ordered_stopped : (options : Options) (text : List ℕ) (r : Reading) (path : List Container) (e : Extent) (next : ℕ)
+    → IsCharBoundary text next → r.empty_item ≡ None → path_of options r.tree ≡ path → StopsBlank (length text) path e → lines_from text next ≡ e.left
     → IsOrderedAt text r e.«end» → IsOrderedFrom options text r next
 ordered_stopped options text r path e next b none path_is (inl h) left o =
     let there = start_of-lines text next b.0 in
@@ -91,39 +97,49 @@ ordered_stopped options text r path e next b none path_is (inr (line, lines, q, 
     })
 
 -- A line that is handed on continues all that is open, and is blank after that.
-pub handed_whole : (options : Options) (text : List ℕ) (r : Reading) (at kept : ℕ) (line left : Rest) → line ≡ line_rest (drop at text) → kept ≤ length r.tree.spine → after (path_in options r.tree.nodes (outer kept r.tree.spine)) line ≡ Some left
-    → ((m : ℕ) → kept < m → m ≤ length r.tree.spine → after (path_in options r.tree.nodes (outer m r.tree.spine)) line ≡ None) → IsHandedOn options text r at → (kept ≡ length r.tree.spine) × (is_blank_rest left ≡ true)
+pub handed_whole : (options : Options) (text : List ℕ) (r : Reading) (at kept : ℕ) (line left : Rest)
+    → line ≡ line_rest (drop at text) → kept ≤ length r.tree.spine → after (path_in options r.tree.nodes (outer kept r.tree.spine)) line ≡ Some left
+    → ((m : ℕ) → kept < m → m ≤ length r.tree.spine → after (path_in options r.tree.nodes (outer m r.tree.spine)) line ≡ None) → IsHandedOn options text r at
+    → (kept ≡ length r.tree.spine) × (is_blank_rest left ≡ true)
 handed_whole options text r at kept line left is within took stops h =
     let ns = r.tree.nodes in
     let spine = r.tree.spine in
-    let all : after (path_in options ns (outer (length spine) spine)) line ≡ Some h.rest = ap (λ z. after (path_in options ns z) line) (outer-all spine) ∙ ap (after (path_of options r.tree)) is ∙ h.taken in
+    let all : after (path_in options ns (outer (length spine) spine)) line ≡ Some h.rest =
+    ap (λ z. after (path_in options ns z) line) (outer-all spine) ∙ ap (after (path_of options r.tree)) is ∙ h.taken in
     elim (cases_lt kept (length spine)) [
       | inl less ↦ (let none = stops (length spine) less (omega arith) in cc)
       | inr more ↦
           (let same : kept ≡ length spine = omega arith in
-          let here : after (path_in options ns (outer (length spine) spine)) line ≡ Some left = subst (λ k. after (path_in options ns (outer k spine)) line ≡ Some left) same took in
+          let here : after (path_in options ns (outer (length spine) spine)) line ≡ Some left =
+          subst (λ k. after (path_in options ns (outer k spine)) line ≡ Some left) same took in
           let rest_is : h.rest ≡ left = cc in
           (same, ap is_blank_rest (sym rest_is) ∙ h.blank))
     ]
 
 -- Once the blank line is read that was handed on, what is remembered is in order up to its end.
-handed_read : (options : Options) (text : List ℕ) (r : Reading) (at : ℕ) → IsUtf8 text → IsCharBoundary text at → IsHandedOn options text r at → IsOrderedAt text (blank_read r) (at + line_len (drop at text))
+handed_read : (options : Options) (text : List ℕ) (r : Reading) (at : ℕ)
+    → IsUtf8 text → IsCharBoundary text at → IsHandedOn options text r at → IsOrderedAt text (blank_read r) (at + line_len (drop at text))
 handed_read options text r at u b h =
     let k = after_keeps text at (path_of options r.tree) (line_rest (drop at text)) h.rest u h.taken (line_is_place text at b) in
     let ends : line_end (place_at at h.rest) ≡ at + line_len (drop at text) = k.1 ∙ line_start_end text at in
     let before = place_before_end (place_at at h.rest) in
     let within = (line_len-within text at h.within).1 in
-    ordered_blank_read text r (offset (place_at at h.rest)) (at + line_len (drop at text)) (omega arith) within (ordered_none text r (offset (place_at at h.rest)) h.none (omega arith) h.ordered)
+    ordered_blank_read text r (offset (place_at at h.rest)) (at + line_len (drop at text)) (omega arith) within
+    (ordered_none text r (offset (place_at at h.rest)) h.none (omega arith) h.ordered)
 
 -- A line is entered where what the line doesn't continue was closed: a blank line is read,
-pub ordered_blank_line : (options : Options) (text : List ℕ) (old closed : Reading) (at : ℕ) → IsUtf8 text → at < length text → IsCharBoundary text at → (IsOrderedAt text old at → IsOrderedAt text closed at) → (IsHandedOn options text old at → closed ≡ old)
+pub ordered_blank_line : (options : Options) (text : List ℕ) (old closed : Reading) (at : ℕ) → IsUtf8 text → at < length text → IsCharBoundary text at
+    → (IsOrderedAt text old at → IsOrderedAt text closed at) → (IsHandedOn options text old at → closed ≡ old)
     → IsOrderedFrom options text old at → IsOrderedAt text (blank_read closed) (at + line_len (drop at text))
 ordered_blank_line options text old closed at u w b closes same (inl o) =
     let n = line_len-within text at w in
     ordered_blank_read text closed at (at + line_len (drop at text)) (omega arith) n.1 (closes o)
-ordered_blank_line options text old closed at u w b closes same (inr h) = subst (λ r. IsOrderedAt text (blank_read r) (at + line_len (drop at text))) (sym (same h)) (handed_read options text old at u b h)
+ordered_blank_line options text old closed at u w b closes same (inr h) =
+    subst (λ r. IsOrderedAt text (blank_read r) (at + line_len (drop at text))) (sym (same h)) (handed_read options text old at u b h)
 
 -- and before any other, which no block hands on, an empty item is closed that blank lines ended.
-pub ordered_other_line : (options : Options) (text : List ℕ) (old closed : Reading) (at : ℕ) → (IsOrderedAt text old at → IsOrderedAt text closed at) → (IsHandedOn options text old at → ⊥) → IsOrderedFrom options text old at → IsOrderedTo text (item_finished closed).tree at
-ordered_other_line options text old closed at closes none (inl o) = ordered_tree text (item_finished closed) at (finished_none closed) (ordered_item_finished text closed at (closes o))
+pub ordered_other_line : (options : Options) (text : List ℕ) (old closed : Reading) (at : ℕ) → (IsOrderedAt text old at → IsOrderedAt text closed at)
+    → (IsHandedOn options text old at → ⊥) → IsOrderedFrom options text old at → IsOrderedTo text (item_finished closed).tree at
+ordered_other_line options text old closed at closes none (inl o) =
+    ordered_tree text (item_finished closed) at (finished_none closed) (ordered_item_finished text closed at (closes o))
 ordered_other_line options text old closed at closes none (inr h) = absurd (none h)

@@ -28,7 +28,8 @@ pub record IsLeafRead (old new : FirstPass) (p : Place) (next : ℕ) : Type 0 wh
   pub few : GrowsBy (offset p) next (tree_of old).nodes (tree_of new).nodes
 
 -- a block that ends what the line's beginning ends
-pub leaf_read : (old new : FirstPass) (p : Place) (kind : Kind) (next : ℕ) → IsPlaceOf (source_text old) p → (reading_of old).empty_item ≡ None → IsForest (tree_of old) → IsKind (source_options old) p.rest kind → (kind ≡ Blank → ⊥) → is_paragraph kind ≡ false
+pub leaf_read : (old new : FirstPass) (p : Place) (kind : Kind) (next : ℕ) → IsPlaceOf (source_text old) p → (reading_of old).empty_item ≡ None
+    → IsForest (tree_of old) → IsKind (source_options old) p.rest kind → (kind ≡ Blank → ⊥) → is_paragraph kind ≡ false
     → AddsLeaf (record old { reading = list_finished p.line (reading_of old) }) new p kind next → IsLeafRead old new p next
 leaf_read old new p kind next i empty forest is some other e =
     let text = source_text old in
@@ -47,13 +48,19 @@ leaf_read old new p kind next i empty forest is some other e =
         boundary = e.boundary;
         ready = λ more extends ready.
             subst (λ z. Ready (document text (source_options old) more) z (reading_of new) (lines_from text next)) (sym (ap told_by e.entries))
-            (ready_kind text (source_options old) (tables (allocs_of old)) (names_of (allocs_of new)) more r (tree_of new) p kind (reading_of new).blank next forest is other extends e.block empty ready (reading_of new).empty_item (reading_of new).blank none refl);
-        named = λ h. block_added (names_of (allocs_of new)) (names_of (allocs_of old)) (list_finished p.line r).tree (tree_of new) e.block.items e.names e.block.tree_is
-            (kind_named text (source_options old) (names_of (allocs_of new)) p kind (reading_of new).blank (list_finished p.line r).tree (tree_of new) next e.block) (list_finished_named (names_of (allocs_of old)) p.line r h);
+            (ready_kind text (source_options old) (tables (allocs_of old)) (names_of (allocs_of new)) more r (tree_of new) p kind
+            (reading_of new).blank next forest is other extends e.block empty ready (reading_of new).empty_item (reading_of new).blank none refl);
+        named = λ h.
+            block_added (names_of (allocs_of new)) (names_of (allocs_of old)) (list_finished p.line r).tree (tree_of new) e.block.items e.names e.block.tree_is
+            (kind_named text (source_options old) (names_of (allocs_of new)) p kind (reading_of new).blank (list_finished p.line r).tree
+            (tree_of new) next e.block) (list_finished_named (names_of (allocs_of old)) p.line r h);
         written = written_stay text (allocs_of old) (allocs_of new) e.entries;
-        order = λ o. inl (ordered_leaf text r (reading_of new) p.line (offset p) p.line (offset p) next (omega arith) (omega arith) (inl (refl, o.0)) i.within i.boundary empty o.1 fits e.boundary.0 none);
-        whole = λ h k. block_whole (names_of (allocs_of new)) (names_of (allocs_of old)) (list_finished p.line r).tree (tree_of new) e.block.items e.names e.block.tree_is
-            (kind_whole text (source_options old) (names_of (allocs_of new)) p kind (reading_of new).blank (list_finished p.line r).tree (tree_of new) next i e.block)
+        order = λ o. inl (ordered_leaf text r (reading_of new) p.line (offset p) p.line (offset p) next (omega arith) (omega arith)
+            (inl (refl, o.0)) i.within i.boundary empty o.1 fits e.boundary.0 none);
+        whole = λ h k.
+            block_whole (names_of (allocs_of new)) (names_of (allocs_of old)) (list_finished p.line r).tree (tree_of new) e.block.items e.names e.block.tree_is
+            (kind_whole text (source_options old) (names_of (allocs_of new)) p kind (reading_of new).blank (list_finished p.line r).tree
+            (tree_of new) next i e.block)
             (list_finished_named (names_of (allocs_of old)) p.line r h) (list_finished_whole (names_of (allocs_of old)) p.line r k);
       };
       few = omega arith;

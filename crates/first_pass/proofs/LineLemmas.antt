@@ -1,5 +1,6 @@
 -- A line read: containers closed, and the line entered.
-use Rattle.std.proofs.Common.{◌≡◌, ℕ, ◌+◌, ◌<◌, ◌≤◌, Bool, true, false, List, [], ◌∷◌, length, drop, Option, Some, None, is_some, MatchOption, IsUtf8, IsCharBoundary, refl, sym, ap, subst, ◌∙◌, if◌then◌else◌}
+use Rattle.std.proofs.Common.{◌≡◌, ℕ, ◌+◌, ◌<◌, ◌≤◌, Bool, true, false, List, [], ◌∷◌, length, drop, Option, Some, None, is_some, MatchOption, IsUtf8}
+use Rattle.std.proofs.Common.{IsCharBoundary, refl, sym, ap, subst, ◌∙◌, if◌then◌else◌}
 use Rattle.first_pass_items.specs.declared.item.Item.{Item}
 use Rattle.first_pass_items.specs.declared.item.ItemBody.{ItemBody}
 use Rattle.first_pass_items.specs.declared.item.ItemBody.TheVariants.{List as ListBody, ListItem as ListItemBody}
@@ -16,7 +17,8 @@ use Rattle.first_pass_grammar.specs.Skeleton.{Inside}
 use Rattle.first_pass_grammar.specs.Derivation.{Tables, list_flags}
 use Rattle.first_pass_open.specs.OpenBlock.{closed_by}
 use Rattle.first_pass_grammar.specs.Completion.{lines_from}
-use Rattle.first_pass_lists.specs.Closing.{top_body, is_list, is_list_of, popped_by, popped_at, popped, item_finished_by, item_finished, list_left, gap_tree, list_finished, loosened_top, list_kept, begun, list_continued, blank_read}
+use Rattle.first_pass_lists.specs.Closing.{top_body, is_list, is_list_of, popped_by, popped_at, popped, item_finished_by, item_finished, list_left, gap_tree}
+use Rattle.first_pass_lists.specs.Closing.{list_finished, loosened_top, list_kept, begun, list_continued, blank_read}
 use Rattle.first_pass_lists.specs.declared.reading.Reading.{Reading}
 use Rattle.first_pass_open.specs.Path.{path_in, path_of, outer}
 use Rattle.first_pass.specs.State.{NoMore, Ready, ReadyAt}
@@ -27,11 +29,14 @@ use Rattle.first_pass_items.specs.declared.option_set.Options.{Options}
 -- a line and those after it, of which the containers that don't continue it are closed
 pub record IsAtLine (d : Document) (defined : Tables) (old new : Reading) (start : ℕ) (r : Rest) : Type 0 where
   pub goes : after (path_of d.options new.tree) (line_rest (drop start d.text)) ≡ Some r
-  pub ready : Ready d defined old (lines_from d.text start) → Ready d defined new (line_place start (drop start d.text) ∷ lines_from d.text (start + line_len (drop start d.text)))
+  pub ready : Ready d defined old (lines_from d.text start)
+      → Ready d defined new (line_place start (drop start d.text) ∷ lines_from d.text (start + line_len (drop start d.text)))
 
-pub at_line : (d : Document) (defined : Tables) (old new : Reading) (start kept : ℕ) (line r : Rest) → line ≡ line_rest (drop start d.text) → start < length d.text → new.tree.spine ≡ outer kept old.tree.spine
+pub at_line : (d : Document) (defined : Tables) (old new : Reading) (start kept : ℕ) (line r : Rest)
+    → line ≡ line_rest (drop start d.text) → start < length d.text → new.tree.spine ≡ outer kept old.tree.spine
     → ((s : List TreeIndex) → path_in d.options new.tree.nodes s ≡ path_in d.options old.tree.nodes s)
-    → ((d : Document) (lines : List Place) → start_of (length d.text) lines ≡ start → NoMore d.options old.tree kept lines → Ready d defined old lines → Ready d defined new lines)
+    → ((d : Document) (lines : List Place) → start_of (length d.text) lines ≡ start → NoMore d.options old.tree kept lines → Ready d defined old lines
+    → Ready d defined new lines)
     → after (path_in d.options old.tree.nodes (outer kept old.tree.spine)) line ≡ Some r
     → ((m : ℕ) → kept < m → m ≤ length old.tree.spine → after (path_in d.options old.tree.nodes (outer m old.tree.spine)) line ≡ None)
     → IsAtLine d defined old new start r
@@ -39,23 +44,32 @@ at_line d defined old new start kept line r line_is within spine paths closes ta
     let here : Place = line_place start (drop start d.text) in
     let lines : List Place = lines_from d.text (start + line_len (drop start d.text)) in
     let first : lines_from d.text start ≡ here ∷ lines = lines_at-line d.text start within in
-    let path : path_of d.options new.tree ≡ path_in d.options old.tree.nodes (outer kept old.tree.spine) = paths new.tree.spine ∙ ap (path_in d.options old.tree.nodes) spine in
+    let path : path_of d.options new.tree ≡ path_in d.options old.tree.nodes (outer kept old.tree.spine) =
+    paths new.tree.spine ∙ ap (path_in d.options old.tree.nodes) spine in
     record {
-      goes = ap (λ p. after p (line_rest (drop start d.text))) path ∙ ap (after (path_in d.options old.tree.nodes (outer kept old.tree.spine))) (sym line_is) ∙ taken;
-      ready = λ ready. closes d (here ∷ lines) refl (λ m low high. ap (after (path_in d.options old.tree.nodes (outer m old.tree.spine))) (sym line_is) ∙ stops m low high) (subst (Ready d defined old) first ready);
+      goes = ap (λ p. after p (line_rest (drop start d.text))) path ∙ ap (after (path_in d.options old.tree.nodes (outer kept old.tree.spine))) (sym line_is)
+          ∙ taken;
+      ready = λ ready.
+          closes d (here ∷ lines) refl (λ m low high. ap (after (path_in d.options old.tree.nodes (outer m old.tree.spine))) (sym line_is) ∙ stops m low high)
+          (subst (Ready d defined old) first ready);
     }
 
 -- a blank line read
-pub blank_line_read : (d : Document) (defined : Tables) (old new : Reading) (start : ℕ) (r : Rest) → IsAtLine d defined old new start r → is_some (blank_len r.left) ≡ true → Ready d defined old (lines_from d.text start)
+pub blank_line_read : (d : Document) (defined : Tables) (old new : Reading) (start : ℕ) (r : Rest)
+    → IsAtLine d defined old new start r → is_some (blank_len r.left) ≡ true → Ready d defined old (lines_from d.text start)
     → Ready d defined (blank_read new) (lines_from d.text (start + line_len (drop start d.text)))
 blank_line_read d defined old new start r line blank ready =
-    ready_blank_line d defined new (line_place start (drop start d.text)) (lines_from d.text (start + line_len (drop start d.text))) r line.goes blank (line.ready ready)
+    ready_blank_line d defined new (line_place start (drop start d.text)) (lines_from d.text (start + line_len (drop start d.text))) r line.goes blank
+    (line.ready ready)
 
 -- a line that isn't blank
-pub line_entered : (d : Document) (defined : Tables) (old new : Reading) (start : ℕ) (r : Rest) → IsAtLine d defined old new start r → is_some (blank_len r.left) ≡ false → Ready d defined old (lines_from d.text start)
-    → ReadyAt d defined (item_finished new).tree (item_finished new).blank (Inside (place_at start r)) (lines_from d.text (start + line_len (drop start d.text)))
+pub line_entered : (d : Document) (defined : Tables) (old new : Reading) (start : ℕ) (r : Rest)
+    → IsAtLine d defined old new start r → is_some (blank_len r.left) ≡ false → Ready d defined old (lines_from d.text start)
+    → ReadyAt d defined (item_finished new).tree (item_finished new).blank (Inside (place_at start r))
+    (lines_from d.text (start + line_len (drop start d.text)))
 line_entered d defined old new start r line blank ready =
-    ready_line d defined new (line_place start (drop start d.text)) (lines_from d.text (start + line_len (drop start d.text))) r line.goes blank (line.ready ready)
+    ready_line d defined new (line_place start (drop start d.text)) (lines_from d.text (start + line_len (drop start d.text))) r line.goes blank
+    (line.ready ready)
 
 none_by : (r : Reading) (o : Option ℕ) → r.empty_item ≡ o → (item_finished_by r o).empty_item ≡ None
 none_by r None h = h
@@ -71,13 +85,16 @@ pub same_place : (text : List ℕ) (p q : Place) → p ≡ q → IsPlaceOf text 
 same_place text p q same i = subst (IsPlaceOf text) (sym same) i
 
 -- the place in the line after what it continues
-pub line_kept : (options : Options) (text bytes rest : List ℕ) (start kept : ℕ) (f : Forest Item) (line r : Rest) → IsUtf8 bytes → bytes ≡ text → rest ≡ drop start bytes → line ≡ line_rest rest → IsCharBoundary text start → after (path_in options f.nodes (outer kept f.spine)) line ≡ Some r
+pub line_kept : (options : Options) (text bytes rest : List ℕ) (start kept : ℕ) (f : Forest Item) (line r : Rest) → IsUtf8 bytes → bytes ≡ text
+    → rest ≡ drop start bytes → line ≡ line_rest rest → IsCharBoundary text start → after (path_in options f.nodes (outer kept f.spine)) line ≡ Some r
     → IsPlaceOf text (place_at start r) × (line_end (place_at start r) ≡ start + line_len (drop start text))
 line_kept options text bytes rest start kept f line r u bytes_is rest_is line_is boundary taken =
     let utf8 : IsUtf8 text = subst IsUtf8 bytes_is u in
     let from : line ≡ line_rest (drop start text) = line_is ∙ ap line_rest (rest_is ∙ ap (drop start) bytes_is) in
-    let taken' : after (path_in options f.nodes (outer kept f.spine)) (line_rest (drop start text)) ≡ Some r = ap (after (path_in options f.nodes (outer kept f.spine))) (sym from) ∙ taken in
-    let k = after_keeps text start (path_in options f.nodes (outer kept f.spine)) (line_rest (drop start text)) r utf8 taken' (line_is_place text start boundary) in
+    let taken' : after (path_in options f.nodes (outer kept f.spine)) (line_rest (drop start text)) ≡ Some r =
+    ap (after (path_in options f.nodes (outer kept f.spine))) (sym from) ∙ taken in
+    let k =
+    after_keeps text start (path_in options f.nodes (outer kept f.spine)) (line_rest (drop start text)) r utf8 taken' (line_is_place text start boundary) in
     (k.0, k.1 ∙ line_start_end text start)
 
 -- Nothing that is closed or opened makes an item empty.
@@ -109,7 +126,8 @@ list_finished_none e r =
     let l : Reading = list_left e (item_finished r) in
     noted_none l.blank l (gap_tree l.tree l.tree.spine) (left_none (is_list (top_body (item_finished r).tree)) e (item_finished r) (finished_none r))
 
-continued_by : (t : Bool) (start byte number : ℕ) (r : Reading) → r.empty_item ≡ None → (if t then list_kept r else begun start (ListBody (list_flags true) byte number) (list_finished start r)).empty_item ≡ None
+continued_by : (t : Bool) (start byte number : ℕ) (r : Reading)
+    → r.empty_item ≡ None → (if t then list_kept r else begun start (ListBody (list_flags true) byte number) (list_finished start r)).empty_item ≡ None
 continued_by true start byte number r none = noted_none r.blank r (loosened_top r.tree r.tree.spine) none
 continued_by false start byte number r none = list_finished_none start r
 

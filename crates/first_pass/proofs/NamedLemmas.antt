@@ -1,10 +1,12 @@
 -- Each index that nodes keep names an entry: what closes nodes and notes blank lines changes no index, and what opens a container adds none.
-use Rattle.std.proofs.Common.{◌≡◌, ℕ, zero, suc, ◌+◌, ◌==◌, ◌&&◌, Bool, true, false, if◌then◌else◌, List, [], ◌∷◌, length, nat_lt, slice_index, Option, Some, None, is_some, refl, sym, subst}
+use Rattle.std.proofs.Common.{◌≡◌, ℕ, zero, suc, ◌+◌, ◌==◌, ◌&&◌, Bool, true, false, if◌then◌else◌, List, [], ◌∷◌, length, nat_lt, slice_index, Option, Some}
+use Rattle.std.proofs.Common.{None, is_some, refl, sym, subst}
 use Rattle.std.specs.Int.RustNames.{bit_and}
 use Rattle.std.proofs.lemmas.Bool.{cond_both}
 use Rattle.first_pass_items.specs.declared.item.Item.{Item}
 use Rattle.first_pass_items.specs.declared.item.ItemBody.{ItemBody}
-use Rattle.first_pass_items.specs.declared.item.ItemBody.TheVariants.{BlockQuote as BlockQuoteBody, List as ListBody, ListItem as ListItemBody, Paragraph, TaskListMarker}
+use Rattle.first_pass_items.specs.declared.item.ItemBody.TheVariants.{BlockQuote as BlockQuoteBody, List as ListBody, ListItem as ListItemBody, Paragraph}
+use Rattle.first_pass_items.specs.declared.item.ItemBody.TheVariants.{TaskListMarker}
 use Rattle.first_pass_tree.specs.declared.tree_index.TreeIndex.{TreeIndex}
 use Rattle.first_pass_tree.specs.Forest.{Forest, empty_forest, with_end_at, depths, body_at, is_text, added, at_depth}
 use Rattle.first_pass_tree.specs.Tight.{tight_body, tightened, tight_run, tight_at, tight_items}
@@ -22,7 +24,9 @@ use Rattle.first_pass_names.proofs.NameLemmas.{extends_none}
 use Rattle.first_pass_open.specs.Path.{path_of}
 use Rattle.first_pass.specs.Adding.{AddsKind}
 use Rattle.first_pass_open.specs.OpenBlock.{closed_by, with_child}
-use Rattle.first_pass_lists.specs.Closing.{loosened_by, top_body, is_list, is_list_of, is_item, popped_by, popped_at, popped, item_finished_by, item_finished, list_left, gap_tree, gap_noted, list_finished, loosened_top, list_kept, begun, list_continued, emptied, blank_read_by, blank_read}
+use Rattle.first_pass_lists.specs.Closing.{loosened_by, top_body, is_list, is_list_of, is_item, popped_by, popped_at, popped, item_finished_by, item_finished}
+use Rattle.first_pass_lists.specs.Closing.{list_left, gap_tree, gap_noted, list_finished, loosened_top, list_kept, begun, list_continued, emptied}
+use Rattle.first_pass_lists.specs.Closing.{blank_read_by, blank_read}
 use Rattle.first_pass_lists.specs.declared.reading.Reading.{Reading}
 use Rattle.first_pass.proofs.OpenerLemmas.{item_opened}
 
@@ -49,7 +53,8 @@ module _ (names : Names) where
   node_by false x h = h
 
   -- paragraphs of a list made tight
-  run_by : (t : Bool) (depth : ℕ) (n : ℕ × Item) (nodes : List (ℕ × Item)) → AreNamed names (n ∷ nodes) → AreNamed names (tight_run depth nodes) → AreNamed names (if t then tightened (depth + 2) n ∷ tight_run depth nodes else n ∷ nodes)
+  run_by : (t : Bool) (depth : ℕ) (n : ℕ × Item) (nodes : List (ℕ × Item)) → AreNamed names (n ∷ nodes) → AreNamed names (tight_run depth nodes)
+      → AreNamed names (if t then tightened (depth + 2) n ∷ tight_run depth nodes else n ∷ nodes)
   unfolding AreNamed
   run_by true depth n nodes h further = (node_by (n.0 == depth + 2) n.1 h.0, further)
   run_by false depth n nodes h further = h
@@ -79,7 +84,8 @@ module _ (names : Names) where
   popped_at_named : (e : ℕ) (r : Reading) (s : List TreeIndex) → AreReadNamed r → AreReadNamed (popped_at e r s)
   popped_at_named e r [] h = h
   popped_at_named e r (ix ∷ rest) h =
-      closed_named r (closed_by r.tree e (ix ∷ rest)) ix (body_at (closed_by r.tree e (ix ∷ rest)).nodes ix.0) (named_modified names r.tree.nodes ix.0 (λ x. record x { «end» = e }) (λ x k. k) h)
+      closed_named r (closed_by r.tree e (ix ∷ rest)) ix (body_at (closed_by r.tree e (ix ∷ rest)).nodes ix.0)
+      (named_modified names r.tree.nodes ix.0 (λ x. record x { «end» = e }) (λ x k. k) h)
 
   pub popped_named : (e : ℕ) (r : Reading) → AreReadNamed r → AreReadNamed (popped e r)
   unfolding popped
@@ -88,7 +94,8 @@ module _ (names : Names) where
   -- what finishes an empty item
   finished_by_named : (r : Reading) (o : Option ℕ) → AreReadNamed r → AreReadNamed (item_finished_by r o)
   finished_by_named r None h = h
-  finished_by_named r (Some e) h = cond_both (r.blank && is_item (top_body r.tree)) (popped e r) r (λ (q : Reading). AreReadNamed q) (λ b. popped_named e r h) (λ b. h)
+  finished_by_named r (Some e) h =
+      cond_both (r.blank && is_item (top_body r.tree)) (popped e r) r (λ (q : Reading). AreReadNamed q) (λ b. popped_named e r h) (λ b. h)
 
   pub item_finished_named : (r : Reading) → AreReadNamed r → AreReadNamed (item_finished r)
   unfolding item_finished
@@ -97,7 +104,8 @@ module _ (names : Names) where
   -- what makes a list loose
   loosened_named : (f : Forest Item) (ix : TreeIndex) (b : Option ItemBody) → AreNamed names f.nodes → AreNamed names (loosened_by f ix b).nodes
   loosened_named f ix None h = h
-  loosened_named f ix (Some (ListBody flags byte number)) h = named_modified names f.nodes ix.0 (λ x. record x { body = ListBody (list_flags false) byte number }) (λ x k. tt) h
+  loosened_named f ix (Some (ListBody flags byte number)) h =
+      named_modified names f.nodes ix.0 (λ x. record x { body = ListBody (list_flags false) byte number }) (λ x k. tt) h
   loosened_named f ix (Some b) h = h
 
   gap_tree_named : (f : Forest Item) (s : List TreeIndex) → AreNamed names f.nodes → AreNamed names (gap_tree f s).nodes
@@ -106,7 +114,8 @@ module _ (names : Names) where
   gap_tree_named f (ix ∷ outer ∷ rest) h = loosened_named f outer (body_at f.nodes outer.0) h
 
   gap_named : (r : Reading) → AreReadNamed r → AreReadNamed (gap_noted r)
-  gap_named r h = cond_both r.blank (record r { tree = gap_tree r.tree r.tree.spine; blank = false }) r (λ (q : Reading). AreReadNamed q) (λ b. gap_tree_named r.tree r.tree.spine h) (λ b. h)
+  gap_named r h = cond_both r.blank (record r { tree = gap_tree r.tree r.tree.spine; blank = false }) r (λ (q : Reading). AreReadNamed q)
+      (λ b. gap_tree_named r.tree r.tree.spine h) (λ b. h)
 
   -- what finishes a list
   left_named : (e : ℕ) (r : Reading) → AreReadNamed r → AreReadNamed (list_left e r)
@@ -121,7 +130,8 @@ module _ (names : Names) where
   top_named f (ix ∷ rest) h = loosened_named f ix (body_at f.nodes ix.0) h
 
   kept_named : (r : Reading) → AreReadNamed r → AreReadNamed (list_kept r)
-  kept_named r h = cond_both r.blank (record r { tree = loosened_top r.tree r.tree.spine; blank = false }) r (λ (q : Reading). AreReadNamed q) (λ b. top_named r.tree r.tree.spine h) (λ b. h)
+  kept_named r h = cond_both r.blank (record r { tree = loosened_top r.tree r.tree.spine; blank = false }) r (λ (q : Reading). AreReadNamed q)
+      (λ b. top_named r.tree r.tree.spine h) (λ b. h)
 
   -- a blank line
   emptied_named : (f : Forest Item) (s : List TreeIndex) → AreNamed names f.nodes → AreNamed names (emptied f s).nodes
@@ -132,7 +142,8 @@ module _ (names : Names) where
   blank_by_named r None h = h
   blank_by_named r (Some (BlockQuoteBody kind)) h = h
   blank_by_named r (Some (ListItemBody columns)) h =
-      cond_both (is_some r.empty_item) (emptied r.tree r.tree.spine) r.tree (λ (f : Forest Item). AreNamed names f.nodes) (λ b. emptied_named r.tree r.tree.spine h) (λ b. h)
+      cond_both (is_some r.empty_item) (emptied r.tree r.tree.spine) r.tree (λ (f : Forest Item). AreNamed names f.nodes)
+      (λ b. emptied_named r.tree r.tree.spine h) (λ b. h)
   blank_by_named r (Some b) h = h
 
   pub blank_named : (r : Reading) → AreReadNamed r → AreReadNamed (blank_read r)
@@ -149,36 +160,47 @@ module _ (names : Names) where
   continued_named start byte number r h =
       let s : Reading = item_finished r in
       let k = item_finished_named r h in
-      cond_both (is_list_of byte (top_body s.tree)) (list_kept s) (begun start (ListBody (list_flags true) byte number) (list_finished start s)) (λ (q : Reading). AreReadNamed q) (λ b. kept_named s k)
+      cond_both (is_list_of byte (top_body s.tree)) (list_kept s) (begun start (ListBody (list_flags true) byte number) (list_finished start s))
+      (λ (q : Reading). AreReadNamed q) (λ b. kept_named s k)
       (λ b. begun_named start (ListBody (list_flags true) byte number) (list_finished start s) tt (list_finished_named start s k))
 
   pub item_named : (start byte number columns : ℕ) (r : Reading) → AreReadNamed r → AreReadNamed (item_opened start byte number columns r)
-  item_named start byte number columns r h = begun_named start (ListItemBody columns) (list_continued start byte number r) tt (continued_named start byte number r h)
+  item_named start byte number columns r h =
+      begun_named start (ListItemBody columns) (list_continued start byte number r) tt (continued_named start byte number r h)
 
-  pub quote_named : (line start : ℕ) (body : ItemBody) (r : Reading) → NamesEntry names (index_of body) → AreReadNamed r → AreReadNamed (begun start body (list_finished line r))
+  pub quote_named : (line start : ℕ) (body : ItemBody) (r : Reading)
+      → NamesEntry names (index_of body) → AreReadNamed r → AreReadNamed (begun start body (list_finished line r))
   quote_named line start body r own h = begun_named start body (list_finished line r) own (list_finished_named line r h)
 
   -- the marker of a task
-  none_named : (o : Option Item) (f : Forest Item) → ((x : Item) → o ≡ Some x → is_task_marker x.body ≡ true) → AreNamed names f.nodes → AreNamed names (with_child f o).nodes
+  none_named : (o : Option Item) (f : Forest Item)
+      → ((x : Item) → o ≡ Some x → is_task_marker x.body ≡ true) → AreNamed names f.nodes → AreNamed names (with_child f o).nodes
   unfolding AreNamed
   none_named None f mark h = h
-  none_named (Some x) f mark h = named_both names f.nodes ((length f.spine + 1, x) ∷ []) h (subst (NamesEntry names) (sym (task_has_none x.body (mark x refl))) tt, tt)
+  none_named (Some x) f mark h =
+      named_both names f.nodes ((length f.spine + 1, x) ∷ []) h (subst (NamesEntry names) (sym (task_has_none x.body (mark x refl))) tt, tt)
 
-  pub child_named : (f : Forest Item) (marker : Option Item) → ((x : Item) → marker ≡ Some x → is_task_marker x.body ≡ true) → AreNamed names f.nodes → AreNamed names (with_child f marker).nodes
+  pub child_named : (f : Forest Item) (marker : Option Item)
+      → ((x : Item) → marker ≡ Some x → is_task_marker x.body ≡ true) → AreNamed names f.nodes → AreNamed names (with_child f marker).nodes
   child_named f marker mark h = none_named marker f mark h
 
   -- a block that is added, where more is named
-  pub block_added : (old : Names) (f new : Forest Item) (items : List (ℕ × Item)) → Extends names old → new ≡ added f items → AreNamed names items → AreNamed old f.nodes → AreNamed names new.nodes
+  pub block_added : (old : Names) (f new : Forest Item) (items : List (ℕ × Item))
+      → Extends names old → new ≡ added f items → AreNamed names items → AreNamed old f.nodes → AreNamed names new.nodes
   unfolding AreNamed
   block_added old f new items more is own h =
-      subst (λ (g : Forest Item). AreNamed names g.nodes) (sym is) (named_both names f.nodes (at_depth (length f.spine + 1) items) (named_more names old f.nodes more h) (named_deeper names (length f.spine + 1) items own))
+      subst (λ (g : Forest Item). AreNamed names g.nodes) (sym is)
+      (named_both names f.nodes (at_depth (length f.spine + 1) items) (named_more names old f.nodes more h) (named_deeper names (length f.spine + 1) items own))
 
 -- a leaf block of a kind that was added
-pub kind_named : (text : List ℕ) (options : Options) (names : Names) (p : Place) (kind : Kind) (gap : Bool) (old new : Forest Item) (next : ℕ) → (a : AddsKind (document text options names) p kind gap old new next) → AreNamed names a.items
+pub kind_named : (text : List ℕ) (options : Options) (names : Names) (p : Place) (kind : Kind) (gap : Bool) (old new : Forest Item) (next : ℕ)
+    → (a : AddsKind (document text options names) p kind gap old new next) → AreNamed names a.items
 kind_named text options names p kind gap old new next a =
-    opens_named (document text options names) (path_of options old) p (lines_from text (line_end p)) kind a.items gap (lines_from text next) (a.opens names (extends_none names))
+    opens_named (document text options names) (path_of options old) p (lines_from text (line_end p)) kind a.items gap (lines_from text next)
+    (a.opens names (extends_none names))
 
 -- the root has no index
 pub first_named : (names : Names) (tree : Forest Item) (root : TreeIndex) (e : ℕ) → tree ≡ with_end_at empty_forest root e → AreNamed names tree.nodes
 unfolding AreNamed
-first_named names tree root e is = subst (λ (f : Forest Item). AreNamed names f.nodes) (sym is) (named_modified names empty_forest.nodes root.0 (λ x. record x { «end» = e }) (λ x k. k) (tt, tt))
+first_named names tree root e is = subst (λ (f : Forest Item). AreNamed names f.nodes) (sym is)
+    (named_modified names empty_forest.nodes root.0 (λ x. record x { «end» = e }) (λ x k. k) (tt, tt))

@@ -1,5 +1,6 @@
 -- What the open nodes are, as the tree grows and nodes are closed.
-use Rattle.std.proofs.Common.{◌≡◌, ℕ, zero, suc, ◌<◌, ◌==◌, Bool, true, false, List, [], ◌∷◌, ◌++◌, length, map, Option, Some, None, refl, sym, ap, ◌∙◌, arith, if◌then◌else◌}
+use Rattle.std.proofs.Common.{◌≡◌, ℕ, zero, suc, ◌<◌, ◌==◌, Bool, true, false, List, [], ◌∷◌, ◌++◌, length, map, Option, Some, None, refl, sym, ap, ◌∙◌, arith}
+use Rattle.std.proofs.Common.{if◌then◌else◌}
 use Rattle.std.specs.Option.{option_map, option_and_then}
 use Rattle.first_pass_items.specs.declared.item.Item.{Item}
 use Rattle.first_pass_items.specs.declared.item.ItemBody.{ItemBody}
@@ -42,7 +43,8 @@ with_frame (InContainer c) frames = refl
 with_frame (InList byte loose) frames = refl
 
 -- the containers of the frames are those of the path
-pub open_path : (options : Options) (nodes : List (ℕ × Item)) (spine : List TreeIndex) (frames : List Frame) → AreOpen nodes spine frames → path_in options nodes spine ≡ containers_of frames
+pub open_path : (options : Options) (nodes : List (ℕ × Item)) (spine : List TreeIndex) (frames : List Frame)
+    → AreOpen nodes spine frames → path_in options nodes spine ≡ containers_of frames
 open_path options nodes [] [] o = refl
 open_path options nodes [] (frame ∷ frames) o = absurd o
 open_path options nodes (ix ∷ spine) [] o = absurd o
@@ -51,7 +53,8 @@ open_path options nodes (ix ∷ spine) (frame ∷ frames) o =
     ∙ ap (with_container (framed (Some frame))) (open_path options nodes spine frames o.1) ∙ with_frame frame frames
 
 -- what is below a place alone counts
-pub open_below : (nodes other : List (ℕ × Item)) (n : ℕ) (spine : List TreeIndex) (frames : List Frame) → ((i : ℕ) → i < n → frame_at other i ≡ frame_at nodes i) → AreBelow n (map (λ ix. ix.0) spine) → AreOpen nodes spine frames → AreOpen other spine frames
+pub open_below : (nodes other : List (ℕ × Item)) (n : ℕ) (spine : List TreeIndex) (frames : List Frame)
+    → ((i : ℕ) → i < n → frame_at other i ≡ frame_at nodes i) → AreBelow n (map (λ ix. ix.0) spine) → AreOpen nodes spine frames → AreOpen other spine frames
 open_below nodes other n [] [] same below o = tt
 open_below nodes other n [] (frame ∷ frames) same below o = o
 open_below nodes other n (ix ∷ spine) [] same below o = o

@@ -1,5 +1,6 @@
 -- Order at each step of reading a line: containers opened, and what is after them.
-use Rattle.std.proofs.Common.{◌≡◌, ◌⊎◌, inl, inr, ℕ, ◌+◌, ◌<◌, ◌≤◌, Bool, true, false, List, [], ◌∷◌, length, drop, Option, Some, None, IsUtf8, IsCharBoundary, refl, sym, ap, subst, ◌∙◌, arith, length-append, if◌then◌else◌}
+use Rattle.std.proofs.Common.{◌≡◌, ◌⊎◌, inl, inr, ℕ, ◌+◌, ◌<◌, ◌≤◌, Bool, true, false, List, [], ◌∷◌, length, drop, Option, Some, None, IsUtf8, IsCharBoundary}
+use Rattle.std.proofs.Common.{refl, sym, ap, subst, ◌∙◌, arith, length-append, if◌then◌else◌}
 use Rattle.std.specs.Option.{option_map}
 use Rattle.first_pass_items.specs.declared.item.Item.{Item}
 use Rattle.first_pass_items.specs.declared.item.BlockQuoteKind.{BlockQuoteKind}
@@ -32,38 +33,46 @@ use Rattle.first_pass.proofs.OpenLemmas.{get_end}
 use Rattle.first_pass_open.proofs.PlaceLemmas.{all_keep, task_keeps, option_on, quote_less}
 use Rattle.first_pass.proofs.LineLemmas.{list_finished_none, list_continued_none}
 use Rattle.first_pass.proofs.OpenerLemmas.{item_opened}
-use Rattle.first_pass.proofs.OrderLemmas.{ordered_later, ordered_appended, ordered_added, ordered_begun, ordered_none, ordered_list_finished, ordered_list_continued}
+use Rattle.first_pass.proofs.OrderLemmas.{ordered_later, ordered_appended, ordered_added, ordered_begun, ordered_none, ordered_list_finished}
+use Rattle.first_pass.proofs.OrderLemmas.{ordered_list_continued}
 
 -- the less is left, the later is the place
-pub offset_later : (text : List ℕ) (line : ℕ) (r s : Rest) → IsPlaceOf text (place_at line r) → IsPlaceOf text (place_at line s) → length s.left ≤ length r.left → offset (place_at line r) ≤ offset (place_at line s)
+pub offset_later : (text : List ℕ) (line : ℕ) (r s : Rest)
+    → IsPlaceOf text (place_at line r) → IsPlaceOf text (place_at line s) → length s.left ≤ length r.left → offset (place_at line r) ≤ offset (place_at line s)
 offset_later text line r s i j less =
     let a = place_length text (place_at line r) i in
     let b = place_length text (place_at line s) j in
     omega arith
 
-by_list : (t : Bool) (text : List ℕ) (f : Forest Item) (line at : ℕ) → line ≤ at → at ≤ length text → IsOrderedTo text f line → IsOrderedTo text f (if t then line else at)
+by_list : (t : Bool) (text : List ℕ) (f : Forest Item) (line at : ℕ)
+    → line ≤ at → at ≤ length text → IsOrderedTo text f line → IsOrderedTo text f (if t then line else at)
 by_list true text f line at low high o = o
 by_list false text f line at low high o = ordered_later text f line at low high o
 
 -- in order up to where a line begins, and so up to a place in it
-pub ordered_in_line : (text : List ℕ) (f : Forest Item) (line at : ℕ) → line ≤ at → at ≤ length text → IsOrderedTo text f line → IsOrderedTo text f (line_or f line at)
+pub ordered_in_line : (text : List ℕ) (f : Forest Item) (line at : ℕ)
+    → line ≤ at → at ≤ length text → IsOrderedTo text f line → IsOrderedTo text f (line_or f line at)
 ordered_in_line text f line at low high o = by_list (is_list (top_body f)) text f line at low high o
 
 -- the same at a place in the line, which begins between characters
-pub ordered_at_place : (text : List ℕ) (f : Forest Item) (start : ℕ) (p : Place) → p.line ≡ start → IsCharBoundary text start → IsPlaceOf text p → IsOrderedTo text f start → IsCharBoundary text p.line × IsOrderedTo text f (line_or f p.line (offset p))
+pub ordered_at_place : (text : List ℕ) (f : Forest Item) (start : ℕ) (p : Place) → p.line ≡ start → IsCharBoundary text start → IsPlaceOf text p
+    → IsOrderedTo text f start → IsCharBoundary text p.line × IsOrderedTo text f (line_or f p.line (offset p))
 ordered_at_place text f start p line boundary i o =
     let within = i.within in
     (subst (IsCharBoundary text) (sym line) boundary, ordered_in_line text f p.line (offset p) (omega arith) within (subst (IsOrderedTo text f) (sym line) o))
 
 -- what is after the containers is in order, where what is remembered at the line's beginning is
-pub ordered_entered : (text : List ℕ) (f : Forest Item) (r : Reading) (start : ℕ) (p q : Place) (b here : Behind) → p.line ≡ start → IsCharBoundary text start → IsPlaceOf text p
-    → (IsCharBoundary text p.line → IsOrderedTo text f (line_or f p.line (offset p)) → OrderedBehind text r q.line (offset q) b) → b ≡ here → IsOrderedTo text f start → OrderedBehind text r q.line (offset q) here
+pub ordered_entered : (text : List ℕ) (f : Forest Item) (r : Reading) (start : ℕ) (p q : Place) (b here : Behind)
+    → p.line ≡ start → IsCharBoundary text start → IsPlaceOf text p
+    → (IsCharBoundary text p.line → IsOrderedTo text f (line_or f p.line (offset p)) → OrderedBehind text r q.line (offset q) b) → b ≡ here
+    → IsOrderedTo text f start → OrderedBehind text r q.line (offset q) here
 ordered_entered text f r start p q b here line boundary i opens is o =
     let a = ordered_at_place text f start p line boundary i o in
     subst (OrderedBehind text r q.line (offset q)) is (opens a.0 a.1)
 
 -- an offset after a line that begins before the text's end
-pub line_later : (text : List ℕ) (start far next : ℕ) → start < length text → far ≡ start + line_len (drop start text) → far ≤ next → IsCharBoundary text next → (start < next) × (next ≤ length text)
+pub line_later : (text : List ℕ) (start far next : ℕ)
+    → start < length text → far ≡ start + line_len (drop start text) → far ≤ next → IsCharBoundary text next → (start < next) × (next ≤ length text)
 line_later text start far next within ends later boundary =
     let line = line_len-within text start within in
     let some = line.0 in
@@ -82,8 +91,10 @@ line_or-list : (f : Forest Item) (line at : ℕ) → is_list (top_body f) ≡ tr
 line_or-list f line at h = (let e : line_or f line at ≡ line = rw h refl in omega arith)
 
 -- in order further on where no list is innermost
-pub ordered_on : (text : List ℕ) (f : Forest Item) (line a at : ℕ) → is_list (top_body f) ≡ false → a ≤ at → at ≤ length text → IsOrderedTo text f a → IsOrderedTo text f (line_or f line at)
-ordered_on text f line a at none low high o = subst (IsOrderedTo text f) (let e : at ≡ line_or f line at = rw none refl in e) (ordered_later text f a at low high o)
+pub ordered_on : (text : List ℕ) (f : Forest Item) (line a at : ℕ)
+    → is_list (top_body f) ≡ false → a ≤ at → at ≤ length text → IsOrderedTo text f a → IsOrderedTo text f (line_or f line at)
+ordered_on text f line a at none low high o =
+    subst (IsOrderedTo text f) (let e : at ≡ line_or f line at = rw none refl in e) (ordered_later text f a at low high o)
 
 none_reached : (o : Option ℕ) (at : ℕ) → o ≡ None → reached o at ≡ at
 none_reached o at none = ap (λ z. reached z at) none
@@ -106,17 +117,20 @@ top_marked start body r (Some x) =
     ap (option_map (λ (n : ℕ × Item). n.1.body)) (get_front f.nodes ((length f.spine + 1, x) ∷ []) (length r.tree.nodes) within) ∙ top_begun start body r
 
 -- an item opened at a place in a line
-pub ordered_item : (text : List ℕ) (r : Reading) (line start byte number columns : ℕ) → line ≤ start → start ≤ length text → IsCharBoundary text start → r.empty_item ≡ None
+pub ordered_item : (text : List ℕ) (r : Reading) (line start byte number columns : ℕ)
+    → line ≤ start → start ≤ length text → IsCharBoundary text start → r.empty_item ≡ None
     → IsOrderedTo text r.tree (line_or r.tree line start) → IsOrderedTo text (item_opened start byte number columns r).tree start
 ordered_item text r line start byte number columns low high boundary none o =
     let at : ℕ = line_or r.tree line start in
     let below : at ≤ start = line_or-below r.tree line start low in
     let before = ordered_none text r at none (omega arith) o in
     let on = ordered_list_continued text r at start byte number below high boundary before in
-    ordered_begun text (list_continued start byte number r) start start (ListItemBody columns) (omega arith) high boundary (ordered_tree text (list_continued start byte number r) start (list_continued_none start byte number r) on)
+    ordered_begun text (list_continued start byte number r) start start (ListItemBody columns) (omega arith) high boundary
+    (ordered_tree text (list_continued start byte number r) start (list_continued_none start byte number r) on)
 
 -- where a new block begins, after what it ends: a list that is innermost, at the line's beginning or at the block's first byte
-pub ordered_finished : (text : List ℕ) (r : Reading) (line at e start : ℕ) → line ≤ at → at ≤ start → (e ≡ line) × IsCharBoundary text line ⊎ (e ≡ start) → start ≤ length text → IsCharBoundary text start → r.empty_item ≡ None
+pub ordered_finished : (text : List ℕ) (r : Reading) (line at e start : ℕ)
+    → line ≤ at → at ≤ start → (e ≡ line) × IsCharBoundary text line ⊎ (e ≡ start) → start ≤ length text → IsCharBoundary text start → r.empty_item ≡ None
     → IsOrderedTo text r.tree (line_or r.tree line at) → IsOrderedTo text (list_finished e r).tree start
 unfolding item_finished
 ordered_finished text r line at e start low mid which high boundary none o =
@@ -127,19 +141,24 @@ ordered_finished text r line at e start low mid which high boundary none o =
     let on : IsOrderedAt text (list_finished e r) start = elim which [
       | inl (is, first) ↦
           subst (λ z. IsOrderedAt text (list_finished z r) start) (sym is)
-          (ordered_list_finished text r a line start (omega arith) (omega arith) high first (λ h. line_or-list r.tree line at (sym (ap (λ (q : Reading). is_list (top_body q.tree)) same) ∙ h)) before)
-      | inr is ↦ subst (λ z. IsOrderedAt text (list_finished z r) start) (sym is) (ordered_list_finished text r a start start (omega arith) (omega arith) high boundary (λ h. omega arith) before)
+          (ordered_list_finished text r a line start (omega arith) (omega arith) high first
+          (λ h. line_or-list r.tree line at (sym (ap (λ (q : Reading). is_list (top_body q.tree)) same) ∙ h)) before)
+      | inr is ↦ subst (λ z. IsOrderedAt text (list_finished z r) start) (sym is)
+          (ordered_list_finished text r a start start (omega arith) (omega arith) high boundary (λ h. omega arith) before)
     ] in
     ordered_tree text (list_finished e r) start (list_finished_none e r) on
 
 -- a block quote opened at a place in a line
-pub ordered_quote : (text : List ℕ) (r : Reading) (line at start : ℕ) (kind : Option BlockQuoteKind) → line ≤ at → at ≤ start → start ≤ length text → IsCharBoundary text line → IsCharBoundary text start → r.empty_item ≡ None
+pub ordered_quote : (text : List ℕ) (r : Reading) (line at start : ℕ) (kind : Option BlockQuoteKind)
+    → line ≤ at → at ≤ start → start ≤ length text → IsCharBoundary text line → IsCharBoundary text start → r.empty_item ≡ None
     → IsOrderedTo text r.tree (line_or r.tree line at) → IsOrderedTo text (begun start (BlockQuoteBody kind) (list_finished line r)).tree start
 ordered_quote text r line at start kind low mid high first boundary none o =
-    ordered_begun text (list_finished line r) start start (BlockQuoteBody kind) (omega arith) high boundary (ordered_finished text r line at line start low mid (inl (refl, first)) high boundary none o)
+    ordered_begun text (list_finished line r) start start (BlockQuoteBody kind) (omega arith) high boundary
+    (ordered_finished text r line at line start low mid (inl (refl, first)) high boundary none o)
 
 -- a task list item marker stands after an item's own
-mark_by : (text : List ℕ) (line : ℕ) (r : Rest) (o : Option (Bool × Rest)) (from : ℕ) (x : Item) → IsUtf8 text → ((task : Bool × Rest) → o ≡ Some task → task_of r ≡ Some task) → IsPlaceOf text (place_at line r) → from ≤ offset (place_at line r)
+mark_by : (text : List ℕ) (line : ℕ) (r : Rest) (o : Option (Bool × Rest)) (from : ℕ) (x : Item)
+    → IsUtf8 text → ((task : Bool × Rest) → o ≡ Some task → task_of r ≡ Some task) → IsPlaceOf text (place_at line r) → from ≤ offset (place_at line r)
     → (task_by line r o).0 ≡ Some x → StandsBefore text from (offset (place_at line (task_by line r o).1)) (Some x)
 mark_by text line r None from x u h i low is = cc
 mark_by text line r (Some task) from x u h i low is =
@@ -147,21 +166,25 @@ mark_by text line r (Some task) from x u h i low is =
     let order = offset_later text line r task.1 i k.0 k.2 in
     let y : Item = record { start = offset (place_at line r); «end» = offset (place_at line task.1); body = TaskListMarker task.0 } in
     let same : y ≡ x = cc in
-    subst (λ (z : Item). StandsBefore text from (offset (place_at line task.1)) (Some z)) same (refl, record { behind = low; order = order; before = omega arith; starts = i.boundary; ends = k.0.boundary })
+    subst (λ (z : Item). StandsBefore text from (offset (place_at line task.1)) (Some z)) same
+    (refl, record { behind = low; order = order; before = omega arith; starts = i.boundary; ends = k.0.boundary })
 
-pub mark_stands : (text : List ℕ) (options : Options) (line : ℕ) (r s : Rest) (from : ℕ) (marker : Option Item) (x : Item) → IsUtf8 text → IsPlaceOf text (place_at line r) → from ≤ offset (place_at line r) → marker ≡ (task_behind options line r).0
+pub mark_stands : (text : List ℕ) (options : Options) (line : ℕ) (r s : Rest) (from : ℕ) (marker : Option Item) (x : Item)
+    → IsUtf8 text → IsPlaceOf text (place_at line r) → from ≤ offset (place_at line r) → marker ≡ (task_behind options line r).0
     → s ≡ (task_behind options line r).1 → marker ≡ Some x → StandsBefore text from (offset (place_at line s)) (Some x)
 mark_stands text options line r s from marker x u i low is rest some =
     subst (λ (z : Rest). StandsBefore text from (offset (place_at line z)) (Some x)) (sym rest)
     (mark_by text line r (if has options 16 then task_of r else None) from x u (λ task h. option_on (has options 16) (task_of r) task h) i low (sym is ∙ some))
 
 -- an item with something after its markers
-pub ordered_container : (text : List ℕ) (q : Reading) (line start at : ℕ) (marker : Option Item) → is_list (top_body q.tree) ≡ false → start ≤ at → at ≤ length text → IsOrderedTo text q.tree start
+pub ordered_container : (text : List ℕ) (q : Reading) (line start at : ℕ) (marker : Option Item)
+    → is_list (top_body q.tree) ≡ false → start ≤ at → at ≤ length text → IsOrderedTo text q.tree start
     → ((x : Item) → marker ≡ Some x → StandsBefore text start at (Some x)) → OrderedIn text q line at (task_text marker)
 ordered_container text q line start at None none low high o stands = ordered_on text q.tree line start at none low high o
 ordered_container text q line start at (Some x) none low high o stands = record { from = start; ordered = o; stands = stands x refl }
 
-marked_by : (text : List ℕ) (f : Forest Item) (start at next : ℕ) (marker : Option Item) → start ≤ next → at ≤ next → next ≤ length text → IsOrderedTo text f start → ((x : Item) → marker ≡ Some x → StandsBefore text start at (Some x)) → IsOrderedTo text (with_child f marker) next
+marked_by : (text : List ℕ) (f : Forest Item) (start at next : ℕ) (marker : Option Item) → start ≤ next → at ≤ next → next ≤ length text
+    → IsOrderedTo text f start → ((x : Item) → marker ≡ Some x → StandsBefore text start at (Some x)) → IsOrderedTo text (with_child f marker) next
 marked_by text f start at next None low mid high o stands = ordered_later text f start next low high o
 marked_by text f start at next (Some x) low mid high o stands =
     let b = (stands x refl).1 in
@@ -169,7 +192,8 @@ marked_by text f start at next (Some x) low mid high o stands =
     ordered_appended text f start next x (record { behind = b.behind; order = b.order; before = omega arith; starts = b.starts; ends = b.ends }) high o
 
 -- one with nothing after them
-pub ordered_empty_item : (text : List ℕ) (start at next columns : ℕ) (r : Reading) (marker : Option Item) (blank : Bool) → start ≤ next → at ≤ next → next ≤ length text → IsCharBoundary text next
+pub ordered_empty_item : (text : List ℕ) (start at next columns : ℕ) (r : Reading) (marker : Option Item) (blank : Bool)
+    → start ≤ next → at ≤ next → next ≤ length text → IsCharBoundary text next
     → IsOrderedTo text (begun start (ListItemBody columns) r).tree start → ((x : Item) → marker ≡ Some x → StandsBefore text start at (Some x))
     → IsOrderedAt text (remembered (with_child (begun start (ListItemBody columns) r).tree marker) (Some next) blank) next
 ordered_empty_item text start at next columns r marker blank low mid high boundary o stands = record {
@@ -180,12 +204,14 @@ ordered_empty_item text start at next columns r marker blank low mid high bounda
 }
 
 -- a block added
-pub ordered_block : (text : List ℕ) (old : Forest Item) (r : Reading) (from next : ℕ) → AddsBetween text from next old r.tree → next ≤ length text → r.empty_item ≡ None → IsOrderedTo text old from → IsOrderedAt text r next
+pub ordered_block : (text : List ℕ) (old : Forest Item) (r : Reading) (from next : ℕ)
+    → AddsBetween text from next old r.tree → next ≤ length text → r.empty_item ≡ None → IsOrderedTo text old from → IsOrderedAt text r next
 ordered_block text old r from next a high none o =
     ordered_none text r next none high (subst (λ f. IsOrderedTo text f next) (sym a.tree_is) (ordered_added text old from next a.items a.fits high o))
 
 -- a block added where something is in order: an item that it is added to is empty no more
-pub block_ordered : (text : List ℕ) (old new : Reading) (at start next : ℕ) → IsOrderedAt text old at → at ≤ start → ((from : ℕ) → from ≤ start → AddsBetween text from next old.tree new.tree) → next ≤ length text → new.empty_item ≡ None → IsOrderedAt text new next
+pub block_ordered : (text : List ℕ) (old new : Reading) (at start next : ℕ) → IsOrderedAt text old at → at ≤ start
+    → ((from : ℕ) → from ≤ start → AddsBetween text from next old.tree new.tree) → next ≤ length text → new.empty_item ≡ None → IsOrderedAt text new next
 block_ordered text old new at start next o low fits within none =
     let before = o.later in
     let e : ℕ = reached old.empty_item at in
@@ -195,11 +221,13 @@ block_ordered text old new at start next o low fits within none =
 -- a marker that may stand from an offset on may stand from an earlier one on
 stands_earlier : (text : List ℕ) (a b to : ℕ) (marker : Option Item) → a ≤ b → StandsBefore text b to marker → StandsBefore text a to marker
 stands_earlier text a b to None low h = (let t : b ≤ to = h in omega arith)
-stands_earlier text a b to (Some x) low h = (let m : b ≤ x.start = h.1.behind in (h.0, record { behind = omega arith; order = h.1.order; before = h.1.before; starts = h.1.starts; ends = h.1.ends }))
+stands_earlier text a b to (Some x) low h =
+    (let m : b ≤ x.start = h.1.behind in (h.0, record { behind = omega arith; order = h.1.order; before = h.1.before; starts = h.1.starts; ends = h.1.ends }))
 
 -- the same for a paragraph, after a task list item marker or not
 pub text_ordered : (text : List ℕ) (old new : Reading) (at start next : ℕ) (marker : Option Item) → IsOrderedAt text old at → StandsBefore text at start marker
-    → ((from : ℕ) → StandsBefore text from start marker → AddsBetween text from next old.tree new.tree) → next ≤ length text → new.empty_item ≡ None → IsOrderedAt text new next
+    → ((from : ℕ) → StandsBefore text from start marker → AddsBetween text from next old.tree new.tree) → next ≤ length text → new.empty_item ≡ None
+    → IsOrderedAt text new next
 text_ordered text old new at start next marker o stands fits within none =
     let e : ℕ = reached old.empty_item at in
     ordered_block text old.tree new e next (fits e (stands_earlier text e at start marker o.later stands)) within none o.ordered
@@ -209,7 +237,8 @@ unfolding prefix
 quote_start_before r s is = quote_less (after_columns 3 r) s (past_quote (after_columns 3 r)) refl is
 
 -- where a block quote starts, between the place where it begins and the place inside
-pub quote_stands : (text : List ℕ) (line at : ℕ) (r s : Rest) → IsUtf8 text → prefix (BlockQuote None) r ≡ Some s → IsPlaceOf text (place_at line r) → IsPlaceOf text (place_at line s) → at ≡ (after_columns 3 r).taken
+pub quote_stands : (text : List ℕ) (line at : ℕ) (r s : Rest)
+    → IsUtf8 text → prefix (BlockQuote None) r ≡ Some s → IsPlaceOf text (place_at line r) → IsPlaceOf text (place_at line s) → at ≡ (after_columns 3 r).taken
     → (offset (place_at line r) ≤ line + at) × (line + at ≤ offset (place_at line s)) × IsCharBoundary text (line + at)
 quote_stands text line at r s u is i j at_is =
     let q : Rest = after_columns 3 r in
@@ -224,11 +253,14 @@ pub place_before_end : (p : Place) → offset p ≤ line_end p
 place_before_end p = omega arith
 
 -- a leaf block added at its place
-pub ordered_leaf : (text : List ℕ) (r new : Reading) (line at e start next : ℕ) → line ≤ at → at ≤ start → (e ≡ line) × IsCharBoundary text line ⊎ (e ≡ start) → start ≤ length text → IsCharBoundary text start → r.empty_item ≡ None
-    → IsOrderedTo text r.tree (line_or r.tree line at) → AddsBetween text start next (list_finished e r).tree new.tree → next ≤ length text → new.empty_item ≡ None → IsOrderedAt text new next
+pub ordered_leaf : (text : List ℕ) (r new : Reading) (line at e start next : ℕ)
+    → line ≤ at → at ≤ start → (e ≡ line) × IsCharBoundary text line ⊎ (e ≡ start) → start ≤ length text → IsCharBoundary text start → r.empty_item ≡ None
+    → IsOrderedTo text r.tree (line_or r.tree line at) → AddsBetween text start next (list_finished e r).tree new.tree → next ≤ length text
+    → new.empty_item ≡ None → IsOrderedAt text new next
 ordered_leaf text r new line at e start next low mid which high boundary none o adds fits none' =
     ordered_block text (list_finished e r).tree new start next adds fits none' (ordered_finished text r line at e start low mid which high boundary none o)
 
 -- the place after the columns of another
-pub unindented_later : (text : List ℕ) (line : ℕ) (r : Rest) → IsUtf8 text → IsPlaceOf text (place_at line r) → offset (place_at line r) ≤ offset (unindented (place_at line r))
+pub unindented_later : (text : List ℕ) (line : ℕ) (r : Rest)
+    → IsUtf8 text → IsPlaceOf text (place_at line r) → offset (place_at line r) ≤ offset (unindented (place_at line r))
 unindented_later text line r u i = offset_later text line r (all_taken r) i (all_keep text line r u i) (columns_shorter (indent r) r)

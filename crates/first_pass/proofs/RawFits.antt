@@ -16,7 +16,9 @@ use Rattle.first_pass_open.specs.Path.{path_of}
 use Rattle.first_pass_raw.specs.RawBlocks.{IsPlaceAt, code_behind, AddsIndented, AddsRaw, metadata_behind, fenced_behind, html_to_end, html_to_blank}
 use Rattle.first_pass_names.proofs.NameLemmas.{extends_none}
 use Rattle.first_pass_raw.proofs.IndentedLemmas.{first_at, first_is}
-use Rattle.first_pass_raw.proofs.RawOrder.{ArePlaced, AreFew, IsPlaced, html_few, to_blank_left, fence_plain, ends_before_next, kept_last, indented_fits, fenced_fits, metadata_fits, html_fits, indented_behind_placed, indented_behind_few, fenced_behind_placed, metadata_behind_placed, to_end_placed, to_blank_placed, fenced_behind_before, metadata_behind_before, to_end_before}
+use Rattle.first_pass_raw.proofs.RawOrder.{ArePlaced, AreFew, IsPlaced, html_few, to_blank_left, fence_plain, ends_before_next, kept_last, indented_fits}
+use Rattle.first_pass_raw.proofs.RawOrder.{fenced_fits, metadata_fits, html_fits, indented_behind_placed, indented_behind_few, fenced_behind_placed}
+use Rattle.first_pass_raw.proofs.RawOrder.{metadata_behind_placed, to_end_placed, to_blank_placed, fenced_behind_before, metadata_behind_before, to_end_before}
 use Rattle.first_pass_text.specs.Between.{AddsBetween}
 use Rattle.first_pass_grammar.specs.OpenOrder.{within_top}
 use Rattle.first_pass_grammar.specs.Order.{GrowsBy}
@@ -32,20 +34,27 @@ place_of text start p b i = record {
   boundary = subst (IsCharBoundary text) (sym i.offset_is) b;
 }
 
-module _ (text : List ℕ) (options : Options) (names : Names) (old new : Forest Item) (start next : ℕ) (u : IsUtf8 text) (b : IsCharBoundary text start) (within : next ≤ length text) where
+module _ (text : List ℕ) (options : Options) (names : Names) (old new : Forest Item) (start next : ℕ) (u : IsUtf8 text) (b : IsCharBoundary text start)
+    (within : next ≤ length text) where
   pub fenced_between : (columns byte count : ℕ) → code_fence (drop start text) ≡ Some (count, byte)
-      → (let e : Extent = fenced_behind text (path_of options old) columns byte count start in AddsRaw (document text options names) (λ d. IsFencedCode d start count e.places e.«end») e.left old new next)
+      → (
+      let e : Extent = fenced_behind text (path_of options old) columns byte count start in
+      AddsRaw (document text options names) (λ d. IsFencedCode d start count e.places e.«end») e.left old new next)
       → (from : ℕ) → from ≤ start → AddsBetween text from next old new
   fenced_between columns byte count fence a from low =
       let e : Extent = fenced_behind text (path_of options old) columns byte count start in
-      let before = ends_before_next text e next within a.left_is (fenced_behind_before text u (path_of options old) columns byte count start (fence_plain (drop start text) (count, byte) fence) b) in
+      let before = ends_before_next text e next within a.left_is
+      (fenced_behind_before text u (path_of options old) columns byte count start (fence_plain (drop start text) (count, byte) fence) b) in
       record {
         items = a.items;
         tree_is = a.tree_is;
-        fits = between-any text (within_top old) from _ a.items (fenced_fits (document text options names) start count e a.items u (a.are names (extends_none names)) b (fenced_behind_placed text u (path_of options old) columns byte count start b) from next low before);
+        fits = between-any text (within_top old) from _ a.items (fenced_fits (document text options names) start count e a.items u
+            (a.are names (extends_none names)) b (fenced_behind_placed text u (path_of options old) columns byte count start b) from next low before);
       }
 
-  pub metadata_between : (byte : ℕ) → is_content byte ≡ true → (let e : Extent = metadata_behind text (path_of options old) byte start in AddsRaw (document text options names) (λ d. IsMetadata d start byte e.places e.«end») e.left old new next)
+  pub metadata_between : (byte : ℕ) → is_content byte ≡ true → (
+      let e : Extent = metadata_behind text (path_of options old) byte start in
+      AddsRaw (document text options names) (λ d. IsMetadata d start byte e.places e.«end») e.left old new next)
       → (from : ℕ) → from ≤ start → AddsBetween text from next old new
   metadata_between byte plain a from low =
       let e : Extent = metadata_behind text (path_of options old) byte start in
@@ -53,10 +62,12 @@ module _ (text : List ℕ) (options : Options) (names : Names) (old new : Forest
       record {
         items = a.items;
         tree_is = a.tree_is;
-        fits = between-any text (within_top old) from _ a.items (metadata_fits (document text options names) start byte e a.items u (a.are names (extends_none names)) b (metadata_behind_placed text u (path_of options old) byte start b) from next low before);
+        fits = between-any text (within_top old) from _ a.items (metadata_fits (document text options names) start byte e a.items u
+            (a.are names (extends_none names)) b (metadata_behind_placed text u (path_of options old) byte start b) from next low before);
       }
 
-  pub to_end_between : (tag : List ℕ) (columns : ℕ) → ((p : Place) → IsPlaceAt text start p → let e : Extent = html_to_end text (path_of options old) tag p in AddsRaw (document text options names) (λ d. IsHtml d start columns e.places e.«end») e.left old new next)
+  pub to_end_between : (tag : List ℕ) (columns : ℕ) → ((p : Place) → IsPlaceAt text start p → let e : Extent = html_to_end text
+      (path_of options old) tag p in AddsRaw (document text options names) (λ d. IsHtml d start columns e.places e.«end») e.left old new next)
       → (from : ℕ) → from ≤ start → AddsBetween text from next old new
   to_end_between tag columns adds from low =
       let p : Place = first_at text start 0 in
@@ -67,29 +78,40 @@ module _ (text : List ℕ) (options : Options) (names : Names) (old new : Forest
       record {
         items = a.items;
         tree_is = a.tree_is;
-        fits = between-any text (within_top old) from _ a.items (html_fits (document text options names) start columns e a.items u (a.are names (extends_none names)) b (subst (λ n. IsPlaced text n e) i.offset_is (to_end_placed text u (path_of options old) tag p (place_of text start p b i))) from next low before);
+        fits = between-any text
+            (within_top old) from _ a.items (html_fits (document text options names) start columns e a.items u (a.are names (extends_none names)) b
+            (subst (λ n. IsPlaced text n e) i.offset_is (to_end_placed text u (path_of options old) tag p (place_of text start p b i))) from next low before);
       }
 
-  pub to_blank_between : (columns : ℕ) (p : Place) → IsPlaceAt text start p → (let e : Extent = html_to_blank text (path_of options old) p in AddsRaw (document text options names) (λ d. IsHtml d start columns e.places e.«end») e.left old new next)
+  pub to_blank_between : (columns : ℕ) (p : Place) → IsPlaceAt text start p → (
+      let e : Extent = html_to_blank text (path_of options old) p in
+      AddsRaw (document text options names) (λ d. IsHtml d start columns e.places e.«end») e.left old new next)
       → (from : ℕ) → from ≤ start → AddsBetween text from (html_to_blank text (path_of options old) p).«end» old new
   to_blank_between columns p i a from low =
       let e : Extent = html_to_blank text (path_of options old) p in
       record {
         items = a.items;
         tree_is = a.tree_is;
-        fits = between-any text (within_top old) from _ a.items (html_fits (document text options names) start columns e a.items u (a.are names (extends_none names)) b (subst (λ n. IsPlaced text n e) i.offset_is (to_blank_placed text u (path_of options old) p (place_of text start p b i))) from e.«end» low (omega arith));
+        fits = between-any text
+            (within_top old) from _ a.items (html_fits (document text options names) start columns e a.items u (a.are names (extends_none names)) b
+            (subst (λ n. IsPlaced text n e) i.offset_is (to_blank_placed text u (path_of options old) p (place_of text start p b i))) from e.«end» low
+            (omega arith));
       }
 
   -- up to where the lines begin that it leaves, at most four nodes of the tree's own are new for each byte
-  pub to_blank_few : (columns : ℕ) (p : Place) → IsPlaceAt text start p → (let e : Extent = html_to_blank text (path_of options old) p in AddsRaw (document text options names) (λ d. IsHtml d start columns e.places e.«end») e.left old new next)
+  pub to_blank_few : (columns : ℕ) (p : Place) → IsPlaceAt text start p → (
+      let e : Extent = html_to_blank text (path_of options old) p in
+      AddsRaw (document text options names) (λ d. IsHtml d start columns e.places e.«end») e.left old new next)
       → (from : ℕ) → from ≤ start → from < next → GrowsBy from next old.nodes new.nodes
   to_blank_few columns p i a from low apart =
       let e : Extent = html_to_blank text (path_of options old) p in
       let stands = place_of text start p b i in
       let stop : start_of (length text) e.left ≡ next = ap (start_of (length text)) (sym a.left_is) ∙ start_of-lines text next within in
-      let placed : ArePlaced text start e.places next = subst (ArePlaced text start e.places) stop (subst (λ n. ArePlaced text n e.places (start_of (length text) e.left)) i.offset_is (to_blank_left text u (path_of options old) p stands)) in
+      let placed : ArePlaced text start e.places next = subst (ArePlaced text start e.places) stop
+      (subst (λ n. ArePlaced text n e.places (start_of (length text) e.left)) i.offset_is (to_blank_left text u (path_of options old) p stands)) in
       let few = subst (λ n. AreFew n e.places) i.offset_is (to_blank_placed text u (path_of options old) p stands).few in
-      let some = html_few (document text options names) start columns next e a.items (a.are names (extends_none names)) placed few from next low (omega arith) apart in
+      let some =
+      html_few (document text options names) start columns next e a.items (a.are names (extends_none names)) placed few from next low (omega arith) apart in
       let tree = ap (λ (f : Forest Item). own_nodes f.nodes) a.tree_is in
       let more = own_added old.nodes a.items (length old.spine + 1) in
       omega arith
@@ -98,7 +120,9 @@ module _ (text : List ℕ) (options : Options) (names : Names) (old new : Forest
   pub to_blank_ends : (p : Place) → IsPlaceAt text start p → IsCharBoundary text (html_to_blank text (path_of options old) p).«end»
   to_blank_ends p i = (to_blank_placed text u (path_of options old) p (place_of text start p b i)).boundary
 
-  pub indented_between : (owed : ℕ) (blank : Bool) → ((p : Place) → IsPlaceAt text start p → p.rest.owed ≡ owed → AddsIndented (document text options names) p old new next blank) → (from : ℕ) → from ≤ start → AddsBetween text from next old new
+  pub indented_between : (owed : ℕ) (blank : Bool)
+      → ((p : Place) → IsPlaceAt text start p → p.rest.owed ≡ owed → AddsIndented (document text options names) p old new next blank) → (from : ℕ)
+      → from ≤ start → AddsBetween text from next old new
   indented_between owed blank adds from low =
       let p : Place = first_at text start owed in
       let i = first_is text start owed in
@@ -111,5 +135,7 @@ module _ (text : List ℕ) (options : Options) (names : Names) (old new : Forest
       record {
         items = a.items;
         tree_is = a.tree_is;
-        fits = between-any text (within_top old) from _ a.items (indented_fits (document text options names) p all.0 a.items (start_of (length text) all.1) u (a.is names (extends_none names)) placed (indented_behind_few text u (path_of options old) p (place_of text start p b i)) from next (omega arith) (omega arith));
+        fits = between-any text (within_top old) from _ a.items
+            (indented_fits (document text options names) p all.0 a.items (start_of (length text) all.1) u (a.is names (extends_none names)) placed
+            (indented_behind_few text u (path_of options old) p (place_of text start p b i)) from next (omega arith) (omega arith));
       }

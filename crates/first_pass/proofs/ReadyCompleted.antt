@@ -57,7 +57,8 @@ unfolding standing_of
 completed_at d defined tree run from lines can ready =
     let now = ready d.names (extends_none d.names) in
     let places : List ℕ = map (λ (ix : TreeIndex). ix.0) tree.spine in
-    let always : (more : Names) → Extends more d.names → Completes (document d.text d.options more) now.frames places (standing_of defined tree now.frames run) from lines =
+    let always : (more : Names)
+    → Extends more d.names → Completes (document d.text d.options more) now.frames places (standing_of defined tree now.frames run) from lines =
     λ more x.
     let at_last = ready more x in
     subst (λ z. Completes (document d.text d.options more) z places (standing_of defined tree z run) from lines)
@@ -94,7 +95,8 @@ module _ (d : Document) (defined : Tables) (r : Reading) (lines : List Place) (e
       → ((more : Names) → Extends more d.names → ReadyInItem (document d.text d.options more) defined r.tree e lines blank)
       → CompletedInItem d defined r.tree e lines blank
   in_item true ready =
-      completed_at d defined r.tree true (Blanks e) lines (item_goes_on d.options r.tree empty.place empty.outer empty.columns (Blanks e) empty.spine empty.item) ready
+      completed_at d defined r.tree true (Blanks e) lines
+      (item_goes_on d.options r.tree empty.place empty.outer empty.columns (Blanks e) empty.spine empty.item) ready
   in_item false ready = before_line (next_is_blank (path_of d.options r.tree) lines) ready
 
 ready_with : (d : Document) (defined : Tables) (r : Reading) (lines : List Place) (o : Option ℕ)

@@ -59,7 +59,8 @@ module _ (d : Document) (defined : Tables) (lines : List Place) (at : AreAt d.te
     c.completion.names,
     c.completion.extends,
     completed_whole d c.frames (map (λ (ix : TreeIndex). ix.0) tree.spine)
-        (record { nodes = tree.nodes; list = NoList; before = record { last = last_of c.frames; counted = run }; defined = defined }) from lines plain at (all_silent tree.nodes tree.spine c.frames c.are_open) tt c.completion c.derives,
+        (record { nodes = tree.nodes; list = NoList; before = record { last = last_of c.frames; counted = run }; defined = defined }) from lines plain at
+        (all_silent tree.nodes tree.spine c.frames c.are_open) tt c.completion c.derives,
   )
 
   -- an item that takes blank lines alone shows nothing either
@@ -67,7 +68,8 @@ module _ (d : Document) (defined : Tables) (lines : List Place) (at : AreAt d.te
       → marks names (emptied r.tree r.tree.spine).nodes ≡ marks names r.tree.nodes
   emptied_shows r e empty names =
       ap (λ s. marks names (emptied r.tree s).nodes) empty.spine
-      ∙ marks_modified names r.tree.nodes empty.place.0 (λ x. record { start = x.start; «end» = x.«end»; body = ListItemBody 0 }) (λ x k names depth start end. refl)
+      ∙ marks_modified names r.tree.nodes empty.place.0 (λ x. record { start = x.start; «end» = x.«end»; body = ListItemBody 0 })
+      (λ x k names depth start end. refl)
       (open_silent r.tree.nodes empty.place.0 _ (ap (option_and_then frame_of) empty.item))
 
   whole_before_line : (r : Reading) (e : ℕ) → ReadyEmpty d defined r e lines → (t : Bool) → CompletedBeforeLine d defined r.tree e lines t

@@ -16,7 +16,8 @@ use Rattle.first_pass.proofs.OrderLemmas.{ordered_same, ordered_later, ordered_a
 
 -- a row added, or none
 pub row_ordered : (text : List ℕ) (old new : Forest Item) (at ix : ℕ) (row : Option (ℕ × TreeIndex)) → at ≤ ix → ix ≤ length text → (row ≡ None → new ≡ old)
-    → IfSome row (λ r. r.0 ≤ length text) → IfSome row (λ r. AddsBetween text at r.0 old new) → IsOrderedTo text old at → IsOrderedTo text new (behind_row row ix)
+    → IfSome row (λ r. r.0 ≤ length text) → IfSome row (λ r. AddsBetween text at r.0 old new) → IsOrderedTo text old at
+    → IsOrderedTo text new (behind_row row ix)
 row_ordered text old new at ix None low within same ends adds o =
     subst (λ (f : Forest Item). IsOrderedTo text f ix) (sym (same refl)) (ordered_later text old at ix low within o)
 row_ordered text old new at ix (Some (stop, place)) low within same ends adds o =
@@ -44,7 +45,8 @@ rows_ordered text old new at next ix pushed ends c o =
     subst (λ (g : Forest Item). IsOrderedTo text g next) (sym (closed_is text old new at next ix pushed c))
     (ordered_closed text f next next ix pushed.rest pushed.innermost here ends.0 ends rows)
 
-pub rows_count : (text : List ℕ) (old new : Forest Item) (from next : ℕ) (ix : TreeIndex) → IsJustPushed old ix → ClosesBetween text from next old new → from < next
+pub rows_count : (text : List ℕ) (old new : Forest Item) (from next : ℕ) (ix : TreeIndex)
+    → IsJustPushed old ix → ClosesBetween text from next old new → from < next
     → GrowsBy from next old.nodes new.nodes
 rows_count text old new from next ix pushed c apart =
     let few = c.fits.3 apart in

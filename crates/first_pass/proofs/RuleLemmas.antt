@@ -1,5 +1,6 @@
 -- A thematic break takes its line.
-use Rattle.std.proofs.Common.{◌≡◌, ℕ, ◌+◌, ◌≤◌, ◌==◌, ◌||◌, not, Bool, true, false, nat_le, List, [], ◌∷◌, take, drop, count_by, Option, Some, None, unwrap_or, refl, ap, ◌∙◌, arith, if◌then◌else◌}
+use Rattle.std.proofs.Common.{◌≡◌, ℕ, ◌+◌, ◌≤◌, ◌==◌, ◌||◌, not, Bool, true, false, nat_le, List, [], ◌∷◌, take, drop, count_by, Option, Some, None, unwrap_or}
+use Rattle.std.proofs.Common.{refl, ap, ◌∙◌, arith, if◌then◌else◌}
 use Rattle.std.proofs.lemmas.Bool.Decides.{nat_tests}
 use Rattle.std.proofs.lemmas.Option.{none-some}
 use Rattle.std.specs.Option.{option_map}
@@ -30,7 +31,8 @@ end_len (b ∷ bs) k h =
     content_len (b ∷ bs) 0 k (rw c) h ∙ omega arith
 
 -- the bytes of a rule, and its end
-line_by : (bs : List ℕ) (n : ℕ) (o : Option ℕ) (size : ℕ) → n ≤ prefix_len is_content bs → eol_len (drop n bs) ≡ o → option_map (λ k. n + k) o ≡ Some size → size ≡ line_len bs
+line_by : (bs : List ℕ) (n : ℕ) (o : Option ℕ) (size : ℕ)
+    → n ≤ prefix_len is_content bs → eol_len (drop n bs) ≡ o → option_map (λ k. n + k) o ≡ Some size → size ≡ line_len bs
 line_by bs n None size w e h = absurd (none-some size h)
 line_by bs n (Some k) size w e h =
     let s : n + k ≡ size = cc in

@@ -1,5 +1,7 @@
 -- Link definitions that are read, one after the other.
-use Rattle.std.proofs.Common.{◌≡◌, inl, inr, ℕ, zero, suc, ◌+◌, ◌-◌, ◌<◌, ◌≤◌, ◌==◌, ◌||◌, ◌&&◌, not, Bool, true, false, cond, nat_lt, List, [], ◌∷◌, ◌++◌, length, drop, slice_index, Some, None, IsUtf8, IsCharBoundary, refl, sym, ap, subst, ◌∙◌, arith, append_assoc, append-nil, if◌then◌else◌}
+use Rattle.std.proofs.Common.{◌≡◌, inl, inr, ℕ, zero, suc, ◌+◌, ◌-◌, ◌<◌, ◌≤◌, ◌==◌, ◌||◌, ◌&&◌, not, Bool, true, false, cond, nat_lt, List, [], ◌∷◌, ◌++◌}
+use Rattle.std.proofs.Common.{length, drop, slice_index, Some, None, IsUtf8, IsCharBoundary, refl, sym, ap, subst, ◌∙◌, arith, append_assoc, append-nil}
+use Rattle.std.proofs.Common.{if◌then◌else◌}
 use Rattle.std.specs.Option.{option_map}
 use Rattle.std.proofs.lemmas.Bool.{cases_lt, true≢false}
 use Rattle.std.proofs.lemmas.Bool.Decides.{nat_tests}
@@ -39,7 +41,8 @@ last_by b bs (suc m) false ends is more rest = rest m (omega arith) more
 
 last_is_end : (bs : List ℕ) (n : ℕ) → line_len bs ≡ suc n → suc n < length bs → is_line_end (slice_index bs n) ≡ true
 last_is_end [] n is more = absurd (omega arith)
-last_is_end (b ∷ bs) n is more = last_by b bs n (ends_line b bs) refl (sym (line_len-step b bs) ∙ is) (omega arith) (λ m here further. last_is_end bs m here further)
+last_is_end (b ∷ bs) n is more =
+    last_by b bs n (ends_line b bs) refl (sym (line_len-step b bs) ∙ is) (omega arith) (λ m here further. last_is_end bs m here further)
 
 -- of lines that begin after an offset none is left out
 kept_by : (e l : ℕ) (line : Place) (lines : List Place) (t : Bool) → t ≡ false → (if t then lines_beyond e lines else line ∷ lines) ≡ line ∷ lines
@@ -58,7 +61,8 @@ kept_lines text e l low =
       | inr past ↦ (let none : lines_from text l ≡ [] = lines_at-end text l past in ap (lines_beyond e) none ∙ sym none)
     ]
 
-one_left_out : (text : List ℕ) (e l : ℕ) → l < e → e ≤ length text → lines_beyond e (lines_from text l) ≡ lines_beyond e (lines_from text (l + line_len (drop l text)))
+one_left_out : (text : List ℕ) (e l : ℕ)
+    → l < e → e ≤ length text → lines_beyond e (lines_from text l) ≡ lines_beyond e (lines_from text (l + line_len (drop l text)))
 unfolding lines_beyond
 one_left_out text e l low within =
     let first = lines_at-line text l (omega arith) in
@@ -66,7 +70,8 @@ one_left_out text e l low within =
     ap (lines_beyond e) first ∙ left_out e (line_place l (drop l text)) (lines_from text (l + line_len (drop l text))) (nat_lt l e) less
 
 -- where no line ends between two offsets, the line that is read from both ends alike
-same_line_end : (text : List ℕ) (a e : ℕ) → a < e → e ≤ length text → e ≤ a + line_len (drop a text) → is_line_end (slice_index text (e - 1)) ≡ false → a + line_len (drop a text) ≡ e + line_len (drop e text)
+same_line_end : (text : List ℕ) (a e : ℕ) → a < e → e ≤ length text → e ≤ a + line_len (drop a text) → is_line_end (slice_index text (e - 1)) ≡ false
+    → a + line_len (drop a text) ≡ e + line_len (drop e text)
 same_line_end text a e less within low no_end =
     elim (cases_lt e (a + line_len (drop a text))) [
       | inl inside ↦ (let k : ℕ = e - a in
@@ -86,7 +91,8 @@ same_line_end text a e less within low no_end =
     ]
 
 lines_on : (fuel : ℕ) (text : List ℕ) (a e : ℕ) → e ≤ a + fuel → a < e → e ≤ length text → is_line_end (slice_index text (e - 1)) ≡ false
-    → (lines_beyond e (lines_from text (a + line_len (drop a text))) ≡ lines_from text (e + line_len (drop e text))) × (a + line_len (drop a text) ≤ e + line_len (drop e text))
+    → (lines_beyond e (lines_from text (a + line_len (drop a text))) ≡ lines_from text (e + line_len (drop e text)))
+    × (a + line_len (drop a text) ≤ e + line_len (drop e text))
 lines_on zero text a e few less within no_end = absurd (omega arith)
 lines_on (suc fuel) text a e few less within no_end =
     let some = line_len-within text a (omega arith) in
@@ -110,7 +116,8 @@ lines_behind_it text p e i less within no_end =
     (ap (λ n. lines_beyond e (lines_from text n)) ends ∙ r.0, omega arith)
 
 -- at the start nothing is read
-pub run_begun : (text : List ℕ) (around : Context) (nested : Bool) (p : Place) (tables : Tables) → IsPlaceOf text p → RunSoFar text around nested p p tables tables
+pub run_begun : (text : List ℕ) (around : Context) (nested : Bool) (p : Place) (tables : Tables)
+    → IsPlaceOf text p → RunSoFar text around nested p p tables tables
 run_begun text around nested p tables i = record {
   stands = i;
   later = inl (refl, omega arith);
@@ -121,10 +128,12 @@ run_begun text around nested p tables i = record {
 }
 
 -- a definition that stands at a place, by its entry
-pub defined_here : (text : List ℕ) (around : Context) (q : Place) (x : LinkReference) → IsPlaceOf text q → reference_at false around (drop (offset q) text) ≡ Some x → definition_at around q ≡ Some (entry_of (offset q) x)
+pub defined_here : (text : List ℕ) (around : Context) (q : Place) (x : LinkReference)
+    → IsPlaceOf text q → reference_at false around (drop (offset q) text) ≡ Some x → definition_at around q ≡ Some (entry_of (offset q) x)
 defined_here text around q x i is = ap (option_map (entry_of (offset q))) (ap (reference_at false around) i.left ∙ is)
 
-pub defined_none : (text : List ℕ) (around : Context) (q : Place) → IsPlaceOf text q → reference_at false around (drop (offset q) text) ≡ None → definition_at around q ≡ None
+pub defined_none : (text : List ℕ) (around : Context) (q : Place)
+    → IsPlaceOf text q → reference_at false around (drop (offset q) text) ≡ None → definition_at around q ≡ None
 defined_none text around q i is = ap (option_map (entry_of (offset q))) (ap (reference_at false around) i.left ∙ is)
 
 -- What a definition that is read is: where it ends, and what is told with it. The first holds of each, the second where no table is open.
@@ -146,14 +155,17 @@ told_more : (before mid now : Tables) (a : List LinkEntry) (x : LinkEntry) → m
 told_more before mid now a x h k = k ∙ ap (λ t. told t (x ∷ [])) h ∙ told-append before a (x ∷ [])
 
 -- the lines after it, where its end is said by its entry
-behind_entry : (text : List ℕ) (q : Place) (e : ℕ) (x : LinkEntry) → x.«end» ≡ e → lines_beyond e (lines_from text (line_end q)) ≡ lines_from text (e + line_len (drop e text))
+behind_entry : (text : List ℕ) (q : Place) (e : ℕ) (x : LinkEntry)
+    → x.«end» ≡ e → lines_beyond e (lines_from text (line_end q)) ≡ lines_from text (e + line_len (drop e text))
     → lines_beyond x.«end» (lines_from text (line_end q)) ≡ lines_from text (e + line_len (drop e text))
 behind_entry text q e x is lines = ap (λ n. lines_beyond n (lines_from text (line_end q))) is ∙ lines
 
 -- One definition more, after which the line continues the run.
-pub run_goes_on : (text : List ℕ) (around : Context) (nested : Bool) (p q : Place) (e next : ℕ) (before mid now : Tables) → IsUtf8 text → next ≡ e + line_len (drop e text) → next < length text
+pub run_goes_on : (text : List ℕ) (around : Context) (nested : Bool) (p q : Place) (e next : ℕ) (before mid now : Tables)
+    → IsUtf8 text → next ≡ e + line_len (drop e text) → next < length text
     → (ends_tag around (line_rest (drop next text)) || is_blank_rest (all_taken (front around.path (line_rest (drop next text))))) ≡ false
-    → RunSoFar text around nested p q before mid → IsOneMore text around nested q e mid now → RunSoFar text around nested p (text_at text around.path next) before now
+    → RunSoFar text around nested p q before mid → IsOneMore text around nested q e mid now
+    → RunSoFar text around nested p (text_at text around.path next) before now
 unfolding IsRun
 run_goes_on text around nested p q e next before mid now u at within goes r one =
     let behind = lines_behind_it text q e r.stands one.less one.within one.no_end in
@@ -177,27 +189,32 @@ run_goes_on text around nested p q e next before mid now u at within goes r one 
       defined = λ plain. told_more before mid now r.definitions x (r.defined plain) (one.defined plain);
       goes_on = λ plain further beyond run.
           subst (λ z. IsRun around p (lines_from text (line_end p)) z beyond) (sym (append_assoc r.definitions (x ∷ []) further))
-          (r.goes_on plain (x ∷ further) beyond
-          (one.here plain, inr (line, left, lines, goes, subst (λ n. IsRun around (text_at text around.path next) (lines_from text n) further beyond) there.1 run)));
+          (r.goes_on plain (x ∷ further) beyond (
+            one.here plain,
+            inr (line, left, lines, goes, subst (λ n. IsRun around (text_at text around.path next) (lines_from text n) further beyond) there.1 run),
+          ));
     }
 
 -- One definition more, after which the run ends.
 run_ends_by : (around : Context) (text : List ℕ) (next : ℕ)
-    → (next < length text → (ends_tag around (line_rest (drop next text)) || is_blank_rest (all_taken (front around.path (line_rest (drop next text))))) ≡ true) → ends_run around (lines_from text next) ≡ true
+    → (next < length text → (ends_tag around (line_rest (drop next text)) || is_blank_rest (all_taken (front around.path (line_rest (drop next text))))) ≡ true)
+    → ends_run around (lines_from text next) ≡ true
 run_ends_by around text next ends =
     elim (cases_lt next (length text)) [
       | inl within ↦ ap (ends_run around) (lines_at-line text next within) ∙ ends within
       | inr past ↦ (let none : lines_from text next ≡ [] = lines_at-end text next past in ap (ends_run around) none)
     ]
 
-pub run_ends : (text : List ℕ) (around : Context) (nested : Bool) (p q : Place) (e line next : ℕ) (before mid now : Tables) → next ≡ e + line_len (drop e text) → line ≡ q.line
+pub run_ends : (text : List ℕ) (around : Context) (nested : Bool) (p q : Place) (e line next : ℕ) (before mid now : Tables)
+    → next ≡ e + line_len (drop e text) → line ≡ q.line
     → (next < length text → (ends_tag around (line_rest (drop next text)) || is_blank_rest (all_taken (front around.path (line_rest (drop next text))))) ≡ true)
     → RunSoFar text around nested p q before mid → IsOneMore text around nested q e mid now → ReadsRun text around nested p before now (NextLine line next)
 unfolding IsRun
 run_ends text around nested p q e line next before mid now at here ends r one =
     let behind = lines_behind_it text q e r.stands one.less one.within one.no_end in
     let x : LinkEntry = one.entry in
-    let lines : lines_beyond x.«end» (lines_from text (line_end q)) ≡ lines_from text next = behind_entry text q e x one.ends behind.0 ∙ ap (lines_from text) (sym at) in
+    let lines : lines_beyond x.«end» (lines_from text (line_end q)) ≡ lines_from text next =
+    behind_entry text q e x one.ends behind.0 ∙ ap (lines_from text) (sym at) in
     let low = behind.1 in
     record {
       place = q;
@@ -212,7 +229,8 @@ run_ends text around nested p q e line next before mid now at here ends r one =
     }
 
 -- No definition more: a paragraph's text begins there.
-pub run_flows : (text : List ℕ) (around : Context) (nested : Bool) (p q : Place) (at : ℕ) (before now : Tables) → at ≡ offset q → (nested ≡ false → definition_at around q ≡ None)
+pub run_flows : (text : List ℕ) (around : Context) (nested : Bool) (p q : Place) (at : ℕ) (before now : Tables)
+    → at ≡ offset q → (nested ≡ false → definition_at around q ≡ None)
     → RunSoFar text around nested p q before now → ReadsRun text around nested p before now (Paragraph at)
 unfolding IsRun
 run_flows text around nested p q at before now here none r = record {
@@ -223,5 +241,6 @@ run_flows text around nested p q at before now here none r = record {
   says = here;
   definitions = r.definitions;
   defined = r.defined;
-  run = λ plain. subst (λ z. IsRun around p (lines_from text (line_end p)) z (FlowsOn q (lines_from text (line_end q)))) (append-nil r.definitions) (r.goes_on plain [] (FlowsOn q (lines_from text (line_end q))) (none plain, refl));
+  run = λ plain. subst (λ z. IsRun around p (lines_from text (line_end p)) z (FlowsOn q (lines_from text (line_end q)))) (append-nil r.definitions)
+      (r.goes_on plain [] (FlowsOn q (lines_from text (line_end q))) (none plain, refl));
 }

@@ -1,5 +1,6 @@
 -- A block quote with a tag: what it ends and counts, and the line after it.
-use Rattle.std.proofs.Common.{◌≡◌, inl, inr, ℕ, ◌+◌, nat_lt, ◌&&◌, Bool, true, false, List, [], ◌∷◌, length, drop, slice_get, Option, Some, None, is_some, refl, sym, ap, subst, ◌∙◌, if◌then◌else◌}
+use Rattle.std.proofs.Common.{◌≡◌, inl, inr, ℕ, ◌+◌, nat_lt, ◌&&◌, Bool, true, false, List, [], ◌∷◌, length, drop, slice_get, Option, Some, None, is_some, refl}
+use Rattle.std.proofs.Common.{sym, ap, subst, ◌∙◌, if◌then◌else◌}
 use Rattle.std.proofs.lemmas.Bool.{cases_lt}
 use Rattle.std.specs.Option.{option_and_then}
 use Rattle.first_pass_items.specs.declared.item.Item.{Item}
@@ -36,7 +37,8 @@ noted_none : (r : Reading) (f : Forest Item) (t : Bool) → t ≡ false → (if 
 noted_none r f t is = rw is refl
 
 -- Where a block quote is innermost, no item is empty and no blank line was read, a new block ends nothing.
-pub finishes_nothing : (at : ℕ) (r : Reading) (kind : Option BlockQuoteKind) → top_body r.tree ≡ Some (BlockQuoteBody kind) → r.blank ≡ false → r.empty_item ≡ None → list_finished at r ≡ r
+pub finishes_nothing : (at : ℕ) (r : Reading) (kind : Option BlockQuoteKind)
+    → top_body r.tree ≡ Some (BlockQuoteBody kind) → r.blank ≡ false → r.empty_item ≡ None → list_finished at r ≡ r
 unfolding list_finished item_finished
 finishes_nothing at r kind quote blank none =
     let item : item_finished_by r r.empty_item ≡ r = ap (item_finished_by r) none in
@@ -44,7 +46,9 @@ finishes_nothing at r kind quote blank none =
     ap (λ q. gap_noted (list_left at q)) item ∙ ap gap_noted left ∙ noted_none r (gap_tree r.tree r.tree.spine) r.blank blank
 
 -- a blank line doesn't count directly in it
-pub quote_counts : (nodes : List (ℕ × Item)) (s : List TreeIndex) (frames : List Frame) (kind : Option BlockQuoteKind) → option_and_then (λ (ix : TreeIndex). body_at nodes ix.0) (slice_get s 0) ≡ Some (BlockQuoteBody kind) → AreOpen nodes s frames → counts_in frames false ≡ false
+pub quote_counts : (nodes : List (ℕ × Item)) (s : List TreeIndex) (frames : List Frame) (kind : Option BlockQuoteKind)
+    → option_and_then (λ (ix : TreeIndex). body_at nodes ix.0) (slice_get s 0) ≡ Some (BlockQuoteBody kind) → AreOpen nodes s frames
+    → counts_in frames false ≡ false
 quote_counts nodes [] frames kind quote o = cc
 quote_counts nodes (ix ∷ s) [] kind quote o = absurd o
 quote_counts nodes (ix ∷ s) (frame ∷ frames) kind quote o =
@@ -69,23 +73,36 @@ tag_by around line lines t is = rw is refl
 -- where blocks continue after its tag, at the line that begins at an offset
 tag_line : (around : Context) (text : List ℕ) (at : ℕ) (t : Bool) → ends_tag around (line_rest (drop at text)) ≡ t
     → (let lines : List Place = lines_from text at in
-    behind_tag around lines ≡ (if t then (Line, lines) else (At (unindented (place_at at (front around.path (line_rest (drop at text))))) ALeafAlone, lines_from text (at + line_len (drop at text)))))
+    behind_tag around lines ≡ (if t then (Line, lines)
+    else (At (unindented (place_at at (front around.path (line_rest (drop at text))))) ALeafAlone, lines_from text (at + line_len (drop at text)))))
 tag_line around text at t is =
     elim (cases_lt at (length text)) [
-      | inl within ↦ (let first = lines_at-line text at within in ap (behind_tag around) first ∙ tag_by around (line_place at (drop at text)) (lines_from text (at + line_len (drop at text))) t is ∙ ap (λ z. if t then (Line, z) else (At (unindented (place_at at (front around.path (line_rest (drop at text))))) ALeafAlone, lines_from text (at + line_len (drop at text)))) (sym first))
+      | inl within ↦ (
+          let first = lines_at-line text at within in
+          ap (behind_tag around) first ∙ tag_by around (line_place at (drop at text)) (lines_from text (at + line_len (drop at text))) t is
+          ∙ ap (λ z. if t then (Line, z)
+          else (At (unindented (place_at at (front around.path (line_rest (drop at text))))) ALeafAlone, lines_from text (at + line_len (drop at text))))
+          (sym first))
       | inr past ↦ (let none : lines_from text at ≡ [] = lines_at-end text at past in
           let over : t ≡ true = sym is ∙ ap (λ bs. ends_tag around (line_rest bs)) (ends_past text at past) ∙ tag_end around in
-          ap (behind_tag around) none ∙ ap (λ z. (Line, z)) (sym none) ∙ ap (λ u. if u then (Line, lines_from text at) else (At (unindented (place_at at (front around.path (line_rest (drop at text))))) ALeafAlone, lines_from text (at + line_len (drop at text)))) (sym over))
+          ap (behind_tag around) none ∙ ap (λ z. (Line, z)) (sym none) ∙ ap (λ u. if u then (Line, lines_from text at)
+          else (At (unindented (place_at at (front around.path (line_rest (drop at text))))) ALeafAlone, lines_from text (at + line_len (drop at text))))
+          (sym over))
     ]
 
 -- the line after its tag, which is read as any other
-pub ready_any_line : (d : Document) (defined : Tables) (r : Reading) (at : ℕ) → ends_tag (context_of d.options r.tree) (line_rest (drop at d.text)) ≡ true → r.empty_item ≡ None → ReadyTagged d defined r (lines_from d.text at) → Ready d defined r (lines_from d.text at)
+pub ready_any_line : (d : Document) (defined : Tables) (r : Reading) (at : ℕ) → ends_tag (context_of d.options r.tree) (line_rest (drop at d.text)) ≡ true
+    → r.empty_item ≡ None → ReadyTagged d defined r (lines_from d.text at) → Ready d defined r (lines_from d.text at)
 ready_any_line d defined r at is none tagged =
     let lines : List Place = lines_from d.text at in
     let here : behind_tag (context_of d.options r.tree) lines ≡ (Line, lines) = tag_line (context_of d.options r.tree) d.text at true is in
-    ready_plain d defined r lines none (subst (λ t. ReadyAt d defined r.tree t Line lines) (sym tagged.blank) (subst (λ (z : From × List Place). ReadyAt d defined r.tree false z.0 z.1) here tagged.ready))
+    ready_plain d defined r lines none (subst (λ t. ReadyAt d defined r.tree t Line lines) (sym tagged.blank)
+    (subst (λ (z : From × List Place). ReadyAt d defined r.tree false z.0 z.1) here tagged.ready))
 
 -- the same, which belongs to the quote
-pub ready_its_line : (d : Document) (defined : Tables) (r : Reading) (at : ℕ) → ends_tag (context_of d.options r.tree) (line_rest (drop at d.text)) ≡ false → ReadyTagged d defined r (lines_from d.text at)
-    → ReadyLazy d defined r (unindented (place_at at (front (path_of d.options r.tree) (line_rest (drop at d.text))))) (lines_from d.text (at + line_len (drop at d.text)))
-ready_its_line d defined r at is tagged = subst (λ (z : From × List Place). ReadyInQuote d defined r z.0 z.1) (tag_line (context_of d.options r.tree) d.text at false is) tagged
+pub ready_its_line : (d : Document) (defined : Tables) (r : Reading) (at : ℕ)
+    → ends_tag (context_of d.options r.tree) (line_rest (drop at d.text)) ≡ false → ReadyTagged d defined r (lines_from d.text at)
+    → ReadyLazy d defined r (unindented (place_at at (front (path_of d.options r.tree) (line_rest (drop at d.text)))))
+    (lines_from d.text (at + line_len (drop at d.text)))
+ready_its_line d defined r at is tagged =
+    subst (λ (z : From × List Place). ReadyInQuote d defined r z.0 z.1) (tag_line (context_of d.options r.tree) d.text at false is) tagged

@@ -1,5 +1,6 @@
 -- A pass read the link definitions at a place, and the text that they flow into or the one that begins there.
-use Rattle.std.proofs.Common.{◌≡◌, inl, inr, ℕ, ◌+◌, ◌≤◌, Bool, true, false, List, [], ◌∷◌, Option, Some, None, IsUtf8, IsCharBoundary, refl, sym, ap, subst, ◌∙◌, arith, if◌then◌else◌}
+use Rattle.std.proofs.Common.{◌≡◌, inl, inr, ℕ, ◌+◌, ◌≤◌, Bool, true, false, List, [], ◌∷◌, Option, Some, None, IsUtf8, IsCharBoundary, refl, sym, ap, subst}
+use Rattle.std.proofs.Common.{◌∙◌, arith, if◌then◌else◌}
 use Rattle.std.specs.Option.{option_and_then}
 use Rattle.first_pass_items.specs.declared.item.Item.{Item}
 use Rattle.first_pass_items.specs.declared.item.ItemBody.{ItemBody}
@@ -64,7 +65,8 @@ no_table nodes [] frames o = refl
 no_table nodes (ix ∷ spine) [] o = absurd o
 no_table nodes (ix ∷ spine) (frame ∷ frames) o = no_table_at (body_at nodes ix.0) frame (in_table nodes spine) o.0
 
-pub leaf_plain : (d : Document) (defined : Tables) (r : Reading) (p : Place) (lines : List Place) → ReadyLeaf d defined r p lines → in_table r.tree.nodes r.tree.spine ≡ false
+pub leaf_plain : (d : Document) (defined : Tables) (r : Reading) (p : Place) (lines : List Place)
+    → ReadyLeaf d defined r p lines → in_table r.tree.nodes r.tree.spine ≡ false
 leaf_plain d defined r p lines (inl (no_item, no_quote, ready)) = no_table r.tree.nodes r.tree.spine ready.frames ready.are_open
 leaf_plain d defined r p lines (inr lazy) = no_table r.tree.nodes r.tree.spine lazy.ready.frames lazy.ready.are_open
 
@@ -77,14 +79,17 @@ or_high : (t : Bool) (l a m b : ℕ) → l ≤ m → a ≤ m → m ≤ b → (if
 or_high true l a m b low mid high = low
 or_high false l a m b low mid high = (let z : a ≤ b = omega arith in z)
 
-later_below : (text : List ℕ) (f : Forest Item) (p q : Place) → offset p ≤ offset (unindented p) → IsLater text (unindented p) q → line_or f p.line (offset p) ≤ line_or f q.line (offset q)
-later_below text f p q mid (inl (same, low)) = or_low (is_list (top_body f)) p.line (offset p) q.line (offset q) (let z : q.line ≡ p.line = same in omega arith) (omega arith)
+later_below : (text : List ℕ) (f : Forest Item) (p q : Place)
+    → offset p ≤ offset (unindented p) → IsLater text (unindented p) q → line_or f p.line (offset p) ≤ line_or f q.line (offset q)
+later_below text f p q mid (inl (same, low)) =
+    or_low (is_list (top_body f)) p.line (offset p) q.line (offset q) (let z : q.line ≡ p.line = same in omega arith) (omega arith)
 later_below text f p q mid (inr (low, begins)) =
     let ends = place_before_end (unindented p) in
     let l : ℕ = line_end (unindented p) in
     or_high (is_list (top_body f)) p.line (offset p) q.line (offset q) (omega arith) (omega arith) (omega arith)
 
-later_ordered : (text : List ℕ) (f : Forest Item) (p q : Place) → offset p ≤ offset (unindented p) → IsLater text (unindented p) q → IsPlaceOf text q → IsOrderedTo text f (line_or f p.line (offset p)) → IsOrderedTo text f (line_or f q.line (offset q))
+later_ordered : (text : List ℕ) (f : Forest Item) (p q : Place) → offset p ≤ offset (unindented p) → IsLater text (unindented p) q → IsPlaceOf text q
+    → IsOrderedTo text f (line_or f p.line (offset p)) → IsOrderedTo text f (line_or f q.line (offset q))
 later_ordered text f p q mid later i o =
     let below = later_below text f p q mid later in
     let here : line_or f q.line (offset q) ≤ offset q = line_or-below f q.line (offset q) (omega arith) in
@@ -105,7 +110,8 @@ run_from : (text : List ℕ) (around : Context) (p : Place) (xs : List LinkEntry
 run_from text around p xs b run = subst (λ n. IsRun around (unindented p) (lines_from text n) xs b) (columns_line_end (indent p.rest) p) run
 
 -- link definitions with no paragraph after them
-pub run_line : (old mid new : FirstPass) (p : Place) (nested : Bool) (line next : ℕ) → IsUtf8 (source_text old) → IsPlaceOf (source_text old) p → (reading_of old).empty_item ≡ None → IsForest (tree_of old) → IsKind (source_options old) p.rest Paragraph
+pub run_line : (old mid new : FirstPass) (p : Place) (nested : Bool) (line next : ℕ) → IsUtf8 (source_text old) → IsPlaceOf (source_text old) p
+    → (reading_of old).empty_item ≡ None → IsForest (tree_of old) → IsKind (source_options old) p.rest Paragraph
     → nested ≡ in_table (tree_of old).nodes (tree_of old).spine → source_of mid ≡ source_of old → names_of (allocs_of mid) ≡ names_of (allocs_of old)
     → (AreWritten (source_text old) (refdefs_of (allocs_of old)) → AreWritten (source_text old) (refdefs_of (allocs_of mid)))
     → ReadsRun (source_text old) (context_in old) nested (unindented p) (tables (allocs_of old)) (tables (allocs_of mid)) (NextLine line next)
@@ -138,11 +144,13 @@ run_line old mid new p nested line next u i empty forest kind nest source names 
             subst (λ z. Ready d z (reading_of new) (lines_from text next)) (sym (ap tables allocs ∙ w.defined plain))
             (subst (λ z. Ready d (told (tables (allocs_of old)) w.definitions) z (lines_from text next)) (sym behind)
             (ready_ended d (tables (allocs_of old)) r p q next w.definitions forest kind run empty ready));
-        named = λ h. subst (λ (z : Reading). AreNamed (names_of (allocs_of new)) z.tree.nodes) (sym behind) (subst (λ z. AreNamed z (list_finished q.line r).tree.nodes) (sym named) (list_finished_named (names_of (allocs_of old)) q.line r h));
+        named = λ h. subst (λ (z : Reading). AreNamed (names_of (allocs_of new)) z.tree.nodes) (sym behind)
+            (subst (λ z. AreNamed z (list_finished q.line r).tree.nodes) (sym named) (list_finished_named (names_of (allocs_of old)) q.line r h));
         written = λ h. subst (λ z. AreWritten text (refdefs_of z)) (sym allocs) (written h);
         order = λ o. inl (subst (λ z. IsOrderedAt text z next) (sym behind)
             (ordered_none text (list_finished q.line r) next (list_finished_none q.line r) high
-            (ordered_finished text r q.line (offset q) q.line next (omega arith) (omega arith) (inl (refl, later_line text p q o.0 w.later)) high last empty (later_ordered text r.tree p q further w.later w.stands o.1))));
+            (ordered_finished text r q.line (offset q) q.line next (omega arith) (omega arith) (inl (refl, later_line text p q o.0 w.later)) high last empty
+            (later_ordered text r.tree p q further w.later w.stands o.1))));
         whole = λ h k. subst (IsReadWhole (names_of (allocs_of new))) (sym behind)
             (subst (λ z. IsReadWhole z (list_finished q.line r)) (sym named) (list_finished_whole (names_of (allocs_of old)) q.line r k));
       };
@@ -150,11 +158,13 @@ run_line old mid new p nested line next u i empty forest kind nest source names 
     }
 
 -- the paragraph that they flow into, or that stands alone
-pub run_text : (old mid new : FirstPass) (p : Place) (nested : Bool) (at next : ℕ) → IsUtf8 (source_text old) → IsPlaceOf (source_text old) p → (reading_of old).empty_item ≡ None → IsForest (tree_of old) → IsKind (source_options old) p.rest Paragraph
+pub run_text : (old mid new : FirstPass) (p : Place) (nested : Bool) (at next : ℕ) → IsUtf8 (source_text old) → IsPlaceOf (source_text old) p
+    → (reading_of old).empty_item ≡ None → IsForest (tree_of old) → IsKind (source_options old) p.rest Paragraph
     → nested ≡ in_table (tree_of old).nodes (tree_of old).spine → source_of mid ≡ source_of old → names_of (allocs_of mid) ≡ names_of (allocs_of old)
     → (AreWritten (source_text old) (refdefs_of (allocs_of old)) → AreWritten (source_text old) (refdefs_of (allocs_of mid)))
     → ReadsRun (source_text old) (context_in old) nested (unindented p) (tables (allocs_of old)) (tables (allocs_of mid)) (TextBehind at)
-    → source_of new ≡ source_of mid → Extends (names_of (allocs_of new)) (names_of (allocs_of mid)) → entries (allocs_of new) ≡ entries (allocs_of mid) → reading_of new ≡ with_block (list_finished at (reading_of old)) (tree_of new)
+    → source_of new ≡ source_of mid → Extends (names_of (allocs_of new)) (names_of (allocs_of mid)) → entries (allocs_of new) ≡ entries (allocs_of mid)
+    → reading_of new ≡ with_block (list_finished at (reading_of old)) (tree_of new)
     → AddsText (document (source_text old) (source_options old) (names_of (allocs_of new))) at None (list_finished at (reading_of old)).tree (tree_of new) next
     → ((from : ℕ) → from ≤ at → AddsBetween (source_text old) from next (list_finished at (reading_of old)).tree (tree_of new)) → IsLeafRead old new p next
 run_text old mid new p nested at next u i empty forest kind nest source names written w source' grown same_entries reading block fits =
@@ -189,14 +199,19 @@ run_text old mid new p nested at next u i empty forest kind nest source names wr
             subst (λ z. Ready d z (reading_of new) (lines_from text next)) (sym (ap told_by same_entries ∙ w.defined plain))
             (ready_flows d (tables (allocs_of old)) r (tree_of new) p q at next w.definitions block.items forest kind w.stands at_is run
             (block.is_text more extends) block.tree_is empty ready (reading_of new).empty_item (reading_of new).blank none blank);
-        named = λ h. block_added (names_of (allocs_of new)) (names_of (allocs_of old)) (list_finished at r).tree (tree_of new) block.items more_named block.tree_is
-            (text_named (document text options (names_of (allocs_of new))) _ q None _ _ tt (block.is_text (names_of (allocs_of new)) (extends_none (names_of (allocs_of new))) q w.stands (sym at_is)))
+        named =
+            λ h. block_added (names_of (allocs_of new)) (names_of (allocs_of old)) (list_finished at r).tree (tree_of new) block.items more_named block.tree_is
+            (text_named (document text options (names_of (allocs_of new))) _ q None _ _ tt
+            (block.is_text (names_of (allocs_of new)) (extends_none (names_of (allocs_of new))) q w.stands (sym at_is)))
             (list_finished_named (names_of (allocs_of old)) at r h);
         written = λ h. written_stay text (allocs_of mid) (allocs_of new) same_entries (written h);
-        order = λ o. inl (ordered_leaf text r (reading_of new) q.line (offset q) at at next (omega arith) (omega arith) (inr refl) (let high = begins.0 in omega arith) (subst (IsCharBoundary text) (sym at_is) begins) empty
+        order = λ o. inl (ordered_leaf text r (reading_of new) q.line (offset q) at at next (omega arith) (omega arith) (inr refl)
+            (let high = begins.0 in omega arith) (subst (IsCharBoundary text) (sym at_is) begins) empty
             (later_ordered text r.tree p q further w.later w.stands o.1) (fits at (omega arith)) block.boundary.0 none);
-        whole = λ h k. block_whole (names_of (allocs_of new)) (names_of (allocs_of old)) (list_finished at r).tree (tree_of new) block.items more_named block.tree_is
-            (added_text_whole (document text options (names_of (allocs_of new))) _ q None _ _ w.stands tt (block.is_text (names_of (allocs_of new)) (extends_none (names_of (allocs_of new))) q w.stands (sym at_is)))
+        whole = λ h k.
+            block_whole (names_of (allocs_of new)) (names_of (allocs_of old)) (list_finished at r).tree (tree_of new) block.items more_named block.tree_is
+            (added_text_whole (document text options (names_of (allocs_of new))) _ q None _ _ w.stands tt
+            (block.is_text (names_of (allocs_of new)) (extends_none (names_of (allocs_of new))) q w.stands (sym at_is)))
             (list_finished_named (names_of (allocs_of old)) at r h) (list_finished_whole (names_of (allocs_of old)) at r k);
       };
       few = omega arith;

@@ -1,5 +1,6 @@
 -- A paragraph becomes a heading: the tree is in order as before.
-use Rattle.std.proofs.Common.{◌≡◌, ℕ, ◌+◌, ◌<◌, ◌≤◌, Bool, List, [], ◌∷◌, ◌++◌, length, slice_get, Option, Some, None, IfSome, IsUtf8, IsCharBoundary, refl, sym, ap, subst, ◌∙◌, arith}
+use Rattle.std.proofs.Common.{◌≡◌, ℕ, ◌+◌, ◌<◌, ◌≤◌, Bool, List, [], ◌∷◌, ◌++◌, length, slice_get, Option, Some, None, IfSome, IsUtf8, IsCharBoundary, refl}
+use Rattle.std.proofs.Common.{sym, ap, subst, ◌∙◌, arith}
 use Rattle.std.specs.Option.{option_map, option_map_or}
 use Rattle.first_pass_items.specs.declared.item.HeadingIndex.{HeadingIndex}
 use Rattle.first_pass_items.specs.declared.item.HeadingLevel.{HeadingLevel}
@@ -42,7 +43,8 @@ chain_ordered text f from to (x ∷ xs) h high o =
     chain_ordered text (appended f x) x.«end» to xs h.4 high (ordered_appended text f from x.«end» x between (omega arith) o)
 
 -- a paragraph that is a heading now
-heading_ordered : (text : List ℕ) (f : Forest Item) (at : ℕ) (block : TreeIndex) (level : HeadingLevel) (index : Option HeadingIndex) → body_at f.nodes block.0 ≡ Some Paragraph
+heading_ordered : (text : List ℕ) (f : Forest Item) (at : ℕ) (block : TreeIndex) (level : HeadingLevel) (index : Option HeadingIndex)
+    → body_at f.nodes block.0 ≡ Some Paragraph
     → IsOrderedTo text f at → IsOrderedTo text (with_body_at f block (Heading level index)) at
 heading_ordered text f at block level index is o =
     ordered_same text f (with_body_at f block (Heading level index)) at (extents-body f.nodes block.0 Paragraph (Heading level index) is refl refl refl) refl o
@@ -61,7 +63,8 @@ marked_is f None chain = refl
 marked_is f (Some m) chain = refl
 
 -- a chain with a marker before it, which begins before the cut
-cut_marked : (text : List ℕ) (from start e : ℕ) (marker : Option Item) (chain : List Item) → StandsBefore text from start marker → IfSome marker (λ x. x.start < start) → start ≤ e
+cut_marked : (text : List ℕ) (from start e : ℕ) (marker : Option Item) (chain : List Item)
+    → StandsBefore text from start marker → IfSome marker (λ x. x.start < start) → start ≤ e
     → cut e (marker_items marker ++ chain) ≡ marker_items marker ++ cut e chain
 cut_marked text from start e None chain stands ahead later = refl
 cut_marked text from start e (Some m) chain stands ahead later =
@@ -83,7 +86,8 @@ module _ (d : Document) (utf8 : IsUtf8 d.text) (f : Forest Item) (block : TreeIn
 
   its_item : item_at f block ≡ Some (begun_item h.start Paragraph)
   its_item =
-      ap (λ (g : Forest Item). item_at g block) h.tree_is ∙ ap (option_map (λ (n : ℕ × Item). n.1)) (front_kept h.before whole_chain block block_in) ∙ h.paragraph
+      ap (λ (g : Forest Item). item_at g block) h.tree_is ∙ ap (option_map (λ (n : ℕ × Item). n.1)) (front_kept h.before whole_chain block block_in)
+      ∙ h.paragraph
 
   its_body : (chain : List Item) → body_at (chained h.before chain).nodes block.0 ≡ Some Paragraph
   its_body chain =
@@ -103,7 +107,8 @@ module _ (d : Document) (utf8 : IsUtf8 d.text) (f : Forest Item) (block : TreeIn
       let cut_tree : chained h.before (cut e whole_chain) ≡ chained (with_child h.before h.marker) (cut e l.chain) =
       ap (chained h.before) (cut_marked d.text h.from h.start e h.marker l.chain h.stands h.ahead low) ∙ marked_is h.before h.marker (cut e l.chain) in
       ordered_later d.text (chained h.before (cut e whole_chain)) e behind (omega (arith, up.0)) up.1
-      (subst (λ g. IsOrderedTo d.text g e) (sym cut_tree) (chain_ordered d.text (with_child h.before h.marker) h.start e (cut e l.chain) order (omega (arith, up.0, up.1)) h.ordered))
+      (subst (λ g. IsOrderedTo d.text g e) (sym cut_tree)
+      (chain_ordered d.text (with_child h.before h.marker) h.start e (cut e l.chain) order (omega (arith, up.0, up.1)) h.ordered))
 
   whole_ordered : IsOrderedTo d.text (chained h.before whole_chain) behind
   whole_ordered =
@@ -122,7 +127,8 @@ module _ (d : Document) (utf8 : IsUtf8 d.text) (f : Forest Item) (block : TreeIn
   cut_ordered None none =
       let same : cut_chain d.text d.options h.start (by_backslash l.break) whole_chain ≡ whole_chain =
       ap (λ (o : Option Braces).
-      option_map_or (λ (b : Braces). cut (h.start + kept_before (by_backslash l.break) b.opening (chain_bytes d.text h.start whole_chain)) whole_chain) o whole_chain) none in
+      option_map_or (λ (b : Braces). cut (h.start + kept_before (by_backslash l.break) b.opening (chain_bytes d.text h.start whole_chain)) whole_chain) o
+      whole_chain) none in
       subst (λ g. IsOrderedTo d.text g behind) (sym (ap (chained h.before) same)) whole_ordered
   cut_ordered (Some braces) some =
       let e : ℕ = h.start + kept_before (by_backslash l.break) braces.opening (chain_bytes d.text h.start whole_chain) in
@@ -133,15 +139,18 @@ module _ (d : Document) (utf8 : IsUtf8 d.text) (f : Forest Item) (block : TreeIn
       let p = kept_place d.text d.options h.start (chain_end h.start whole_chain) (by_backslash l.break) braces (omega (arith, up.0, up.1)) some in
       let same : cut_chain d.text d.options h.start (by_backslash l.break) whole_chain ≡ cut e whole_chain =
       ap (λ (o : Option Braces).
-      option_map_or (λ (b : Braces). cut (h.start + kept_before (by_backslash l.break) b.opening (chain_bytes d.text h.start whole_chain)) whole_chain) o whole_chain) some in
+      option_map_or (λ (b : Braces). cut (h.start + kept_before (by_backslash l.break) b.opening (chain_bytes d.text h.start whole_chain)) whole_chain) o
+      whole_chain) some in
       subst (λ g. IsOrderedTo d.text g behind) (sym (ap (chained h.before) same)) (kept_ordered e p.0 (omega (arith, p.1)) p.2)
 
   -- The paragraph is a heading now, without its attribute block.
   pub underlined_ordered : (names : Names) (level : HeadingLevel) (broken : Bool) (new : Forest Item) → broken ≡ by_backslash l.break
       → BecomesHeading (document d.text d.options names) level broken block f new → IsOrderedTo d.text new behind
   underlined_ordered names level broken new by heads =
-      let cuts = subst (λ (o : Option Item). IfSome o (λ x. CutsBlock (document d.text d.options names) x.start broken f heads.cut heads.index)) its_item heads.cuts in
-      let left = (cuts h.before whole_chain (record { last = ap (λ (s : List TreeIndex). open_place s + 1) h.opened.innermost ∙ h.opened.last; none = h.opened.none }) h.tree_is).0 in
+      let cuts =
+      subst (λ (o : Option Item). IfSome o (λ x. CutsBlock (document d.text d.options names) x.start broken f heads.cut heads.index)) its_item heads.cuts in
+      let left = (cuts h.before whole_chain
+      (record { last = ap (λ (s : List TreeIndex). open_place s + 1) h.opened.innermost ∙ h.opened.last; none = h.opened.none }) h.tree_is).0 in
       let chain : List Item = cut_chain d.text d.options h.start broken whole_chain in
       let ordered : IsOrderedTo d.text (chained h.before chain) behind =
       subst (λ b. IsOrderedTo d.text (chained h.before (cut_chain d.text d.options h.start b whole_chain)) behind) (sym by)

@@ -1,5 +1,6 @@
 -- Tables stay whole: what closes nodes and notes blank lines ends no row, what opens a container shows nothing of tables, and what a leaf block adds is whole.
-use Rattle.std.proofs.Common.{◌≡◌, ℕ, zero, suc, ◌+◌, ◌==◌, ◌&&◌, Bool, true, false, if◌then◌else◌, List, [], ◌∷◌, ◌++◌, length, nat_lt, slice_index, slice_get, Option, Some, None, is_some, refl, sym, ap, subst, ◌∙◌}
+use Rattle.std.proofs.Common.{◌≡◌, ℕ, zero, suc, ◌+◌, ◌==◌, ◌&&◌, Bool, true, false, if◌then◌else◌, List, [], ◌∷◌, ◌++◌, length, nat_lt, slice_index, slice_get}
+use Rattle.std.proofs.Common.{Option, Some, None, is_some, refl, sym, ap, subst, ◌∙◌}
 use Rattle.std.specs.Prelude.{IsSomeAnd}
 use Rattle.std.specs.Int.RustNames.{bit_and}
 use Rattle.std.specs.Option.{option_and_then}
@@ -7,7 +8,8 @@ use Rattle.std.proofs.lemmas.Bool.{cond_both, true≢false}
 use Rattle.std.proofs.lemmas.Option.{none-some, same_Some}
 use Rattle.first_pass_items.specs.declared.item.Item.{Item}
 use Rattle.first_pass_items.specs.declared.item.ItemBody.{ItemBody}
-use Rattle.first_pass_items.specs.declared.item.ItemBody.TheVariants.{BlockQuote as BlockQuoteBody, List as ListBody, ListItem as ListItemBody, Paragraph, TableHead, TableRow, TaskListMarker}
+use Rattle.first_pass_items.specs.declared.item.ItemBody.TheVariants.{BlockQuote as BlockQuoteBody, List as ListBody, ListItem as ListItemBody, Paragraph}
+use Rattle.first_pass_items.specs.declared.item.ItemBody.TheVariants.{TableHead, TableRow, TaskListMarker}
 use Rattle.first_pass_items.specs.declared.option_set.Options.{Options}
 use Rattle.first_pass_tree.specs.declared.tree_index.TreeIndex.{TreeIndex}
 use Rattle.first_pass_tree.specs.Forest.{Forest, modify, empty_forest, with_end_at, depths, body_at, added, at_depth}
@@ -36,7 +38,9 @@ use Rattle.first_pass_grammar.proofs.WholeForests.{whole_both, whole_same, tight
 use Rattle.first_pass_names.proofs.NameLemmas.{extends_none}
 use Rattle.first_pass_open.specs.OpenBlock.{closed_by, with_child}
 use Rattle.first_pass_open.specs.Path.{path_of}
-use Rattle.first_pass_lists.specs.Closing.{loosened_by, top_body, is_list, is_list_of, is_item, popped_by, popped_at, popped, item_finished_by, item_finished, list_left, gap_tree, gap_noted, list_finished, loosened_top, list_kept, begun, list_continued, emptied, blank_read_by, blank_read}
+use Rattle.first_pass_lists.specs.Closing.{loosened_by, top_body, is_list, is_list_of, is_item, popped_by, popped_at, popped, item_finished_by, item_finished}
+use Rattle.first_pass_lists.specs.Closing.{list_left, gap_tree, gap_noted, list_finished, loosened_top, list_kept, begun, list_continued, emptied}
+use Rattle.first_pass_lists.specs.Closing.{blank_read_by, blank_read}
 use Rattle.first_pass_lists.specs.declared.reading.Reading.{Reading}
 use Rattle.first_pass.specs.Adding.{AddsKind}
 use Rattle.first_pass.proofs.OpenerLemmas.{item_opened}

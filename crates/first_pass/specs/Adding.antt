@@ -21,7 +21,8 @@ pub record AddsKind (d : Document) (p : Place) (kind : Kind) (gap : Bool) (old n
   pub items : List (ℕ × Item)
   pub tree_is : new ≡ added old items
   pub opens : (more : Names) → Extends more d.names
-      → OpensAs (document d.text d.options more) (path_of d.options old) p (lines_from d.text (line_end p)) kind (OpensLeaf (leaf_block kind p items gap) Line (lines_from d.text next))
+      → OpensAs (document d.text d.options more) (path_of d.options old) p (lines_from d.text (line_end p)) kind
+      (OpensLeaf (leaf_block kind p items gap) Line (lines_from d.text next))
 
 -- A pass added such a block: it reads the same text, what was named keeps its name, no entry of a table changed, and no item is empty. The nodes of the
 -- block lie after any offset before the place, and reading continues at an offset after the line of the place, between characters.
@@ -30,7 +31,8 @@ pub record AddsLeaf (old new : FirstPass) (p : Place) (kind : Kind) (next : ℕ)
   pub names : Extends (names_of (allocs_of new)) (names_of (allocs_of old))
   pub entries : entries (allocs_of new) ≡ entries (allocs_of old)
   pub empty_item : (reading_of new).empty_item ≡ None
-  pub block : AddsKind (document (source_text old) (source_options old) (names_of (allocs_of new))) p kind (reading_of new).blank (tree_of old) (tree_of new) next
+  pub block : AddsKind (document (source_text old) (source_options old) (names_of (allocs_of new))) p kind (reading_of new).blank (tree_of old)
+      (tree_of new) next
   pub later : line_end p ≤ next
   pub boundary : IsCharBoundary (source_text old) next
   pub fits : (from : ℕ) → from ≤ offset p → AddsBetween (source_text old) from next (tree_of old) (tree_of new)

@@ -55,7 +55,8 @@ pub record ReadsHead (old new : FirstPass) (start : ℕ) (end : Option ℕ) (ali
   pub names : AddsTexts (names_of (allocs_of new)) (with_alignments (names_of (allocs_of old)) alignments)
   pub line_answer : ℕ × Option Item
   pub line : AppendsLine (names_of (allocs_of new)).texts (content_upto old start end false) (tree_of old) (tree_of new) line_answer (braces_of new)
-  pub answer_is : answer ≡ ((table_between (text_upto (source_text old) end) start index).«end», Some (table_between (text_upto (source_text old) end) start index))
+  pub answer_is : answer
+      ≡ ((table_between (text_upto (source_text old) end) start index).«end», Some (table_between (text_upto (source_text old) end) start index))
 
 -- a line is read that is the header row of a table, or none (GFM 4.10)
 abbrev pub ReadsPossibleHead : FirstPass → FirstPass → ℕ → Option ℕ → ℕ × Option Item → Type 0

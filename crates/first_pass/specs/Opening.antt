@@ -48,7 +48,8 @@ ReadyLazy d defined r p lines = ReadyInQuote d defined r (At p ALeafAlone) lines
 
 -- a leaf is at a place in a line, where no container begins or after the tag of a block quote
 abbrev pub ReadyLeaf : Document → Tables → Reading → Place → List Place → Type 0
-ReadyLeaf d defined r p lines = ((item_at p.rest ≡ None) × (prefix (BlockQuote None) p.rest ≡ None) × ReadyAt d defined r.tree r.blank (Inside p) lines) ⊎ ReadyLazy d defined r p lines
+ReadyLeaf d defined r p lines =
+    ((item_at p.rest ≡ None) × (prefix (BlockQuote None) p.rest ≡ None) × ReadyAt d defined r.tree r.blank (Inside p) lines) ⊎ ReadyLazy d defined r p lines
 
 -- after the containers no other begins, nor an empty item; the marker of a task stands in an item; or the whole line is taken, in an item
 -- or a block quote

@@ -23,14 +23,17 @@ pub record WentOn (old new : FirstPass) (far : ℕ) (begins : Names → Type 0) 
   pub names : Extends (names_of (allocs_of new)) (names_of (allocs_of old))
   pub later : far ≤ next
   pub boundary : IsCharBoundary (source_text old) next
-  pub ready : (more : Names) → Extends more (names_of (allocs_of new)) → begins more → Ready (document (source_text old) (source_options old) more) (tables (allocs_of new)) (reading_of new) (lines_from (source_text old) next)
+  pub ready : (more : Names) → Extends more (names_of (allocs_of new)) → begins more
+      → Ready (document (source_text old) (source_options old) more) (tables (allocs_of new)) (reading_of new) (lines_from (source_text old) next)
   pub named : AreNamed (names_of (allocs_of old)) (tree_of old).nodes → AreNamed (names_of (allocs_of new)) (tree_of new).nodes
   pub written : AreWritten (source_text old) (refdefs_of (allocs_of old)) → AreWritten (source_text old) (refdefs_of (allocs_of new))
   pub order : in_order → IsOrderedFrom (source_options old) (source_text old) (reading_of new) next
-  pub whole : AreNamed (names_of (allocs_of old)) (tree_of old).nodes → HasWholeTables (names_of (allocs_of old)) (tree_of old) → HasWholeTables (names_of (allocs_of new)) (tree_of new)
+  pub whole : AreNamed (names_of (allocs_of old)) (tree_of old).nodes → HasWholeTables (names_of (allocs_of old)) (tree_of old)
+      → HasWholeTables (names_of (allocs_of new)) (tree_of new)
 
 -- a pass read the leaf block that begins at a place where no container begins, or after the tag of a block quote
 abbrev pub ReadsLeaf : FirstPass → FirstPass → Place → ℕ → Type 0
 ReadsLeaf old new p next =
-    WentOn old new (line_end p) (λ more. ReadyLeaf (document (source_text old) (source_options old) more) (tables (allocs_of old)) (reading_of old) p (lines_from (source_text old) (line_end p)))
+    WentOn old new (line_end p) (λ more.
+    ReadyLeaf (document (source_text old) (source_options old) more) (tables (allocs_of old)) (reading_of old) p (lines_from (source_text old) (line_end p)))
     (IsCharBoundary (source_text old) p.line × IsOrderedTo (source_text old) (tree_of old) (line_or (tree_of old) p.line (offset p))) next

@@ -1,5 +1,6 @@
 -- The attribute block of a heading, by the parts of its bytes.
-use Rattle.std.proofs.Common.{◌≡◌, ℕ, suc, ◌+◌, ◌-◌, ◌<◌, Bool, true, false, List, [], ◌∷◌, ◌++◌, length, take, drop, slice_index_or, Option, Some, None, refl, sym, ap, ◌∙◌, append_assoc, arith, eq-eqb, length-append, if◌then◌else◌}
+use Rattle.std.proofs.Common.{◌≡◌, ℕ, suc, ◌+◌, ◌-◌, ◌<◌, Bool, true, false, List, [], ◌∷◌, ◌++◌, length, take, drop, slice_index_or, Option, Some, None, refl}
+use Rattle.std.proofs.Common.{sym, ap, ◌∙◌, append_assoc, arith, eq-eqb, length-append, if◌then◌else◌}
 use mathlib.Core.List.{reverse}
 use Rattle.std.specs.Option.{option_map}
 use Rattle.std.specs.List.{list_all, suffix_len}
@@ -9,7 +10,8 @@ use Rattle.std.proofs.lemmas.List.{get_or-reverse, get_or-drop, get_or-append-ad
 use Rattle.std.proofs.lemmas.List.Sums.{prefix_len_passes, suffix_len_is, suffix_len-le-length, AllPass-from_list_all, list_all-from_AllPass}
 use Rattle.std.proofs.Math.Seq.{take-append_seam, drop-length, get_or-append_seam}
 use Rattle.first_pass_items.specs.Bytes.{left_brace, right_brace}
-use Rattle.first_pass_attributes.specs.AttributeBlocks.{ends, is_behind_block, is_inside_block, Braces, braces, opening_brace, attribute_block, IsAttributeBlock}
+use Rattle.first_pass_attributes.specs.AttributeBlocks.{ends, is_behind_block, is_inside_block, Braces, braces, opening_brace, attribute_block}
+use Rattle.first_pass_attributes.specs.AttributeBlocks.{IsAttributeBlock}
 
 -- what is left of bytes without those at the end that pass, and those
 abbrev left : (ℕ → Bool) → List ℕ → List ℕ

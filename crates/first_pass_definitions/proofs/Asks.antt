@@ -1,5 +1,6 @@
 -- What asks for memory as a definition is read.
-use Rattle.std.proofs.Common.{◌≡◌, ◌⊎◌, inl, inr, ℕ, zero, suc, ◌+◌, ◌<◌, ◌==◌, ◌&&◌, ◌||◌, not, Bool, true, false, List, length, drop, slice_index, Option, Some, None, Ok, Err, Result, OnErr, is_some, IsSomeAnd, MatchOption, IsCharBoundary, refl, sym, ap, subst, ◌∙◌, arith}
+use Rattle.std.proofs.Common.{◌≡◌, ◌⊎◌, inl, inr, ℕ, zero, suc, ◌+◌, ◌<◌, ◌==◌, ◌&&◌, ◌||◌, not, Bool, true, false, List, length, drop, slice_index, Option}
+use Rattle.std.proofs.Common.{Some, None, Ok, Err, Result, OnErr, is_some, IsSomeAnd, MatchOption, IsCharBoundary, refl, sym, ap, subst, ◌∙◌, arith}
 use Rattle.std.specs.Borrow.{Bor}
 use Rattle.std.specs.declared.alloc.AllocError.{AllocError}
 use Rattle.std.proofs.lemmas.Bool.{cases_Bool}
@@ -13,13 +14,16 @@ use Rattle.first_pass_links.specs.Destinations.{unescaped_upto, destination_at}
 use Rattle.first_pass_items.specs.OptionWords.{gfm_footnotes}
 use Rattle.first_pass_links.specs.Footnotes.{begins_footnote}
 use Rattle.first_pass_grammar.specs.Containers.{Context}
-use Rattle.first_pass_grammar.specs.Definitions.{title_prefix, title_end, title_at, title_behind, title_beyond, alone_behind, space_at, target_at, deepest_nesting, prefix_crossed, LinkReference, reference_at}
+use Rattle.first_pass_grammar.specs.Definitions.{title_prefix, title_end, title_at, title_behind, title_beyond, alone_behind, space_at, target_at}
+use Rattle.first_pass_grammar.specs.Definitions.{deepest_nesting, prefix_crossed, LinkReference, reference_at}
 use Rattle.first_pass_text.specs.Memory.{line_may_head}
 use Rattle.first_pass_labels.specs.declared.label_table.LinkDef.{LinkDef}
 use Rattle.first_pass_definitions.specs.Reading.{stops_title, goes_on_at}
 use Rattle.first_pass_items.specs.declared.cow_str.CowStr.{CowStr}
-use Rattle.first_pass_definitions.proofs.Targets.{shifted, IsLabelAnswer, IsReferenceAnswer, label_found, IsTitleRead, read_to, IsDest, space_found, dest_found, TargetFound}
-use Rattle.first_pass_definitions.specs.Memory.{LabelAsks, TargetAsks, ReferenceAsks, BehindAsks, PartsAsk, line_asks, text_asks, title_asks, space_asks, behind_asks, MeetsTable}
+use Rattle.first_pass_definitions.proofs.Targets.{shifted, IsLabelAnswer, IsReferenceAnswer, label_found, IsTitleRead, read_to, IsDest, space_found, dest_found}
+use Rattle.first_pass_definitions.proofs.Targets.{TargetFound}
+use Rattle.first_pass_definitions.specs.Memory.{LabelAsks, TargetAsks, ReferenceAsks, BehindAsks, PartsAsk, line_asks, text_asks, title_asks, space_asks}
+use Rattle.first_pass_definitions.specs.Memory.{behind_asks, MeetsTable}
 
 -- a fact of an error
 pub on_err : {A E P : Type 0} (r : Result A E) → P → OnErr r P
@@ -37,35 +41,45 @@ prefix_asks : (f : ℕ → ℕ) (b : Bool) (next : ℕ) (o : Option ℕ) → opt
 prefix_asks f b next None h = cc
 prefix_asks f b next (Some n) h = refl
 
-further_asks : (around : Context) (bs : List ℕ) (n next : ℕ) (o : Option ℕ) → option_and_then (λ e. option_map (λ k. n + e + k) (title_prefix around (drop (n + e) bs))) o ≡ Some next
+further_asks : (around : Context) (bs : List ℕ) (n next : ℕ) (o : Option ℕ)
+    → option_and_then (λ e. option_map (λ k. n + e + k) (title_prefix around (drop (n + e) bs))) o ≡ Some next
     → option_map_or (λ e. line_asks around (drop (n + e) bs)) o false ≡ true
 further_asks around bs n next None h = cc
-further_asks around bs n next (Some e) h = prefix_asks (λ k. n + e + k) (line_may_head around (line_rest (drop (n + e) bs))) next (title_prefix around (drop (n + e) bs)) h
+further_asks around bs n next (Some e) h =
+    prefix_asks (λ k. n + e + k) (line_may_head around (line_rest (drop (n + e) bs))) next (title_prefix around (drop (n + e) bs)) h
 
 table_asks : (around : Context) (bs : List ℕ) (n : ℕ) (o : Option ℕ) → option_map_or (λ e. line_may_head around (line_rest (drop (n + e) bs))) o false ≡ true
     → option_map_or (λ e. line_asks around (drop (n + e) bs)) o false ≡ true
 table_asks around bs n None h = h
 table_asks around bs n (Some e) h = ap (λ b. is_some (title_prefix around (drop (n + e) bs)) || b) h ∙ or_true (is_some (title_prefix around (drop (n + e) bs)))
 
-text_asks_at : (around : Context) (close n : ℕ) (bs : List ℕ) → n ≡ unescaped_upto (stops_title close) 0 bs → option_map_or (λ e. line_asks around (drop (n + e) bs)) (eol_len (drop n bs)) false ≡ true → text_asks around close bs ≡ true
+text_asks_at : (around : Context) (close n : ℕ) (bs : List ℕ) → n ≡ unescaped_upto (stops_title close) 0 bs
+    → option_map_or (λ e. line_asks around (drop (n + e) bs)) (eol_len (drop n bs)) false ≡ true → text_asks around close bs ≡ true
 unfolding text_asks
 text_asks_at around close n bs e h = subst (λ (m : ℕ). option_map_or (λ k. line_asks around (drop (m + k) bs)) (eol_len (drop m bs)) false ≡ true) e h
 
-first_stop : (close from stop : ℕ) (bs : List ℕ) → from ≡ 0 → stop ≡ from + unescaped_upto (stops_title close) 0 (drop from bs) → stop ≡ unescaped_upto (stops_title close) 0 bs
+first_stop : (close from stop : ℕ) (bs : List ℕ)
+    → from ≡ 0 → stop ≡ from + unescaped_upto (stops_title close) 0 (drop from bs) → stop ≡ unescaped_upto (stops_title close) 0 bs
 first_stop close from stop bs z e =
-    let k : from + unescaped_upto (stops_title close) 0 (drop from bs) ≡ 0 + unescaped_upto (stops_title close) 0 (drop 0 bs) = ap (λ n. n + unescaped_upto (stops_title close) 0 (drop n bs)) z in
+    let k : from + unescaped_upto (stops_title close) 0 (drop from bs) ≡ 0 + unescaped_upto (stops_title close) 0 (drop 0 bs) =
+    ap (λ n. n + unescaped_upto (stops_title close) 0 (drop n bs)) z in
     omega arith
 
 -- after its first line the title continues
-pub goes_asks : (around : Context) (close from stop next : ℕ) (bs : List ℕ) → (0 < from → text_asks around close bs ≡ true) → stop ≡ from + unescaped_upto (stops_title close) 0 (drop from bs)
+pub goes_asks : (around : Context) (close from stop next : ℕ) (bs : List ℕ)
+    → (0 < from → text_asks around close bs ≡ true) → stop ≡ from + unescaped_upto (stops_title close) 0 (drop from bs)
     → goes_on_at (title_prefix around) bs stop ≡ Some next → (from ≡ 0) ⊎ (0 < from) → text_asks around close bs ≡ true
-goes_asks around close from stop next bs f e h (inl z) = text_asks_at around close stop bs (first_stop close from stop bs z e) (further_asks around bs stop next (eol_len (drop stop bs)) h)
+goes_asks around close from stop next bs f e h (inl z) =
+    text_asks_at around close stop bs (first_stop close from stop bs z e) (further_asks around bs stop next (eol_len (drop stop bs)) h)
 goes_asks around close from stop next bs f e h (inr l) = f l
 
 -- or a line follows that may head a table
-pub meets_asks : (around : Context) (close from stop : ℕ) (bs : List ℕ) → (0 < from → text_asks around close bs ≡ true) → stop ≡ from + unescaped_upto (stops_title close) 0 (drop from bs)
-    → option_map_or (λ e. line_may_head around (line_rest (drop (stop + e) bs))) (eol_len (drop stop bs)) false ≡ true → (from ≡ 0) ⊎ (0 < from) → text_asks around close bs ≡ true
-meets_asks around close from stop bs f e h (inl z) = text_asks_at around close stop bs (first_stop close from stop bs z e) (table_asks around bs stop (eol_len (drop stop bs)) h)
+pub meets_asks : (around : Context) (close from stop : ℕ) (bs : List ℕ)
+    → (0 < from → text_asks around close bs ≡ true) → stop ≡ from + unescaped_upto (stops_title close) 0 (drop from bs)
+    → option_map_or (λ e. line_may_head around (line_rest (drop (stop + e) bs))) (eol_len (drop stop bs)) false ≡ true → (from ≡ 0) ⊎ (0 < from)
+    → text_asks around close bs ≡ true
+meets_asks around close from stop bs f e h (inl z) =
+    text_asks_at around close stop bs (first_stop close from stop bs z e) (table_asks around bs stop (eol_len (drop stop bs)) h)
 meets_asks around close from stop bs f e h (inr l) = f l
 
 pub none_or_some : (n : ℕ) → (n ≡ 0) ⊎ (0 < n)
@@ -73,15 +87,20 @@ none_or_some zero = inl refl
 none_or_some (suc n) = inr (omega arith)
 
 -- a label
-pub label_asks : (around : Context) (prefix : List ℕ → Option ℕ) (t u : Bool) (bs : List ℕ) (post : Bor (List ℕ) → Result (Option ℕ) AllocError → Type 0) → t ≡ u → CanErr prefix t bs post
-    → ((at : ℕ) → ErrsBehind bs at post → line_may_head around (line_rest (drop (at + 1) bs)) ≡ true) → IsRewritten prefix u bs ⊎ (HasNoBracket prefix bs × MeetsTable around bs)
+pub label_asks : (around : Context) (prefix : List ℕ → Option ℕ) (t u : Bool) (bs : List ℕ) (post : Bor (List ℕ) → Result (Option ℕ) AllocError → Type 0)
+    → t ≡ u → CanErr prefix t bs post
+    → ((at : ℕ) → ErrsBehind bs at post → line_may_head around (line_rest (drop (at + 1) bs)) ≡ true)
+    → IsRewritten prefix u bs ⊎ (HasNoBracket prefix bs × MeetsTable around bs)
 label_asks around prefix t u bs post k (inl z) f = inl (subst (λ x. IsRewritten prefix x bs) k z)
 label_asks around prefix t u bs post k (inr (n, s)) f = inr (n, (s.0, s.1.within, s.1.line_end, f s.0 s.1))
 
 -- and that of a footnote
-pub footnote_asks : (around : Context) (prefix : List ℕ → Option ℕ) (t u : Bool) (bs : List ℕ) (post : Bor (List ℕ) → Result (Option ℕ) AllocError → Type 0) → t ≡ u → begins_footnote bs ≡ true → CanErr prefix t (drop 2 bs) post
-    → ((at : ℕ) → ErrsBehind (drop 2 bs) at post → (gfm_footnotes around.options ≡ false) × (line_may_head around (line_rest (drop (at + 1) (drop 2 bs))) ≡ true))
-    → (begins_footnote bs ≡ true) × (IsRewritten prefix u (drop 2 bs) ⊎ (HasNoBracket prefix (drop 2 bs) × (gfm_footnotes around.options ≡ false) × MeetsTable around (drop 2 bs)))
+pub footnote_asks : (around : Context) (prefix : List ℕ → Option ℕ) (t u : Bool) (bs : List ℕ) (post : Bor (List ℕ) → Result (Option ℕ) AllocError → Type 0)
+    → t ≡ u → begins_footnote bs ≡ true → CanErr prefix t (drop 2 bs) post
+    → ((at : ℕ) → ErrsBehind (drop 2 bs) at post
+    → (gfm_footnotes around.options ≡ false) × (line_may_head around (line_rest (drop (at + 1) (drop 2 bs))) ≡ true))
+    → (begins_footnote bs ≡ true)
+    × (IsRewritten prefix u (drop 2 bs) ⊎ (HasNoBracket prefix (drop 2 bs) × (gfm_footnotes around.options ≡ false) × MeetsTable around (drop 2 bs)))
 footnote_asks around prefix t u bs post k m (inl z) f = (m, inl (subst (λ x. IsRewritten prefix x (drop 2 bs)) k z))
 footnote_asks around prefix t u bs post k m (inr (n, s)) f = let both = f s.0 s.1 in (m, inr (n, both.0, (s.0, s.1.within, s.1.line_end, both.1)))
 
@@ -92,8 +111,10 @@ place_from text behind bs start at p is b e =
     (place_behind text start at p.0 (subst (λ ys. IsCharBoundary ys at) is b), e ∙ ap (drop at) is ∙ drop-drop at start text)
 
 -- a target step by step
-pub dest_asks : (around : Context) (text : List ℕ) (start at lines n : ℕ) (b : Bor (List ℕ)) → Some (at, lines) ≡ shifted start (space_at around (drop start text))
-    → IsDest (destination_at deepest_nesting (drop at text)) (Some (n, b)) → behind_asks around (drop (at + n) text) ≡ true → BehindAsks around (drop start text)
+pub dest_asks : (around : Context) (text : List ℕ) (start at lines n : ℕ) (b : Bor (List ℕ))
+    → Some (at, lines) ≡ shifted start (space_at around (drop start text))
+    → IsDest (destination_at deepest_nesting (drop at text)) (Some (n, b)) → behind_asks around (drop (at + n) text) ≡ true
+    → BehindAsks around (drop start text)
 dest_asks around text start at lines n b h k a =
     let s = space_found (space_at around (drop start text)) start at lines h in
     let d = dest_found (destination_at deepest_nesting (drop at text)) n b k in
@@ -109,30 +130,39 @@ dest_asks around text start at lines n b h k a =
       asks = ap (behind_asks around) (drop-drop (s.0.0 + d.0.0) start text ∙ ap (λ m. drop m text) (sym sum)) ∙ a;
     }
 
-pub parts_ask : (around : Context) (text : List ℕ) (start e : ℕ) (b : Bor (List ℕ)) (title : Option CowStr) (t u : Bool) → t ≡ u → (f : TargetFound around text start e b title) → PartsAsk t f.target
+pub parts_ask : (around : Context) (text : List ℕ) (start e : ℕ) (b : Bor (List ℕ)) (title : Option CowStr) (t u : Bool)
+    → t ≡ u → (f : TargetFound around text start e b title) → PartsAsk t f.target
     → IsSomeAnd (target_at around (drop start text)) (λ target. PartsAsk u target.1)
 parts_ask around text start e b title t u k f p = rw f.is (subst (λ x. PartsAsk x f.target) k p)
 
-alone_none : (bs : List ℕ) (n len : ℕ) (title : CowStr) (o : Option (ℕ × List ℕ)) → IsTitleRead o (read_to len title) → is_some (blank_len (drop (n + len) bs)) ≡ false → option_and_then (alone_behind n bs) o ≡ None
+alone_none : (bs : List ℕ) (n len : ℕ) (title : CowStr) (o : Option (ℕ × List ℕ))
+    → IsTitleRead o (read_to len title) → is_some (blank_len (drop (n + len) bs)) ≡ false → option_and_then (alone_behind n bs) o ≡ None
 alone_none bs n len title None h k = refl
-alone_none bs n len title (Some t) h k = let e : is_some (blank_len (drop (n + t.0) bs)) ≡ false = ap (λ m. is_some (blank_len (drop (n + m) bs))) (sym h.0) ∙ k in rw e refl
+alone_none bs n len title (Some t) h k =
+    let e : is_some (blank_len (drop (n + t.0) bs)) ≡ false = ap (λ m. is_some (blank_len (drop (n + m) bs))) (sym h.0) ∙ k in
+    rw e refl
 
 -- a title after which its line isn't blank is none
 pub title_crowded : (around : Context) (text : List ℕ) (at start k len : ℕ) (title : CowStr) → Some (start, k) ≡ shifted at (space_at around (drop at text))
-    → IsTitleRead (title_at around (drop start text)) (read_to len title) → is_some (blank_len (drop (start + len) text)) ≡ false → title_behind around (drop at text) ≡ None
+    → IsTitleRead (title_at around (drop start text)) (read_to len title) → is_some (blank_len (drop (start + len) text)) ≡ false
+    → title_behind around (drop at text) ≡ None
 title_crowded around text at start k len title h r b =
     let s = space_found (space_at around (drop at text)) at start k h in
     let bs = drop at text in
     let there = s.2 in
-    let read : IsTitleRead (title_at around (drop s.0.0 bs)) (read_to len title) = subst (λ xs. IsTitleRead (title_at around xs) (read_to len title)) (ap (λ n. drop n text) there ∙ sym (drop-drop s.0.0 at text)) r in
-    let crowded : is_some (blank_len (drop (s.0.0 + len) bs)) ≡ false = ap (λ xs. is_some (blank_len xs)) (drop-drop (s.0.0 + len) at text ∙ ap (λ n. drop n text) (let z : at + (s.0.0 + len) ≡ start + len = omega arith in z)) ∙ b in
+    let read : IsTitleRead (title_at around (drop s.0.0 bs)) (read_to len title) =
+    subst (λ xs. IsTitleRead (title_at around xs) (read_to len title)) (ap (λ n. drop n text) there ∙ sym (drop-drop s.0.0 at text)) r in
+    let crowded : is_some (blank_len (drop (s.0.0 + len) bs)) ≡ false =
+    ap (λ xs. is_some (blank_len xs)) (drop-drop (s.0.0 + len) at text ∙ ap (λ n. drop n text) (let z : at + (s.0.0 + len) ≡ start + len = omega arith in z))
+    ∙ b in
     ap (option_and_then (title_beyond around bs)) s.1 ∙ elim (cases_Bool (s.0.0 == 0)) [
       | inl e ↦ rw e refl
       | inr e ↦ rw e (alone_none bs s.0.0 len title (title_at around (drop s.0.0 bs)) read crowded)
     ]
 
 -- a definition step by step
-pub ask_label : (t : Bool) (around : Context) (text : List ℕ) (start : ℕ) → begins 91 (drop start text) ≡ true → LabelAsks around t (drop (start + 1) text) → ReferenceAsks t around (drop start text)
+pub ask_label : (t : Bool) (around : Context) (text : List ℕ) (start : ℕ)
+    → begins 91 (drop start text) ≡ true → LabelAsks around t (drop (start + 1) text) → ReferenceAsks t around (drop start text)
 ask_label t around text start b a = (b, inl (subst (LabelAsks around t) (sym (drop-drop 1 start text)) a))
 
 pub ask_target : (t : Bool) (around : Context) (text : List ℕ) (start n : ℕ) (label : CowStr) → begins 91 (drop start text) ≡ true
@@ -143,9 +173,11 @@ ask_target t around text start n label b h k a =
     let bs = drop 1 (drop start text) in
     let there : bs ≡ drop (start + 1) text = drop-drop 1 start text in
     let same = l.2 in
-    let colon : drop l.0.0 bs ≡ drop (start + 1 + n) text = ap (drop l.0.0) there ∙ drop-drop l.0.0 (start + 1) text ∙ ap (λ m. drop (start + 1 + m) text) (sym same) in
+    let colon : drop l.0.0 bs ≡ drop (start + 1 + n) text =
+    ap (drop l.0.0) there ∙ drop-drop l.0.0 (start + 1) text ∙ ap (λ m. drop (start + 1 + m) text) (sym same) in
     let target : drop (l.0.0 + 1) bs ≡ drop (start + 1 + n + 1) text =
-    ap (drop (l.0.0 + 1)) there ∙ drop-drop (l.0.0 + 1) (start + 1) text ∙ ap (λ m. drop m text) (let z : start + 1 + (l.0.0 + 1) ≡ start + 1 + n + 1 = omega arith in z)
+    ap (drop (l.0.0 + 1)) there ∙ drop-drop (l.0.0 + 1) (start + 1) text
+    ∙ ap (λ m. drop m text) (let z : start + 1 + (l.0.0 + 1) ≡ start + 1 + n + 1 = omega arith in z)
     in
     (b, inr (inl (l.0, ap (label_at (prefix_crossed true around) t) there ∙ l.1, ap (begins 58) colon ∙ k, subst (TargetAsks t around) (sym target) a)))
 

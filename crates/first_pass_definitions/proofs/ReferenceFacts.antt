@@ -1,5 +1,6 @@
 -- Where definitions end.
-use Rattle.std.proofs.Common.{◌≡◌, ◌⊎◌, inl, inr, ℕ, zero, suc, ◌+◌, ◌-◌, ◌<◌, ◌==◌, nat_lt, Bool, true, false, List, [], ◌∷◌, take, drop, slice_index, Option, Some, None, is_some, refl, sym, ap, subst, ◌∙◌, arith, if◌then◌else◌}
+use Rattle.std.proofs.Common.{◌≡◌, ◌⊎◌, inl, inr, ℕ, zero, suc, ◌+◌, ◌-◌, ◌<◌, ◌==◌, nat_lt, Bool, true, false, List, [], ◌∷◌, take, drop, slice_index, Option}
+use Rattle.std.proofs.Common.{Some, None, is_some, refl, sym, ap, subst, ◌∙◌, arith, if◌then◌else◌}
 use Rattle.std.specs.Bool.{⊤}
 use Rattle.std.specs.Char.{is_ascii_punctuation}
 use Rattle.std.proofs.lemmas.Bool.{and_parts, eqb-true}
@@ -8,12 +9,15 @@ use Rattle.std.specs.Option.{option_map, option_and_then, option_map_or}
 use Rattle.std.proofs.lemmas.List.{drop-drop, get_or-drop}
 use Rattle.std.proofs.lemmas.Option.{cond_some}
 use Rattle.first_pass_lines.specs.Lines.{is_line_end, ends_line, begins, blank_len}
-use Rattle.first_pass_links.specs.Destinations.{unescaped_upto, ends_brackets, bracketed_at, ends_run, longer, if_closed, closes_none, nesting_behind, run_len, unbracketed, destination_at}
+use Rattle.first_pass_links.specs.Destinations.{unescaped_upto, ends_brackets, bracketed_at, ends_run, longer, if_closed, closes_none, nesting_behind, run_len}
+use Rattle.first_pass_links.specs.Destinations.{unbracketed, destination_at}
 use Rattle.first_pass_links.specs.Escapes.{begins_escape}
 use Rattle.first_pass_links.proofs.Destinations.{first_byte}
 use Rattle.first_pass_links.specs.Labels.{joined, bytes_of, offsets_of, label_at}
 use Rattle.first_pass_grammar.specs.Containers.{Context}
-use Rattle.first_pass_grammar.specs.Definitions.{prefix_crossed, space_at, with_line_feeds, ends_title, title_end, title_text, title_prefix, title_at, alone_behind, title_beyond, title_behind, behind_destination, deepest_nesting, Target, target_of, target_from, target_beyond, target_at, LinkReference, reference_of, reference_behind, reference_at}
+use Rattle.first_pass_grammar.specs.Definitions.{prefix_crossed, space_at, with_line_feeds, ends_title, title_end, title_text, title_prefix, title_at}
+use Rattle.first_pass_grammar.specs.Definitions.{alone_behind, title_beyond, title_behind, behind_destination, deepest_nesting, Target, target_of, target_from}
+use Rattle.first_pass_grammar.specs.Definitions.{target_beyond, target_at, LinkReference, reference_of, reference_behind, reference_at}
 
 -- what an answer was made of
 and_some : {A B : Type 0} (k : A → Option B) (o : Option A) (r : B) → option_and_then k o ≡ Some r → (a : A) × (o ≡ Some a) × (k a ≡ Some r)
@@ -320,7 +324,8 @@ further_last : (around : Context) (bs : List ℕ) (f : ℕ × Option (List ℕ))
     → (f.0 ≡ 0) ⊎ ((0 < f.0) × Plain bs (f.0 - 1))
 unfolding behind_destination
 further_last around bs f h =
-    further_last_by (title_behind around bs) bs f (λ r e. (let s = and_some (title_beyond around bs) (space_at around bs) r e in titled_last_by (s.0.0 == 0) around
+    further_last_by (title_behind around bs) bs f
+    (λ r e. (let s = and_some (title_beyond around bs) (space_at around bs) r e in titled_last_by (s.0.0 == 0) around
     bs s.0.0 r s.2)) h
 
 target_last : (around : Context) (bs : List ℕ) (t : ℕ × Target) → target_at around bs ≡ Some t → (0 < t.0) × Plain bs (t.0 - 1)

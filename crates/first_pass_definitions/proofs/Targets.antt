@@ -1,5 +1,6 @@
 -- What a definition has after its colon, and the definition.
-use Rattle.std.proofs.Common.{◌≡◌, ℕ, zero, suc, ◌+◌, ◌-◌, ◌==◌, ◌<◌, Bool, true, false, List, drop, Option, Some, None, is_some, MatchOption, IsSomeAnd, IsUtf8, IsCharBoundary, refl, sym, ap, subst, ◌∙◌, arith, if◌then◌else◌}
+use Rattle.std.proofs.Common.{◌≡◌, ℕ, zero, suc, ◌+◌, ◌-◌, ◌==◌, ◌<◌, Bool, true, false, List, drop, Option, Some, None, is_some, MatchOption, IsSomeAnd}
+use Rattle.std.proofs.Common.{IsUtf8, IsCharBoundary, refl, sym, ap, subst, ◌∙◌, arith, if◌then◌else◌}
 use Rattle.std.specs.Borrow.{Bor}
 use Rattle.std.specs.Option.{option_map, option_and_then, option_map_or}
 use Rattle.std.specs.List.{list_any}
@@ -15,7 +16,9 @@ use Rattle.first_pass_links.specs.Labels.{label_at}
 use Rattle.first_pass_links.specs.Texts.{Borrows}
 use Rattle.first_pass_links.proofs.Destinations.{first_byte}
 use Rattle.first_pass_grammar.specs.Containers.{Context}
-use Rattle.first_pass_grammar.specs.Definitions.{prefix_crossed, space_at, title_at, alone_behind, title_beyond, title_behind, behind_destination, deepest_nesting, Target, target_of, target_from, target_at, LinkReference, reference_of, reference_behind, reference_at}
+use Rattle.first_pass_grammar.specs.Definitions.{prefix_crossed, space_at, title_at, alone_behind, title_beyond, title_behind, behind_destination}
+use Rattle.first_pass_grammar.specs.Definitions.{deepest_nesting, Target, target_of, target_from, target_at, LinkReference, reference_of, reference_behind}
+use Rattle.first_pass_grammar.specs.Definitions.{reference_at}
 use Rattle.first_pass_definitions.specs.Reading.{IsReadText, IsReadTitle}
 use Rattle.first_pass_definitions.specs.Found.{IsUnescaped, HasTitle, IsDefinition, IsTarget, IsReference}
 

@@ -1,5 +1,6 @@
 -- What asks for memory as a link reference definition is read (CommonMark 4.7).
-use Rattle.std.specs.Prelude.{◌≡◌, ◌≢◌, ◌⊎◌, ◌<◌, ◌+◌, ◌==◌, ◌&&◌, ◌||◌, not, ℕ, Bool, true, false, List, length, drop, slice_get, slice_index, Option, Some, IsSomeAnd, is_some}
+use Rattle.std.specs.Prelude.{◌≡◌, ◌≢◌, ◌⊎◌, ◌<◌, ◌+◌, ◌==◌, ◌&&◌, ◌||◌, not, ℕ, Bool, true, false, List, length, drop, slice_get, slice_index, Option, Some}
+use Rattle.std.specs.Prelude.{IsSomeAnd, is_some}
 use Rattle.std.specs.List.{list_any, prefix_len}
 use Rattle.std.specs.Option.{option_map_or, option_and_then}
 use Rattle.first_pass_items.specs.Bytes.{colon, left_bracket}

@@ -1,5 +1,6 @@
 -- Facts on the characters beside a delimiter run.
-use Rattle.std.proofs.Common.{Bool, true, false, not, cond, ◌&&◌, ◌||◌, ◌≡◌, ℕ, ◌-◌, List, [], ◌∷◌, ◌++◌, length, take, Option, Some, None, MatchOption, IfSome, refl, sym, ap, ◌∙◌, subst, arith, length-append, append-nil}
+use Rattle.std.proofs.Common.{Bool, true, false, not, cond, ◌&&◌, ◌||◌, ◌≡◌, ℕ, ◌-◌, List, [], ◌∷◌, ◌++◌, length, take, Option, Some, None, MatchOption, IfSome}
+use Rattle.std.proofs.Common.{refl, sym, ap, ◌∙◌, subst, arith, length-append, append-nil}
 use Rattle.std.specs.List.{slice_get}
 use Rattle.std.specs.Char.{IsScalar, encode_utf8}
 use Rattle.std.specs.Str.{chars, IsUtf8}
@@ -21,7 +22,8 @@ front_is_text text front c utf8 scalar parts =
 last_of : (front : List ℕ) (c : ℕ) → slice_get (front ++ c ∷ []) (length (front ++ c ∷ []) - 1) ≡ Some c
 last_of front c =
     let n : length (front ++ c ∷ []) - 1 ≡ length front = omega (arith, length-append front (c ∷ [])) in
-    rw n (slice_get_read (front ++ c ∷ []) (length (front ++ c ∷ [])) (length front) c refl (omega (arith, length-append front (c ∷ []))) (sym (get_or-append_seam front c [] c)))
+    rw n (slice_get_read (front ++ c ∷ []) (length (front ++ c ∷ [])) (length front) c refl (omega (arith, length-append front (c ∷ [])))
+    (sym (get_or-append_seam front c [] c)))
 
 -- a character that a text ends with is its last one
 last_char_is : (text front : List ℕ) (c : ℕ) → IsUtf8 text → IsScalar c → text ≡ front ++ encode_utf8 c → last_char text ≡ Some c
@@ -29,7 +31,8 @@ unfolding last_char
 last_char_is text front c utf8 scalar parts =
     let alone : encode_utf8 c ≡ encode_utf8 c ++ [] = sym (append-nil (encode_utf8 c)) in
     let one : chars (encode_utf8 c) ≡ c ∷ [] = chars_past_char (encode_utf8 c) [] c (IsUtf8-encode c scalar) alone ∙ ap (λ cs. c ∷ cs) chars-nil in
-    let all : chars text ≡ chars front ++ c ∷ [] = ap chars parts ∙ chars-append front (encode_utf8 c) (front_is_text text front c utf8 scalar parts) ∙ ap (λ cs. chars front ++ cs) one in
+    let all : chars text ≡ chars front ++ c ∷ [] =
+    ap chars parts ∙ chars-append front (encode_utf8 c) (front_is_text text front c utf8 scalar parts) ∙ ap (λ cs. chars front ++ cs) one in
     rw all (last_of (chars front) c)
 
 -- an empty text has no last character
@@ -39,7 +42,8 @@ last_char_none [] h = rw chars-nil
 last_char_none (b ∷ bs) h = absurd (omega arith)
 
 -- the last character of a text, by what stands before it
-pub last_char_by : (A : Type 0) (text whole front : List ℕ) (r : Option ℕ) → whole ≡ text → IsUtf8 text → IfSome r IsScalar → MatchOption r ((length whole ≡ 0) × A) (λ c. whole ≡ front ++ encode_utf8 c) → r ≡ last_char text
+pub last_char_by : (A : Type 0) (text whole front : List ℕ) (r : Option ℕ)
+    → whole ≡ text → IsUtf8 text → IfSome r IsScalar → MatchOption r ((length whole ≡ 0) × A) (λ c. whole ≡ front ++ encode_utf8 c) → r ≡ last_char text
 last_char_by A text whole front None same utf8 scalar parts = sym (last_char_none text (ap length (sym same) ∙ parts.0))
 last_char_by A text whole front (Some c) same utf8 scalar parts = sym (last_char_is text front c utf8 scalar (sym same ∙ parts))
 
@@ -56,7 +60,8 @@ star_close_tests wa pa true pb = refl
 star_close_tests wa pa false true = refl
 star_close_tests wa pa false false = refl
 
-underscore_open_tests : (wa pa wb pb : Bool) → cond wa false (cond wb true (pb && true)) ≡ (not wa && (not pa || (wb || pb))) && (not (not wb && (not pb || (wa || pa))) || pb)
+underscore_open_tests : (wa pa wb pb : Bool)
+    → cond wa false (cond wb true (pb && true)) ≡ (not wa && (not pa || (wb || pb))) && (not (not wb && (not pb || (wa || pa))) || pb)
 underscore_open_tests true pa wb pb = refl
 underscore_open_tests false true true pb = refl
 underscore_open_tests false true false true = refl
@@ -92,7 +97,8 @@ star_opens_by : (r : DelimiterRun) (before after : Option ℕ) → r.before ≡ 
 unfolding can_open opens_between
 star_opens_by r before None eb ea plain star = rw ea refl
 star_opens_by r None (Some a) eb ea plain star = rw (eb, ea) (alone_tests (is_whitespace a) (is_punctuation a))
-star_opens_by r (Some b) (Some a) eb ea plain star = rw (eb, ea, plain, star) (star_open_tests (is_whitespace a) (is_punctuation a) (is_whitespace b) (is_punctuation b))
+star_opens_by r (Some b) (Some a) eb ea plain star =
+    rw (eb, ea, plain, star) (star_open_tests (is_whitespace a) (is_punctuation a) (is_whitespace b) (is_punctuation b))
 
 pub star_opens : (r : DelimiterRun) → GoesBy 42 can_open is_left_flanking r
 star_opens r = star_opens_by r r.before r.after refl refl
@@ -101,7 +107,8 @@ star_closes_by : (r : DelimiterRun) (before after : Option ℕ) → r.before ≡
 unfolding can_close closes_between
 star_closes_by r None after eb ea plain star = rw eb refl
 star_closes_by r (Some b) None eb ea plain star = rw (eb, ea) (alone_tests (is_whitespace b) (is_punctuation b))
-star_closes_by r (Some b) (Some a) eb ea plain star = rw (eb, ea, plain, star) (star_close_tests (is_whitespace a) (is_punctuation a) (is_whitespace b) (is_punctuation b))
+star_closes_by r (Some b) (Some a) eb ea plain star =
+    rw (eb, ea, plain, star) (star_close_tests (is_whitespace a) (is_punctuation a) (is_whitespace b) (is_punctuation b))
 
 pub star_closes : (r : DelimiterRun) → GoesBy 42 can_close is_right_flanking r
 star_closes r = star_closes_by r r.before r.after refl refl

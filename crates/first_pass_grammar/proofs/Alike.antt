@@ -16,7 +16,8 @@ use Rattle.first_pass_tree.specs.Tight.{tight_body, tightened}
 use Rattle.first_pass_lines.specs.Places.{Place, offset, line_end}
 use Rattle.first_pass_tokens.specs.TreeTokens.{leaves}
 use Rattle.first_pass_tokens.specs.Chains.{touches, add_token, add_tokens}
-use Rattle.first_pass_grammar.specs.Names.{Names, NamesText, NamesAlignments, NamesAttributes, TextAt, AlignmentsAt, AttributesAt, Named, AText, Alignments, OfHeading, index_of, kind_alone, named, read, read_nodes}
+use Rattle.first_pass_grammar.specs.Names.{Names, NamesText, NamesAlignments, NamesAttributes, TextAt, AlignmentsAt, AttributesAt, Named, AText, Alignments}
+use Rattle.first_pass_grammar.specs.Names.{OfHeading, index_of, kind_alone, named, read, read_nodes}
 use Rattle.first_pass_grammar.specs.Leaves.{Document, document, block_with}
 use Rattle.first_pass_grammar.specs.RawLines.{AreColumns, Ranges, range_text, range_html, raw_items, AreRawLines, spaces}
 use Rattle.first_pass_grammar.specs.Blocks.{LeafBlock, Leaf, BlankLine, Block, Skeleton, Nil, Then, Node}
@@ -61,7 +62,8 @@ abbrev pub AlikeOpening : Names → Names → Opening → Opening → Type 0
 AlikeOpening m n (OpensLeaf leaf there left) (OpensLeaf leaf' there' left') = AlikeLeaf m n leaf leaf' × (there ≡ there') × HoldsNoIndex there × (left ≡ left')
 AlikeOpening m n (OpensLeaf leaf there left) (OpensNode head' inside' behind') = ⊥
 AlikeOpening m n (OpensNode head inside behind) (OpensLeaf leaf' there' left') = ⊥
-AlikeOpening m n (OpensNode head inside behind) (OpensNode head' inside' behind') = (head ≡ head') × (inside ≡ inside') × HoldsNoIndex inside × (behind ≡ behind')
+AlikeOpening m n (OpensNode head inside behind) (OpensNode head' inside' behind') =
+    (head ≡ head') × (inside ≡ inside') × HoldsNoIndex inside × (behind ≡ behind')
 
 abbrev pub Alike : Names → Names → Skeleton → Skeleton → Type 0
 Alike m n Nil Nil = Unit {0}
@@ -114,14 +116,17 @@ read_token : (m : Names) (chain : List Item) (y : Item) → map (read m) (add_to
 read_token m [] y = refl
 read_token m (x ∷ []) y =
     read_joined m (touches x y) x y
-    ∙ ap (λ (t : Bool). if t then (record { start = (read m x).0.start; «end» = (read m y).0.«end»; body = (read m x).0.body }, (read m x).1) ∷ [] else read m x ∷ read m y ∷ []) (sym (touches_read m x y))
+    ∙ ap (λ (t : Bool).
+    if t then (record { start = (read m x).0.start; «end» = (read m y).0.«end»; body = (read m x).0.body }, (read m x).1) ∷ [] else read m x ∷ read m y ∷ [])
+    (sym (touches_read m x y))
 read_token m (x ∷ z ∷ zs) y = ap (λ r. read m x ∷ r) (read_token m (z ∷ zs) y)
 
 read_tokens : (m : Names) (chain tokens : List Item) → map (read m) (add_tokens chain tokens) ≡ join_reads (map (read m) chain) (map (read m) tokens)
 read_tokens m chain [] = refl
 read_tokens m chain (x ∷ xs) = read_tokens m (add_token chain x) xs ∙ ap (λ z. join_reads z (map (read m) xs)) (read_token m chain x)
 
-pub tokens_alike : (m n : Names) (chain chain' tokens tokens' : List Item) → AlikeChains m n chain chain' → AlikeChains m n tokens tokens' → AlikeChains m n (add_tokens chain tokens) (add_tokens chain' tokens')
+pub tokens_alike : (m n : Names) (chain chain' tokens tokens' : List Item)
+    → AlikeChains m n chain chain' → AlikeChains m n tokens tokens' → AlikeChains m n (add_tokens chain tokens) (add_tokens chain' tokens')
 tokens_alike m n chain chain' tokens tokens' h k = let a = read_tokens m chain tokens in let b = read_tokens n chain' tokens' in cc
 
 -- what an index names
@@ -180,7 +185,8 @@ html_free from to = (refl, tt)
 
 -- columns with items after them that have no index
 line_alike : (m n : Names) (owed at : ℕ) (more xs ys : List Item) → HaveNoIndex more
-    → (columns : List Item) × AreColumns m owed at columns × (xs ≡ columns ++ more) → (columns : List Item) × AreColumns n owed at columns × (ys ≡ columns ++ more) → AlikeChains m n xs ys
+    → (columns : List Item) × AreColumns m owed at columns × (xs ≡ columns ++ more)
+    → (columns : List Item) × AreColumns n owed at columns × (ys ≡ columns ++ more) → AlikeChains m n xs ys
 line_alike m n owed at more xs ys free (c, h, e) (c', k, f) =
     ap (map (read m)) e ∙ chains_append m n c c' more more (columns_alike m n owed at c c' h k) (read_alone m n more free) ∙ sym (ap (map (read n)) f)
 
@@ -190,7 +196,8 @@ unfolding AreRawLines
 raw_alike range free d n chain chain' [] w w' a e f = ap (map (read d.names)) e ∙ a ∙ sym (ap (map (read n)) f)
 raw_alike range free d n chain chain' (p ∷ ps) w w' a (line, is, more) (line', is', more') =
     raw_alike range free d n (add_tokens chain line) (add_tokens chain' line') ps w w'
-    (tokens_alike d.names n chain chain' line line' a (line_alike d.names n p.rest.owed (offset p) (raw_items range d.text (offset p) (line_end p)) line line' (raw_each IsWithoutIndex range d.text (offset p) (line_end p) free) is is'))
+    (tokens_alike d.names n chain chain' line line' a (line_alike d.names n p.rest.owed (offset p) (raw_items range d.text (offset p) (line_end p)) line line'
+    (raw_each IsWithoutIndex range d.text (offset p) (line_end p) free) is is'))
     more more'
 
 -- blocks with chains that read alike
@@ -198,13 +205,15 @@ read_below : (m : Names) (chain : List Item) → read_nodes m (at_depth 1 (leave
 read_below m [] = refl
 read_below m (x ∷ xs) = ap (λ z. (1, read m x) ∷ z) (read_below m xs)
 
-pub block_alike : (m n : Names) (start «end» : ℕ) (body body' : ItemBody) (chain chain' : List Item) → read m (node_of start «end» body) ≡ read n (node_of start «end» body')
+pub block_alike : (m n : Names) (start «end» : ℕ) (body body' : ItemBody) (chain chain' : List Item)
+    → read m (node_of start «end» body) ≡ read n (node_of start «end» body')
     → AlikeChains m n chain chain' → AlikeNodes m n (block_with start «end» body chain) (block_with start «end» body' chain')
 block_alike m n start end body body' chain chain' h k =
     ap (λ z. (0, z) ∷ read_nodes m (at_depth 1 (leaves chain))) h
     ∙ ap (λ z. (0, read n (node_of start end body')) ∷ z) (read_below m chain ∙ ap (map (λ (z : Item × Option Named). (1, z))) k ∙ sym (read_below n chain'))
 
-pub fence_alike : (m n : Names) (start «end» : ℕ) (i j : CowIndex) (info : List ℕ) → NamesText m i info → NamesText n j info → read m (node_of start «end» (FencedCodeBlock i)) ≡ read n (node_of start «end» (FencedCodeBlock j))
+pub fence_alike : (m n : Names) (start «end» : ℕ) (i j : CowIndex) (info : List ℕ)
+    → NamesText m i info → NamesText n j info → read m (node_of start «end» (FencedCodeBlock i)) ≡ read n (node_of start «end» (FencedCodeBlock j))
 fence_alike m n start end i j info h k =
     indexed_alike m n start end (FencedCodeBlock i) (FencedCodeBlock j) refl (named_text m i info h ∙ sym (named_text n j info k))
 
@@ -213,7 +222,8 @@ pub table_alike : (m n : Names) (start «end» : ℕ) (i j : AlignmentIndex) (al
 table_alike m n start end i j alignments h k =
     indexed_alike m n start end (Table i) (Table j) refl (named_alignments m i alignments h ∙ sym (named_alignments n j alignments k))
 
-pub heading_alike : (m n : Names) (start «end» : ℕ) (level : HeadingLevel) (i j : Option HeadingIndex) (attributes : Option Attributes) → NamesAttributes m i attributes
+pub heading_alike : (m n : Names) (start «end» : ℕ) (level : HeadingLevel) (i j : Option HeadingIndex) (attributes : Option Attributes)
+    → NamesAttributes m i attributes
     → NamesAttributes n j attributes → read m (node_of start «end» (Heading level i)) ≡ read n (node_of start «end» (Heading level j))
 heading_alike m n start end level i j attributes h k =
     indexed_alike m n start end (Heading level i) (Heading level j) (ap (Heading level) (both_given m n i j attributes h k))
@@ -236,13 +246,16 @@ tight_index b = refl
 abbrev pub tight_read : ℕ → ℕ × (Item × Option Named) → ℕ × (Item × Option Named)
 tight_read depth x = (x.0, if x.0 == depth then (node_of x.1.0.start x.1.0.«end» (tight_body x.1.0.body), x.1.1) else x.1)
 
-read_tight_by : (m : Names) (t : Bool) (x : Item) → read m (if t then node_of x.start x.«end» (tight_body x.body) else x) ≡ (if t then (node_of x.start x.«end» (tight_body (read m x).0.body), (read m x).1) else read m x)
+read_tight_by : (m : Names) (t : Bool) (x : Item) → read m (if t then node_of x.start x.«end» (tight_body x.body) else x)
+    ≡ (if t then (node_of x.start x.«end» (tight_body (read m x).0.body), (read m x).1) else read m x)
 read_tight_by m true x = rw (tight_alone x.body, tight_index x.body) refl
 read_tight_by m false x = refl
 
 pub read_tight : (m : Names) (depth : ℕ) (nodes : List (ℕ × Item)) → read_nodes m (map (tightened depth) nodes) ≡ map (tight_read depth) (read_nodes m nodes)
 read_tight m depth [] = refl
-read_tight m depth (x ∷ nodes) = let a = read_tight_by m (x.0 == depth) x.1 in let b = read_tight m depth nodes in ap (λ z. (x.0, z) ∷ read_nodes m (map (tightened depth) nodes)) a ∙ ap (λ z. tight_read depth (x.0, read m x.1) ∷ z) b
+read_tight m depth (x ∷ nodes) =
+    let a = read_tight_by m (x.0 == depth) x.1 in
+    let b = read_tight m depth nodes in ap (λ z. (x.0, z) ∷ read_nodes m (map (tightened depth) nodes)) a ∙ ap (λ z. tight_read depth (x.0, read m x.1) ∷ z) b
 
 pub read_at_depth : (m : Names) (depth : ℕ) (nodes : List (ℕ × Item)) → read_nodes m (at_depth depth nodes) ≡ at_depth depth (read_nodes m nodes)
 read_at_depth m depth [] = refl

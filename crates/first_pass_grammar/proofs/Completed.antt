@@ -12,7 +12,8 @@ use Rattle.first_pass_grammar.specs.Skeleton.{From, Line, Ends, end_before, IsSe
 use Rattle.first_pass_grammar.specs.Before.{nothing}
 use Rattle.first_pass_grammar.specs.Rows.{Rows, any_gap, rows_of}
 use Rattle.first_pass_grammar.specs.Derivation.{Tables, Derives, told, definitions_of, tables_of, root_of, items_of}
-use Rattle.first_pass_grammar.specs.Completion.{OneList, Standing, Further, AreFurther, rows_on, rows_beyond, rendered, Frame, InContainer, InList, containers_of, loosened, container_closed, Becomes, Completes, CanGoOn, Completion}
+use Rattle.first_pass_grammar.specs.Completion.{OneList, Standing, Further, AreFurther, rows_on, rows_beyond, rendered, Frame, InContainer, InList}
+use Rattle.first_pass_grammar.specs.Completion.{containers_of, loosened, container_closed, Becomes, Completes, CanGoOn, Completion}
 use Rattle.first_pass_grammar.proofs.Found.{Found}
 use Rattle.first_pass_grammar.proofs.MoreNames.{extends_none, extends_both}
 use Rattle.first_pass_grammar.proofs.Finishes.{containers-loosened}
@@ -62,7 +63,8 @@ becomes_some : (d : Document) (frames : List Frame) (places : List ℕ) (w : Sta
     → (forest : List (ℕ × Item)) × (tables : Tables) × Becomes frames places w further forest tables
 unfolding AreFurther Becomes
 becomes_some d [] [] w [] from lines size are = absurd are
-becomes_some d [] [] w (f ∷ []) from lines size are = (rendered 1 f.«end» w.nodes w.list (rows_on false w f), told w.defined (definitions_of f.blocks), (refl, refl))
+becomes_some d [] [] w (f ∷ []) from lines size are =
+    (rendered 1 f.«end» w.nodes w.list (rows_on false w f), told w.defined (definitions_of f.blocks), (refl, refl))
 becomes_some d [] [] w (f ∷ g ∷ more) from lines size are = absurd are
 becomes_some d [] (place ∷ places) w further from lines size are = absurd (omega arith)
 becomes_some d (frame ∷ frames) [] w further from lines size are = absurd (omega arith)

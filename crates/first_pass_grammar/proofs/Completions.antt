@@ -1,5 +1,6 @@
 -- Each step of reading a text, over what the nodes so far can still become.
-use Rattle.std.proofs.Common.{◌≡◌, ℕ, zero, suc, ◌+◌, ◌<◌, ◌≤◌, Bool, true, false, not, ◌||◌, ◌==◌, List, [], ◌∷◌, ◌++◌, length, map, Option, Some, None, refl, sym, ap, ◌∙◌, subst, arith, append_assoc, length-append, if◌then◌else◌}
+use Rattle.std.proofs.Common.{◌≡◌, ℕ, zero, suc, ◌+◌, ◌<◌, ◌≤◌, Bool, true, false, not, ◌||◌, ◌==◌, List, [], ◌∷◌, ◌++◌, length, map, Option, Some, None, refl}
+use Rattle.std.proofs.Common.{sym, ap, ◌∙◌, subst, arith, append_assoc, length-append, if◌then◌else◌}
 use Rattle.std.proofs.lemmas.List.{append-nil}
 use Rattle.std.proofs.Math.Bool.{or-false, or-true}
 use Rattle.first_pass_items.specs.declared.item.Item.{Item}
@@ -18,12 +19,15 @@ use Rattle.first_pass_grammar.specs.Names.{Names}
 use Rattle.first_pass_grammar.specs.Leaves.{Document}
 use Rattle.first_pass_grammar.specs.Blocks.{Leaf, LeafBlock, BlankLine, Block, block_at, Head, Opener, QuoteMarker, ItemMarker, Skeleton, Nil, Then, Node}
 use Rattle.first_pass_grammar.specs.Before.{Last, LastOther, LastItem, Before, nothing, last_container, after_blank, after_block, after_container, before_end}
-use Rattle.first_pass_grammar.specs.Skeleton.{From, Line, Inside, Blanks, At, TextOf, MarkAlone, behind_marker, Opening, OpensLeaf, OpensNode, OpensText, Opens, Begins, Ends, behind_first, end_after, end_before, IsFirst, IsSequence}
+use Rattle.first_pass_grammar.specs.Skeleton.{From, Line, Inside, Blanks, At, TextOf, MarkAlone, behind_marker, Opening, OpensLeaf, OpensNode, OpensText, Opens}
+use Rattle.first_pass_grammar.specs.Skeleton.{Begins, Ends, behind_first, end_after, end_before, IsFirst, IsSequence}
 use Rattle.first_pass_grammar.specs.Kinds.{Kind, Paragraph}
-use Rattle.first_pass_grammar.specs.Rows.{ALeaf, AList, Rows, End, OneOf, gapped, any_gap, is_loose, is_paragraph, closing_place, list_until, items_behind, list_behind, what_of, row_of, container_row, rows_of}
+use Rattle.first_pass_grammar.specs.Rows.{ALeaf, AList, Rows, End, OneOf, gapped, any_gap, is_loose, is_paragraph, closing_place, list_until, items_behind}
+use Rattle.first_pass_grammar.specs.Rows.{list_behind, what_of, row_of, container_row, rows_of}
 use Rattle.first_pass_grammar.specs.LinkTables.{LinkEntry, with_link, with_links}
 use Rattle.first_pass_grammar.specs.Derivation.{Tables, Derives, no_tables, told, definitions_of, node_of, root_of, list_flags, block_items, items_of}
-use Rattle.first_pass_grammar.specs.Completion.{ended, flagged, list_closed, Pending, NoList, OneList, rows_beyond, rendered, Frame, InContainer, InList, containers_of, loosened, AreBelow, IsPlain, last_of, IsShaped}
+use Rattle.first_pass_grammar.specs.Completion.{ended, flagged, list_closed, Pending, NoList, OneList, rows_beyond, rendered, Frame, InContainer, InList}
+use Rattle.first_pass_grammar.specs.Completion.{containers_of, loosened, AreBelow, IsPlain, last_of, IsShaped}
 use Rattle.first_pass_grammar.proofs.Tightening.{eqb-same, modify-append, length-modify, list_closed-append, length-closed, list_closed-mid, closed_item}
 use Rattle.first_pass_grammar.proofs.Alike.{AlikeOpening}
 use Rattle.first_pass_grammar.proofs.Finishes.{Finish, containers-loosened, before_of, CompletesAt, FinishesAt, finish_derives, whole_by}
@@ -202,7 +206,8 @@ enter_seq : (d : Document) (s : Skeleton) (path : List Container) (line q : Plac
     → taken path line ≡ Some q → IsSequence d s path (Inside q) lines left → IsSequence d s path Line (line ∷ lines) left
 unfolding IsSequence
 enter_seq d Nil path line q lines left is seq = absurd seq.0
-enter_seq d (Then leaf next) path line q lines left is (there, mid, first, seq) = (there, mid, enter_first d path line q lines (OpensLeaf leaf there mid) is first, seq)
+enter_seq d (Then leaf next) path line q lines left is (there, mid, first, seq) =
+    (there, mid, enter_first d path line q lines (OpensLeaf leaf there mid) is first, seq)
 enter_seq d (Node head e kids next) path line q lines left is (inside, behind, mid, first, inner, ends, seq) =
     (inside, behind, mid, enter_first d path line q lines (OpensNode head inside behind) is first, inner, ends, seq)
 
@@ -221,7 +226,8 @@ enter_step d defined (InList byte loose ∷ frames) list before nodes (o ∷ os)
 enter_step d defined (InContainer c ∷ frames) list before nodes (o ∷ os) line q lines forest tables is (s, mid, seq, fin) =
     (s, mid, enter_seq d s (c ∷ containers_of frames) line q lines mid is seq, fin)
 
-first_here : (d : Document) (path : List Container) (p : Place) (lines : List Place) (opening : Opening) → Opens d path p lines opening → IsFirst d path (Inside p) lines opening
+first_here : (d : Document) (path : List Container) (p : Place) (lines : List Place) (opening : Opening)
+    → Opens d path p lines opening → IsFirst d path (Inside p) lines opening
 first_here d path p lines opening opens = record { place = p; behind = lines; begins = (refl, refl); opens = opens }
 
 -- a block with no blocks in it, before which no gap is to be noted
@@ -257,7 +263,8 @@ blank_step d defined frames list before nodes os from lines left forest tables p
     plain alike (λ s mid seq. record { seq = (Line, left, first, seq); items = λ last is. refl; counts = refl; gaps = λ last. refl }) (λ s. refl)
     (subst (λ z. Finish d defined list now z nodes os (behind_first from Line) left forest tables) (sym (loosened_in-false frames)) fin)
 
-ended-mid : (nodes more : List (ℕ × Item)) (k e : ℕ) (x : Item) → ended (nodes ++ (k, x) ∷ more) (length nodes) e ≡ nodes ++ (k, record { start = x.start; «end» = e; body = x.body }) ∷ more
+ended-mid : (nodes more : List (ℕ × Item)) (k e : ℕ) (x : Item)
+    → ended (nodes ++ (k, x) ∷ more) (length nodes) e ≡ nodes ++ (k, record { start = x.start; «end» = e; body = x.body }) ∷ more
 unfolding ended
 ended-mid nodes more k e x = modify-at nodes more (k, x) (length nodes) (λ y. record { start = y.start; «end» = e; body = y.body }) refl
 
@@ -307,7 +314,8 @@ list_items : (quoted : Bool) (d last e start some_end byte number columns line :
     let rows : Rows = rows_of false nothing e kids in
     let now : Before = after_container (ListItem columns) (before_end false nothing kids) in
     rendered d last nodes NoList (rows_of quoted before last (Node head e kids s))
-    ≡ rendered d last (nodes ++ (d, node_of start some_end (ListBody flags byte number)) ∷ (suc d, node_of start e (ListItemBody columns)) ∷ items_of (suc (suc d)) false rows)
+    ≡ rendered d last
+    (nodes ++ (d, node_of start some_end (ListBody flags byte number)) ∷ (suc d, node_of start e (ListItemBody columns)) ∷ items_of (suc (suc d)) false rows)
     (OneList (length nodes) byte (any_gap rows)) (rows_of quoted now last s))
 unfolding items_of rows_of is_loose rendered
 list_items quoted d last e start some_end byte number columns line flags before nodes kids s =
@@ -320,7 +328,8 @@ list_items quoted d last e start some_end byte number columns line flags before 
     let a : List (ℕ × Item) = items_of (suc (suc d)) (not loose) rows in
     let b : List (ℕ × Item) = items_of (suc d) (not loose) (items_behind byte next) in
     let c : List (ℕ × Item) = items_of d false (list_behind byte next) in
-    sym (ap (λ z. z ++ (b ++ c)) (list_closed-mid nodes (entry ∷ items_of (suc (suc d)) false rows) d start some_end (suc (suc d)) byte number flags loose until)
+    sym (ap (λ z. z ++ (b ++ c))
+    (list_closed-mid nodes (entry ∷ items_of (suc (suc d)) false rows) d start some_end (suc (suc d)) byte number flags loose until)
     ∙ ap (λ z. (nodes ++ list ∷ z) ++ (b ++ c)) (closed_item d e loose (node_of start e (ListItemBody columns)) kids)
     ∙ append_assoc nodes (list ∷ entry ∷ a) (b ++ c)
     ∙ ap (λ z. nodes ++ list ∷ entry ∷ z) (sym (append_assoc a b c)))
@@ -328,13 +337,15 @@ list_items quoted d last e start some_end byte number columns line flags before 
 -- a list opened with its first item, before which no gap is to be noted
 list_step : (d : Document) (defined : Tables) (frames : List Frame) (nodes : List (ℕ × Item)) (os : List ℕ) (p : Place) (lines behind : List Place)
     (byte number columns start line some_end other_end : ℕ) (flags : ListFlags) (inside : From) (forest : List (ℕ × Item)) (tables : Tables)
-    → IsPlain frames → Opens d (containers_of frames) p lines (OpensNode (record { opener = ItemMarker byte number columns; start = start; line = line }) inside behind)
+    → IsPlain frames
+    → Opens d (containers_of frames) p lines (OpensNode (record { opener = ItemMarker byte number columns; start = start; line = line }) inside behind)
     → FinishesAt d defined false (InContainer (ListItem columns) ∷ InList byte false ∷ frames)
     (nodes ++ (suc (length os), node_of start some_end (ListBody flags byte number)) ∷
     (suc (suc (length os)), node_of start other_end (ListItemBody columns)) ∷ []) (suc (length nodes) ∷ length nodes ∷ os) inside behind forest tables
     → FinishesAt d defined false frames nodes os (Inside p) lines forest tables
 unfolding Finish IsSequence rows_of before_end items_of any_gap rendered definitions_of
-list_step d defined frames nodes os p lines behind byte number columns start line some_end other_end flags inside forest tables plain opens (kids, mid, inner, fin) =
+list_step d defined frames nodes os p lines behind byte number columns start line some_end other_end flags inside forest tables plain opens
+    (kids, mid, inner, fin) =
     let n : ℕ = length d.text in
     let path : List Container = containers_of frames in
     let k : ℕ = suc (length os) in
@@ -346,7 +357,8 @@ list_step d defined frames nodes os p lines behind byte number columns start lin
     let items : List (ℕ × Item) = items_of (suc (suc k)) false rows in
     let later : List (ℕ × Item) = nodes ++ y ∷ (suc k, node_of start e (ListItemBody columns)) ∷ items in
     let same : ended ((nodes ++ y ∷ x ∷ []) ++ items) (suc (length nodes)) e ≡ later =
-    ap (λ z. ended z (suc (length nodes)) e) (append_assoc nodes (y ∷ x ∷ []) items) ∙ ended-second nodes items y (suc k) e (node_of start other_end (ListItemBody columns)) in
+    ap (λ z. ended z (suc (length nodes)) e) (append_assoc nodes (y ∷ x ∷ []) items)
+    ∙ ended-second nodes items y (suc k) e (node_of start other_end (ListItemBody columns)) in
     let now : Before = after_container (ListItem columns) (before_end false nothing kids) in
     let list : Pending = OneList (length nodes) byte (any_gap rows) in
     extend d defined (told defined (definitions_of kids)) frames NoList list (before_of frames false) now false nodes later os
@@ -423,7 +435,8 @@ item_step : (d : Document) (defined : Tables) (frames : List Frame) (run loose :
     (nodes ++ (suc (suc (length os)), node_of start some_end (ListItemBody columns)) ∷ []) (length nodes ∷ o ∷ os) inside behind forest tables
     → FinishesAt d defined run (InList byte loose ∷ frames) nodes (o ∷ os) (Inside p) lines forest tables
 unfolding Finish IsSequence before_end any_gap rendered definitions_of
-item_step d defined frames run loose nodes o os p lines behind byte number columns start line some_end inside forest tables plain below opens (kids, mid, inner, fin) =
+item_step d defined frames run loose nodes o os p lines behind byte number columns start line some_end inside forest tables plain below opens
+    (kids, mid, inner, fin) =
     let n : ℕ = length d.text in
     let path : List Container = containers_of frames in
     let k : ℕ = suc (length os) in
@@ -464,7 +477,8 @@ EndsList byte at (Then BlankLine next) = ⊥
 EndsList byte at (Then (Block b) next) = leaf_closes b ≡ at
 EndsList byte at (Node head e kids next) = (head_closes head ≡ at) × (joins byte head.opener ≡ false)
 
-away_leaf : (byte at : ℕ) (leaf : Leaf) (there : From) (left : List Place) (next : Skeleton) → OpensAway byte at (OpensLeaf leaf there left) → EndsList byte at (Then leaf next)
+away_leaf : (byte at : ℕ) (leaf : Leaf) (there : From) (left : List Place) (next : Skeleton)
+    → OpensAway byte at (OpensLeaf leaf there left) → EndsList byte at (Then leaf next)
 away_leaf byte at BlankLine there left next away = away
 away_leaf byte at (Block b) there left next away = away
 
@@ -472,22 +486,28 @@ away_leaf byte at (Block b) there left next away = away
 alike_away : (m n : Names) (byte at : ℕ) (o o' : Opening) → AlikeOpening m n o o' → OpensAway byte at o → OpensAway byte at o'
 alike_away m n byte at (OpensLeaf BlankLine there left) (OpensLeaf leaf' there' left') a away = absurd away
 alike_away m n byte at (OpensLeaf (Block b) there left) (OpensLeaf BlankLine there' left') a away = absurd a.0
-alike_away m n byte at (OpensLeaf (Block b) there left) (OpensLeaf (Block b') there' left') a away = sym (ap (λ (z : Kind × ℕ × ℕ). if is_paragraph z.0 then z.2 else z.1) a.0.0) ∙ away
+alike_away m n byte at (OpensLeaf (Block b) there left) (OpensLeaf (Block b') there' left') a away =
+    sym (ap (λ (z : Kind × ℕ × ℕ). if is_paragraph z.0 then z.2 else z.1) a.0.0) ∙ away
 alike_away m n byte at (OpensLeaf leaf there left) (OpensNode head' inside' behind') a away = absurd a
 alike_away m n byte at (OpensNode head inside behind) (OpensLeaf leaf' there' left') a away = absurd a
-alike_away m n byte at (OpensNode head inside behind) (OpensNode head' inside' behind') a away = subst (λ (h : Head). (head_closes h ≡ at) × (joins byte h.opener ≡ false)) a.0 away
+alike_away m n byte at (OpensNode head inside behind) (OpensNode head' inside' behind') a away =
+    subst (λ (h : Head). (head_closes h ≡ at) × (joins byte h.opener ≡ false)) a.0 away
 
 -- a first block opens at the place where the sequence continues
-opens_first : (d : Document) (path : List Container) (p : Place) (lines : List Place) (opening : Opening) → IsFirst d path (Inside p) lines opening → Opens d path p lines opening
+opens_first : (d : Document) (path : List Container) (p : Place) (lines : List Place) (opening : Opening)
+    → IsFirst d path (Inside p) lines opening → Opens d path p lines opening
 opens_first d path p lines opening f = subst (λ z. Opens d path p z opening) f.begins.1 (subst (λ z. Opens d path z f.behind opening) f.begins.0 f.opens)
 
-ends_list : (d : Document) (path : List Container) (p : Place) (lines mid : List Place) (byte at : ℕ) (o : Opening) (s : Skeleton) → Opens d path p lines o → OpensAway byte at o → IsSequence d s path (Inside p) lines mid → EndsList byte at s
+ends_list : (d : Document) (path : List Container) (p : Place) (lines mid : List Place) (byte at : ℕ) (o : Opening) (s : Skeleton)
+    → Opens d path p lines o → OpensAway byte at o → IsSequence d s path (Inside p) lines mid → EndsList byte at s
 unfolding IsSequence
 ends_list d path p lines mid byte at o Nil opens away seq = absurd seq.0
 ends_list d path p lines mid byte at o (Then leaf next) opens away (there, left, first, seq) =
-    away_leaf byte at leaf there left next (alike_away d.names d.names byte at o (OpensLeaf leaf there left) (one_opening d d.names path p lines _ _ opens (opens_first d path p lines (OpensLeaf leaf there left) first)) away)
+    away_leaf byte at leaf there left next (alike_away d.names d.names byte at o (OpensLeaf leaf there left)
+    (one_opening d d.names path p lines _ _ opens (opens_first d path p lines (OpensLeaf leaf there left) first)) away)
 ends_list d path p lines mid byte at o (Node head e kids next) opens away (inside, behind, left, first, inner, ends, seq) =
-    alike_away d.names d.names byte at o (OpensNode head inside behind) (one_opening d d.names path p lines _ _ opens (opens_first d path p lines (OpensNode head inside behind) first)) away
+    alike_away d.names d.names byte at o (OpensNode head inside behind)
+    (one_opening d d.names path p lines _ _ opens (opens_first d path p lines (OpensNode head inside behind) first)) away
 
 -- The rows of what ends a list have no item of it.
 pub record AreAway (byte at last : ℕ) (rows : Rows) : Type 0 where
@@ -692,7 +712,8 @@ flagged-tight : (l : Bool) (b : ItemBody) → flagged false (tight_body (flagged
 flagged-tight l (ListBody flags byte number) = refl
 flagged-tight l b = refl
 
-closed_alike : (start e : ℕ) (b c : ItemBody) → b ≡ c → ◌≡◌ {A = Item} (record { start = start; «end» = e; body = b }) (record { start = start; «end» = e; body = c })
+closed_alike : (start e : ℕ) (b c : ItemBody)
+    → b ≡ c → ◌≡◌ {A = Item} (record { start = start; «end» = e; body = b }) (record { start = start; «end» = e; body = c })
 closed_alike start e b c h = ap (λ (z : ItemBody). node_of start e z) h
 
 tight_flagged : (t l : Bool) (x : Item) (e : ℕ) → (let g : Item = record { start = x.start; «end» = x.«end»; body = flagged l x.body } in
@@ -702,22 +723,27 @@ tight_flagged : (t l : Bool) (x : Item) (e : ℕ) → (let g : Item = record { s
 tight_flagged true l x e = closed_alike x.start e (flagged false (tight_body (flagged l x.body))) (flagged false (tight_body x.body)) (flagged-tight l x.body)
 tight_flagged false l x e = closed_alike x.start e (flagged false (flagged l x.body)) (flagged false x.body) (flagged-twice l false x.body)
 
-closed-reflagged : (nodes : List (ℕ × Item)) (o depth : ℕ) (l loose : Bool) (e : ℕ) → list_closed (reflagged nodes o l) o depth loose e ≡ list_closed nodes o depth loose e
+closed-reflagged : (nodes : List (ℕ × Item)) (o depth : ℕ) (l loose : Bool) (e : ℕ)
+    → list_closed (reflagged nodes o l) o depth loose e ≡ list_closed nodes o depth loose e
 unfolding list_closed reflagged
-closed-reflagged nodes o depth l true e = absorbed nodes o _ _ (λ x. closed_alike x.start e (flagged true (flagged l x.body)) (flagged true x.body) (flagged-twice l true x.body))
+closed-reflagged nodes o depth l true e =
+    absorbed nodes o _ _ (λ x. closed_alike x.start e (flagged true (flagged l x.body)) (flagged true x.body) (flagged-twice l true x.body))
 closed-reflagged nodes o depth l false e = absorbed_tight nodes o depth _ _ (λ n. tight_flagged (n.0 == depth) l n.1 e)
 
-swapped : (nodes : List (ℕ × Item)) (o x : ℕ) (g f : Item → Item) → ((y : Item) → f (g y) ≡ g (f y)) → modify (modify nodes o g) x f ≡ modify (modify nodes x f) o g
+swapped : (nodes : List (ℕ × Item)) (o x : ℕ) (g f : Item → Item)
+    → ((y : Item) → f (g y) ≡ g (f y)) → modify (modify nodes o g) x f ≡ modify (modify nodes x f) o g
 swapped [] o x g f h = refl
 swapped (n ∷ nodes) zero zero g f h = ap (λ z. (n.0, z) ∷ nodes) (h n.1)
 swapped (n ∷ nodes) zero (suc x) g f h = refl
 swapped (n ∷ nodes) (suc o) zero g f h = refl
 swapped (n ∷ nodes) (suc o) (suc x) g f h = ap (λ z. n ∷ z) (swapped nodes o x g f h)
 
-ended-reflagged : (nodes more : List (ℕ × Item)) (o x e : ℕ) (l : Bool) → o < length nodes → ended (reflagged nodes o l ++ more) x e ≡ reflagged (ended (nodes ++ more) x e) o l
+ended-reflagged : (nodes more : List (ℕ × Item)) (o x e : ℕ) (l : Bool)
+    → o < length nodes → ended (reflagged nodes o l ++ more) x e ≡ reflagged (ended (nodes ++ more) x e) o l
 unfolding ended reflagged
 ended-reflagged nodes more o x e l h =
-    ap (λ z. modify z x (λ y. record { start = y.start; «end» = e; body = y.body })) (sym (modify-append nodes more o (λ y. record { start = y.start; «end» = y.«end»; body = flagged l y.body }) h))
+    ap (λ z. modify z x (λ y. record { start = y.start; «end» = e; body = y.body }))
+    (sym (modify-append nodes more o (λ y. record { start = y.start; «end» = y.«end»; body = flagged l y.body }) h))
     ∙ swapped (nodes ++ more) o x _ _ (λ y. refl)
 
 pub length-reflagged : (nodes : List (ℕ × Item)) (o : ℕ) (l : Bool) → length (reflagged nodes o l) ≡ length nodes
@@ -784,8 +810,10 @@ completes-first d = record {
 }
 
 -- inside a line that the whole path continues
-pub completes-enter : (d : Document) (defined : Tables) (run : Bool) (frames : List Frame) (nodes : List (ℕ × Item)) (os : List ℕ) (line q : Place) (lines : List Place)
-    → taken (containers_of frames) line ≡ Some q → CompletesAt d defined run frames nodes os Line (line ∷ lines) → CompletesAt d defined run frames nodes os (Inside q) lines
+pub completes-enter : (d : Document) (defined : Tables) (run : Bool) (frames : List Frame) (nodes : List (ℕ × Item)) (os : List ℕ) (line q : Place)
+    (lines : List Place)
+    → taken (containers_of frames) line ≡ Some q → CompletesAt d defined run frames nodes os Line (line ∷ lines)
+    → CompletesAt d defined run frames nodes os (Inside q) lines
 completes-enter d defined run frames nodes os line q lines is c = record {
   below = c.below;
   shape = c.shape;
@@ -794,42 +822,53 @@ completes-enter d defined run frames nodes os line q lines is c = record {
 }
 
 -- after a block with no blocks in it, wherever it begins
-pub completes-leaf : (d : Document) (defined : Tables) (frames : List Frame) (nodes : List (ℕ × Item)) (os : List ℕ) (from : From) (lines left : List Place) (b : LeafBlock)
+pub completes-leaf : (d : Document) (defined : Tables) (frames : List Frame) (nodes : List (ℕ × Item)) (os : List ℕ) (from : From) (lines left : List Place)
+    (b : LeafBlock)
     → IsPlain frames → EndsAlike (length d.text) from (behind_first from Line) → IsFirst d (containers_of frames) from lines (OpensLeaf (Block b) Line left)
-    → CompletesAt d defined false frames nodes os from lines → CompletesAt d (told defined b.definitions) b.gap frames (nodes ++ block_items (suc (length os)) false b) os (behind_first from Line) left
+    → CompletesAt d defined false frames nodes os from lines
+    → CompletesAt d (told defined b.definitions) b.gap frames (nodes ++ block_items (suc (length os)) false b) os (behind_first from Line) left
 completes-leaf d defined frames nodes os from lines left b plain alike first c = record {
   below = AreBelow-more _ _ os (let k = length-append nodes (block_items (suc (length os)) false b) in omega arith) c.below;
   shape = c.shape;
-  whole = whole_by _ _ _ _ _ _ _ _ (λ forest tables fin. finish_derives _ _ _ _ _ _ _ _ c forest tables (block_step d defined frames nodes os from lines left b forest tables plain alike first fin));
+  whole = whole_by _ _ _ _ _ _ _ _ (λ forest tables fin.
+      finish_derives _ _ _ _ _ _ _ _ c forest tables (block_step d defined frames nodes os from lines left b forest tables plain alike first fin));
 }
 
 -- after a block with no blocks in it, which begins inside a line
-pub completes-block : (d : Document) (defined : Tables) (frames : List Frame) (nodes : List (ℕ × Item)) (os : List ℕ) (p : Place) (lines left : List Place) (b : LeafBlock)
+pub completes-block : (d : Document) (defined : Tables) (frames : List Frame) (nodes : List (ℕ × Item)) (os : List ℕ) (p : Place) (lines left : List Place)
+    (b : LeafBlock)
     → IsPlain frames → Opens d (containers_of frames) p lines (OpensLeaf (Block b) Line left)
-    → CompletesAt d defined false frames nodes os (Inside p) lines → CompletesAt d (told defined b.definitions) b.gap frames (nodes ++ block_items (suc (length os)) false b) os Line left
+    → CompletesAt d defined false frames nodes os (Inside p) lines
+    → CompletesAt d (told defined b.definitions) b.gap frames (nodes ++ block_items (suc (length os)) false b) os Line left
 completes-block d defined frames nodes os p lines left b plain opens c =
-    completes-leaf d defined frames nodes os (Inside p) lines left b plain (λ path mid. refl) (first_here d (containers_of frames) p lines (OpensLeaf (Block b) Line left) opens) c
+    completes-leaf d defined frames nodes os (Inside p) lines left b plain (λ path mid. refl)
+    (first_here d (containers_of frames) p lines (OpensLeaf (Block b) Line left) opens) c
 
 -- after the text of a task list item marker
-pub completes-text : (d : Document) (defined : Tables) (frames : List Frame) (nodes : List (ℕ × Item)) (os : List ℕ) (marker : Item) (p : Place) (lines left : List Place) (b : LeafBlock)
+pub completes-text : (d : Document) (defined : Tables) (frames : List Frame) (nodes : List (ℕ × Item)) (os : List ℕ) (marker : Item) (p : Place)
+    (lines left : List Place) (b : LeafBlock)
     → IsPlain frames → OpensText d (containers_of frames) p lines (Some marker) (OpensLeaf (Block b) Line left)
-    → CompletesAt d defined false frames nodes os (At p (TextOf marker)) lines → CompletesAt d (told defined b.definitions) b.gap frames (nodes ++ block_items (suc (length os)) false b) os Line left
+    → CompletesAt d defined false frames nodes os (At p (TextOf marker)) lines
+    → CompletesAt d (told defined b.definitions) b.gap frames (nodes ++ block_items (suc (length os)) false b) os Line left
 completes-text d defined frames nodes os marker p lines left b plain opens c =
-    completes-leaf d defined frames nodes os (At p (TextOf marker)) lines left b plain (λ path mid. refl) (record { place = p; behind = lines; begins = (refl, refl); opens = opens }) c
+    completes-leaf d defined frames nodes os (At p (TextOf marker)) lines left b plain (λ path mid. refl)
+    (record { place = p; behind = lines; begins = (refl, refl); opens = opens }) c
 
 mark_alike : (n : ℕ) (blanks : Option ℕ) (path : List Container) (mid : List Place) → end_after n path blanks mid ≡ end_before n path (behind_marker blanks) mid
 mark_alike n None path mid = refl
 mark_alike n (Some e) path mid = refl
 
 -- after a task list item marker with nothing after it on its line
-pub completes-mark : (d : Document) (defined : Tables) (frames : List Frame) (nodes : List (ℕ × Item)) (os : List ℕ) (marker : Item) (p : Place) (blanks : Option ℕ) (lines : List Place)
+pub completes-mark : (d : Document) (defined : Tables) (frames : List Frame) (nodes : List (ℕ × Item)) (os : List ℕ) (marker : Item) (p : Place)
+    (blanks : Option ℕ) (lines : List Place)
     → IsPlain frames → CompletesAt d defined false frames nodes os (At p (MarkAlone marker blanks)) lines
     → CompletesAt d defined false frames (nodes ++ (suc (length os), marker) ∷ []) os (behind_marker blanks) lines
 unfolding with_links
 completes-mark d defined frames nodes os marker p blanks lines plain c =
     let deep : suc (length os) + 0 ≡ suc (length os) = omega arith in
     subst (λ depth. CompletesAt d defined false frames (nodes ++ (depth, marker) ∷ []) os (behind_marker blanks) lines) deep
-    (completes-leaf d defined frames nodes os (At p (MarkAlone marker blanks)) lines lines (block_at Paragraph p ((0, marker) ∷ []) false) plain (mark_alike (length d.text) blanks)
+    (completes-leaf d defined frames nodes os (At p (MarkAlone marker blanks)) lines lines (block_at Paragraph p ((0, marker) ∷ []) false) plain
+    (mark_alike (length d.text) blanks)
     (record { place = p; behind = lines; begins = (refl, refl); opens = refl }) c)
 
 -- whether a run of blank lines counts with one more, inside what is open
@@ -858,65 +897,83 @@ blank_any d defined (InList byte loose ∷ frames) run nodes (o ∷ os) from lin
     (sym counts) fin)
 
 -- after a blank line, wherever it begins
-pub completes-blank : (d : Document) (defined : Tables) (run : Bool) (frames : List Frame) (nodes : List (ℕ × Item)) (os : List ℕ) (from : From) (lines left : List Place)
+pub completes-blank : (d : Document) (defined : Tables) (run : Bool) (frames : List Frame) (nodes : List (ℕ × Item)) (os : List ℕ) (from : From)
+    (lines left : List Place)
     → EndsAlike (length d.text) from (behind_first from Line) → IsFirst d (containers_of frames) from lines (OpensLeaf BlankLine Line left)
     → CompletesAt d defined run frames nodes os from lines → CompletesAt d defined (counts_in frames run) frames nodes os (behind_first from Line) left
 completes-blank d defined run frames nodes os from lines left alike first c = record {
   below = c.below;
   shape = c.shape;
-  whole = whole_by _ _ _ _ _ _ _ _ (λ forest tables fin. finish_derives _ _ _ _ _ _ _ _ c forest tables (blank_any d defined frames run nodes os from lines left forest tables c.shape alike first fin));
+  whole = whole_by _ _ _ _ _ _ _ _ (λ forest tables fin.
+      finish_derives _ _ _ _ _ _ _ _ c forest tables (blank_any d defined frames run nodes os from lines left forest tables c.shape alike first fin));
 }
 
 -- after a blank line that begins inside a line
-pub completes-blank_line : (d : Document) (defined : Tables) (run : Bool) (frames : List Frame) (nodes : List (ℕ × Item)) (os : List ℕ) (p : Place) (lines left : List Place)
+pub completes-blank_line : (d : Document) (defined : Tables) (run : Bool) (frames : List Frame) (nodes : List (ℕ × Item)) (os : List ℕ) (p : Place)
+    (lines left : List Place)
     → Opens d (containers_of frames) p lines (OpensLeaf BlankLine Line left)
     → CompletesAt d defined run frames nodes os (Inside p) lines → CompletesAt d defined (counts_in frames run) frames nodes os Line left
-completes-blank_line d defined run frames nodes os p lines left opens c = completes-blank d defined run frames nodes os (Inside p) lines left (λ path mid. refl) (first_here d (containers_of frames) p lines (OpensLeaf BlankLine Line left) opens) c
+completes-blank_line d defined run frames nodes os p lines left opens c = completes-blank d defined run frames nodes os (Inside p) lines left (λ path mid. refl)
+    (first_here d (containers_of frames) p lines (OpensLeaf BlankLine Line left) opens) c
 
 -- after a blank line in an item that takes blank lines alone
-pub completes-only_blank : (d : Document) (defined : Tables) (run : Bool) (columns : ℕ) (frames : List Frame) (nodes : List (ℕ × Item)) (os : List ℕ) (e : ℕ) (line p : Place) (lines : List Place)
-    → Begins (ListItem columns ∷ containers_of frames) (Blanks e) (line ∷ lines) p lines → Opens d (ListItem columns ∷ containers_of frames) p lines (OpensLeaf BlankLine Line lines)
-    → CompletesAt d defined run (InContainer (ListItem columns) ∷ frames) nodes os (Blanks e) (line ∷ lines) → CompletesAt d defined true (InContainer (ListItem columns) ∷ frames) nodes os (Blanks e) lines
+pub completes-only_blank : (d : Document) (defined : Tables) (run : Bool) (columns : ℕ) (frames : List Frame) (nodes : List (ℕ × Item)) (os : List ℕ) (e : ℕ)
+    (line p : Place) (lines : List Place)
+    → Begins (ListItem columns ∷ containers_of frames) (Blanks e) (line ∷ lines) p lines
+    → Opens d (ListItem columns ∷ containers_of frames) p lines (OpensLeaf BlankLine Line lines)
+    → CompletesAt d defined run (InContainer (ListItem columns) ∷ frames) nodes os (Blanks e) (line ∷ lines)
+    → CompletesAt d defined true (InContainer (ListItem columns) ∷ frames) nodes os (Blanks e) lines
 completes-only_blank d defined run columns frames nodes os e line p lines begins opens c =
     subst (λ z. CompletesAt d defined z (InContainer (ListItem columns) ∷ frames) nodes os (Blanks e) lines) (or-true run)
-    (completes-blank d defined run (InContainer (ListItem columns) ∷ frames) nodes os (Blanks e) (line ∷ lines) lines (λ path mid. refl) (record { place = p; behind = lines; begins = begins; opens = opens }) c)
+    (completes-blank d defined run (InContainer (ListItem columns) ∷ frames) nodes os (Blanks e) (line ∷ lines) lines (λ path mid. refl)
+    (record { place = p; behind = lines; begins = begins; opens = opens }) c)
 
 -- At the text's end, with nothing open, the nodes are the forest.
-pub completes-end : (d : Document) (defined : Tables) (run : Bool) (nodes : List (ℕ × Item)) → CompletesAt d defined run [] nodes [] Line [] → Derives d nodes defined
+pub completes-end : (d : Document) (defined : Tables) (run : Bool) (nodes : List (ℕ × Item))
+    → CompletesAt d defined run [] nodes [] Line [] → Derives d nodes defined
 unfolding Finish IsSequence rows_of items_of rendered definitions_of with_links
 completes-end d defined run nodes c = finish_derives _ _ _ _ _ _ _ _ c nodes defined (Nil, (tt, refl), sym (append-nil nodes), refl)
 
 -- the innermost container closed
-pub completes-pop : (d : Document) (defined : Tables) (run : Bool) (c : Container) (frames : List Frame) (nodes : List (ℕ × Item)) (o : ℕ) (os : List ℕ) (from : From) (lines : List Place)
+pub completes-pop : (d : Document) (defined : Tables) (run : Bool) (c : Container) (frames : List Frame) (nodes : List (ℕ × Item)) (o : ℕ) (os : List ℕ)
+    (from : From) (lines : List Place)
     → Ends (c ∷ containers_of frames) from lines → CompletesAt d defined run (InContainer c ∷ frames) nodes (o ∷ os) from lines
     → CompletesAt d defined run frames (ended nodes o (end_before (length d.text) (containers_of frames) from lines)) os Line lines
 completes-pop d defined run c frames nodes o os from lines ends k = record {
-  below = AreBelow-more o _ os (let l = length-ended nodes o (end_before (length d.text) (containers_of frames) from lines) in let b : o < length nodes = k.below.0 in omega arith) k.below.1;
+  below = AreBelow-more o _ os
+      (let l = length-ended nodes o (end_before (length d.text) (containers_of frames) from lines) in let b : o < length nodes = k.below.0 in omega arith)
+      k.below.1;
   shape = k.shape.1;
   whole = whole_by _ _ _ _ _ _ _ _ (λ forest tables fin.
       finish_derives _ _ _ _ _ _ _ _ k forest tables (pop_step d defined c frames run nodes o os from lines forest tables k.shape.0 ends fin));
 }
 
 -- a list closed with what is around it
-pub completes-pop_list : (d : Document) (defined : Tables) (run : Bool) (byte : ℕ) (loose : Bool) (frames : List Frame) (nodes : List (ℕ × Item)) (o : ℕ) (os : List ℕ) (lines : List Place)
+pub completes-pop_list : (d : Document) (defined : Tables) (run : Bool) (byte : ℕ) (loose : Bool) (frames : List Frame) (nodes : List (ℕ × Item)) (o : ℕ)
+    (os : List ℕ) (lines : List Place)
     → Ends (containers_of frames) Line lines → CompletesAt d defined run (InList byte loose ∷ frames) nodes (o ∷ os) Line lines
     → CompletesAt d defined run frames (list_closed nodes o (suc (suc (suc (length os)))) loose (start_of (length d.text) lines)) os Line lines
 completes-pop_list d defined run byte loose frames nodes o os lines ends k = record {
-  below = AreBelow-more o _ os (let l = length-closed nodes o (suc (suc (suc (length os)))) loose (start_of (length d.text) lines) in let b : o < length nodes = k.below.0 in omega arith) k.below.1;
+  below = AreBelow-more o _ os (
+      let l = length-closed nodes o (suc (suc (suc (length os)))) loose (start_of (length d.text) lines) in let b : o < length nodes = k.below.0 in omega arith)
+      k.below.1;
   shape = k.shape.1;
   whole = whole_by _ _ _ _ _ _ _ _ (λ forest tables fin.
       finish_derives _ _ _ _ _ _ _ _ k forest tables (pop_list_step d defined frames byte loose run nodes o os lines forest tables k.shape.0 ends fin));
 }
 
 -- a list closed before a block that ends it
-pub completes-close : (d : Document) (defined : Tables) (run : Bool) (byte : ℕ) (loose : Bool) (frames : List Frame) (nodes : List (ℕ × Item)) (o : ℕ) (os : List ℕ) (p : Place) (lines : List Place) (at : ℕ) (opening : Opening)
+pub completes-close : (d : Document) (defined : Tables) (run : Bool) (byte : ℕ) (loose : Bool) (frames : List Frame) (nodes : List (ℕ × Item)) (o : ℕ)
+    (os : List ℕ) (p : Place) (lines : List Place) (at : ℕ) (opening : Opening)
     → Opens d (containers_of frames) p lines opening → OpensAway byte at opening
     → CompletesAt d defined run (InList byte loose ∷ frames) nodes (o ∷ os) (Inside p) lines
     → CompletesAt d defined run frames (list_closed nodes o (suc (suc (suc (length os)))) loose at) os (Inside p) lines
 completes-close d defined run byte loose frames nodes o os p lines at opening opens away k = record {
-  below = AreBelow-more o _ os (let l = length-closed nodes o (suc (suc (suc (length os)))) loose at in let b : o < length nodes = k.below.0 in omega arith) k.below.1;
+  below = AreBelow-more o _ os
+      (let l = length-closed nodes o (suc (suc (suc (length os)))) loose at in let b : o < length nodes = k.below.0 in omega arith) k.below.1;
   shape = k.shape.1;
-  whole = whole_by _ _ _ _ _ _ _ _ (λ forest tables fin. finish_derives _ _ _ _ _ _ _ _ k forest tables (close_step d defined frames run loose nodes o os p lines byte at opening forest tables k.shape.0 opens away fin));
+  whole = whole_by _ _ _ _ _ _ _ _ (λ forest tables fin. finish_derives _ _ _ _ _ _ _ _ k forest tables
+      (close_step d defined frames run loose nodes o os p lines byte at opening forest tables k.shape.0 opens away fin));
 }
 
 plain-loosened : (gap : Bool) (frames : List Frame) → IsPlain frames → IsPlain (loosened gap frames)
@@ -935,18 +992,22 @@ shaped-loosened_in gap (InContainer c ∷ frames) h = (h.0 ∙ sym (last-loosene
 shaped-loosened_in gap (InList byte loose ∷ frames) h = (plain-loosened gap frames h.0, shaped-loosened gap frames h.1)
 
 -- a gap noted before a block
-pub completes-note : (d : Document) (defined : Tables) (run : Bool) (frames : List Frame) (nodes : List (ℕ × Item)) (os : List ℕ) (p : Place) (lines : List Place) (opening : Opening)
+pub completes-note : (d : Document) (defined : Tables) (run : Bool) (frames : List Frame) (nodes : List (ℕ × Item)) (os : List ℕ) (p : Place)
+    (lines : List Place) (opening : Opening)
     → IsPlain frames → Opens d (containers_of frames) p lines opening → OpensBlock opening
     → CompletesAt d defined run frames nodes os (Inside p) lines → CompletesAt d defined false (loosened_in run frames) nodes os (Inside p) lines
 completes-note d defined run frames nodes os p lines opening plain opens block k = record {
   below = k.below;
   shape = shaped-loosened_in run frames k.shape;
-  whole = whole_by _ _ _ _ _ _ _ _ (λ forest tables fin. finish_derives _ _ _ _ _ _ _ _ k forest tables (note_step d defined frames run nodes os p lines opening forest tables plain opens block fin));
+  whole = whole_by _ _ _ _ _ _ _ _ (λ forest tables fin.
+      finish_derives _ _ _ _ _ _ _ _ k forest tables (note_step d defined frames run nodes os p lines opening forest tables plain opens block fin));
 }
 
 -- the flags of the list in whose item blocks continue
-pub completes-reflag : (d : Document) (defined : Tables) (run : Bool) (c : Container) (byte : ℕ) (loose l : Bool) (frames : List Frame) (nodes : List (ℕ × Item)) (x o : ℕ) (os : List ℕ) (from : From) (lines : List Place)
-    → CompletesAt d defined run (InContainer c ∷ InList byte loose ∷ frames) nodes (x ∷ o ∷ os) from lines → CompletesAt d defined run (InContainer c ∷ InList byte loose ∷ frames) (reflagged nodes o l) (x ∷ o ∷ os) from lines
+pub completes-reflag : (d : Document) (defined : Tables) (run : Bool) (c : Container) (byte : ℕ) (loose l : Bool) (frames : List Frame)
+    (nodes : List (ℕ × Item)) (x o : ℕ) (os : List ℕ) (from : From) (lines : List Place)
+    → CompletesAt d defined run (InContainer c ∷ InList byte loose ∷ frames) nodes (x ∷ o ∷ os) from lines
+    → CompletesAt d defined run (InContainer c ∷ InList byte loose ∷ frames) (reflagged nodes o l) (x ∷ o ∷ os) from lines
 completes-reflag d defined run c byte loose l frames nodes x o os from lines k = record {
   below = AreBelow-more _ _ (x ∷ o ∷ os) (let n = length-reflagged nodes o l in omega arith) k.below;
   shape = k.shape;
@@ -964,51 +1025,67 @@ reflag_whole d defined frames byte loose run l nodes o os from lines forest tabl
     reflag_list d defined frames byte loose (record { last = LastItem; counted = run }) l nodes o os from lines forest tables plain fin
 
 -- the flags of a list that may continue
-pub completes-reflag_list : (d : Document) (defined : Tables) (run : Bool) (byte : ℕ) (loose l : Bool) (frames : List Frame) (nodes : List (ℕ × Item)) (o : ℕ) (os : List ℕ) (from : From) (lines : List Place)
-    → CompletesAt d defined run (InList byte loose ∷ frames) nodes (o ∷ os) from lines → CompletesAt d defined run (InList byte loose ∷ frames) (reflagged nodes o l) (o ∷ os) from lines
+pub completes-reflag_list : (d : Document) (defined : Tables) (run : Bool) (byte : ℕ) (loose l : Bool) (frames : List Frame) (nodes : List (ℕ × Item)) (o : ℕ)
+    (os : List ℕ) (from : From) (lines : List Place)
+    → CompletesAt d defined run (InList byte loose ∷ frames) nodes (o ∷ os) from lines
+    → CompletesAt d defined run (InList byte loose ∷ frames) (reflagged nodes o l) (o ∷ os) from lines
 completes-reflag_list d defined run byte loose l frames nodes o os from lines k = record {
   below = AreBelow-more _ _ (o ∷ os) (let n = length-reflagged nodes o l in omega arith) k.below;
   shape = k.shape;
-  whole = whole_by _ _ _ _ _ _ _ _ (λ forest tables fin. finish_derives _ _ _ _ _ _ _ _ k forest tables (reflag_whole d defined frames byte loose run l nodes o os from lines forest tables k.shape.0 fin));
+  whole = whole_by _ _ _ _ _ _ _ _ (λ forest tables fin.
+      finish_derives _ _ _ _ _ _ _ _ k forest tables (reflag_whole d defined frames byte loose run l nodes o os from lines forest tables k.shape.0 fin));
 }
 
 -- a block quote opened
-pub completes-quote : (d : Document) (defined : Tables) (frames : List Frame) (nodes : List (ℕ × Item)) (os : List ℕ) (p : Place) (lines behind : List Place) (kind : Option BlockQuoteKind) (start line some_end : ℕ) (inside : From)
+pub completes-quote : (d : Document) (defined : Tables) (frames : List Frame) (nodes : List (ℕ × Item)) (os : List ℕ) (p : Place) (lines behind : List Place)
+    (kind : Option BlockQuoteKind) (start line some_end : ℕ) (inside : From)
     → IsPlain frames → Opens d (containers_of frames) p lines (OpensNode (record { opener = QuoteMarker kind; start = start; line = line }) inside behind)
     → CompletesAt d defined false frames nodes os (Inside p) lines
-    → CompletesAt d defined false (InContainer (BlockQuote kind) ∷ frames) (nodes ++ (suc (length os), node_of start some_end (BlockQuoteBody kind)) ∷ []) (length nodes ∷ os) inside behind
+    → CompletesAt d defined false (InContainer (BlockQuote kind) ∷ frames) (nodes ++ (suc (length os), node_of start some_end (BlockQuoteBody kind)) ∷ [])
+    (length nodes ∷ os) inside behind
 completes-quote d defined frames nodes os p lines behind kind start line some_end inside plain opens k =
-    let l : length (nodes ++ (suc (length os), node_of start some_end (BlockQuoteBody kind)) ∷ []) ≡ length nodes + 1 = length-append nodes ((suc (length os), node_of start some_end (BlockQuoteBody kind)) ∷ []) in
+    let l : length (nodes ++ (suc (length os), node_of start some_end (BlockQuoteBody kind)) ∷ []) ≡ length nodes + 1 =
+    length-append nodes ((suc (length os), node_of start some_end (BlockQuoteBody kind)) ∷ []) in
     record {
       below = (omega arith, k.below);
       shape = (sym (ap (λ z. z.last) (plain_before false frames plain)), k.shape);
-      whole = whole_by _ _ _ _ _ _ _ _ (λ forest tables fin. finish_derives _ _ _ _ _ _ _ _ k forest tables (quote_step d defined frames nodes os p lines behind kind start line some_end inside forest tables plain opens fin));
+      whole = whole_by _ _ _ _ _ _ _ _ (λ forest tables fin. finish_derives _ _ _ _ _ _ _ _ k forest tables
+          (quote_step d defined frames nodes os p lines behind kind start line some_end inside forest tables plain opens fin));
     }
 
 -- a list opened, with its first item
-pub completes-list : (d : Document) (defined : Tables) (frames : List Frame) (nodes : List (ℕ × Item)) (os : List ℕ) (p : Place) (lines behind : List Place) (byte number columns start line some_end other_end : ℕ) (flags : ListFlags) (inside : From)
-    → IsPlain frames → Opens d (containers_of frames) p lines (OpensNode (record { opener = ItemMarker byte number columns; start = start; line = line }) inside behind)
+pub completes-list : (d : Document) (defined : Tables) (frames : List Frame) (nodes : List (ℕ × Item)) (os : List ℕ) (p : Place) (lines behind : List Place)
+    (byte number columns start line some_end other_end : ℕ) (flags : ListFlags) (inside : From)
+    → IsPlain frames
+    → Opens d (containers_of frames) p lines (OpensNode (record { opener = ItemMarker byte number columns; start = start; line = line }) inside behind)
     → CompletesAt d defined false frames nodes os (Inside p) lines
     → CompletesAt d defined false (InContainer (ListItem columns) ∷ InList byte false ∷ frames)
-    (nodes ++ (suc (length os), node_of start some_end (ListBody flags byte number)) ∷ (suc (suc (length os)), node_of start other_end (ListItemBody columns)) ∷ []) (suc (length nodes) ∷ length nodes ∷ os) inside behind
+    (nodes ++ (suc (length os), node_of start some_end (ListBody flags byte number)) ∷ (suc (suc (length os)), node_of start other_end (ListItemBody columns))
+    ∷ []) (suc (length nodes) ∷ length nodes ∷ os) inside behind
 completes-list d defined frames nodes os p lines behind byte number columns start line some_end other_end flags inside plain opens k =
-    let more : List (ℕ × Item) = (suc (length os), node_of start some_end (ListBody flags byte number)) ∷ (suc (suc (length os)), node_of start other_end (ListItemBody columns)) ∷ [] in
+    let more : List (ℕ × Item) =
+    (suc (length os), node_of start some_end (ListBody flags byte number)) ∷ (suc (suc (length os)), node_of start other_end (ListItemBody columns)) ∷ [] in
     let l : length (nodes ++ more) ≡ length nodes + 2 = length-append nodes more in
     record {
       below = (omega arith, (omega arith, k.below));
       shape = (refl, (plain, k.shape));
-      whole = whole_by _ _ _ _ _ _ _ _ (λ forest tables fin. finish_derives _ _ _ _ _ _ _ _ k forest tables (list_step d defined frames nodes os p lines behind byte number columns start line some_end other_end flags inside forest tables plain opens fin));
+      whole = whole_by _ _ _ _ _ _ _ _ (λ forest tables fin. finish_derives _ _ _ _ _ _ _ _ k forest tables
+          (list_step d defined frames nodes os p lines behind byte number columns start line some_end other_end flags inside forest tables plain opens fin));
     }
 
 -- an item opened in a list that continues
-pub completes-item : (d : Document) (defined : Tables) (run loose : Bool) (frames : List Frame) (nodes : List (ℕ × Item)) (o : ℕ) (os : List ℕ) (p : Place) (lines behind : List Place) (byte number columns start line some_end : ℕ) (inside : From)
+pub completes-item : (d : Document) (defined : Tables) (run loose : Bool) (frames : List Frame) (nodes : List (ℕ × Item)) (o : ℕ) (os : List ℕ) (p : Place)
+    (lines behind : List Place) (byte number columns start line some_end : ℕ) (inside : From)
     → Opens d (containers_of frames) p lines (OpensNode (record { opener = ItemMarker byte number columns; start = start; line = line }) inside behind)
     → CompletesAt d defined run (InList byte loose ∷ frames) nodes (o ∷ os) (Inside p) lines
-    → CompletesAt d defined false (InContainer (ListItem columns) ∷ InList byte (loose || run) ∷ frames) (nodes ++ (suc (suc (length os)), node_of start some_end (ListItemBody columns)) ∷ []) (length nodes ∷ o ∷ os) inside behind
+    → CompletesAt d defined false (InContainer (ListItem columns) ∷ InList byte (loose || run) ∷ frames)
+    (nodes ++ (suc (suc (length os)), node_of start some_end (ListItemBody columns)) ∷ []) (length nodes ∷ o ∷ os) inside behind
 completes-item d defined run loose frames nodes o os p lines behind byte number columns start line some_end inside opens k =
-    let l : length (nodes ++ (suc (suc (length os)), node_of start some_end (ListItemBody columns)) ∷ []) ≡ length nodes + 1 = length-append nodes ((suc (suc (length os)), node_of start some_end (ListItemBody columns)) ∷ []) in
+    let l : length (nodes ++ (suc (suc (length os)), node_of start some_end (ListItemBody columns)) ∷ []) ≡ length nodes + 1 =
+    length-append nodes ((suc (suc (length os)), node_of start some_end (ListItemBody columns)) ∷ []) in
     record {
       below = (omega arith, k.below);
       shape = (refl, k.shape);
-      whole = whole_by _ _ _ _ _ _ _ _ (λ forest tables fin. finish_derives _ _ _ _ _ _ _ _ k forest tables (item_step d defined frames run loose nodes o os p lines behind byte number columns start line some_end inside forest tables k.shape.0 k.below.0 opens fin));
+      whole = whole_by _ _ _ _ _ _ _ _ (λ forest tables fin. finish_derives _ _ _ _ _ _ _ _ k forest tables (item_step d defined frames run loose nodes o os p
+          lines behind byte number columns start line some_end inside forest tables k.shape.0 k.below.0 opens fin));
     }

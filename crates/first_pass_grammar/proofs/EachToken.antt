@@ -1,5 +1,6 @@
 -- What holds of each token holds of each item in the chain of a paragraph, of a heading and of a cell, and of raw lines.
-use Rattle.std.proofs.Common.{◌≡◌, inl, inr, ℕ, zero, suc, ◌+◌, ◌-◌, ◌==◌, ◌&&◌, Bool, true, false, nat_lt, nat_le, min, List, [], ◌∷◌, ◌++◌, length, Option, Some, None, IfSome, sym, subst, if◌then◌else◌, refl}
+use Rattle.std.proofs.Common.{◌≡◌, inl, inr, ℕ, zero, suc, ◌+◌, ◌-◌, ◌==◌, ◌&&◌, Bool, true, false, nat_lt, nat_le, min, List, [], ◌∷◌, ◌++◌, length, Option}
+use Rattle.std.proofs.Common.{Some, None, IfSome, sym, subst, if◌then◌else◌, refl}
 use Rattle.first_pass_items.specs.declared.cow_str.CowStr.{CowStr}
 use Rattle.first_pass_items.specs.declared.item.CowIndex.{CowIndex}
 use Rattle.first_pass_items.specs.declared.item.Item.{Item}
@@ -11,7 +12,8 @@ use Rattle.first_pass_tokens.specs.declared.pieces.Piece.{Piece}
 use Rattle.first_pass_tokens.specs.declared.pieces.Piece.TheVariants.{Left, Begins, Token, Run}
 use Rattle.first_pass_tokens.specs.Pieces.{Source, found_at, size}
 use Rattle.first_pass_tokens.specs.Braces.{MathBraces, braces_after}
-use Rattle.first_pass_tokens.specs.LineTokens.{Spot, spot, ArePieces, add_piece, add_pieces, text_end, line_end_len, breaks_by_backslash, blanks_at_end, break_of, line_break, IsLine, IsCell}
+use Rattle.first_pass_tokens.specs.LineTokens.{Spot, spot, ArePieces, add_piece, add_pieces, text_end, line_end_len, breaks_by_backslash, blanks_at_end}
+use Rattle.first_pass_tokens.specs.LineTokens.{break_of, line_break, IsLine, IsCell}
 use Rattle.first_pass_tokens.specs.Chains.{text_token, token, run_tokens, touches, add_token, add_tokens, add_text, is_backslash_break, close_break, cut}
 use Rattle.first_pass_tokens.proofs.PieceFacts.{IsPieceAt, is_markup}
 use Rattle.first_pass_tokens.proofs.LineLemmas.{piece_of}
@@ -116,18 +118,21 @@ module _ (P : ItemBody → Type 0) (text : (escaped : Bool) → P (Text escaped)
       → AreEach P (children_without d start marker t o)
   cut_children_each d start marker t None h k = k
   cut_children_each d start marker t (Some block) h k =
-      closed_each t.break _ (cut_each (start + kept_before (by_backslash t.break) block.opening (heading_bytes d start marker t)) (marker_items marker ++ t.chain) h)
+      closed_each t.break _
+      (cut_each (start + kept_before (by_backslash t.break) block.opening (heading_bytes d start marker t)) (marker_items marker ++ t.chain) h)
 
   pub heading_children_each : (d : Document) (start : ℕ) (marker : Option Item) (t : TextLines) → IfSome marker (λ x. P x.body) → AreEach P t.chain
       → AreEach P (heading_children d start marker t)
   unfolding heading_children
   heading_children_each d start marker t h k =
-      cut_children_each d start marker t (heading_braces d.options (heading_bytes d start marker t)) (marked_each marker t.chain h k) (children_each marker t h k)
+      cut_children_each d start marker t (heading_braces d.options (heading_bytes d start marker t)) (marked_each marker t.chain h k)
+      (children_each marker t h k)
 
 -- breaks
 module _ (P : ItemBody → Type 0) (soft : P SoftBreak) (hard : (by_backslash : Bool) → P (HardBreak by_backslash)) where
   white_each : (two : Bool) (end next blanks : ℕ)
-      → P (if◌then◌else◌ {A = Item} two (record { start = end - blanks; «end» = next; body = HardBreak false }) (record { start = end; «end» = next; body = SoftBreak })).body
+      → P (if◌then◌else◌ {A = Item} two (record { start = end - blanks; «end» = next; body = HardBreak false })
+      (record { start = end; «end» = next; body = SoftBreak })).body
   white_each true end next blanks = hard false
   white_each false end next blanks = soft
 

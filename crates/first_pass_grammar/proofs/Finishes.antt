@@ -9,7 +9,8 @@ use Rattle.first_pass_grammar.specs.Before.{Before, after_container, before_end}
 use Rattle.first_pass_grammar.specs.Skeleton.{From, Line, end_before, IsSequence}
 use Rattle.first_pass_grammar.specs.Rows.{Rows, any_gap, rows_of}
 use Rattle.first_pass_grammar.specs.Derivation.{Tables, Derives, told, definitions_of}
-use Rattle.first_pass_grammar.specs.Completion.{ended, Pending, NoList, OneList, Standing, Further, AreFurther, rows_beyond, rendered, Frame, InContainer, InList, containers_of, loosened, last_of, Becomes, Completes}
+use Rattle.first_pass_grammar.specs.Completion.{ended, Pending, NoList, OneList, Standing, Further, AreFurther, rows_beyond, rendered, Frame, InContainer}
+use Rattle.first_pass_grammar.specs.Completion.{InList, containers_of, loosened, last_of, Becomes, Completes}
 use Rattle.first_pass_grammar.specs.Containers.{is_quote}
 
 -- some sequence that the innermost container takes, and so on outwards
@@ -108,7 +109,8 @@ abbrev pub FinishesAt : Document → Tables → Bool → List Frame → List (�
 FinishesAt d defined run frames nodes os from lines forest tables =
     Finish d defined NoList (before_of frames run) frames nodes os from lines forest tables
 
-pub finish_derives : (d : Document) (defined : Tables) (run : Bool) (frames : List Frame) (nodes : List (ℕ × Item)) (os : List ℕ) (from : From) (lines : List Place)
+pub finish_derives : (d : Document) (defined : Tables) (run : Bool) (frames : List Frame) (nodes : List (ℕ × Item)) (os : List ℕ) (from : From)
+    (lines : List Place)
     → CompletesAt d defined run frames nodes os from lines
     → (forest : List (ℕ × Item)) (tables : Tables) → FinishesAt d defined run frames nodes os from lines forest tables → Derives d forest tables
 finish_derives d defined run frames nodes os from lines c forest tables fin =

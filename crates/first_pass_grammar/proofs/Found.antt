@@ -16,7 +16,8 @@ use Rattle.first_pass_grammar.specs.Names.{Names, NamesText, NamesAlignments, Na
 use Rattle.first_pass_attributes.specs.Attributes.{Attributes}
 use Rattle.first_pass_grammar.specs.Leaves.{document}
 use Rattle.first_pass_grammar.specs.CodeBlocks.{NamesInfo}
-use Rattle.first_pass_grammar.proofs.MoreNames.{extends_none, extends_both, extends_named, extends_alignments, extends_heading, text_last, alignments_last, heading_last}
+use Rattle.first_pass_grammar.proofs.MoreNames.{extends_none, extends_both, extends_named, extends_alignments, extends_heading, text_last, alignments_last}
+use Rattle.first_pass_grammar.proofs.MoreNames.{heading_last}
 use Rattle.first_pass_grammar.specs.RawLines.{spaces, AreColumns, Ranges, raw_items, AreRawLines}
 
 -- A value, and names that continue these, so that this holds of it for all names that continue those.

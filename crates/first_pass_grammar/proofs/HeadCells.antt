@@ -1,5 +1,6 @@
 -- A header row has at least as many cells as its table has columns: each pipe that is not directly after a backslash ends one, but the first in its line.
-use Rattle.std.proofs.Common.{◌≡◌, inl, inr, ℕ, zero, suc, ◌+◌, ◌-◌, ◌<◌, ◌≤◌, ◌==◌, ◌&&◌, not, Bool, true, false, List, [], ◌∷◌, length, take, drop, slice_index, Option, Some, None, is_some, refl, sym, ap, subst, ◌∙◌, arith, add-one, drop-drop, if◌then◌else◌}
+use Rattle.std.proofs.Common.{◌≡◌, inl, inr, ℕ, zero, suc, ◌+◌, ◌-◌, ◌<◌, ◌≤◌, ◌==◌, ◌&&◌, not, Bool, true, false, List, [], ◌∷◌, length, take, drop}
+use Rattle.std.proofs.Common.{slice_index, Option, Some, None, is_some, refl, sym, ap, subst, ◌∙◌, arith, add-one, drop-drop, if◌then◌else◌}
 use Rattle.std.specs.Option.{option_map, option_map_or, option_and_then}
 use Rattle.std.specs.List.{prefix_len, take_while}
 use Rattle.std.proofs.lemmas.Bool.{cases_lt, eq-eqb, eqb-true, true≢false}
@@ -101,7 +102,8 @@ cells_white b [] = omega arith
 cells_white b (c ∷ cs) = cells_white_by (is_white c) b c cs refl (cells_white c cs)
 
 -- where the line ends there are none
-line_end_by : (t u : Bool) (b n : ℕ) (k : Option ℕ) → (b == 10) ≡ t → (b == 13) ≡ u → (if t then Some 1 else (if u then k else None)) ≡ Some n → is_content b ≡ false
+line_end_by : (t u : Bool) (b n : ℕ) (k : Option ℕ)
+    → (b == 10) ≡ t → (b == 13) ≡ u → (if t then Some 1 else (if u then k else None)) ≡ Some n → is_content b ≡ false
 line_end_by true u b n k h l e = ap is_content (eqb-true b 10 h)
 line_end_by false true b n k h l e = ap is_content (eqb-true b 13 l)
 line_end_by false false b n k h l e = absurd (none-some n e)
@@ -388,4 +390,5 @@ head_is_full d path p alignments cells to i e are =
     omega arith
 
 pub heads_are_full : (d : Document) → HeadsAreFull d
-heads_are_full d path p alignments lines t i e h = (let none = head_is_full d path p alignments h.cells (spot h.head_end h.after) i e h.are_cells in omega arith)
+heads_are_full d path p alignments lines t i e h =
+    (let none = head_is_full d path p alignments h.cells (spot h.head_end h.after) i e h.are_cells in omega arith)

@@ -1,5 +1,6 @@
 -- What begins at a place is of some kind, and each kind opens something.
-use Rattle.std.proofs.Common.{◌≡◌, ◌⊎◌, inl, inr, ℕ, suc, ◌+◌, ◌<◌, ◌≤◌, Bool, true, false, true≢false, List, [], ◌∷◌, length, drop, Option, Some, None, refl, sym, subst, arith, nat_lt, if◌then◌else◌}
+use Rattle.std.proofs.Common.{◌≡◌, ◌⊎◌, inl, inr, ℕ, suc, ◌+◌, ◌<◌, ◌≤◌, Bool, true, false, true≢false, List, [], ◌∷◌, length, drop, Option, Some, None, refl}
+use Rattle.std.proofs.Common.{sym, subst, arith, nat_lt, if◌then◌else◌}
 use Rattle.std.specs.Option.{is_some}
 use Rattle.std.proofs.lemmas.Bool.{and_parts}
 use Rattle.std.proofs.lemmas.Option.{none-some, same_Some}
@@ -17,17 +18,21 @@ use Rattle.first_pass_html.proofs.TagDecisions.{tag_line_decided}
 use Rattle.first_pass_grammar.specs.declared.kind.Container.{Container}
 use Rattle.first_pass_grammar.specs.Containers.{Context, context}
 use Rattle.first_pass_grammar.specs.Names.{Names, Extends}
-use Rattle.first_pass_grammar.specs.Kinds.{Kind, Blank, IndentedCode, Metadata, HtmlToEnd, HtmlToBlank, ThematicBreak, AtxHeading, FencedCode, LinkDefinitions, Paragraph, all_taken, unindented, is_blank_rest, heading_or, rule_or, fence_or, metadata_or, metadata_at, begins_html_to_end, begins_html_to_blank, html_kind, first_kind, last_kind, IsKindBy, IsKind}
+use Rattle.first_pass_grammar.specs.Kinds.{Kind, Blank, IndentedCode, Metadata, HtmlToEnd, HtmlToBlank, ThematicBreak, AtxHeading, FencedCode, LinkDefinitions}
+use Rattle.first_pass_grammar.specs.Kinds.{Paragraph, all_taken, unindented, is_blank_rest, heading_or, rule_or, fence_or, metadata_or, metadata_at}
+use Rattle.first_pass_grammar.specs.Kinds.{begins_html_to_end, begins_html_to_blank, html_kind, first_kind, last_kind, IsKindBy, IsKind}
 use Rattle.first_pass_grammar.specs.Leaves.{document, block_with, heading_text_at, heading_block, rule_block}
 use Rattle.first_pass_grammar.specs.RawLines.{range_text, range_html}
-use Rattle.first_pass_grammar.specs.CodeBlocks.{code_place, code_by, code_lines, without_blanks, last_is_blank, last_end, IsIndentedCode, metadata_lines, metadata_kind, IsMetadata, fenced_lines, info_string, IsFencedCode}
+use Rattle.first_pass_grammar.specs.CodeBlocks.{code_place, code_by, code_lines, without_blanks, last_is_blank, last_end, IsIndentedCode, metadata_lines}
+use Rattle.first_pass_grammar.specs.CodeBlocks.{metadata_kind, IsMetadata, fenced_lines, info_string, IsFencedCode}
 use Rattle.first_pass_grammar.specs.HtmlBlocks.{until_end, until_blank, first_owing, IsHtml}
 use Rattle.first_pass_grammar.specs.LinkTables.{LinkEntry}
 use Rattle.first_pass_grammar.specs.LinkRuns.{definition_at, kind_in, Beyond, Ended, FlowsOn}
 use Rattle.first_pass_grammar.proofs.RunsFound.{left_beyond, run_found}
 use Rattle.first_pass_grammar.specs.Extents.{Extent, Verdict, GoesOn, IsLast, Closes, Stops, extent_by, extent}
 use Rattle.first_pass_grammar.specs.Blocks.{Leaf, Block, leaf_block, run_block, flowing_block, BlankLine}
-use Rattle.first_pass_grammar.specs.Skeleton.{OpensBeyond, OpensRun, From, Line, Blanks, At, blanks_alone, Opening, OpensLeaf, OpensNode, OpensText, OpensExtent, OpensAs, OpensBlockAt}
+use Rattle.first_pass_grammar.specs.Skeleton.{OpensBeyond, OpensRun, From, Line, Blanks, At, blanks_alone, Opening, OpensLeaf, OpensNode, OpensText}
+use Rattle.first_pass_grammar.specs.Skeleton.{OpensExtent, OpensAs, OpensBlockAt}
 use Rattle.first_pass_grammar.proofs.Found.{Found, named_info, raw_lines_found}
 use Rattle.first_pass_grammar.proofs.MoreNames.{extends_none, extends_both}
 use Rattle.first_pass_grammar.proofs.LinesFound.{heading_found}
@@ -291,7 +296,8 @@ leads_text text options names most path p lines marker =
       shrinks = at_next_line most lines leaf found.value.left found.shorter;
     }
 
-leads_beyond : (text : List ℕ) (options : Options) (names : Names) (most : ℕ) (path : List Container) (lines : List Place) (definitions : List LinkEntry) (beyond : Beyond)
+leads_beyond : (text : List ℕ) (options : Options) (names : Names) (most : ℕ) (path : List Container) (lines : List Place) (definitions : List LinkEntry)
+    (beyond : Beyond)
     → length (left_beyond beyond) ≤ length lines → Leads names most lines (λ later o. OpensBeyond (document text options later) path definitions beyond o)
 leads_beyond text options names most path lines definitions (Ended q left) less = leads_leaf (Block (run_block q definitions)) left (λ later. refl) less
 leads_beyond text options names most path lines definitions (FlowsOn q further) less =
@@ -311,7 +317,8 @@ leads_run : (text : List ℕ) (options : Options) (names : Names) (most : ℕ) (
 unfolding OpensAs OpensRun
 leads_run text options names most path p lines =
     let found = run_found (context options path) (unindented p) lines in
-    leads_also (leads_beyond text options names most path lines found.definitions found.beyond found.shorter) (λ later o opens. (found.definitions, found.beyond, found.run, opens))
+    leads_also (leads_beyond text options names most path lines found.definitions found.beyond found.shorter)
+    (λ later o opens. (found.definitions, found.beyond, found.run, opens))
 
 leads_kind : (text : List ℕ) (options : Options) (names : Names) (most : ℕ) (path : List Container) (p : Place) (lines : List Place) (kind : Kind)
     → HasEnd (all_taken p.rest).left kind → Leads names most lines (λ later o. OpensAs (document text options later) path p lines kind o)

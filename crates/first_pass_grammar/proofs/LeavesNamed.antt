@@ -6,7 +6,8 @@ use Rattle.first_pass_lines.specs.Places.{Place}
 use Rattle.first_pass_tokens.specs.TreeTokens.{leaves}
 use Rattle.first_pass_grammar.specs.declared.kind.Container.{Container}
 use Rattle.first_pass_grammar.specs.Names.{AreNamed}
-use Rattle.first_pass_grammar.specs.Kinds.{Kind, Blank, IndentedCode, Metadata, HtmlToEnd, HtmlToBlank, ThematicBreak, AtxHeading, FencedCode, LinkDefinitions, Paragraph, unindented}
+use Rattle.first_pass_grammar.specs.Kinds.{Kind, Blank, IndentedCode, Metadata, HtmlToEnd, HtmlToBlank, ThematicBreak, AtxHeading, FencedCode, LinkDefinitions}
+use Rattle.first_pass_grammar.specs.Kinds.{Paragraph, unindented}
 use Rattle.first_pass_grammar.specs.LinkRuns.{Ended, FlowsOn}
 use Rattle.first_pass_grammar.specs.Leaves.{Document}
 use Rattle.first_pass_grammar.specs.RawLines.{range_text, range_html}
@@ -41,8 +42,10 @@ opens_named d path p lines HtmlToBlank items gap left (own, is, opens) =
 opens_named d path p lines (ThematicBreak size) items gap left opens =
     subst (AreNamed d.names) (sym (ap items_of_leaf opens)) (tt, tt)
 opens_named d path p lines (AtxHeading level) items gap left (index, chain, stop, is, opens) =
-    subst (AreNamed d.names) (sym (ap items_of_leaf opens))
-    (given_entry d.names index _ is.named, named_deeper d.names 1 (leaves chain) (each_named d.names chain (heading_each (HasEntry d.names) d (tokens_entered d.names) _ index chain stop is)))
+    subst (AreNamed d.names) (sym (ap items_of_leaf opens)) (
+      given_entry d.names index _ is.named,
+      named_deeper d.names 1 (leaves chain) (each_named d.names chain (heading_each (HasEntry d.names) d (tokens_entered d.names) _ index chain stop is)),
+    )
 opens_named d path p lines (FencedCode count byte) items gap left (own, is, opens) =
     subst (AreNamed d.names) (sym (ap items_of_leaf opens))
     (block_named d.names _ _ _ is.chain own is.items_are (slice_get_within d.names.texts is.info.0 is.names.named is.names.at)

@@ -13,7 +13,8 @@ use Rattle.first_pass_grammar.specs.Names.{Names}
 use Rattle.first_pass_grammar.specs.Containers.{at_rest, front}
 use Rattle.first_pass_grammar.specs.Kinds.{unindented}
 use Rattle.first_pass_grammar.specs.Headings.{before_attributes}
-use Rattle.first_pass_grammar.specs.Leaves.{Document, content_at, heading_content, heading_chain, kept_len, line_bytes, add_break, IsHeading, TextLines, text_lines, AreTextLines}
+use Rattle.first_pass_grammar.specs.Leaves.{Document, content_at, heading_content, heading_chain, kept_len, line_bytes, add_break, IsHeading, TextLines}
+use Rattle.first_pass_grammar.specs.Leaves.{text_lines, AreTextLines}
 use Rattle.first_pass_grammar.proofs.NoIndex.{IsWithoutIndex, HasNoIndex, HasTextIndex, tokens_textual}
 use Rattle.first_pass_grammar.proofs.EachToken.{line_each, break_each}
 use Rattle.first_pass_grammar.proofs.Alike.{with_names, AlikeChains, tokens_alike}

@@ -15,7 +15,8 @@ use Rattle.first_pass_grammar.specs.Names.{Names, Extends}
 use Rattle.first_pass_grammar.specs.Containers.{context, at_rest, front}
 use Rattle.first_pass_grammar.specs.Kinds.{unindented, ends_text}
 use Rattle.first_pass_grammar.specs.Headings.{before_attributes, heading_attributes_of}
-use Rattle.first_pass_grammar.specs.Leaves.{Document, document, add_break, line_bytes, heading_content, kept_len, heading_chain, IsHeading, TextLines, text_lines, AreTextLines}
+use Rattle.first_pass_grammar.specs.Leaves.{Document, document, add_break, line_bytes, heading_content, kept_len, heading_chain, IsHeading, TextLines}
+use Rattle.first_pass_grammar.specs.Leaves.{text_lines, AreTextLines}
 use Rattle.first_pass_grammar.proofs.Found.{Found, named_attributes}
 use Rattle.first_pass_grammar.proofs.MoreNames.{extends_both, with_texts, extends_texts}
 use Rattle.first_pass_grammar.proofs.TextsMore.{line_later}

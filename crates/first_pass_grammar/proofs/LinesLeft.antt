@@ -1,5 +1,6 @@
 -- The lines of a text, and those that paragraphs, runs of definitions, tables and what else takes lines leave, are places of it.
-use Rattle.std.proofs.Common.{◌≡◌, inl, inr, ℕ, ◌+◌, nat_lt, Bool, true, false, List, [], ◌∷◌, drop, drop-drop, Option, Some, None, MatchOption, refl, sym, ap, ◌∙◌, subst, arith, if◌then◌else◌}
+use Rattle.std.proofs.Common.{◌≡◌, inl, inr, ℕ, ◌+◌, nat_lt, Bool, true, false, List, [], ◌∷◌, drop, drop-drop, Option, Some, None, MatchOption, refl, sym, ap}
+use Rattle.std.proofs.Common.{◌∙◌, subst, arith, if◌then◌else◌}
 use Rattle.first_pass_items.specs.declared.item.Item.{Item}
 use Rattle.first_pass_items.specs.declared.item.Alignment.{Alignment}
 use Rattle.first_pass_lines.specs.Places.{Place, line_place, lines_behind, lines_at, offset}
@@ -102,7 +103,8 @@ ended_left d path start marker l t (Some underline) h (index, named, e) = subst 
 
 -- what stands for a text leaves
 text_left_by : (d : Document) (path : List Container) (p : Place) (marker : Option Item) (lines : List Place) (t : Taken) (o : Option (List Alignment))
-    → AreAt d.text lines → MatchOption o (IsPlainText d path (offset p) marker lines t) (λ alignments. IsTable d path p alignments lines t) → AreAt d.text t.left
+    → AreAt d.text lines → MatchOption o (IsPlainText d path (offset p) marker lines t) (λ alignments. IsTable d path p alignments lines t)
+    → AreAt d.text t.left
 text_left_by d path p marker lines t None h (l, are, is) =
     ended_left d path (offset p) marker l t (underline_first path l.left) (lines_left d path (spot (offset p) no_braces) [] lines l h are) is
 text_left_by d path p marker lines t (Some alignments) h table =

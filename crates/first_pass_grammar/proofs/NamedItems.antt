@@ -1,5 +1,6 @@
 -- Each index that nodes keep names an entry: what keeps that, and chains and blocks of which it holds.
-use Rattle.std.proofs.Common.{◌≡◌, ℕ, zero, suc, ◌-◌, Bool, true, false, nat_lt, List, [], ◌∷◌, ◌++◌, length, Option, Some, None, refl, sym, ap, subst, ◌∙◌, arith, length-append, if◌then◌else◌}
+use Rattle.std.proofs.Common.{◌≡◌, ℕ, zero, suc, ◌-◌, Bool, true, false, nat_lt, List, [], ◌∷◌, ◌++◌, length, Option, Some, None, refl, sym, ap, subst, ◌∙◌}
+use Rattle.std.proofs.Common.{arith, length-append, if◌then◌else◌}
 use Rattle.std.proofs.lemmas.Option.{slice_get_within}
 use Rattle.first_pass_items.specs.declared.item.Item.{Item}
 use Rattle.first_pass_items.specs.declared.item.ItemBody.{ItemBody}
@@ -11,7 +12,8 @@ use Rattle.first_pass_grammar.specs.Names.{Names, Extends, Index, TextAt, Alignm
 use Rattle.first_pass_grammar.specs.Leaves.{Document, block_with}
 use Rattle.first_pass_grammar.specs.RawLines.{AreColumns, Ranges, range_text, range_html, ends_with_both, raw_items, IsRawLine, AreRawLines}
 use Rattle.std.proofs.lemmas.Bool.{false≢true}
-use Rattle.first_pass_items.specs.declared.item.ItemBody.TheVariants.{MaybeEmphasis, MaybeMath, MaybeSmartQuote, SynthesizeChar, SynthesizeText, MaybeCode, MaybeHtml, MaybeLinkOpen, MaybeLinkClose, MaybeImage}
+use Rattle.first_pass_items.specs.declared.item.ItemBody.TheVariants.{MaybeEmphasis, MaybeMath, MaybeSmartQuote, SynthesizeChar, SynthesizeText, MaybeCode}
+use Rattle.first_pass_items.specs.declared.item.ItemBody.TheVariants.{MaybeHtml, MaybeLinkOpen, MaybeLinkClose, MaybeImage}
 use Rattle.first_pass_tokens.proofs.PieceFacts.{is_markup}
 use Rattle.first_pass_grammar.proofs.TokensNamed.{NamesWithin}
 use Rattle.first_pass_grammar.proofs.EachToken.{AreEach, HoldsOfTokens}
@@ -46,7 +48,8 @@ named_deeper names depth [] h = tt
 named_deeper names depth (n ∷ nodes) h = (h.0, named_deeper names depth nodes h.1)
 
 -- a node changed
-pub named_modified : (names : Names) (nodes : List (ℕ × Item)) (i : ℕ) (g : Item → Item) → ((x : Item) → IsNamed names x → IsNamed names (g x)) → AreNamed names nodes → AreNamed names (modify nodes i g)
+pub named_modified : (names : Names) (nodes : List (ℕ × Item)) (i : ℕ) (g : Item → Item)
+    → ((x : Item) → IsNamed names x → IsNamed names (g x)) → AreNamed names nodes → AreNamed names (modify nodes i g)
 unfolding AreNamed
 named_modified names [] i g keeps h = tt
 named_modified names (n ∷ nodes) zero g keeps h = (keeps n.1 h.0, h.1)
@@ -89,7 +92,8 @@ each_named names [] h = tt
 each_named names (x ∷ chain) h = (h.0, each_named names chain h.1)
 
 -- a token joined to a chain
-joined_named : (names : Names) (t : Bool) (x y : Item) → IsNamed names x → IsNamed names y → AreNamed names (leaves (if t then record x { «end» = y.«end» } ∷ [] else x ∷ y ∷ []))
+joined_named : (names : Names) (t : Bool) (x y : Item)
+    → IsNamed names x → IsNamed names y → AreNamed names (leaves (if t then record x { «end» = y.«end» } ∷ [] else x ∷ y ∷ []))
 unfolding AreNamed
 joined_named names true x y h k = (h, tt)
 joined_named names false x y h k = (h, (k, tt))
@@ -100,7 +104,8 @@ token_named names [] y h k = (k, tt)
 token_named names (x ∷ []) y h k = joined_named names (touches x y) x y h.0 k
 token_named names (x ∷ z ∷ zs) y h k = (h.0, token_named names (z ∷ zs) y h.1 k)
 
-tokens_named : (names : Names) (chain tokens : List Item) → AreNamed names (leaves chain) → AreNamed names (leaves tokens) → AreNamed names (leaves (add_tokens chain tokens))
+tokens_named : (names : Names) (chain tokens : List Item)
+    → AreNamed names (leaves chain) → AreNamed names (leaves tokens) → AreNamed names (leaves (add_tokens chain tokens))
 unfolding AreNamed
 tokens_named names chain [] h k = h
 tokens_named names chain (x ∷ xs) h k = tokens_named names (add_token chain x) xs (token_named names chain x h k.0) k.1
@@ -114,7 +119,8 @@ chains_named names (x ∷ a) b h k = (h.0, chains_named names a b h.1 k)
 columns_named : (names : Names) (owed at : ℕ) (items : List Item) → AreColumns names owed at items → AreNamed names (leaves items)
 unfolding AreNamed
 columns_named names zero at items is = subst (λ xs. AreNamed names (leaves xs)) (sym is) tt
-columns_named names (suc n) at items (ix, (named, at_ix, text), is) = subst (λ xs. AreNamed names (leaves xs)) (sym is) (slice_get_within names.texts ix.0 named at_ix, tt)
+columns_named names (suc n) at items (ix, (named, at_ix, text), is) =
+    subst (λ xs. AreNamed names (leaves xs)) (sym is) (slice_get_within names.texts ix.0 named at_ix, tt)
 
 -- the bytes of raw lines have no index
 abbrev pub IsFree : Ranges → Type 0
@@ -136,15 +142,18 @@ raw_by names false a b c h k l = free_named names c l
 
 raw_named : (names : Names) (range : Ranges) (text : List ℕ) (from to : ℕ) → IsFree range → AreNamed names (leaves (raw_items range text from to))
 unfolding raw_items
-raw_named names range text from to free = raw_by names (ends_with_both text from to) (range from (to - 2)) (range (to - 1) to) (range from to) (free from (to - 2)) (free (to - 1) to) (free from to)
+raw_named names range text from to free =
+    raw_by names (ends_with_both text from to) (range from (to - 2)) (range (to - 1) to) (range from to) (free from (to - 2)) (free (to - 1) to) (free from to)
 
-line_named : (range : Ranges) (d : Document) (owed from to : ℕ) (items : List Item) → IsFree range → IsRawLine range d owed from to items → AreNamed d.names (leaves items)
+line_named : (range : Ranges) (d : Document) (owed from to : ℕ) (items : List Item)
+    → IsFree range → IsRawLine range d owed from to items → AreNamed d.names (leaves items)
 unfolding AreNamed
 line_named range d owed from to items free (columns, are, is) =
     subst (λ xs. AreNamed d.names (leaves xs)) (sym is)
     (chains_named d.names columns (raw_items range d.text from to) (columns_named d.names owed from columns are) (raw_named d.names range d.text from to free))
 
-pub lines_named : (range : Ranges) (d : Document) (chain : List Item) (places : List Place) (whole : List Item) → IsFree range → AreNamed d.names (leaves chain) → AreRawLines range d chain places whole → AreNamed d.names (leaves whole)
+pub lines_named : (range : Ranges) (d : Document) (chain : List Item) (places : List Place) (whole : List Item)
+    → IsFree range → AreNamed d.names (leaves chain) → AreRawLines range d chain places whole → AreNamed d.names (leaves whole)
 unfolding AreRawLines
 lines_named range d chain [] whole free h is = subst (λ xs. AreNamed d.names (leaves xs)) (sym is) h
 lines_named range d chain (p ∷ places) whole free h (line, is, more) =
@@ -152,6 +161,7 @@ lines_named range d chain (p ∷ places) whole free h (line, is, more) =
     (tokens_named d.names chain line h (line_named range d p.rest.owed (offset p) (line_end p) line free is)) more
 
 -- a block with a chain
-pub block_named : (names : Names) (start stop : ℕ) (body : ItemBody) (chain : List Item) (items : List (ℕ × Item)) → items ≡ block_with start stop body chain → NamesEntry names (index_of body) → AreNamed names (leaves chain) → AreNamed names items
+pub block_named : (names : Names) (start stop : ℕ) (body : ItemBody) (chain : List Item) (items : List (ℕ × Item))
+    → items ≡ block_with start stop body chain → NamesEntry names (index_of body) → AreNamed names (leaves chain) → AreNamed names items
 unfolding AreNamed
 block_named names start stop body chain items is own h = subst (AreNamed names) (sym is) (own, named_deeper names 1 (leaves chain) h)

@@ -1,5 +1,6 @@
 -- At each place where blocks continue something opens, and inside a container less of the text is left.
-use Rattle.std.proofs.Common.{◌≡◌, inl, inr, ℕ, suc, ◌-◌, ◌<◌, ◌≤◌, Bool, true, false, List, [], ◌∷◌, length, Option, Some, None, refl, sym, ap, arith, nat_lt, if◌then◌else◌}
+use Rattle.std.proofs.Common.{◌≡◌, inl, inr, ℕ, suc, ◌-◌, ◌<◌, ◌≤◌, Bool, true, false, List, [], ◌∷◌, length, Option, Some, None, refl, sym, ap, arith, nat_lt}
+use Rattle.std.proofs.Common.{if◌then◌else◌}
 use Rattle.std.specs.Option.{option_map}
 use Rattle.std.proofs.lemmas.List.{length-drop}
 use Rattle.std.proofs.lemmas.List.Sums.{prefix_len-le-length}
@@ -21,7 +22,9 @@ use Rattle.first_pass_grammar.specs.Containers.{Context, context, at_rest, prefi
 use Rattle.first_pass_grammar.specs.Kinds.{Paragraph, all_taken, unindented, is_blank_rest, quote_inside, item_at, ends_tag}
 use Rattle.first_pass_grammar.specs.Leaves.{Document, document}
 use Rattle.first_pass_grammar.specs.Blocks.{leaf_block, Head}
-use Rattle.first_pass_grammar.specs.Skeleton.{From, Line, At, May, Anything, ALeafAlone, TextOf, MarkAlone, Inside, behind_marker, Opening, OpensNode, next_is_blank, item_head, task_by, task_behind, behind_task, task_alone, item_opening, quote_head, tag_behind, behind_tag, quote_opening, OpensQuote, OpensFrom, Opens, OpensIf}
+use Rattle.first_pass_grammar.specs.Skeleton.{From, Line, At, May, Anything, ALeafAlone, TextOf, MarkAlone, Inside, behind_marker, Opening, OpensNode}
+use Rattle.first_pass_grammar.specs.Skeleton.{next_is_blank, item_head, task_by, task_behind, behind_task, task_alone, item_opening, quote_head, tag_behind}
+use Rattle.first_pass_grammar.specs.Skeleton.{behind_tag, quote_opening, OpensQuote, OpensFrom, Opens, OpensIf}
 use Rattle.first_pass_grammar.proofs.KindsFound.{IsShorter, leads_alone, leads_leaf, reach, Shrinks, Leads, leads_text, leads_block}
 
 -- after a marker less is left
@@ -140,7 +143,8 @@ leads_quote text options names path p lines None less = leads_block text options
 leads_quote text options names path p lines (Some inside) less =
     let kind : Option BlockQuoteKind = tag_behind options inside.rest in
     let shorter = less inside refl in
-    leads_alone (quote_opening (context options path) p inside lines kind) (λ later. refl) (quote_shrinks (length p.rest.left) (context options path) p inside lines kind (omega arith))
+    leads_alone (quote_opening (context options path) p inside lines kind) (λ later. refl)
+    (quote_shrinks (length p.rest.left) (context options path) p inside lines kind (omega arith))
 
 leads_from : (text : List ℕ) (options : Options) (names : Names) (path : List Container) (p : Place) (lines : List Place)
     (o : Option ((ℕ × ℕ × ℕ) × Rest)) → ((item : (ℕ × ℕ × ℕ) × Rest) → o ≡ Some item → length item.1.left < length p.rest.left)

@@ -1,5 +1,6 @@
 -- Rows of nodes and where they fit, as nodes are added, opened and closed.
-use Rattle.std.proofs.Common.{◌≡◌, inl, inr, ℕ, zero, suc, ◌+◌, ◌-◌, ◌*◌, ◌<◌, ◌≤◌, ◌==◌, ◌&&◌, Bool, true, false, if◌then◌else◌, List, [], ◌∷◌, ◌++◌, length, Some, None, IsCharBoundary, refl, sym, ap, subst, ◌∙◌, arith, append_assoc}
+use Rattle.std.proofs.Common.{◌≡◌, inl, inr, ℕ, zero, suc, ◌+◌, ◌-◌, ◌*◌, ◌<◌, ◌≤◌, ◌==◌, ◌&&◌, Bool, true, false, if◌then◌else◌, List, [], ◌∷◌, ◌++◌, length}
+use Rattle.std.proofs.Common.{Some, None, IsCharBoundary, refl, sym, ap, subst, ◌∙◌, arith, append_assoc}
 use Rattle.std.proofs.lemmas.List.{append-nil, map-append, length-map}
 use Rattle.first_pass_items.specs.declared.item.Item.{Item}
 use Rattle.first_pass_items.specs.declared.item.ItemBody.{ItemBody}
@@ -11,7 +12,8 @@ use Rattle.first_pass_tree.proofs.Blocks.{at_depth-append}
 use Rattle.first_pass_tokens.specs.Order.{AreInOrder}
 use Rattle.first_pass_tokens.specs.TreeTokens.{leaves}
 use Rattle.first_pass_tokens.proofs.OrderLemmas.{order_bound}
-use Rattle.first_pass_grammar.specs.Order.{Extent, is_text_block, is_task_marker, is_list_item, extent_of, extents, Row, Empty, Node, laid, IsBetween, Within, Elsewhere, InItem, InText, in_item, below, beyond, IsLead, Fits, FitsBetween}
+use Rattle.first_pass_grammar.specs.Order.{Extent, is_text_block, is_task_marker, is_list_item, extent_of, extents, Row, Empty, Node, laid, IsBetween, Within}
+use Rattle.first_pass_grammar.specs.Order.{Elsewhere, InItem, InText, in_item, below, beyond, IsLead, Fits, FitsBetween}
 use Rattle.first_pass_grammar.specs.OpenOrder.{laid_open, AreAt, open_item, FitsOpen}
 use Rattle.first_pass_grammar.proofs.OwnNodes.{own_at_most}
 
@@ -52,7 +54,8 @@ laid-at_depth d k Empty = refl
 laid-at_depth d k (Node x kids next) =
     let z : d + suc k ≡ suc (d + k) = omega arith in
     ap (λ (l : List (ℕ × Extent)). (d + k, x) ∷ l)
-    (at_depth-append d (laid (suc k) kids) (laid k next) ∙ ap (λ (l : List (ℕ × Extent)). l ++ at_depth d (laid k next)) (laid-at_depth d (suc k) kids ∙ ap (λ (n : ℕ). laid n kids) z)
+    (at_depth-append d (laid (suc k) kids) (laid k next)
+    ∙ ap (λ (l : List (ℕ × Extent)). l ++ at_depth d (laid k next)) (laid-at_depth d (suc k) kids ∙ ap (λ (n : ℕ). laid n kids) z)
     ∙ ap (λ (l : List (ℕ × Extent)). laid (suc (d + k)) kids ++ l) (laid-at_depth d k next))
 
 -- a row of one node
@@ -61,7 +64,8 @@ unfolding laid
 laid-one depth x = refl
 
 -- more nodes in the innermost open one
-pub laid_open-beside : (root : Extent) (levels : List (Row × Extent)) (row more : Row) → laid_open root levels (beside row more) ≡ laid_open root levels row ++ laid (suc (length levels)) more
+pub laid_open-beside : (root : Extent) (levels : List (Row × Extent)) (row more : Row)
+    → laid_open root levels (beside row more) ≡ laid_open root levels row ++ laid (suc (length levels)) more
 unfolding laid_open
 laid_open-beside root [] row more = ap (λ (z : List (ℕ × Extent)). (0, root) ∷ z) (laid-beside 1 row more)
 laid_open-beside root (level ∷ levels) row more =
@@ -70,7 +74,8 @@ laid_open-beside root (level ∷ levels) row more =
     ∙ sym (append_assoc (laid_open root levels level.0) ((suc (length levels), level.1) ∷ laid d row) (laid d more))
 
 -- a node opened
-pub laid_open-pushed : (root x : Extent) (levels : List (Row × Extent)) (row : Row) → laid_open root ((row, x) ∷ levels) Empty ≡ laid_open root levels row ++ (suc (length levels), x) ∷ []
+pub laid_open-pushed : (root x : Extent) (levels : List (Row × Extent)) (row : Row)
+    → laid_open root ((row, x) ∷ levels) Empty ≡ laid_open root levels row ++ (suc (length levels), x) ∷ []
 unfolding laid_open laid
 laid_open-pushed root x levels row = refl
 
@@ -109,16 +114,19 @@ fits-order text w from to (Node x kids next) (inl (b, k, n)) =
 fits-order text w from to (Node x kids next) (inr (l, k, n)) = fits-order text Elsewhere from to next n
 
 between-later : (text : List ℕ) (from a b : ℕ) (x : Extent) → a ≤ b → IsBetween text from a x → IsBetween text from b x
-between-later text from a b x more h = let t : x.«end» ≤ a = h.before in record { behind = h.behind; order = h.order; before = omega arith; starts = h.starts; ends = h.ends }
+between-later text from a b x more h =
+    let t : x.«end» ≤ a = h.before in record { behind = h.behind; order = h.order; before = omega arith; starts = h.starts; ends = h.ends }
 
 between-earlier : (text : List ℕ) (a b to : ℕ) (x : Extent) → a ≤ b → IsBetween text b to x → IsBetween text a to x
-between-earlier text a b to x more h = let t : b ≤ x.start = h.behind in record { behind = omega arith; order = h.order; before = h.before; starts = h.starts; ends = h.ends }
+between-earlier text a b to x more h =
+    let t : b ≤ x.start = h.behind in record { behind = omega arith; order = h.order; before = h.before; starts = h.starts; ends = h.ends }
 
 -- a row fits up to a later offset
 pub fits-later : (text : List ℕ) (w : Within) (from a b : ℕ) (row : Row) → a ≤ b → Fits text w from a row → Fits text w from b row
 unfolding Fits
 fits-later text w from a b Empty more h = let t : from ≤ a = h in omega arith
-fits-later text w from a b (Node x kids next) more (inl (h, k, n)) = inl (between-later text from a b x more h, k, fits-later text (beyond w) x.«end» a b next more n)
+fits-later text w from a b (Node x kids next) more (inl (h, k, n)) =
+    inl (between-later text from a b x more h, k, fits-later text (beyond w) x.«end» a b next more n)
 fits-later text w from a b (Node x kids next) more (inr (l, k, n)) = inr (l, k, fits-later text Elsewhere from a b next more n)
 
 any_by : (text : List ℕ) (item : Bool) (v : Within) (from to : ℕ) (row : Row) → (Fits text Elsewhere from to row → Fits text v from to row)
@@ -131,7 +139,11 @@ pub fits-any : (text : List ℕ) (w : Within) (from to : ℕ) (row : Row) → Fi
 unfolding Fits
 fits-any text w from to Empty h = h
 fits-any text w from to (Node x kids next) (inl (b, k, n)) =
-    inl (b, any_by text x.item (if in_item w && x.text_block then InText from else Elsewhere) x.start x.«end» kids (λ e. fits-any text _ x.start x.«end» kids e) k, fits-any text (beyond w) x.«end» to next n)
+    inl (
+      b,
+      any_by text x.item (if in_item w && x.text_block then InText from else Elsewhere) x.start x.«end» kids (λ e. fits-any text _ x.start x.«end» kids e) k,
+      fits-any text (beyond w) x.«end» to next n,
+    )
 fits-any text w from to (Node x kids next) (inr (l, k, n)) = absurd l
 
 fits-beyond : (text : List ℕ) (w : Within) (from to : ℕ) (row : Row) → Fits text (beyond w) from to row → Fits text w from to row
@@ -144,7 +156,8 @@ beyond-again text Elsewhere from to row h = h
 beyond-again text InItem from to row h = h
 beyond-again text (InText before) from to row h = h
 
-behind-lead : (text : List ℕ) (w : Within) (at from to : ℕ) (x : Extent) (row : Row) → IsLead text w at x → Fits text (beyond w) from to row → Fits text Elsewhere from to row
+behind-lead : (text : List ℕ) (w : Within) (at from to : ℕ) (x : Extent) (row : Row)
+    → IsLead text w at x → Fits text (beyond w) from to row → Fits text Elsewhere from to row
 behind-lead text Elsewhere at from to x row l h = absurd l
 behind-lead text InItem at from to x row l h = absurd l
 behind-lead text (InText before) at from to x row l h = h
@@ -157,15 +170,18 @@ fits-earlier_lead text a b from to (Node x kids next) more (inl h) = inl h
 fits-earlier_lead text a b from to (Node x kids next) more (inr (l, k, n)) = inr ((l.0, between-earlier text a b from x more l.1), k, n)
 
 below_by : (text : List ℕ) (item lead : Bool) (a b from to : ℕ) (row : Row) → a ≤ b
-    → Fits text (if item then InItem else (if lead then InText b else Elsewhere)) from to row → Fits text (if item then InItem else (if lead then InText a else Elsewhere)) from to row
+    → Fits text (if item then InItem else (if lead then InText b else Elsewhere)) from to row
+    → Fits text (if item then InItem else (if lead then InText a else Elsewhere)) from to row
 below_by text true lead a b from to row more h = h
 below_by text false true a b from to row more h = fits-earlier_lead text a b from to row more h
 below_by text false false a b from to row more h = h
 
-earlier_by : (text : List ℕ) (w : Within) (a b to : ℕ) (row : Row) → ((x : Extent) → IsLead text w b x → ⊥) → a ≤ b → Fits text w b to row → Fits text w a to row
+earlier_by : (text : List ℕ) (w : Within) (a b to : ℕ) (row : Row)
+    → ((x : Extent) → IsLead text w b x → ⊥) → a ≤ b → Fits text w b to row → Fits text w a to row
 unfolding Fits
 earlier_by text w a b to Empty none more h = let t : b ≤ to = h in omega arith
-earlier_by text w a b to (Node x kids next) none more (inl (h, k, n)) = inl (between-earlier text a b to x more h, below_by text x.item (in_item w && x.text_block) a b x.start x.«end» kids more k, n)
+earlier_by text w a b to (Node x kids next) none more (inl (h, k, n)) =
+    inl (between-earlier text a b to x more h, below_by text x.item (in_item w && x.text_block) a b x.start x.«end» kids more k, n)
 earlier_by text w a b to (Node x kids next) none more (inr (l, k, n)) = absurd (none x l)
 
 -- a row fits from an earlier offset on
@@ -175,12 +191,18 @@ fits-earlier text InItem a b to row more h = earlier_by text InItem a b to row (
 fits-earlier text (InText before) a b to row more h = earlier_by text Elsewhere a b to row (λ x l. l) more h
 
 -- a row fits after another
-pub fits-beside : (text : List ℕ) (w : Within) (from mid to : ℕ) (row more : Row) → Fits text w from mid row → Fits text (beyond w) mid to more → Fits text w from to (beside row more)
+pub fits-beside : (text : List ℕ) (w : Within) (from mid to : ℕ) (row more : Row)
+    → Fits text w from mid row → Fits text (beyond w) mid to more → Fits text w from to (beside row more)
 unfolding Fits
 fits-beside text w from mid to Empty more h behind = let t : from ≤ mid = h in fits-beyond text w from to more (fits-earlier text w from mid to more t behind)
 fits-beside text w from mid to (Node x kids next) more (inl (h, k, n)) behind =
-    inl (between-later text from mid to x (fits-order text (beyond w) mid to more behind) h, k, fits-beside text (beyond w) x.«end» mid to next more n (beyond-again text w mid to more behind))
-fits-beside text w from mid to (Node x kids next) more (inr (l, k, n)) behind = inr (l, k, fits-beside text Elsewhere from mid to next more n (behind-lead text w from mid to x more l behind))
+    inl (
+      between-later text from mid to x (fits-order text (beyond w) mid to more behind) h,
+      k,
+      fits-beside text (beyond w) x.«end» mid to next more n (beyond-again text w mid to more behind),
+    )
+fits-beside text w from mid to (Node x kids next) more (inr (l, k, n)) behind =
+    inr (l, k, fits-beside text Elsewhere from mid to next more n (behind-lead text w from mid to x more l behind))
 
 -- a row of one node fits
 pub fits-one : (text : List ℕ) (w : Within) (from to : ℕ) (x : Extent) → IsBetween text from to x → Fits text w from to (Node x Empty Empty)
@@ -191,7 +213,8 @@ fits-one text w from to x h = inl (h, h.order, h.before)
 pub fits_open-later : (text : List ℕ) (a b : ℕ) (levels : List (Row × Extent)) (row : Row) → a ≤ b → FitsOpen text a levels row → FitsOpen text b levels row
 unfolding FitsOpen
 fits_open-later text a b [] row more h = fits-later text Elsewhere 0 a b row more h
-fits_open-later text a b (level ∷ levels) row more (before, m, h, starts, rest) = (before, m, fits-later text (below (open_item levels) before level.1) level.1.start a b row more h, starts, rest)
+fits_open-later text a b (level ∷ levels) row more (before, m, h, starts, rest) =
+    (before, m, fits-later text (below (open_item levels) before level.1) level.1.start a b row more h, starts, rest)
 
 beyond_by : (text : List ℕ) (item lead : Bool) (before from to : ℕ) (row : Row) → Fits text (if item then InItem else Elsewhere) from to row
     → Fits text (beyond (if item then InItem else (if lead then InText before else Elsewhere))) from to row
@@ -200,20 +223,23 @@ beyond_by text false true before from to row h = h
 beyond_by text false false before from to row h = h
 
 -- more nodes in the innermost open one fit
-pub fits_open-beside : (text : List ℕ) (mid to : ℕ) (levels : List (Row × Extent)) (row more : Row) → FitsOpen text mid levels row → Fits text (if open_item levels then InItem else Elsewhere) mid to more
+pub fits_open-beside : (text : List ℕ) (mid to : ℕ) (levels : List (Row × Extent)) (row more : Row)
+    → FitsOpen text mid levels row → Fits text (if open_item levels then InItem else Elsewhere) mid to more
     → FitsOpen text to levels (beside row more)
 unfolding FitsOpen
 fits_open-beside text mid to [] row more h behind = fits-beside text Elsewhere 0 mid to row more h behind
 fits_open-beside text mid to (level ∷ levels) row more (before, m, h, starts, rest) behind = (
   before,
   m,
-  fits-beside text (below (open_item levels) before level.1) level.1.start mid to row more h (beyond_by text level.1.item (open_item levels && level.1.text_block) before mid to more behind),
+  fits-beside text (below (open_item levels) before level.1) level.1.start mid to row more h
+      (beyond_by text level.1.item (open_item levels && level.1.text_block) before mid to more behind),
   starts,
   rest,
 )
 
 -- a node that is opened fits
-pub fits_open-pushed : (text : List ℕ) (a : ℕ) (x : Extent) (levels : List (Row × Extent)) (row : Row) → a ≤ x.start → IsCharBoundary text x.start → FitsOpen text a levels row → FitsOpen text x.start ((row, x) ∷ levels) Empty
+pub fits_open-pushed : (text : List ℕ) (a : ℕ) (x : Extent) (levels : List (Row × Extent)) (row : Row)
+    → a ≤ x.start → IsCharBoundary text x.start → FitsOpen text a levels row → FitsOpen text x.start ((row, x) ∷ levels) Empty
 unfolding FitsOpen Fits
 fits_open-pushed text a x levels row more starts h = let t : x.start ≤ x.start = omega arith in (a, more, t, starts, h)
 
@@ -222,7 +248,8 @@ inside_by true = refl
 inside_by false = refl
 
 -- the innermost open node fits once it is closed
-pub fits_open-popped : (text : List ℕ) (at e : ℕ) (level : Row × Extent) (levels : List (Row × Extent)) (row : Row) → at ≤ e → IsCharBoundary text e → FitsOpen text at (level ∷ levels) row
+pub fits_open-popped : (text : List ℕ) (at e : ℕ) (level : Row × Extent) (levels : List (Row × Extent)) (row : Row)
+    → at ≤ e → IsCharBoundary text e → FitsOpen text at (level ∷ levels) row
     → FitsOpen text e levels (beside level.0 (Node (ended_at level.1 e) row Empty))
 unfolding FitsOpen Fits
 fits_open-popped text at e level levels row more ends (before, m, h, starts, rest) =
@@ -231,10 +258,15 @@ fits_open-popped text at e level levels row more ends (before, m, h, starts, res
     let order : x.start ≤ e = fits-order text (below (open_item levels) before x) x.start e row inside in
     let last : e ≤ e = omega arith in
     fits_open-beside text before e levels level.0 (Node (ended_at x e) row Empty) rest
-    (inl (record { behind = m; order = order; before = last; starts = starts; ends = ends }, subst (λ t. Fits text (below t before x) x.start e row) (sym (inside_by (open_item levels))) inside, last))
+    (inl (
+      record { behind = m; order = order; before = last; starts = starts; ends = ends },
+      subst (λ t. Fits text (below t before x) x.start e row) (sym (inside_by (open_item levels))) inside,
+      last,
+    ))
 
 -- with another end, the extent of a node has that end
-pub extents-ended : (nodes : List (ℕ × Item)) (before : List (ℕ × Extent)) (n : ℕ × Extent) (more : List (ℕ × Extent)) (k e : ℕ) → extents nodes ≡ before ++ n ∷ more → k ≡ length before
+pub extents-ended : (nodes : List (ℕ × Item)) (before : List (ℕ × Extent)) (n : ℕ × Extent) (more : List (ℕ × Extent)) (k e : ℕ)
+    → extents nodes ≡ before ++ n ∷ more → k ≡ length before
     → extents (modify nodes k (λ x. record x { «end» = e })) ≡ before ++ (n.0, ended_at n.1 e) ∷ more
 extents-ended [] [] n more k e is at = cc
 extents-ended [] (y ∷ before) n more k e is at = cc
@@ -247,10 +279,12 @@ extents-ended (m ∷ nodes) (y ∷ before) n more zero e is at = absurd (omega a
 extents-ended (m ∷ nodes) (y ∷ before) n more (suc k) e is at =
     let x : (m.0, extent_of m.1) ≡ y = cc in
     let z : extents nodes ≡ before ++ n ∷ more = cc in
-    ap (λ (w : List (ℕ × Extent)). (m.0, extent_of m.1) ∷ w) (extents-ended nodes before n more k e z (omega arith)) ∙ ap (λ (w : ℕ × Extent). w ∷ (before ++ (n.0, ended_at n.1 e) ∷ more)) x
+    ap (λ (w : List (ℕ × Extent)). (m.0, extent_of m.1) ∷ w) (extents-ended nodes before n more k e z (omega arith))
+    ∙ ap (λ (w : ℕ × Extent). w ∷ (before ++ (n.0, ended_at n.1 e) ∷ more)) x
 
 -- a change at a place that keeps the extent
-pub extents-kept : (nodes : List (ℕ × Item)) (k : ℕ) (g : Item → Item) (b : ItemBody) → body_at nodes k ≡ Some b → ((x : Item) → x.body ≡ b → extent_of (g x) ≡ extent_of x) → extents (modify nodes k g) ≡ extents nodes
+pub extents-kept : (nodes : List (ℕ × Item)) (k : ℕ) (g : Item → Item) (b : ItemBody)
+    → body_at nodes k ≡ Some b → ((x : Item) → x.body ≡ b → extent_of (g x) ≡ extent_of x) → extents (modify nodes k g) ≡ extents nodes
 extents-kept [] k g b is same = refl
 extents-kept (n ∷ nodes) zero g b is same = (let e : n.1.body ≡ b = cc in ap (λ (x : Extent). (n.0, x) ∷ extents nodes) (same n.1 e))
 extents-kept (n ∷ nodes) (suc k) g b is same = ap (λ (z : List (ℕ × Extent)). (n.0, extent_of n.1) ∷ z) (extents-kept nodes k g b is same)
@@ -269,9 +303,13 @@ item_tight b = refl
 
 extent_by : (t : Bool) (x : Item) → extent_of (if t then record { start = x.start; «end» = x.«end»; body = tight_body x.body } else x) ≡ extent_of x
 extent_by true x =
-    ap (λ (p : Bool). record { start = x.start; «end» = x.«end»; text_block = p; marker = is_task_marker (tight_body x.body); item = is_list_item (tight_body x.body) }) (paragraph_tight x.body)
-    ∙ ap (λ (m : Bool). record { start = x.start; «end» = x.«end»; text_block = is_text_block x.body; marker = m; item = is_list_item (tight_body x.body) }) (marker_tight x.body)
-    ∙ ap (λ (i : Bool). record { start = x.start; «end» = x.«end»; text_block = is_text_block x.body; marker = is_task_marker x.body; item = i }) (item_tight x.body)
+    ap (λ (p : Bool).
+    record { start = x.start; «end» = x.«end»; text_block = p; marker = is_task_marker (tight_body x.body); item = is_list_item (tight_body x.body) })
+    (paragraph_tight x.body)
+    ∙ ap (λ (m : Bool). record { start = x.start; «end» = x.«end»; text_block = is_text_block x.body; marker = m; item = is_list_item (tight_body x.body) })
+    (marker_tight x.body)
+    ∙ ap (λ (i : Bool). record { start = x.start; «end» = x.«end»; text_block = is_text_block x.body; marker = is_task_marker x.body; item = i })
+    (item_tight x.body)
 extent_by false x = refl
 
 -- a paragraph made tight keeps its extent
@@ -279,13 +317,15 @@ pub extent-tightened : (depth : ℕ) (n : ℕ × Item) → extent_of (tightened 
 extent-tightened depth n = extent_by (n.0 == depth) n.1
 
 -- where no node but the root is open, the whole tree is in order
-pub fits-whole : (text : List ℕ) (root : Extent) (to : ℕ) (row : Row) → IsBetween text 0 (length text) root → root.start ≡ 0 → root.«end» ≡ length text → to ≤ length text → FitsOpen text to [] row
+pub fits-whole : (text : List ℕ) (root : Extent) (to : ℕ) (row : Row)
+    → IsBetween text 0 (length text) root → root.start ≡ 0 → root.«end» ≡ length text → to ≤ length text → FitsOpen text to [] row
     → Fits text Elsewhere 0 (length text) (Node root row Empty)
 unfolding FitsOpen Fits
 fits-whole text root to row whole start_is end_is within h =
     let later : to ≤ root.«end» = omega arith in
     let last : root.«end» ≤ length text = omega arith in
-    let inside : Fits text Elsewhere root.start root.«end» row = subst (λ (n : ℕ). Fits text Elsewhere n root.«end» row) (sym start_is) (fits-later text Elsewhere 0 to root.«end» row later h) in
+    let inside : Fits text Elsewhere root.start root.«end» row =
+    subst (λ (n : ℕ). Fits text Elsewhere n root.«end» row) (sym start_is) (fits-later text Elsewhere 0 to root.«end» row later h) in
     inl (whole, fits-any text (below false 0 root) root.start root.«end» row inside, last)
 
 -- items side by side, nothing below them
@@ -309,7 +349,8 @@ row_of-fits text w from to (x ∷ xs) h =
     inl (record { behind = h.0; order = h.1; before = later; starts = h.2; ends = h.3 }, h.1, row_of-fits text (beyond w) x.«end» to xs h.4)
 
 -- a block that fits elsewhere fits anywhere
-pub between-any : (text : List ℕ) (w : Within) (from to : ℕ) (items : List (ℕ × Item)) → FitsBetween text Elsewhere from to items → FitsBetween text w from to items
+pub between-any : (text : List ℕ) (w : Within) (from to : ℕ) (items : List (ℕ × Item))
+    → FitsBetween text Elsewhere from to items → FitsBetween text w from to items
 between-any text w from to items (row, is, fits, few) = (row, is, fits-any text w from to row fits, few)
 
 -- putting items deeper drops none
@@ -322,7 +363,8 @@ pub length-block : (x : Item) (chain : List Item) → length (block_of x (leaves
 length-block x chain = ap suc (length-at_depth 1 (leaves chain) ∙ length-map chain (λ (y : Item). (0, y)))
 
 -- A block of a chain lies between two offsets where its item does, and the chain is in order within that; and it has few items where the chain has.
-pub block_fits : (text : List ℕ) (w : Within) (from to : ℕ) (x : Item) (chain : List Item) → IsBetween text from to (extent_of x) → AreInOrder text x.start x.«end» chain → (from < to → suc (length chain) ≤ 4 * (to - from))
+pub block_fits : (text : List ℕ) (w : Within) (from to : ℕ) (x : Item) (chain : List Item)
+    → IsBetween text from to (extent_of x) → AreInOrder text x.start x.«end» chain → (from < to → suc (length chain) ≤ 4 * (to - from))
     → FitsBetween text w from to (block_of x (leaves chain))
 unfolding laid Fits
 block_fits text w from to x chain between order few = (

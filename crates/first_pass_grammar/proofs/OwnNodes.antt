@@ -1,6 +1,7 @@
 -- How many nodes of its own a list of nodes has: no more than there are, as many at another depth or with what closes nodes changed, and no more than its
 -- parts have together.
-use Rattle.std.proofs.Common.{◌≡◌, ℕ, zero, suc, ◌+◌, ◌≤◌, ◌==◌, Bool, true, false, if◌then◌else◌, List, [], ◌∷◌, ◌++◌, length, Option, Some, None, refl, sym, ap, ◌∙◌, arith, eq-eqb}
+use Rattle.std.proofs.Common.{◌≡◌, ℕ, zero, suc, ◌+◌, ◌≤◌, ◌==◌, Bool, true, false, if◌then◌else◌, List, [], ◌∷◌, ◌++◌, length, Option, Some, None, refl, sym}
+use Rattle.std.proofs.Common.{ap, ◌∙◌, arith, eq-eqb}
 use Rattle.first_pass_items.specs.declared.item.Item.{Item}
 use Rattle.first_pass_items.specs.declared.item.ItemBody.{ItemBody}
 use Rattle.first_pass_items.specs.declared.item.ItemBody.TheVariants.{Paragraph, TableCell}

@@ -1,6 +1,7 @@
 -- What is left at a place is the text from its offset on: this is so of the lines of a text, after columns, markers and the prefixes of containers, and at
 -- the places and in the lines that stand after a leaf block.
-use Rattle.std.proofs.Common.{◌≡◌, ℕ, zero, suc, ◌+◌, ◌-◌, ◌%◌, ◌==◌, nat_lt, Bool, true, false, List, [], ◌∷◌, drop, Option, Some, None, refl, sym, ap, subst, ◌∙◌, arith, drop-drop, if◌then◌else◌}
+use Rattle.std.proofs.Common.{◌≡◌, ℕ, zero, suc, ◌+◌, ◌-◌, ◌%◌, ◌==◌, nat_lt, Bool, true, false, List, [], ◌∷◌, drop, Option, Some, None, refl, sym, ap, subst}
+use Rattle.std.proofs.Common.{◌∙◌, arith, drop-drop, if◌then◌else◌}
 use Rattle.std.specs.Option.{option_map, option_and_then}
 use Rattle.std.proofs.lemmas.Option.{none-some, same_Some}
 use Rattle.first_pass_items.specs.declared.option_set.Options.{Options}
@@ -47,7 +48,8 @@ byte_follows r b bs e = sym (ap (drop 1) e)
 
 -- after columns
 column_by : (t u : Bool) (r s : Rest) (b : ℕ) (bs : List ℕ) → r.left ≡ b ∷ bs
-    → (if t then Some (past_byte r bs) else (if u then Some (record { left = bs; taken = r.taken + 1; owed = 3 - r.column % 4; column = 0 }) else None)) ≡ Some s
+    → (if t then Some (past_byte r bs) else (if u then Some (record { left = bs; taken = r.taken + 1; owed = 3 - r.column % 4; column = 0 }) else None))
+    ≡ Some s
     → Follows r s
 column_by true u r s b bs e h = subst (Follows r) (same_Some (past_byte r bs) s h) (1, byte_follows r b bs e, refl)
 column_by false true r s b bs e h =
@@ -145,7 +147,8 @@ marked_follows r s m =
     let one : Rest = past_bytes m.width r in
     let two : Rest = after_columns m.first one in
     subst (Follows r) (sym m.same)
-    (follows_both r two (after_columns m.further two) (follows_both r one two (m.width, refl, refl) (columns_follow m.first one)) (columns_follow m.further two))
+    (follows_both r two (after_columns m.further two) (follows_both r one two (m.width, refl, refl) (columns_follow m.first one))
+    (columns_follow m.further two))
 
 item_if : (t : Bool) (r : Rest) (item : (ℕ × ℕ × ℕ) × Rest) → (if t then item_of (indent r) (all_taken r) else None) ≡ Some item → Follows r item.1
 item_if true r item h =

@@ -9,7 +9,8 @@ use Rattle.first_pass_grammar.specs.Kinds.{Kind}
 use Rattle.first_pass_grammar.specs.Blocks.{LeafBlock, BlankLine, Block, Head, Opener, QuoteMarker, ItemMarker, opened, Skeleton, Nil, Then, Node}
 use Rattle.first_pass_grammar.specs.Before.{Before, LastOther, nothing, after_blank, after_block, after_container, before_end}
 use Rattle.first_pass_grammar.specs.Containers.{is_quote}
-use Rattle.first_pass_grammar.specs.Rows.{What, ALeaf, AQuote, AList, AnItem, Row, Rows, End, OneOf, gapped, any_gap, is_loose, closing_place, is_list_of, end_of, list_until, items_behind, list_behind, row_of, row_of_leaf, container_row, rows_of}
+use Rattle.first_pass_grammar.specs.Rows.{What, ALeaf, AQuote, AList, AnItem, Row, Rows, End, OneOf, gapped, any_gap, is_loose, closing_place, is_list_of}
+use Rattle.first_pass_grammar.specs.Rows.{end_of, list_until, items_behind, list_behind, row_of, row_of_leaf, container_row, rows_of}
 use Rattle.first_pass_grammar.specs.Derivation.{definitions_of, node_of, list_flags, row_items, tight_in, items_of}
 use Rattle.first_pass_grammar.proofs.Alike.{AlikeNodes, stands, Alike, nodes_append, tight_read, read_tight, read_at_depth}
 
@@ -46,7 +47,8 @@ abbrev until_at : ℕ → ℕ → Row → ℕ
 until_at byte last row = if is_list_of byte row.what then end_of row.what last else closing_place row.what row.line row.start
 
 until_what : (byte last line start : ℕ) (gap : Bool) (w : What)
-    → until_at byte last (record { what = bare_what w; line = line; start = start; gap = gap }) ≡ until_at byte last (record { what = w; line = line; start = start; gap = gap })
+    → until_at byte last (record { what = bare_what w; line = line; start = start; gap = gap })
+    ≡ until_at byte last (record { what = w; line = line; start = start; gap = gap })
 until_what byte last line start gap (ALeaf b) = refl
 until_what byte last line start gap w = refl
 
@@ -104,7 +106,8 @@ past_alike : (m n : Names) (byte : ℕ) (r r' : Rows) → AlikeRows m n r r' →
 past_alike m n byte End End a = a
 past_alike m n byte End (OneOf row' inner' next') a = absurd a
 past_alike m n byte (OneOf row inner next) End a = absurd a
-past_alike m n byte (OneOf row inner next) (OneOf row' inner' next') a = chosen m n _ _ next next' (OneOf row inner next) (OneOf row' inner' next') (same_list m n byte row row' a.0) a.2 a
+past_alike m n byte (OneOf row inner next) (OneOf row' inner' next') a =
+    chosen m n _ _ next next' (OneOf row inner next) (OneOf row' inner' next') (same_list m n byte row row' a.0) a.2 a
 
 container_alike : (m n : Names) (last : ℕ) (opener : Opener) (line start e : ℕ) (gap : Bool) (inner inner' next next' : Rows)
     → AlikeRows m n inner inner' → AlikeRows m n next next'

@@ -1,5 +1,6 @@
 -- From each place on there is a run of link definitions, of none or more.
-use Rattle.std.proofs.Common.{◌≡◌, inl, inr, ℕ, zero, suc, ◌≤◌, Bool, true, false, nat_lt, List, [], ◌∷◌, length, Option, Some, None, refl, ap, ◌∙◌, arith, if◌then◌else◌}
+use Rattle.std.proofs.Common.{◌≡◌, inl, inr, ℕ, zero, suc, ◌≤◌, Bool, true, false, nat_lt, List, [], ◌∷◌, length, Option, Some, None, refl, ap, ◌∙◌, arith}
+use Rattle.std.proofs.Common.{if◌then◌else◌}
 use Rattle.std.proofs.lemmas.Bool.{true≢false}
 use Rattle.first_pass_lines.specs.Places.{Place}
 use Rattle.first_pass_grammar.specs.Containers.{Context, at_rest, front}
@@ -7,7 +8,8 @@ use Rattle.first_pass_grammar.specs.Kinds.{unindented}
 use Rattle.first_pass_grammar.specs.LinkTables.{LinkEntry}
 use Rattle.first_pass_grammar.specs.LinkRuns.{definition_at, lines_beyond, ends_run, Beyond, Ended, FlowsOn, IsRun}
 
-shorter_by : (e : ℕ) (line : Place) (lines : List Place) (t : Bool) → length (lines_beyond e lines) ≤ length lines → length (if t then lines_beyond e lines else line ∷ lines) ≤ length (line ∷ lines)
+shorter_by : (e : ℕ) (line : Place) (lines : List Place) (t : Bool)
+    → length (lines_beyond e lines) ≤ length lines → length (if t then lines_beyond e lines else line ∷ lines) ≤ length (line ∷ lines)
 shorter_by e line lines true less = omega arith
 shorter_by e line lines false less = omega arith
 
@@ -27,7 +29,8 @@ pub record RunFound (around : Context) (p : Place) (lines : List Place) : Type 0
   pub run : IsRun around p lines definitions beyond
   pub shorter : length (left_beyond beyond) ≤ length lines
 
-further_by : (around : Context) (p : Place) (lines rest : List Place) (x : LinkEntry) (t : Bool) → definition_at around p ≡ Some x → lines_beyond x.«end» lines ≡ rest → ends_run around rest ≡ t → length rest ≤ length lines
+further_by : (around : Context) (p : Place) (lines rest : List Place) (x : LinkEntry) (t : Bool)
+    → definition_at around p ≡ Some x → lines_beyond x.«end» lines ≡ rest → ends_run around rest ≡ t → length rest ≤ length lines
     → ((q : Place) (left : List Place) → suc (length left) ≤ length lines → RunFound around q left) → RunFound around p lines
 unfolding IsRun
 further_by around p lines rest x true here is ends less further = record {

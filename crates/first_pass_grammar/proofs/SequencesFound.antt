@@ -11,7 +11,8 @@ use Rattle.first_pass_grammar.specs.Containers.{at_rest, after}
 use Rattle.first_pass_grammar.specs.Kinds.{is_blank_rest}
 use Rattle.first_pass_grammar.specs.Leaves.{document}
 use Rattle.first_pass_grammar.specs.Blocks.{Leaf, Head, opened, Skeleton, Nil, Then, Node}
-use Rattle.first_pass_grammar.specs.Skeleton.{From, Line, Blanks, At, May, Anything, ALeafAlone, TextOf, MarkAlone, Opening, OpensLeaf, OpensNode, is_blank_behind, Begins, Ends, next_is_blank, behind_first, blanks_alone, end_before, IsFirst, IsSequence}
+use Rattle.first_pass_grammar.specs.Skeleton.{From, Line, Blanks, At, May, Anything, ALeafAlone, TextOf, MarkAlone, Opening, OpensLeaf, OpensNode}
+use Rattle.first_pass_grammar.specs.Skeleton.{is_blank_behind, Begins, Ends, next_is_blank, behind_first, blanks_alone, end_before, IsFirst, IsSequence}
 use Rattle.first_pass_grammar.proofs.MoreNames.{extends_none, extends_both}
 use Rattle.first_pass_grammar.proofs.KindsFound.{reach, IsShorter, Shrinks, Leads, leads_also}
 use Rattle.first_pass_grammar.proofs.OpeningsFound.{leads_any, leads_if}

@@ -12,7 +12,8 @@ use Rattle.first_pass_grammar.specs.Derivation.{items_of}
 use Rattle.first_pass_grammar.specs.Completion.{ended, flagged, list_closed, Pending, NoList, OneList, rendered}
 use Rattle.first_pass_grammar.specs.WholeTables.{Mark, shown, marks, TableRows, table_marks, AreWholeTables}
 use Rattle.first_pass_grammar.proofs.TableMarks.{marks-append, ShowsNothing}
-use Rattle.first_pass_grammar.proofs.WholeForests.{table_marks-append, whole_both, tight_shows, marks-tightened, WholeRows, items_whole, list_whole, forest_whole}
+use Rattle.first_pass_grammar.proofs.WholeForests.{table_marks-append, whole_both, tight_shows, marks-tightened, WholeRows, items_whole, list_whole}
+use Rattle.first_pass_grammar.proofs.WholeForests.{forest_whole}
 
 -- a node stands at a place, and shows nothing
 abbrev pub IsSilent : List (ℕ × Item) → ℕ → Type 0

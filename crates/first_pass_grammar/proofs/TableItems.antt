@@ -10,7 +10,8 @@ use Rattle.first_pass_tokens.specs.TreeTokens.{leaves}
 use Rattle.first_pass_grammar.specs.declared.kind.Container.{Container}
 use Rattle.first_pass_grammar.specs.Names.{Names, AreNamed}
 use Rattle.first_pass_grammar.specs.Leaves.{Document}
-use Rattle.first_pass_grammar.specs.Tables.{cell_content, cell_start, cell_text, cell_block, AreCells, filled, side_by_side, row_cells, row_block, Taken, TableSoFar, AreRows}
+use Rattle.first_pass_grammar.specs.Tables.{cell_content, cell_start, cell_text, cell_block, AreCells, filled, side_by_side, row_cells, row_block, Taken}
+use Rattle.first_pass_grammar.specs.Tables.{TableSoFar, AreRows}
 use Rattle.first_pass_grammar.proofs.CountedRows.{with_row, CountedRows, counted}
 use Rattle.first_pass_grammar.proofs.EachToken.{AreEach, HoldsOfTokens, cell_each}
 use Rattle.first_pass_grammar.proofs.NamedItems.{HasEntry}

@@ -1,5 +1,6 @@
 -- What the nodes of a table show: as many cells in each row as columns, and no more of them filled in than may be.
-use Rattle.std.proofs.Common.{◌≡◌, inl, inr, ℕ, zero, suc, ◌+◌, ◌-◌, ◌<◌, ◌≤◌, ◌==◌, nat_lt, nat_le, Bool, true, false, List, [], ◌∷◌, ◌++◌, length, map, take, drop, replicate, refl, sym, ap, ◌∙◌, arith, if◌then◌else◌}
+use Rattle.std.proofs.Common.{◌≡◌, inl, inr, ℕ, zero, suc, ◌+◌, ◌-◌, ◌<◌, ◌≤◌, ◌==◌, nat_lt, nat_le, Bool, true, false, List, [], ◌∷◌, ◌++◌, length, map, take}
+use Rattle.std.proofs.Common.{drop, replicate, refl, sym, ap, ◌∙◌, arith, if◌then◌else◌}
 use Rattle.std.proofs.lemmas.Bool.{cases_lt, and_parts, eq-eqb, ne_eqb, leb-true, true≢false}
 use Rattle.std.proofs.lemmas.List.{append_assoc, append-nil, map-append, at_drop_all}
 use Rattle.first_pass_items.specs.declared.item.Alignment.{Alignment}
@@ -17,8 +18,10 @@ use Rattle.first_pass_tokens.proofs.LineLemmas.{cell_ends}
 use Rattle.first_pass_grammar.specs.declared.kind.Container.{Container}
 use Rattle.first_pass_grammar.specs.Names.{Names}
 use Rattle.first_pass_grammar.specs.Leaves.{Document}
-use Rattle.first_pass_grammar.specs.Tables.{cell_content, cell_start, cell_text, cell_block, AreCells, filled, side_by_side, row_cells, row_block, Taken, TableSoFar, table_so_far, AreRows, most_filled, IsTable}
-use Rattle.first_pass_grammar.specs.WholeTables.{Mark, ATable, ARow, ACell, shown, marks, RowCells, row_marks, TableRows, table_marks, how_often, filled_in, HaveCells, AreFull, AreWholeTables}
+use Rattle.first_pass_grammar.specs.Tables.{cell_content, cell_start, cell_text, cell_block, AreCells, filled, side_by_side, row_cells, row_block, Taken}
+use Rattle.first_pass_grammar.specs.Tables.{TableSoFar, table_so_far, AreRows, most_filled, IsTable}
+use Rattle.first_pass_grammar.specs.WholeTables.{Mark, ATable, ARow, ACell, shown, marks, RowCells, row_marks, TableRows, table_marks, how_often, filled_in}
+use Rattle.first_pass_grammar.specs.WholeTables.{HaveCells, AreFull, AreWholeTables}
 use Rattle.first_pass_grammar.proofs.CountedRows.{with_row, CountedRows, counted}
 use Rattle.first_pass_grammar.proofs.EachToken.{AreEach, HoldsOfTokens, HoldsOfRaw, cell_each}
 use Rattle.first_pass_grammar.proofs.RowEnds.{row_ends_its_line}
@@ -26,7 +29,8 @@ use Rattle.first_pass_grammar.proofs.TableRows.{as_many_cells}
 use Rattle.first_pass_tokens.proofs.PieceFacts.{is_markup}
 use Rattle.first_pass_items.specs.declared.cow_str.CowStr.{CowStr}
 use Rattle.first_pass_grammar.proofs.TokensNamed.{NamesWithin}
-use Rattle.first_pass_items.specs.declared.item.ItemBody.TheVariants.{MaybeEmphasis, MaybeMath, MaybeSmartQuote, SynthesizeChar, SynthesizeText, Text, MaybeCode, MaybeHtml, MaybeLinkOpen, MaybeLinkClose, MaybeImage}
+use Rattle.first_pass_items.specs.declared.item.ItemBody.TheVariants.{MaybeEmphasis, MaybeMath, MaybeSmartQuote, SynthesizeChar, SynthesizeText, Text}
+use Rattle.first_pass_items.specs.declared.item.ItemBody.TheVariants.{MaybeCode, MaybeHtml, MaybeLinkOpen, MaybeLinkClose, MaybeImage}
 
 -- more nodes, and nodes at another depth
 pub marks-append : (names : Names) (nodes more : List (ℕ × Item)) → marks names (nodes ++ more) ≡ marks names nodes ++ marks names more
@@ -242,7 +246,8 @@ written_before d p tokens stop cells to on cell more =
     ]
 
 -- the cells of a row show where they start
-cell_shows : {after : MathBraces} (d : Document) (p : Spot) (start : ℕ) (tokens : List Item) (stop : ℕ) → IsCell d.names.texts (cell_content d p) tokens stop after
+cell_shows : {after : MathBraces} (d : Document) (p : Spot) (start : ℕ) (tokens : List Item) (stop : ℕ)
+    → IsCell d.names.texts (cell_content d p) tokens stop after
     → marks d.names (cell_block start stop tokens) ≡ ACell 0 start ∷ []
 unfolding marks
 cell_shows d p start tokens stop h =

@@ -1,5 +1,6 @@
 -- A row has one list of cells, and what stands for a text reads alike, whatever names its indices have.
-use Rattle.std.proofs.Common.{◌≡◌, ◌⊎◌, inl, inr, ℕ, ◌+◌, ◌-◌, ◌&&◌, nat_lt, nat_le, true, false, List, [], ◌∷◌, ◌++◌, length, drop, Option, Some, None, MatchOption, IfSome, is_some, refl, sym, ap, ◌∙◌, subst}
+use Rattle.std.proofs.Common.{◌≡◌, ◌⊎◌, inl, inr, ℕ, ◌+◌, ◌-◌, ◌&&◌, nat_lt, nat_le, true, false, List, [], ◌∷◌, ◌++◌, length, drop, Option, Some, None}
+use Rattle.std.proofs.Common.{MatchOption, IfSome, is_some, refl, sym, ap, ◌∙◌, subst}
 use Rattle.std.specs.List.{slice_range}
 use Rattle.std.proofs.lemmas.Bool.{true≢false}
 use Rattle.std.proofs.lemmas.Option.{none-some, same_Some}
@@ -20,9 +21,11 @@ use Rattle.first_pass_grammar.specs.Names.{Names, NamesAttributes, read_nodes}
 use Rattle.first_pass_grammar.specs.Leaves.{Document, around, marker_items, TextLines, text_lines}
 use Rattle.first_pass_grammar.specs.TableHeads.{headed_table}
 use Rattle.first_pass_grammar.specs.Derivation.{node_of}
-use Rattle.first_pass_grammar.specs.Tables.{cell_content, cell_start, cell_text, cell_block, AreCells, filled, row_block, Taken, taking, FoundRow, HasCells, TableSoFar, table_so_far, AreRows, most_filled, IsTable}
+use Rattle.first_pass_grammar.specs.Tables.{cell_content, cell_start, cell_text, cell_block, AreCells, filled, row_block, Taken, taking, FoundRow, HasCells}
+use Rattle.first_pass_grammar.specs.Tables.{TableSoFar, table_so_far, AreRows, most_filled, IsTable}
 use Rattle.first_pass_grammar.specs.Headings.{heading_attributes_of, heading_braces, kept_before}
-use Rattle.first_pass_grammar.specs.Texts.{IsPlainText, IsText, IsUnderlined, by_backslash, text_children, children_without, heading_bytes, heading_children, plain_text, underlined_text, underline_first, IsEnded}
+use Rattle.first_pass_grammar.specs.Texts.{IsPlainText, IsText, IsUnderlined, by_backslash, text_children, children_without, heading_bytes, heading_children}
+use Rattle.first_pass_grammar.specs.Texts.{plain_text, underlined_text, underline_first, IsEnded}
 use Rattle.first_pass_grammar.proofs.CountedRows.{is_row, with_row, CountedRows, counted}
 use Rattle.first_pass_grammar.proofs.NoIndex.{HasNoIndex, HasTextIndex, tokens_textual}
 use Rattle.first_pass_grammar.proofs.EachToken.{cell_each}

@@ -1,5 +1,6 @@
 -- Each row has cells, each body of a table rows, and each text is a paragraph or a table.
-use Rattle.std.proofs.Common.{◌≡◌, inl, inr, ℕ, zero, suc, ◌+◌, ◌-◌, ◌<◌, ◌≤◌, ◌==◌, ◌&&◌, ◌||◌, nat_le, Bool, true, false, true≢false, List, [], ◌∷◌, ◌++◌, length, drop, slice_index, Option, Some, None, MatchOption, is_some, refl, sym, ap, ◌∙◌, arith, length-drop, if◌then◌else◌}
+use Rattle.std.proofs.Common.{◌≡◌, inl, inr, ℕ, zero, suc, ◌+◌, ◌-◌, ◌<◌, ◌≤◌, ◌==◌, ◌&&◌, ◌||◌, nat_le, Bool, true, false, true≢false, List, [], ◌∷◌, ◌++◌}
+use Rattle.std.proofs.Common.{length, drop, slice_index, Option, Some, None, MatchOption, is_some, refl, sym, ap, ◌∙◌, arith, length-drop, if◌then◌else◌}
 use Rattle.std.proofs.lemmas.Bool.{cases_lt, lt-leb}
 use Rattle.std.proofs.lemmas.List.{at_drop_all, at_drop_more}
 use Rattle.std.proofs.lemmas.Option.{none-some}
@@ -23,7 +24,8 @@ use Rattle.first_pass_grammar.specs.Names.{Names, Extends}
 use Rattle.first_pass_grammar.specs.Containers.{context}
 use Rattle.first_pass_grammar.specs.Leaves.{document, Document, TextLines}
 use Rattle.first_pass_grammar.specs.TableHeads.{headed_table}
-use Rattle.first_pass_grammar.specs.Tables.{cell_start, cell_text, cell_block, AreCells, filled, row_block, row_text, Taken, taking, FoundRow, HasCells, TableSoFar, table_so_far, most_filled, IsTable}
+use Rattle.first_pass_grammar.specs.Tables.{cell_start, cell_text, cell_block, AreCells, filled, row_block, row_text, Taken, taking, FoundRow, HasCells}
+use Rattle.first_pass_grammar.specs.Tables.{TableSoFar, table_so_far, most_filled, IsTable}
 use Rattle.first_pass_grammar.specs.Headings.{heading_attributes_of}
 use Rattle.first_pass_grammar.specs.Texts.{IsPlainText, IsText, IsUnderlined, heading_bytes, heading_children, plain_text, underlined_text, underline_first}
 use Rattle.first_pass_grammar.proofs.CountedRows.{is_row, with_row, CountedRows, are_rows}
@@ -43,8 +45,11 @@ no_line_end : (text : List ℕ) (at : ℕ) → eol_len (drop at text) ≡ None �
 no_line_end text at h =
     elim (cases_lt at (length text)) [
       | inl within ↦
-          let b : ℕ = slice_index text at in
-          (within, no_end_byte (b == line_feed) (b == carriage_return) (if begins line_feed (drop (at + 1) text) then 2 else 1) (sym (at_drop_more (λ bs. eol_len bs) text at 0 within) ∙ h))
+          let b : ℕ = slice_index text at in (
+            within,
+            no_end_byte (b == line_feed) (b == carriage_return) (if begins line_feed (drop (at + 1) text) then 2 else 1)
+                (sym (at_drop_more (λ bs. eol_len bs) text at 0 within) ∙ h),
+          )
       | inr past ↦ absurd (none-some 0 (sym h ∙ at_drop_all (λ bs. eol_len bs) text at past))
     ]
 
@@ -67,7 +72,8 @@ goes_on_at text options p within line other =
     (lt-leb (length text) p.at within) line other
 
 -- A cell ends after the place where it is looked for.
-later_by : (texts : List CowStr) (text : List ℕ) (options : Options) (at : ℕ) (braces : MathBraces) (tokens : List Item) (stop : ℕ) (after : MathBraces) (t : Bool)
+later_by : (texts : List CowStr) (text : List ℕ) (options : Options) (at : ℕ) (braces : MathBraces) (tokens : List Item) (stop : ℕ)
+    (after : MathBraces) (t : Bool)
     → (slice_index text at == pipe) ≡ t → eol_len (drop (cell_text text at) text) ≡ None
     → IsCell texts (cell_source text options (spot (cell_text text at) braces)) tokens stop after → at < stop
 unfolding cell_source
@@ -86,7 +92,8 @@ later_by texts text options at braces tokens stop after false here h cell =
       | inl behind ↦ omega arith
       | inr same ↦
           let place : cell_text text at ≡ at = omega arith in
-          let later : cell_text text at < stop = ends.later (goes_on_at text options (spot (cell_text text at) braces) on.0 on.1 (ap (λ (k : ℕ). slice_index text k == pipe) place ∙ here)) in
+          let later : cell_text text at < stop =
+          ends.later (goes_on_at text options (spot (cell_text text at) braces) on.0 on.1 (ap (λ (k : ℕ). slice_index text k == pipe) place ∙ here)) in
           omega arith
     ]
 
@@ -149,7 +156,8 @@ pub record RowsFrom (names : Names) (text : List ℕ) (options : Options) (path 
   pub shorter : length rows.left ≤ length lines
 
 -- the row with the cells that are found
-abbrev row_with : (names : Names) (text : List ℕ) (options : Options) (start : ℕ) (braces : MathBraces) → CellsFrom names text options (spot start braces) → FoundRow
+abbrev row_with : (names : Names) (text : List ℕ) (options : Options) (start : ℕ) (braces : MathBraces)
+    → CellsFrom names text options (spot start braces) → FoundRow
 row_with names text options start braces found = record { start = start; cells = found.cells; row_end = found.to.at; after = found.to.braces }
 
 row_by : (names mid : Names) (text : List ℕ) (options : Options) (path : List Container) (table : TableSoFar) (line : Place) (lines : List Place)
@@ -229,12 +237,20 @@ table_found names text options path p alignments lines =
     }
 
 -- a heading or a paragraph
-ended_found : (names : Names) (text : List ℕ) (options : Options) (start : ℕ) (marker : Option Item) (l : TextLines) (lines : List Place) (o : Option (ℕ × HeadingLevel))
+ended_found : (names : Names) (text : List ℕ) (options : Options) (start : ℕ) (marker : Option Item) (l : TextLines) (lines : List Place)
+    (o : Option (ℕ × HeadingLevel))
     → length l.left ≤ length lines
-    → TakenFrom names lines (λ later t. MatchOption o (t ≡ plain_text (document text options later) start marker l) (λ underline. IsUnderlined (document text options later) start marker l underline.1 t))
+    → TakenFrom names lines (λ later t. MatchOption o (t ≡ plain_text (document text options later) start marker l)
+    (λ underline. IsUnderlined (document text options later) start marker l underline.1 t))
 unfolding heading_children
 ended_found names text options start marker l lines None less =
-    record { value = plain_text (document text options names) start marker l; more = names; extends = extends_none names; holds = λ later e. refl; shorter = less }
+    record {
+      value = plain_text (document text options names) start marker l;
+      more = names;
+      extends = extends_none names;
+      holds = λ later e. refl;
+      shorter = less;
+    }
 ended_found names text options start marker l lines (Some underline) less =
     let d : Document = document text options names in
     let index = named_attributes names (heading_attributes_of options (heading_bytes d start marker l)) in
@@ -257,15 +273,18 @@ plain_found names text options path p marker lines =
       extends = extends_both ended.more found.more names ended.extends found.extends;
       holds = λ later e. (
         found.given,
-        text_lines_more text options found.more later path (spot (offset p) no_braces) [] lines found.given (extends_both later ended.more found.more e ended.extends) found.are,
+        text_lines_more text options found.more later path (spot (offset p) no_braces) [] lines found.given
+            (extends_both later ended.more found.more e ended.extends) found.are,
         ended.holds later e,
       );
       shorter = ended.shorter;
     }
 
 -- what stands for a text
-text_by : (names : Names) (text : List ℕ) (options : Options) (path : List Container) (p : Place) (marker : Option Item) (lines : List Place) (o : Option (List Alignment))
-    → TakenFrom names lines (λ later t. MatchOption o (IsPlainText (document text options later) path (offset p) marker lines t) (λ alignments. IsTable (document text options later) path p alignments lines t))
+text_by : (names : Names) (text : List ℕ) (options : Options) (path : List Container) (p : Place) (marker : Option Item) (lines : List Place)
+    (o : Option (List Alignment))
+    → TakenFrom names lines (λ later t. MatchOption o (IsPlainText (document text options later) path (offset p) marker lines t)
+    (λ alignments. IsTable (document text options later) path p alignments lines t))
 text_by names text options path p marker lines None = plain_found names text options path p marker lines
 text_by names text options path p marker lines (Some alignments) = table_found names text options path p alignments lines
 

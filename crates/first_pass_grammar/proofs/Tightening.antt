@@ -1,5 +1,6 @@
 -- What closing a list makes of its nodes, against what the grammar says of a tight list.
-use Rattle.std.proofs.Common.{◌≡◌, ℕ, zero, suc, ◌+◌, ◌<◌, ◌≤◌, Bool, true, false, not, eqb, List, [], ◌∷◌, ◌++◌, length, map, Option, refl, ap, ◌∙◌, arith, eq-eqb, if◌then◌else◌}
+use Rattle.std.proofs.Common.{◌≡◌, ℕ, zero, suc, ◌+◌, ◌<◌, ◌≤◌, Bool, true, false, not, eqb, List, [], ◌∷◌, ◌++◌, length, map, Option, refl, ap, ◌∙◌, arith}
+use Rattle.std.proofs.Common.{eq-eqb, if◌then◌else◌}
 use Rattle.std.proofs.lemmas.List.{map-append, length-map}
 use Rattle.std.proofs.lemmas.Bool.Decides.{nat_tests}
 use Rattle.first_pass_items.specs.declared.item.Item.{Item}
@@ -116,7 +117,8 @@ unfolding items_of
 tight_items d End h = refl
 tight_items d (OneOf row inner next) h =
     map_parts d _ _ _ _ _ _ (tight_row d (is_loose inner) row.start row.what)
-    (deep_items d (suc d) (tight_in false (is_loose inner) row.what) inner (omega arith) ∙ ap (λ z. items_of (suc d) z inner) (block_in (is_loose inner) row.what h.0))
+    (deep_items d (suc d) (tight_in false (is_loose inner) row.what) inner (omega arith)
+    ∙ ap (λ z. items_of (suc d) z inner) (block_in (is_loose inner) row.what h.0))
     (tight_items d next h.1)
 
 tight_front : (nodes more : List (ℕ × Item)) (o d : ℕ) → o ≤ length nodes
@@ -156,13 +158,15 @@ length-closed nodes o d true e = length-modify nodes o _
 length-closed nodes o d false e = length-modify (map_from (tightened d) o nodes) o _ ∙ length-front nodes o d
 
 mid_closed : (nodes more : List (ℕ × Item)) (a start some_end d byte number : ℕ) (flags : ListFlags) (loose : Bool) (e : ℕ)
-    → modify (nodes ++ (a, node_of start some_end (ListBody flags byte number)) ∷ more) (length nodes) (λ x. record { start = x.start; «end» = e; body = flagged loose x.body })
+    → modify (nodes ++ (a, node_of start some_end (ListBody flags byte number)) ∷ more) (length nodes)
+    (λ x. record { start = x.start; «end» = e; body = flagged loose x.body })
     ≡ nodes ++ (a, node_of start e (ListBody (list_flags (not loose)) byte number)) ∷ more
 mid_closed [] more a start some_end d byte number flags loose e = refl
 mid_closed (y ∷ nodes) more a start some_end d byte number flags loose e = ap (λ z. y ∷ z) (mid_closed nodes more a start some_end d byte number flags loose e)
 
 from_mid : (nodes more : List (ℕ × Item)) (a start some_end d byte number : ℕ) (flags : ListFlags)
-    → map_from (tightened d) (length nodes) (nodes ++ (a, node_of start some_end (ListBody flags byte number)) ∷ more) ≡ nodes ++ (a, node_of start some_end (ListBody flags byte number)) ∷ map (tightened d) more
+    → map_from (tightened d) (length nodes) (nodes ++ (a, node_of start some_end (ListBody flags byte number)) ∷ more)
+    ≡ nodes ++ (a, node_of start some_end (ListBody flags byte number)) ∷ map (tightened d) more
 from_mid [] more a start some_end d byte number flags = ap (λ z. z ∷ map (tightened d) more) (same_list d a start some_end byte number flags)
 from_mid (y ∷ nodes) more a start some_end d byte number flags = ap (λ z. y ∷ z) (from_mid nodes more a start some_end d byte number flags)
 
@@ -173,7 +177,8 @@ pub list_closed-mid : (nodes more : List (ℕ × Item)) (a start some_end d byte
 unfolding list_closed
 list_closed-mid nodes more a start some_end d byte number flags true e = mid_closed nodes more a start some_end d byte number flags true e
 list_closed-mid nodes more a start some_end d byte number flags false e =
-    ap (λ z. modify z (length nodes) (λ x. record { start = x.start; «end» = e; body = flagged false x.body })) (from_mid nodes more a start some_end d byte number flags)
+    ap (λ z. modify z (length nodes) (λ x. record { start = x.start; «end» = e; body = flagged false x.body }))
+    (from_mid nodes more a start some_end d byte number flags)
     ∙ mid_closed nodes (map (tightened d) more) a start some_end d byte number flags false e
 
 up_node : (d : ℕ) (x : Item) → tightened (suc (suc d)) (suc d, x) ≡ (suc d, x)

@@ -1,9 +1,11 @@
 -- The grammar derives one forest from a text, read through what its indices name, and one pair of tables.
-use Rattle.std.proofs.Common.{◌≡◌, inl, inr, ℕ, ◌+◌, Bool, true, false, List, [], ◌∷◌, length, map, drop, Option, Some, None, IfSome, refl, sym, ap, ◌∙◌, subst, if◌then◌else◌}
+use Rattle.std.proofs.Common.{◌≡◌, inl, inr, ℕ, ◌+◌, Bool, true, false, List, [], ◌∷◌, length, map, drop, Option, Some, None, IfSome, refl, sym, ap, ◌∙◌, subst}
+use Rattle.std.proofs.Common.{if◌then◌else◌}
 use Rattle.std.specs.Option.{option_map}
 use Rattle.first_pass_items.specs.declared.item.Item.{Item}
 use Rattle.first_pass_items.specs.declared.item.BlockQuoteKind.{BlockQuoteKind}
-use Rattle.first_pass_items.specs.declared.item.ItemBody.TheVariants.{Root, Rule, Heading as HeadingBody, IndentCodeBlock, FencedCodeBlock, MetadataBlock, HtmlBlock}
+use Rattle.first_pass_items.specs.declared.item.ItemBody.TheVariants.{Root, Rule, Heading as HeadingBody, IndentCodeBlock, FencedCodeBlock, MetadataBlock}
+use Rattle.first_pass_items.specs.declared.item.ItemBody.TheVariants.{HtmlBlock}
 use Rattle.first_pass_items.specs.declared.option_set.Options.{Options}
 use Rattle.first_pass_items.specs.OptionWords.{has}
 use Rattle.first_pass_lines.specs.Lines.{level_number}
@@ -15,10 +17,12 @@ use Rattle.first_pass_grammar.specs.declared.kind.Container.{Container}
 use Rattle.first_pass_grammar.specs.declared.kind.Container.TheVariants.{BlockQuote, ListItem}
 use Rattle.first_pass_grammar.specs.Names.{Names, Named, read_nodes}
 use Rattle.first_pass_grammar.specs.Containers.{Context, context, at_rest, after, front}
-use Rattle.first_pass_grammar.specs.Kinds.{Kind, Blank, IndentedCode, Metadata, HtmlToEnd, HtmlToBlank, ThematicBreak, AtxHeading, FencedCode, LinkDefinitions, Paragraph, unindented, is_blank_rest, quote_inside, item_at, first_kind, IsKindBy, IsKind, ends_tag}
+use Rattle.first_pass_grammar.specs.Kinds.{Kind, Blank, IndentedCode, Metadata, HtmlToEnd, HtmlToBlank, ThematicBreak, AtxHeading, FencedCode, LinkDefinitions}
+use Rattle.first_pass_grammar.specs.Kinds.{Paragraph, unindented, is_blank_rest, quote_inside, item_at, first_kind, IsKindBy, IsKind, ends_tag}
 use Rattle.first_pass_grammar.specs.Headings.{heading_attributes_of}
 use Rattle.first_pass_grammar.specs.Leaves.{Document, document, around, line_bytes, heading_text_at, heading_block}
-use Rattle.first_pass_grammar.specs.CodeBlocks.{code_lines, without_blanks, last_end, IsIndentedCode, metadata_lines, metadata_kind, IsMetadata, fenced_lines, info_string, IsFencedCode}
+use Rattle.first_pass_grammar.specs.CodeBlocks.{code_lines, without_blanks, last_end, IsIndentedCode, metadata_lines, metadata_kind, IsMetadata, fenced_lines}
+use Rattle.first_pass_grammar.specs.CodeBlocks.{info_string, IsFencedCode}
 use Rattle.first_pass_grammar.specs.HtmlBlocks.{until_end, until_blank, first_owing, IsHtml}
 use Rattle.first_pass_grammar.specs.Extents.{Extent}
 use Rattle.first_pass_grammar.specs.LinkTables.{LinkEntry}
@@ -26,11 +30,15 @@ use Rattle.first_pass_grammar.specs.LinkRuns.{kind_in, lines_beyond, ends_run, B
 use Rattle.std.proofs.lemmas.Bool.{true≢false}
 use Rattle.std.proofs.lemmas.Option.{none-some, same_Some}
 use Rattle.first_pass_grammar.specs.Blocks.{leaf_block, Head, opened, Skeleton, Nil, Then, Node}
-use Rattle.first_pass_grammar.specs.Skeleton.{OpensBeyond, OpensRun, From, Line, Blanks, At, Anything, ALeafAlone, TextOf, MarkAlone, behind_marker, Opening, OpensLeaf, OpensNode, OpensText, OpensExtent, OpensAs, OpensBlockAt, is_blank_behind, next_is_blank, item_head, task_by, task_behind, behind_task, task_alone, item_opening, tag_behind, behind_tag, quote_opening, OpensQuote, OpensFrom, Opens, OpensAt, Begins, Ends, behind_first, end_before, IsFirst, IsSequence}
+use Rattle.first_pass_grammar.specs.Skeleton.{OpensBeyond, OpensRun, From, Line, Blanks, At, Anything, ALeafAlone, TextOf, MarkAlone, behind_marker, Opening}
+use Rattle.first_pass_grammar.specs.Skeleton.{OpensLeaf, OpensNode, OpensText, OpensExtent, OpensAs, OpensBlockAt, is_blank_behind, next_is_blank, item_head}
+use Rattle.first_pass_grammar.specs.Skeleton.{task_by, task_behind, behind_task, task_alone, item_opening, tag_behind, behind_tag, quote_opening, OpensQuote}
+use Rattle.first_pass_grammar.specs.Skeleton.{OpensFrom, Opens, OpensAt, Begins, Ends, behind_first, end_before, IsFirst, IsSequence}
 use Rattle.first_pass_grammar.specs.Derivation.{Tables, no_tables, told, node_of, Derives}
 use Rattle.first_pass_grammar.proofs.NoIndex.{HasNoIndex, read_alone}
 use Rattle.first_pass_grammar.specs.RawLines.{range_text, range_html}
-use Rattle.first_pass_grammar.proofs.Alike.{with_names, AlikeNodes, HoldsNoIndex, AlikeOpening, Alike, text_free, html_free, raw_alike, block_alike, fence_alike, heading_alike}
+use Rattle.first_pass_grammar.proofs.Alike.{with_names, AlikeNodes, HoldsNoIndex, AlikeOpening, Alike, text_free, html_free, raw_alike, block_alike}
+use Rattle.first_pass_grammar.proofs.Alike.{fence_alike, heading_alike}
 use Rattle.first_pass_grammar.proofs.LinesAlike.{one_heading}
 use Rattle.first_pass_grammar.proofs.TablesAlike.{one_text}
 use Rattle.first_pass_grammar.specs.Before.{nothing}
@@ -60,19 +68,24 @@ one_text_opening d n path p lines marker o o' free (t, is, e) (u, is', f) =
     alike_by d.names n o o' _ _ e f ((refl, same.0, refl, refl), refl, tt, same.1)
 
 -- a leaf block's items read alike where they are of alike chains
-one_code : (d : Document) (n : Names) (p : Place) (further : List Place) (xs ys : List (ℕ × Item)) → IsIndentedCode d p further xs → IsIndentedCode (with_names d n) p further ys → AlikeNodes d.names n xs ys
+one_code : (d : Document) (n : Names) (p : Place) (further : List Place) (xs ys : List (ℕ × Item))
+    → IsIndentedCode d p further xs → IsIndentedCode (with_names d n) p further ys → AlikeNodes d.names n xs ys
 one_code d n p further xs ys h k =
     ap (read_nodes d.names) h.items_are
-    ∙ block_alike d.names n (offset p) (last_end (offset p) (without_blanks (p ∷ further))) IndentCodeBlock IndentCodeBlock h.chain k.chain refl (raw_alike range_text text_free d n [] [] (without_blanks (p ∷ further)) h.chain k.chain refl h.lines k.lines)
+    ∙ block_alike d.names n (offset p) (last_end (offset p) (without_blanks (p ∷ further))) IndentCodeBlock IndentCodeBlock h.chain k.chain refl
+    (raw_alike range_text text_free d n [] [] (without_blanks (p ∷ further)) h.chain k.chain refl h.lines k.lines)
     ∙ sym (ap (read_nodes n) k.items_are)
 
-one_metadata : (d : Document) (n : Names) (start byte : ℕ) (places : List Place) («end» : ℕ) (xs ys : List (ℕ × Item)) → IsMetadata d start byte places «end» xs → IsMetadata (with_names d n) start byte places «end» ys → AlikeNodes d.names n xs ys
+one_metadata : (d : Document) (n : Names) (start byte : ℕ) (places : List Place) («end» : ℕ) (xs ys : List (ℕ × Item))
+    → IsMetadata d start byte places «end» xs → IsMetadata (with_names d n) start byte places «end» ys → AlikeNodes d.names n xs ys
 one_metadata d n start byte places end xs ys h k =
     ap (read_nodes d.names) h.items_are
-    ∙ block_alike d.names n start end (MetadataBlock (metadata_kind byte)) (MetadataBlock (metadata_kind byte)) h.chain k.chain refl (raw_alike range_text text_free d n [] [] places h.chain k.chain refl h.lines k.lines)
+    ∙ block_alike d.names n start end (MetadataBlock (metadata_kind byte)) (MetadataBlock (metadata_kind byte)) h.chain k.chain refl
+    (raw_alike range_text text_free d n [] [] places h.chain k.chain refl h.lines k.lines)
     ∙ sym (ap (read_nodes n) k.items_are)
 
-one_fence : (d : Document) (n : Names) (start count : ℕ) (places : List Place) («end» : ℕ) (xs ys : List (ℕ × Item)) → IsFencedCode d start count places «end» xs → IsFencedCode (with_names d n) start count places «end» ys → AlikeNodes d.names n xs ys
+one_fence : (d : Document) (n : Names) (start count : ℕ) (places : List Place) («end» : ℕ) (xs ys : List (ℕ × Item))
+    → IsFencedCode d start count places «end» xs → IsFencedCode (with_names d n) start count places «end» ys → AlikeNodes d.names n xs ys
 one_fence d n start count places end xs ys h k =
     let info : List ℕ = unescaped false (info_string (drop (start + count) d.text)) in
     ap (read_nodes d.names) h.items_are
@@ -81,13 +94,16 @@ one_fence d n start count places end xs ys h k =
     (raw_alike range_text text_free d n [] [] places h.chain k.chain refl h.lines k.lines)
     ∙ sym (ap (read_nodes n) k.items_are)
 
-one_html : (d : Document) (n : Names) (start columns : ℕ) (places : List Place) («end» : ℕ) (xs ys : List (ℕ × Item)) → IsHtml d start columns places «end» xs → IsHtml (with_names d n) start columns places «end» ys → AlikeNodes d.names n xs ys
+one_html : (d : Document) (n : Names) (start columns : ℕ) (places : List Place) («end» : ℕ) (xs ys : List (ℕ × Item))
+    → IsHtml d start columns places «end» xs → IsHtml (with_names d n) start columns places «end» ys → AlikeNodes d.names n xs ys
 one_html d n start columns places end xs ys h k =
     ap (read_nodes d.names) h.items_are
-    ∙ block_alike d.names n start end HtmlBlock HtmlBlock h.chain k.chain refl (raw_alike range_html html_free d n [] [] (first_owing columns places) h.chain k.chain refl h.lines k.lines)
+    ∙ block_alike d.names n start end HtmlBlock HtmlBlock h.chain k.chain refl
+    (raw_alike range_html html_free d n [] [] (first_owing columns places) h.chain k.chain refl h.lines k.lines)
     ∙ sym (ap (read_nodes n) k.items_are)
 
-one_extent : (m n : Names) (kind : Kind) (p : Place) (e : Extent) (A B : List (ℕ × Item) → Type 0) (o o' : Opening) → ((xs ys : List (ℕ × Item)) → A xs → B ys → AlikeNodes m n xs ys) → OpensExtent kind p e A o → OpensExtent kind p e B o' → AlikeOpening m n o o'
+one_extent : (m n : Names) (kind : Kind) (p : Place) (e : Extent) (A B : List (ℕ × Item) → Type 0) (o o' : Opening)
+    → ((xs ys : List (ℕ × Item)) → A xs → B ys → AlikeNodes m n xs ys) → OpensExtent kind p e A o → OpensExtent kind p e B o' → AlikeOpening m n o o'
 one_extent m n kind p e A B o o' one (xs, a, f) (ys, b, g) = alike_by m n o o' _ _ f g ((refl, one xs ys a b, refl, refl), refl, tt, refl)
 
 -- a place begins one run, with one thing after it
@@ -100,7 +116,8 @@ tail_of line line' left left' e = cc
 ends_not : (around : Context) (a b : List Place) → ends_run around a ≡ true → a ≡ b → ends_run around b ≡ false → ⊥
 ends_not around a b stops is on = true≢false (sym stops ∙ ap (ends_run around) is ∙ on)
 
-one_run : (around : Context) (p : Place) (lines : List Place) (xs ys : List LinkEntry) (b c : Beyond) → IsRun around p lines xs b → IsRun around p lines ys c → (xs ≡ ys) × (b ≡ c)
+one_run : (around : Context) (p : Place) (lines : List Place) (xs ys : List LinkEntry) (b c : Beyond)
+    → IsRun around p lines xs b → IsRun around p lines ys c → (xs ≡ ys) × (b ≡ c)
 unfolding IsRun
 one_run around p lines [] [] b c (h, e) (k, f) = (refl, e ∙ sym f)
 one_run around p lines [] (y ∷ ys) b c (h, e) (k, f) = absurd (none-some y (sym h ∙ k))
@@ -121,13 +138,15 @@ one_run around p lines (x ∷ xs) (y ∷ ys) b c (h, inr (line, left, is, on, mo
     (ap (λ z. z ∷ xs) s ∙ ap (λ z. y ∷ z) r.0, r.1)
 
 -- what stands after a run reads alike
-one_beyond : (d : Document) (n : Names) (path : List Container) (xs : List LinkEntry) (b : Beyond) (o o' : Opening) → OpensBeyond d path xs b o → OpensBeyond (with_names d n) path xs b o' → AlikeOpening d.names n o o'
+one_beyond : (d : Document) (n : Names) (path : List Container) (xs : List LinkEntry) (b : Beyond) (o o' : Opening)
+    → OpensBeyond d path xs b o → OpensBeyond (with_names d n) path xs b o' → AlikeOpening d.names n o o'
 one_beyond d n path xs (Ended p left) o o' e f = alike_by d.names n o o' _ _ e f ((refl, refl, refl, refl), refl, tt, refl)
 one_beyond d n path xs (FlowsOn p lines) o o' (t, is, e) (u, is', f) =
     let same = one_text d n path p None lines t u tt is is' in
     alike_by d.names n o o' _ _ e f ((refl, same.0, refl, refl), refl, tt, same.1)
 
-one_run_opening : (d : Document) (n : Names) (path : List Container) (p : Place) (lines : List Place) (o o' : Opening) → OpensRun d path p lines o → OpensRun (with_names d n) path p lines o' → AlikeOpening d.names n o o'
+one_run_opening : (d : Document) (n : Names) (path : List Container) (p : Place) (lines : List Place) (o o' : Opening)
+    → OpensRun d path p lines o → OpensRun (with_names d n) path p lines o' → AlikeOpening d.names n o o'
 unfolding OpensRun
 one_run_opening d n path p lines o o' (xs, b, run, e) (ys, c, run', f) =
     let s = one_run (around d path) (unindented p) lines xs ys b c run run' in
@@ -135,25 +154,31 @@ one_run_opening d n path p lines o o' (xs, b, run, e) (ys, c, run', f) =
     (subst (λ z. OpensBeyond (with_names d n) path z b o') (sym s.0) (subst (λ z. OpensBeyond (with_names d n) path ys z o') (sym s.1) f))
 
 -- what begins at a place that is of a kind reads alike
-opens_once : (d : Document) (n : Names) (path : List Container) (p : Place) (lines : List Place) (k : Kind) (o o' : Opening) → OpensAs d path p lines k o → OpensAs (with_names d n) path p lines k o' → AlikeOpening d.names n o o'
+opens_once : (d : Document) (n : Names) (path : List Container) (p : Place) (lines : List Place) (k : Kind) (o o' : Opening)
+    → OpensAs d path p lines k o → OpensAs (with_names d n) path p lines k o' → AlikeOpening d.names n o o'
 unfolding OpensAs
 opens_once d n path p lines Blank o o' e f = alike_by d.names n o o' _ _ e f (tt, refl, tt, refl)
 opens_once d n path p lines IndentedCode o o' (xs, h, e) (ys, k, f) =
     alike_by d.names n o o' _ _ e f ((refl, one_code d n (moved_columns 4 p) (code_lines path lines).0 xs ys h k, refl, refl), refl, tt, refl)
 opens_once d n path p lines (Metadata byte) o o' e f =
     let x : Extent = metadata_lines (length d.text) path byte lines in
-    one_extent d.names n (Metadata byte) p x (IsMetadata d (offset (unindented p)) byte x.places x.«end») (IsMetadata (with_names d n) (offset (unindented p)) byte x.places x.«end») o o'
+    one_extent d.names n (Metadata byte) p x (IsMetadata d (offset (unindented p)) byte x.places x.«end»)
+    (IsMetadata (with_names d n) (offset (unindented p)) byte x.places x.«end») o o'
     (one_metadata d n (offset (unindented p)) byte x.places x.«end») e f
 opens_once d n path p lines HtmlToEnd o o' (text, is, e) (text', is', f) =
     let found : Some text' ≡ Some text = sym is' ∙ is in
     let same : text' ≡ text = cc in
     let x : Extent = until_end (length d.text) path text (unindented p) lines in
-    one_extent d.names n HtmlToEnd p x (IsHtml d (offset (unindented p)) (indent p.rest) x.places x.«end») (IsHtml (with_names d n) (offset (unindented p)) (indent p.rest) x.places x.«end») o o'
+    one_extent d.names n HtmlToEnd p x (IsHtml d (offset (unindented p)) (indent p.rest) x.places x.«end»)
+    (IsHtml (with_names d n) (offset (unindented p)) (indent p.rest) x.places x.«end») o o'
     (one_html d n (offset (unindented p)) (indent p.rest) x.places x.«end») e
-    (subst (λ (t : List ℕ). let y = until_end (length d.text) path t (unindented p) lines in OpensExtent HtmlToEnd p y (IsHtml (with_names d n) (offset (unindented p)) (indent p.rest) y.places y.«end») o') same f)
+    (subst (λ (t : List ℕ).
+    let y = until_end (length d.text) path t (unindented p) lines in
+    OpensExtent HtmlToEnd p y (IsHtml (with_names d n) (offset (unindented p)) (indent p.rest) y.places y.«end») o') same f)
 opens_once d n path p lines HtmlToBlank o o' e f =
     let x : Extent = until_blank (length d.text) path (unindented p) lines in
-    one_extent d.names n HtmlToBlank p x (IsHtml d (offset (unindented p)) (indent p.rest) x.places x.«end») (IsHtml (with_names d n) (offset (unindented p)) (indent p.rest) x.places x.«end») o o'
+    one_extent d.names n HtmlToBlank p x (IsHtml d (offset (unindented p)) (indent p.rest) x.places x.«end»)
+    (IsHtml (with_names d n) (offset (unindented p)) (indent p.rest) x.places x.«end») o o'
     (one_html d n (offset (unindented p)) (indent p.rest) x.places x.«end») e f
 opens_once d n path p lines (ThematicBreak size) o o' e f =
     let start : ℕ = offset (unindented p) in
@@ -169,14 +194,17 @@ opens_once d n path p lines (AtxHeading level) o o' (i, c, e, h, f) (i', c', e',
     alike_by d.names n o o' _ _ f same ((refl, items, refl, refl), refl, tt, refl)
 opens_once d n path p lines (FencedCode count byte) o o' e f =
     let x : Extent = fenced_lines (length d.text) path (indent p.rest) byte count lines in
-    one_extent d.names n (FencedCode count byte) p x (IsFencedCode d (offset (unindented p)) count x.places x.«end») (IsFencedCode (with_names d n) (offset (unindented p)) count x.places x.«end») o o'
+    one_extent d.names n (FencedCode count byte) p x (IsFencedCode d (offset (unindented p)) count x.places x.«end»)
+    (IsFencedCode (with_names d n) (offset (unindented p)) count x.places x.«end») o o'
     (one_fence d n (offset (unindented p)) count x.places x.«end») e f
 opens_once d n path p lines LinkDefinitions o o' e f = one_run_opening d n path p lines o o' e f
 opens_once d n path p lines Paragraph o o' e f = one_text_opening d n path p lines None o o' tt e f
 
-opens_block : (d : Document) (n : Names) (path : List Container) (p : Place) (lines : List Place) (o o' : Opening) → OpensBlockAt d path p lines o → OpensBlockAt (with_names d n) path p lines o' → AlikeOpening d.names n o o'
+opens_block : (d : Document) (n : Names) (path : List Container) (p : Place) (lines : List Place) (o o' : Opening)
+    → OpensBlockAt d path p lines o → OpensBlockAt (with_names d n) path p lines o' → AlikeOpening d.names n o o'
 opens_block d n path p lines o o' (k, is, e) (k', is', f) =
-    opens_once d n path p lines (kind_in (around d path) p k) o o' e (subst (λ z. OpensAs (with_names d n) path p lines (kind_in (around d path) p z) o') (one_kind d.options p.rest k' k is' is) f)
+    opens_once d n path p lines (kind_in (around d path) p k) o o' e
+    (subst (λ z. OpensAs (with_names d n) path p lines (kind_in (around d path) p z) o') (one_kind d.options p.rest k' k is' is) f)
 
 -- a container that opens, in which blocks continue where no item with an index stands
 abbrev OpensFree : Opening → Type 0
@@ -207,11 +235,13 @@ unless_opens : (t : Bool) (o o' : Opening) → OpensFree o → OpensFree o' → 
 unless_opens true o o' h k = h
 unless_opens false o o' h k = k
 
-item_free : (d : Document) (path : List Container) (p : Place) (lines : List Place) (byte number columns : ℕ) (task : Option Item × Rest) → IfSome task.0 HasNoIndex → OpensFree (item_opening d path p lines (byte, number, columns) task)
+item_free : (d : Document) (path : List Container) (p : Place) (lines : List Place) (byte number columns : ℕ) (task : Option Item × Rest)
+    → IfSome task.0 HasNoIndex → OpensFree (item_opening d path p lines (byte, number, columns) task)
 item_free d path p lines byte number columns (marker, r) h =
     let blanks : Option ℕ = Some (start_of (length d.text) lines) in
     unless_opens (is_blank_rest r) _ _
-    (unless_opens (next_is_blank (ListItem columns ∷ path) lines) (OpensNode (item_head p byte number 0) (task_alone marker (at_rest p r) blanks) lines) (OpensNode (item_head p byte number columns) (task_alone marker (at_rest p r) None) lines)
+    (unless_opens (next_is_blank (ListItem columns ∷ path) lines) (OpensNode (item_head p byte number 0) (task_alone marker (at_rest p r) blanks) lines)
+    (OpensNode (item_head p byte number columns) (task_alone marker (at_rest p r) None) lines)
     (alone_free marker (at_rest p r) blanks h) (alone_free marker (at_rest p r) None h))
     (behind_free marker (at_rest p r) h)
 
@@ -221,7 +251,8 @@ first_free false x y h k = k
 
 tag_free : (c : Context) (lines : List Place) → HoldsNoIndex (behind_tag c lines).0
 tag_free c [] = tt
-tag_free c (line ∷ lines) = first_free (ends_tag c line.rest) (Line, line ∷ lines) (At (unindented (at_rest line (front c.path line.rest))) ALeafAlone, lines) tt tt
+tag_free c (line ∷ lines) =
+    first_free (ends_tag c line.rest) (Line, line ∷ lines) (At (unindented (at_rest line (front c.path line.rest))) ALeafAlone, lines) tt tt
 
 quote_free : (c : Context) (p inside : Place) (lines : List Place) (kind : Option BlockQuoteKind) → OpensFree (quote_opening c p inside lines kind)
 quote_free c p inside lines None = tt
@@ -229,7 +260,8 @@ quote_free c p inside lines (Some kind) = tag_free (context c.options (BlockQuot
 
 opens_quote : (d : Document) (n : Names) (path : List Container) (p : Place) (lines : List Place) (q : Option Place) (o o' : Opening)
     → OpensQuote d path p lines q o → OpensQuote (with_names d n) path p lines q o' → AlikeOpening d.names n o o'
-opens_quote d n path p lines (Some inside) o o' e f = alike_by d.names n o o' _ _ e f (node_alike d.names n _ (quote_free (around d path) p inside lines (tag_behind d.options inside.rest)))
+opens_quote d n path p lines (Some inside) o o' e f =
+    alike_by d.names n o o' _ _ e f (node_alike d.names n _ (quote_free (around d path) p inside lines (tag_behind d.options inside.rest)))
 opens_quote d n path p lines None o o' e f = opens_block d n path p lines o o' e f
 
 opens_from : (d : Document) (n : Names) (path : List Container) (p : Place) (lines : List Place) (i : Option ((ℕ × ℕ × ℕ) × Rest)) (o o' : Opening)
@@ -237,11 +269,13 @@ opens_from : (d : Document) (n : Names) (path : List Container) (p : Place) (lin
 unfolding OpensFrom
 opens_from d n path p lines (Some item) o o' e f =
     alike_by d.names n o o' _ _ e f
-    (node_alike d.names n _ (item_free d path p lines item.0.0 item.0.1 item.0.2 (task_behind d.options p.line item.1) (task_free p.line item.1 (if has d.options 16 then task_of item.1 else None))))
+    (node_alike d.names n _ (item_free d path p lines item.0.0 item.0.1 item.0.2 (task_behind d.options p.line item.1)
+    (task_free p.line item.1 (if has d.options 16 then task_of item.1 else None))))
 opens_from d n path p lines None o o' e f = opens_quote d n path p lines (quote_inside p) o o' e f
 
 -- a place opens one thing, read alike
-pub one_opening : (d : Document) (n : Names) (path : List Container) (p : Place) (lines : List Place) (o o' : Opening) → Opens d path p lines o → Opens (with_names d n) path p lines o' → AlikeOpening d.names n o o'
+pub one_opening : (d : Document) (n : Names) (path : List Container) (p : Place) (lines : List Place) (o o' : Opening)
+    → Opens d path p lines o → Opens (with_names d n) path p lines o' → AlikeOpening d.names n o o'
 one_opening d n path p lines o o' e f = opens_from d n path p lines (item_at p.rest) o o' e f
 
 opens_at : (d : Document) (n : Names) (path : List Container) (from : From) (p : Place) (lines : List Place) (o o' : Opening) → HoldsNoIndex from
@@ -252,10 +286,16 @@ opens_at d n path (At q ALeafAlone) p lines o o' h e f = opens_block d n path p 
 opens_at d n path (Blanks x) p lines o o' h e f = one_opening d n path p lines o o' e f
 opens_at d n path (At q (TextOf marker)) p lines o o' h e f = one_text_opening d n path p lines (Some marker) o o' h e f
 opens_at d n path (At q (MarkAlone marker blanks)) p lines o o' h e f =
-    alike_by d.names n o o' _ _ e f ((refl, ap (λ (z : List (Item × Option Named)). map (λ (r : Item × Option Named). (0, r)) z) (read_alone d.names n (marker ∷ []) (h, tt)), refl, refl), refl, tt, refl)
+    alike_by d.names n o o' _ _ e f (
+      (refl, ap (λ (z : List (Item × Option Named)). map (λ (r : Item × Option Named). (0, r)) z) (read_alone d.names n (marker ∷ []) (h, tt)), refl, refl),
+      refl,
+      tt,
+      refl,
+    )
 
 -- a block begins at one place
-begins_once : (path : List Container) (from : From) (lines : List Place) (p q : Place) (a b : List Place) → Begins path from lines p a → Begins path from lines q b → (p ≡ q) × (a ≡ b)
+begins_once : (path : List Container) (from : From) (lines : List Place) (p q : Place) (a b : List Place)
+    → Begins path from lines p a → Begins path from lines q b → (p ≡ q) × (a ≡ b)
 begins_once path (At x may) lines p q a b (e, f) (g, h) = (cc, cc)
 begins_once path Line [] p q a b e f = absurd e
 begins_once path Line (line ∷ lines) p q a b (t, f) (u, h) = let s : Some p ≡ Some q = sym t ∙ u in (cc, cc)
@@ -267,7 +307,8 @@ blank_taken line q None t b = cc
 blank_taken line q (Some r) t b = let e : at_rest line r ≡ q = cc in ap (λ z. is_blank_rest z.rest) e ∙ b
 
 -- where a sequence ends no block begins
-pub ends_not_begins : (path : List Container) (from : From) (lines : List Place) (p : Place) (a : List Place) → Ends path from lines → Begins path from lines p a → ⊥
+pub ends_not_begins : (path : List Container) (from : From) (lines : List Place) (p : Place) (a : List Place)
+    → Ends path from lines → Begins path from lines p a → ⊥
 ends_not_begins path (At x may) lines p a e b = e
 ends_not_begins path Line [] p a e b = b
 ends_not_begins path Line (line ∷ lines) p a e (t, h) = let n : None ≡ Some p = sym (ap (option_map (at_rest line)) e) ∙ t in cc
@@ -279,17 +320,20 @@ first_once : (d : Document) (n : Names) (path : List Container) (from : From) (l
     → IsFirst d path from lines o → IsFirst (with_names d n) path from lines o' → AlikeOpening d.names n o o'
 first_once d n path from lines o o' h f g =
     let w = begins_once path from lines f.place g.place f.behind g.behind f.begins g.begins in
-    opens_at d n path from g.place g.behind o o' h (subst (λ z. OpensAt d path from g.place z o) w.1 (subst (λ z. OpensAt d path from z f.behind o) w.0 f.opens)) g.opens
+    opens_at d n path from g.place g.behind o o' h
+    (subst (λ z. OpensAt d path from g.place z o) w.1 (subst (λ z. OpensAt d path from z f.behind o) w.0 f.opens)) g.opens
 
 first_ends : (d : Document) (path : List Container) (from : From) (lines : List Place) (o : Opening) → Ends path from lines → IsFirst d path from lines o → ⊥
 first_ends d path from lines o e f = ends_not_begins path from lines f.place f.behind e f.begins
 
 -- where a sequence ends it has no block
-pub ends_at_once : (d : Document) (s : Skeleton) (path : List Container) (from : From) (lines left : List Place) → Ends path from lines → IsSequence d s path from lines left → (s ≡ Nil) × (left ≡ lines)
+pub ends_at_once : (d : Document) (s : Skeleton) (path : List Container) (from : From) (lines left : List Place)
+    → Ends path from lines → IsSequence d s path from lines left → (s ≡ Nil) × (left ≡ lines)
 unfolding IsSequence
 ends_at_once d Nil path from lines left e (f, g) = (refl, g)
 ends_at_once d (Then leaf next) path from lines left e (there, mid, first, seq) = absurd (first_ends d path from lines (OpensLeaf leaf there mid) e first)
-ends_at_once d (Node head e' kids next) path from lines left e (inside, behind, mid, first, inner, is, seq) = absurd (first_ends d path from lines (OpensNode head inside behind) e first)
+ends_at_once d (Node head e' kids next) path from lines left e (inside, behind, mid, first, inner, is, seq) =
+    absurd (first_ends d path from lines (OpensNode head inside behind) e first)
 
 behind_first_free : (from there : From) → HoldsNoIndex from → HoldsNoIndex there → HoldsNoIndex (behind_first from there)
 behind_first_free (Blanks e) there h k = tt
@@ -304,30 +348,39 @@ pub one_sequence : (d : Document) (n : Names) (s t : Skeleton) (path : List Cont
     → IsSequence d s path from lines a → IsSequence (with_names d n) t path from lines b → Alike d.names n s t × (a ≡ b)
 unfolding IsSequence
 one_sequence d n Nil Nil path from lines a b free (e, f) (g, h) = (tt, cc)
-one_sequence d n Nil (Then leaf next) path from lines a b free (e, f) (there, mid, first, seq) = absurd (first_ends (with_names d n) path from lines (OpensLeaf leaf there mid) e first)
-one_sequence d n Nil (Node head x kids next) path from lines a b free (e, f) (inside, behind, mid, first, inner, is, seq) = absurd (first_ends (with_names d n) path from lines (OpensNode head inside behind) e first)
-one_sequence d n (Then leaf next) Nil path from lines a b free (there, mid, first, seq) (e, f) = absurd (first_ends d path from lines (OpensLeaf leaf there mid) e first)
-one_sequence d n (Node head x kids next) Nil path from lines a b free (inside, behind, mid, first, inner, is, seq) (e, f) = absurd (first_ends d path from lines (OpensNode head inside behind) e first)
+one_sequence d n Nil (Then leaf next) path from lines a b free (e, f) (there, mid, first, seq) =
+    absurd (first_ends (with_names d n) path from lines (OpensLeaf leaf there mid) e first)
+one_sequence d n Nil (Node head x kids next) path from lines a b free (e, f) (inside, behind, mid, first, inner, is, seq) =
+    absurd (first_ends (with_names d n) path from lines (OpensNode head inside behind) e first)
+one_sequence d n (Then leaf next) Nil path from lines a b free (there, mid, first, seq) (e, f) =
+    absurd (first_ends d path from lines (OpensLeaf leaf there mid) e first)
+one_sequence d n (Node head x kids next) Nil path from lines a b free (inside, behind, mid, first, inner, is, seq) (e, f) =
+    absurd (first_ends d path from lines (OpensNode head inside behind) e first)
 one_sequence d n (Then leaf next) (Then leaf' next') path from lines a b free (there, mid, first, seq) (there', mid', first', seq') =
     let o = first_once d n path from lines (OpensLeaf leaf there mid) (OpensLeaf leaf' there' mid') free first first' in
     let r = one_sequence d n next next' path (behind_first from there) mid a b (behind_first_free from there free o.2) seq
-    (subst (λ z. IsSequence (with_names d n) next' path (behind_first from there) z b) (sym o.3) (subst (λ z. IsSequence (with_names d n) next' path (behind_first from z) mid' b) (sym o.1) seq')) in
+    (subst (λ z. IsSequence (with_names d n) next' path (behind_first from there) z b) (sym o.3)
+    (subst (λ z. IsSequence (with_names d n) next' path (behind_first from z) mid' b) (sym o.1) seq')) in
     ((o.0, r.0), r.1)
 one_sequence d n (Then leaf next) (Node head x kids next') path from lines a b free (there, mid, first, seq) (inside, behind, mid', first', inner, is, seq') =
     absurd (first_once d n path from lines (OpensLeaf leaf there mid) (OpensNode head inside behind) free first first')
 one_sequence d n (Node head x kids next) (Then leaf next') path from lines a b free (inside, behind, mid', first', inner, is, seq') (there, mid, first, seq) =
     absurd (first_once d n path from lines (OpensNode head inside behind) (OpensLeaf leaf there mid) free first' first)
-one_sequence d n (Node head x kids next) (Node head' x' kids' next') path from lines a b free (inside, behind, mid, first, inner, is, seq) (inside', behind', mid', first', inner', is', seq') =
+one_sequence d n (Node head x kids next) (Node head' x' kids' next') path from lines a b free (inside, behind, mid, first, inner, is, seq)
+    (inside', behind', mid', first', inner', is', seq') =
     let o = first_once d n path from lines (OpensNode head inside behind) (OpensNode head' inside' behind') free first first' in
     let h = one_sequence d n kids kids' (opened head.opener ∷ path) inside behind mid mid' o.2 inner
     (subst (λ (z : Head). IsSequence (with_names d n) kids' (opened z.opener ∷ path) inside behind mid') (sym o.0)
-    (subst (λ z. IsSequence (with_names d n) kids' (opened head'.opener ∷ path) z behind mid') (sym o.1) (subst (λ z. IsSequence (with_names d n) kids' (opened head'.opener ∷ path) inside' z mid') (sym o.3) inner'))) in
+    (subst (λ z. IsSequence (with_names d n) kids' (opened head'.opener ∷ path) z behind mid') (sym o.1)
+    (subst (λ z. IsSequence (with_names d n) kids' (opened head'.opener ∷ path) inside' z mid') (sym o.3) inner'))) in
     let m : mid ≡ mid' = h.1 in
-    let r = one_sequence d n next next' path (behind_first from Line) mid a b (behind_first_free from Line free tt) seq (subst (λ z. IsSequence (with_names d n) next' path (behind_first from Line) z b) (sym m) seq') in
+    let r = one_sequence d n next next' path (behind_first from Line) mid a b (behind_first_free from Line free tt) seq
+    (subst (λ z. IsSequence (with_names d n) next' path (behind_first from Line) z b) (sym m) seq') in
     let e : x ≡ x' = is ∙ ap (λ z. end_before (length d.text) path z mid) o.1 ∙ ap (end_before (length d.text) path inside') m ∙ sym is' in
     ((o.0, e, h.0, r.0), r.1)
 
-pub one_forest : (text : List ℕ) (options : Options) (m n : Names) (f g : List (ℕ × Item)) (t u : Tables) → Derives (document text options m) f t → Derives (document text options n) g u → (read_nodes m f ≡ read_nodes n g) × (t ≡ u)
+pub one_forest : (text : List ℕ) (options : Options) (m n : Names) (f g : List (ℕ × Item)) (t u : Tables)
+    → Derives (document text options m) f t → Derives (document text options n) g u → (read_nodes m f ≡ read_nodes n g) × (t ≡ u)
 one_forest text options m n f g t u x y =
     let d : Document = document text options m in
     let s = (one_sequence d n x.skeleton y.skeleton [] Line (lines_at 0 text) [] [] tt x.sequence y.sequence).0 in

@@ -1,10 +1,12 @@
 -- Each block of a derived tree shows whole tables, or nothing.
-use Rattle.std.proofs.Common.{◌≡◌, ℕ, ◌≤◌, Bool, true, false, List, [], ◌∷◌, ◌++◌, length, Option, Some, None, MatchOption, IfSome, refl, sym, ap, subst, ◌∙◌, if◌then◌else◌, drop}
+use Rattle.std.proofs.Common.{◌≡◌, ℕ, ◌≤◌, Bool, true, false, List, [], ◌∷◌, ◌++◌, length, Option, Some, None, MatchOption, IfSome, refl, sym, ap, subst, ◌∙◌}
+use Rattle.std.proofs.Common.{if◌then◌else◌, drop}
 use Rattle.first_pass_items.specs.declared.item.Alignment.{Alignment}
 use Rattle.first_pass_items.specs.declared.item.BlockQuoteKind.{BlockQuoteKind}
 use Rattle.first_pass_items.specs.declared.item.Item.{Item}
 use Rattle.first_pass_items.specs.declared.item.ItemBody.{ItemBody}
-use Rattle.first_pass_items.specs.declared.item.ItemBody.TheVariants.{Paragraph as ParagraphBody, Rule, Heading as HeadingBody, IndentCodeBlock, FencedCodeBlock, MetadataBlock, HtmlBlock}
+use Rattle.first_pass_items.specs.declared.item.ItemBody.TheVariants.{Paragraph as ParagraphBody, Rule, Heading as HeadingBody, IndentCodeBlock}
+use Rattle.first_pass_items.specs.declared.item.ItemBody.TheVariants.{FencedCodeBlock, MetadataBlock, HtmlBlock}
 use Rattle.first_pass_lines.specs.Lines.{level_number}
 use Rattle.first_pass_lines.specs.Rest.{Rest, indent}
 use Rattle.first_pass_lines.specs.Places.{Place, offset, start_of, line_of}
@@ -16,7 +18,8 @@ use Rattle.first_pass_grammar.specs.declared.kind.Container.{Container}
 use Rattle.first_pass_grammar.specs.declared.kind.Container.TheVariants.{BlockQuote, ListItem}
 use Rattle.first_pass_grammar.specs.Names.{Names}
 use Rattle.first_pass_grammar.specs.Containers.{Context, context, at_rest, front}
-use Rattle.first_pass_grammar.specs.Kinds.{Kind, Blank, IndentedCode, Metadata, HtmlToEnd, HtmlToBlank, ThematicBreak, AtxHeading, FencedCode, LinkDefinitions, Paragraph, unindented, is_blank_rest, quote_inside, item_at, ends_tag}
+use Rattle.first_pass_grammar.specs.Kinds.{Kind, Blank, IndentedCode, Metadata, HtmlToEnd, HtmlToBlank, ThematicBreak, AtxHeading, FencedCode, LinkDefinitions}
+use Rattle.first_pass_grammar.specs.Kinds.{Paragraph, unindented, is_blank_rest, quote_inside, item_at, ends_tag}
 use Rattle.first_pass_grammar.specs.Leaves.{Document, around, heading_text_at, block_with, TextLines}
 use Rattle.first_pass_grammar.specs.CodeBlocks.{fence_judge, metadata_judge, metadata_kind}
 use Rattle.first_pass_grammar.specs.Extents.{in_containers}
@@ -28,9 +31,13 @@ use Rattle.first_pass_grammar.specs.TableHeads.{headed_table}
 use Rattle.first_pass_grammar.specs.Tables.{filled, Taken, most_filled, IsTable}
 use Rattle.first_pass_grammar.specs.Texts.{IsPlainText, IsText, IsUnderlined, text_children, heading_children, plain_text, underline_first}
 use Rattle.first_pass_grammar.specs.Blocks.{Leaf, BlankLine, Block, opened, Skeleton, Nil, Then, Node}
-use Rattle.first_pass_grammar.specs.Skeleton.{OpensBeyond, OpensRun, From, Line, Blanks, At, May, Anything, ALeafAlone, TextOf, MarkAlone, behind_marker, Opening, OpensLeaf, OpensNode, OpensText, OpensAs, OpensBlockAt, next_is_blank, item_head, task_by, task_behind, behind_task, task_alone, item_opening, tag_behind, behind_tag, quote_opening, OpensQuote, OpensFrom, OpensIf, OpensAt, Begins, behind_first, IsFirst, IsSequence}
+use Rattle.first_pass_grammar.specs.Skeleton.{OpensBeyond, OpensRun, From, Line, Blanks, At, May, Anything, ALeafAlone, TextOf, MarkAlone, behind_marker}
+use Rattle.first_pass_grammar.specs.Skeleton.{Opening, OpensLeaf, OpensNode, OpensText, OpensAs, OpensBlockAt, next_is_blank, item_head, task_by, task_behind}
+use Rattle.first_pass_grammar.specs.Skeleton.{behind_task, task_alone, item_opening, tag_behind, behind_tag, quote_opening, OpensQuote, OpensFrom, OpensIf}
+use Rattle.first_pass_grammar.specs.Skeleton.{OpensAt, Begins, behind_first, IsFirst, IsSequence}
 use Rattle.first_pass_grammar.specs.WholeTables.{Mark, marks, table_marks, AreFull, AreWholeTables}
-use Rattle.first_pass_grammar.proofs.EachToken.{AreEach, heading_each, range_text_each, range_html_each, raw_lines_each, lines_each, children_each, heading_children_each}
+use Rattle.first_pass_grammar.proofs.EachToken.{AreEach, heading_each, range_text_each, range_html_each, raw_lines_each, lines_each, children_each}
+use Rattle.first_pass_grammar.proofs.EachToken.{heading_children_each}
 use Rattle.first_pass_grammar.proofs.PlacesKept.{IsAt, AreAt, at_unindented, at_front, at_taken, at_quote, at_item, extent_at, tag_left_at, code_at}
 use Rattle.first_pass_grammar.proofs.LinesLeft.{BeyondAt, run_at, text_left}
 use Rattle.first_pass_grammar.proofs.TableMarks.{ShowsNothing, text_shows, tokens_show, raw_shows, block_shows, table_shows}
@@ -146,7 +153,8 @@ module _ (d : Document) (full : HeadsAreFull d) where
         chain_whole d.names _ _ HtmlBlock is.chain items is.items_are (λ names depth start end. refl)
             (raw_lines_each ShowsNothing raw_shows range_html d [] _ is.chain (range_html_each ShowsNothing raw_shows) tt is.lines),
         tt,
-        tag_left_at d.text (holds text (line_of (unindented p))) (unindented p) lines _ h (extent_at d.text (in_containers path (tag_judge text)) (length d.text) lines h),
+        tag_left_at d.text (holds text (line_of (unindented p))) (unindented p) lines _ h
+            (extent_at d.text (in_containers path (tag_judge text)) (length d.text) lines h),
       )
   opens_as path p lines HtmlToBlank o i h (items, is, e) =
       subst (WholeOpening d) (sym e) (

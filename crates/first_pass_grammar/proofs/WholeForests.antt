@@ -13,7 +13,8 @@ use Rattle.first_pass_grammar.specs.Blocks.{BlankLine, Block, Opener, QuoteMarke
 use Rattle.first_pass_grammar.specs.Skeleton.{Line}
 use Rattle.first_pass_grammar.specs.Before.{Before, nothing, after_blank, after_block}
 use Rattle.first_pass_grammar.specs.Containers.{is_quote}
-use Rattle.first_pass_grammar.specs.Rows.{What, ALeaf, AQuote, AList, AnItem, Row, Rows, End, OneOf, gapped, is_loose, is_list_of, items_behind, list_behind, what_of, row_of, container_row, rows_of}
+use Rattle.first_pass_grammar.specs.Rows.{What, ALeaf, AQuote, AList, AnItem, Row, Rows, End, OneOf, gapped, is_loose, is_list_of, items_behind, list_behind}
+use Rattle.first_pass_grammar.specs.Rows.{what_of, row_of, container_row, rows_of}
 use Rattle.first_pass_grammar.specs.Derivation.{row_items, tight_in, items_of, Tables, root_of, Derives}
 use Rattle.first_pass_grammar.specs.WholeTables.{Mark, ATable, shown, marks, row_marks, TableRows, table_marks, AreFull, AreWholeTables}
 use Rattle.first_pass_grammar.proofs.HeadCells.{heads_are_full}

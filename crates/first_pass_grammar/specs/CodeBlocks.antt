@@ -68,7 +68,8 @@ pub record IsIndentedCode (d : Document) (p : Place) (further : List Place) (ite
 -- where a closing fence ends that a line is from a place on, at under four columns: so many of a byte at least; the end of the text closes too
 -- (CommonMark 4.5)
 abbrev pub closing_fence_end : ℕ → ℕ → Place → Option ℕ
-closing_fence_end byte count p = if nat_lt (indent p.rest) 4 then option_map (λ n. offset (unindented p) + n) (closing_fence_len byte count (all_taken p.rest).left) else None
+closing_fence_end byte count p =
+    if nat_lt (indent p.rest) 4 then option_map (λ n. offset (unindented p) + n) (closing_fence_len byte count (all_taken p.rest).left) else None
 
 -- What a line is to a fenced code block whose opening fence stood at so many columns and has so many of a byte: a closing fence closes it; of any other line
 -- as many columns are taken as the fence stood at (CommonMark 4.5).

@@ -112,7 +112,8 @@ Becomes (InList byte loose ∷ frames) (place ∷ places) w further forest table
     Becomes frames places (record { nodes = w.nodes; list = OneList place byte loose; before = w.before; defined = w.defined }) further forest tables
 Becomes (InContainer c ∷ frames) (place ∷ places) w (f ∷ further) forest tables =
     let rows : Rows = rows_on (is_quote c) w f in
-    Becomes (loosened (any_gap (rows_beyond w.list rows)) frames) places (container_closed c (suc (length (place ∷ places))) place w f rows) further forest tables
+    Becomes (loosened (any_gap (rows_beyond w.list rows)) frames) places
+    (container_closed c (suc (length (place ∷ places))) place w f rows) further forest tables
 Becomes _ _ w further forest tables = ⊥
 
 -- each place is before the one inside it, and the innermost before an end

@@ -1,5 +1,6 @@
 -- Link reference definitions (CommonMark 4.7), of the bytes from a place in the text on.
-use Rattle.std.specs.Prelude.{ℕ, ◌+◌, ◌==◌, ◌&&◌, ◌||◌, not, Bool, true, false, nat_lt, List, [], ◌∷◌, take, drop, slice_index, Option, Some, None, is_some, if◌then◌else◌}
+use Rattle.std.specs.Prelude.{ℕ, ◌+◌, ◌==◌, ◌&&◌, ◌||◌, not, Bool, true, false, nat_lt, List, [], ◌∷◌, take, drop, slice_index, Option, Some, None, is_some}
+use Rattle.std.specs.Prelude.{if◌then◌else◌}
 use Rattle.std.specs.List.{prefix_len}
 use Rattle.std.specs.Option.{option_map, option_and_then, option_map_or}
 use Rattle.first_pass_items.specs.Bytes.{line_feed, carriage_return, quotation_mark, apostrophe, left_parenthesis, right_parenthesis, colon, left_bracket}

@@ -43,7 +43,8 @@ tight_in tight loose (AnItem columns e) = tight
 unfoldable pub items_of : ℕ → Bool → Rows → List (ℕ × Item)
 items_of depth tight End = []
 items_of depth tight (OneOf row inner next) =
-    row_items depth tight (is_loose inner) row.start row.what ++ (items_of (suc depth) (tight_in tight (is_loose inner) row.what) inner ++ items_of depth tight next)
+    row_items depth tight (is_loose inner) row.start row.what
+    ++ (items_of (suc depth) (tight_in tight (is_loose inner) row.what) inner ++ items_of depth tight next)
 
 -- what a text defines: its link labels, and the labels of its footnotes
 pub record Tables : Type 0 where

@@ -18,7 +18,8 @@ spaces (suc n) = space ∷ spaces n
 -- range, and none for no columns (CommonMark 2.2).
 abbrev pub AreColumns : Names → ℕ → ℕ → List Item → Type 0
 AreColumns names zero at items = items ≡ []
-AreColumns names (suc n) at items = (ix : CowIndex) × NamesText names ix (spaces (suc n)) × (items ≡ record { start = at; «end» = at; body = SynthesizeText ix } ∷ [])
+AreColumns names (suc n) at items =
+    (ix : CowIndex) × NamesText names ix (spaces (suc n)) × (items ≡ record { start = at; «end» = at; body = SynthesizeText ix } ∷ [])
 
 -- the bytes from an offset up to another end with `\r\n`
 abbrev pub ends_with_both : List ℕ → ℕ → ℕ → Bool
@@ -47,4 +48,5 @@ IsRawLine range d owed from to items = (columns : List Item) × AreColumns d.nam
 -- The chain of raw lines, of each of which a place's rest is left, after a chain: a text that begins where the one before it ends is joined to it.
 unfoldable pub AreRawLines : Ranges → Document → List Item → List Place → List Item → Type 0
 AreRawLines range d chain [] whole = whole ≡ chain
-AreRawLines range d chain (p ∷ ps) whole = (line : List Item) × IsRawLine range d p.rest.owed (offset p) (line_end p) line × AreRawLines range d (add_tokens chain line) ps whole
+AreRawLines range d chain (p ∷ ps) whole =
+    (line : List Item) × IsRawLine range d p.rest.owed (offset p) (line_end p) line × AreRawLines range d (add_tokens chain line) ps whole

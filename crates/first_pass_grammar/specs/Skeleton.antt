@@ -12,9 +12,11 @@ use Rattle.first_pass_lines.specs.Rest.{Rest, indent}
 use Rattle.first_pass_lines.specs.Places.{Place, place_at, offset, start_of, moved_columns}
 use Rattle.first_pass_grammar.specs.declared.kind.Container.{Container}
 use Rattle.first_pass_grammar.specs.declared.kind.Container.TheVariants.{BlockQuote, ListItem}
-use Rattle.first_pass_grammar.specs.Blocks.{Leaf, BlankLine, Block, leaf_block, QuoteMarker, ItemMarker, Head, opened, run_block, flowing_block, Skeleton, Nil, Then, Node}
+use Rattle.first_pass_grammar.specs.Blocks.{Leaf, BlankLine, Block, leaf_block, QuoteMarker, ItemMarker, Head, opened, run_block, flowing_block, Skeleton, Nil}
+use Rattle.first_pass_grammar.specs.Blocks.{Then, Node}
 use Rattle.first_pass_grammar.specs.Containers.{Context, context, at_rest, after, front, taken, next_goes_on}
-use Rattle.first_pass_grammar.specs.Kinds.{Kind, Blank, IndentedCode, Metadata, HtmlToEnd, HtmlToBlank, ThematicBreak, AtxHeading, FencedCode, LinkDefinitions, Paragraph, all_taken, unindented, is_blank_rest, quote_inside, quote_start, item_at, IsKind, ends_tag}
+use Rattle.first_pass_grammar.specs.Kinds.{Kind, Blank, IndentedCode, Metadata, HtmlToEnd, HtmlToBlank, ThematicBreak, AtxHeading, FencedCode, LinkDefinitions}
+use Rattle.first_pass_grammar.specs.Kinds.{Paragraph, all_taken, unindented, is_blank_rest, quote_inside, quote_start, item_at, IsKind, ends_tag}
 use Rattle.std.specs.Option.{option_map}
 use Rattle.first_pass_html.specs.Starts.{html_end}
 use Rattle.first_pass_grammar.specs.CodeBlocks.{code_lines, last_is_blank, IsIndentedCode, metadata_lines, IsMetadata, fenced_lines, IsFencedCode}
@@ -73,7 +75,8 @@ OpensBeyond d path definitions (FlowsOn p lines) opening =
 
 unfoldable pub OpensRun : Document → List Container → Place → List Place → Opening → Type 0
 OpensRun d path p lines opening =
-    (definitions : List LinkEntry) × (beyond : Beyond) × IsRun (around d path) (unindented p) lines definitions beyond × OpensBeyond d path definitions beyond opening
+    (definitions : List LinkEntry) × (beyond : Beyond) × IsRun (around d path) (unindented p) lines definitions beyond
+    × OpensBeyond d path definitions beyond opening
 
 -- What a kind opens at a place that has these lines after it, inside the containers of the path. The blank lines at the end of indented code count
 -- (CommonMark 4.4, and this project).
@@ -83,13 +86,18 @@ OpensAs d path p lines IndentedCode opening =
     (items : List (ℕ × Item)) × IsIndentedCode d (moved_columns 4 p) (code_lines path lines).0 items
     × (opening ≡ OpensLeaf (leaf_block IndentedCode p items (last_is_blank (code_lines path lines).0)) Line (code_lines path lines).1)
 OpensAs d path p lines (Metadata byte) opening =
-    let e = metadata_lines (length d.text) path byte lines in OpensExtent (Metadata byte) p e (IsMetadata d (offset (unindented p)) byte e.places e.«end») opening
+    let e = metadata_lines (length d.text) path byte lines in
+    OpensExtent (Metadata byte) p e (IsMetadata d (offset (unindented p)) byte e.places e.«end») opening
 OpensAs d path p lines HtmlToEnd opening =
     (text : List ℕ) × (html_end (drop 1 (all_taken p.rest).left) ≡ Some text)
-    × (let e = until_end (length d.text) path text (unindented p) lines in OpensExtent HtmlToEnd p e (IsHtml d (offset (unindented p)) (indent p.rest) e.places e.«end») opening)
+    × (
+    let e = until_end (length d.text) path text (unindented p) lines in
+    OpensExtent HtmlToEnd p e (IsHtml d (offset (unindented p)) (indent p.rest) e.places e.«end») opening)
 OpensAs d path p lines HtmlToBlank opening =
-    let e = until_blank (length d.text) path (unindented p) lines in OpensExtent HtmlToBlank p e (IsHtml d (offset (unindented p)) (indent p.rest) e.places e.«end») opening
-OpensAs d path p lines (ThematicBreak size) opening = opening ≡ OpensLeaf (leaf_block (ThematicBreak size) p (rule_block (offset (unindented p)) size) false) Line lines
+    let e = until_blank (length d.text) path (unindented p) lines in
+    OpensExtent HtmlToBlank p e (IsHtml d (offset (unindented p)) (indent p.rest) e.places e.«end») opening
+OpensAs d path p lines (ThematicBreak size) opening =
+    opening ≡ OpensLeaf (leaf_block (ThematicBreak size) p (rule_block (offset (unindented p)) size) false) Line lines
 OpensAs d path p lines (AtxHeading level) opening =
     (index : Option HeadingIndex) × (chain : List Item) × (end_of_line : ℕ)
     × IsHeading d (heading_text_at d.text (offset (unindented p)) (level_number level)) index chain end_of_line

@@ -1,18 +1,21 @@
 -- What `parse` and `from_bits` say of a word that may stand for options.
-use Rattle.std.proofs.Common.{◌≡◌, ℕ, ◌↔◌, ◌==◌, false, cond, List, Option, Some, None, IfSome, IsSome, IsNone, bit_and, drop, slice_index, refl, sym, ap, ◌∙◌, subst}
+use Rattle.std.proofs.Common.{◌≡◌, ℕ, ◌↔◌, ◌==◌, false, cond, List, Option, Some, None, IfSome, IsSome, IsNone, bit_and, drop, slice_index, refl, sym, ap, ◌∙◌}
+use Rattle.std.proofs.Common.{subst}
 use Rattle.std.proofs.lemmas.Bool.{true≢false}
 use Rattle.std.specs.Str.Parse.{IsNumeral, digits_value, without_leading_plus}
 use Rattle.first_pass_items.specs.declared.option_set.Options.{Options}
 use Rattle.first_pass_host.specs.OptionWord.{StandsFor}
 
 -- the digits that `parse` read are the word where no plus stands before them
-parsed : (word : List ℕ) (n : ℕ) → (slice_index word 0 == 43) ≡ false → IsNumeral 10 (without_leading_plus word) → n ≡ digits_value 10 (without_leading_plus word) → IsNumeral 10 word × (digits_value 10 word ≡ n)
+parsed : (word : List ℕ) (n : ℕ) → (slice_index word 0 == 43) ≡ false → IsNumeral 10 (without_leading_plus word)
+    → n ≡ digits_value 10 (without_leading_plus word) → IsNumeral 10 word × (digits_value 10 word ≡ n)
 parsed word n no_plus numeral value =
     let plain : without_leading_plus word ≡ word = ap (λ b. drop (cond b 1 0) word) no_plus in
     (subst (IsNumeral 10) plain numeral, sym (value ∙ ap (digits_value 10) plain))
 
 -- a number that `parse` reads, and `from_bits` takes
-pub taken : (word : List ℕ) (n : ℕ) (r : Option Options) → (slice_index word 0 == 43) ≡ false → IsNumeral 10 (without_leading_plus word) → n ≡ digits_value 10 (without_leading_plus word)
+pub taken : (word : List ℕ) (n : ℕ) (r : Option Options)
+    → (slice_index word 0 == 43) ≡ false → IsNumeral 10 (without_leading_plus word) → n ≡ digits_value 10 (without_leading_plus word)
     → IfSome r (λ o. o.0 ≡ n) → (IsSome r ↔ (bit_and n 65534 ≡ n)) → IfSome r (λ o. StandsFor word o.0)
 taken word n None no_plus numeral value is known = tt
 taken word n (Some o) no_plus numeral value is known =
@@ -20,7 +23,8 @@ taken word n (Some o) no_plus numeral value is known =
     (whole, sum ∙ sym is, subst (λ b. bit_and b 65534 ≡ b) (sym is) (known.0 refl))
 
 -- a number that `parse` reads, and `from_bits` does not take
-pub untaken : (word : List ℕ) (n : ℕ) (r : Option Options) → (slice_index word 0 == 43) ≡ false → IsNumeral 10 (without_leading_plus word) → n ≡ digits_value 10 (without_leading_plus word)
+pub untaken : (word : List ℕ) (n : ℕ) (r : Option Options)
+    → (slice_index word 0 == 43) ≡ false → IsNumeral 10 (without_leading_plus word) → n ≡ digits_value 10 (without_leading_plus word)
     → (IsSome r ↔ (bit_and n 65534 ≡ n)) → IsNone r → (bits : ℕ) → StandsFor word bits → ⊥
 untaken word n (Some o) no_plus numeral value known none bits stands = true≢false none
 untaken word n None no_plus numeral value known none bits (_, sum, kept) =

@@ -1,5 +1,6 @@
 -- What is counted at the front of the bytes is a part of a tag.
-use Rattle.std.proofs.Common.{◌≡◌, ◌⊎◌, inl, inr, ℕ, suc, ◌+◌, ◌<◌, Bool, true, false, true≢false, cond, ◌==◌, ◌&&◌, ◌||◌, List, [], ◌∷◌, ◌++◌, length, take, drop, Option, Some, None, unwrap_or, refl, sym, ap, ◌∙◌, subst, arith, append_assoc, append-nil}
+use Rattle.std.proofs.Common.{◌≡◌, ◌⊎◌, inl, inr, ℕ, suc, ◌+◌, ◌<◌, Bool, true, false, true≢false, cond, ◌==◌, ◌&&◌, ◌||◌, List, [], ◌∷◌, ◌++◌, length, take}
+use Rattle.std.proofs.Common.{drop, Option, Some, None, unwrap_or, refl, sym, ap, ◌∙◌, subst, arith, append_assoc, append-nil}
 use Rattle.std.specs.Option.{option_map}
 use Rattle.std.specs.List.{prefix_len, list_all, concat}
 use Rattle.std.proofs.lemmas.Bool.{and_from, eqb-true}
@@ -7,8 +8,10 @@ use Rattle.std.proofs.lemmas.Bool.Decides.{nat_tests}
 use Rattle.std.proofs.lemmas.List.Folds.{length-prefix_len, concat-append}
 use Rattle.std.proofs.Math.Seq.{take-add}
 use Rattle.first_pass_lines.specs.Lines.{begins, is_blank}
-use Rattle.first_pass_html.specs.Tags.{starts_attribute, is_attribute_byte, is_unquoted, is_quoted, is_word, is_attribute_name, IsQuotedValue, IsValue, IsValueSpecification, IsAttribute, AreAttributes, IsOpenTagEnd}
-use Rattle.first_pass_html.specs.TagLengths.{word_len, unquoted_len, quoted_len, value_len, blanks_value_len, specification_len, attribute_name_len, named_len, attribute_len, close_len, open_end_len}
+use Rattle.first_pass_html.specs.Tags.{starts_attribute, is_attribute_byte, is_unquoted, is_quoted, is_word, is_attribute_name, IsQuotedValue, IsValue}
+use Rattle.first_pass_html.specs.Tags.{IsValueSpecification, IsAttribute, AreAttributes, IsOpenTagEnd}
+use Rattle.first_pass_html.specs.TagLengths.{word_len, unquoted_len, quoted_len, value_len, blanks_value_len, specification_len, attribute_name_len, named_len}
+use Rattle.first_pass_html.specs.TagLengths.{attribute_len, close_len, open_end_len}
 use Rattle.first_pass_html.proofs.ListFacts.{prefix_passes}
 
 -- what a test and a map of an option give
@@ -57,9 +60,14 @@ quoted_front quote bs n h =
     let parts : take (k + 1) bs ≡ take k bs ++ quote ∷ [] = take-add k 1 bs ∙ ap (λ xs. take k bs ++ take 1 xs) end.1 in
     (take k bs, rw size (ap (λ xs. quote ∷ xs) parts), prefix_passes (is_quoted quote) bs)
 
-value_front_by : (t u : Bool) (b : ℕ) (bs : List ℕ) (n : ℕ) → (b == 34) ≡ t → (b == 39) ≡ u → cond (t || u) (quoted_len b bs) (unquoted_len (b ∷ bs)) ≡ Some n → IsValue (take n (b ∷ bs))
-value_front_by true u b bs n h h' e = let same : b ≡ 34 = eqb-true b 34 h in inr (inr (subst (λ (q : ℕ). IsQuotedValue q (take n (b ∷ bs))) same (quoted_front b bs n e)))
-value_front_by false true b bs n h h' e = let same : b ≡ 39 = eqb-true b 39 h' in inr (inl (subst (λ (q : ℕ). IsQuotedValue q (take n (b ∷ bs))) same (quoted_front b bs n e)))
+value_front_by : (t u : Bool) (b : ℕ) (bs : List ℕ) (n : ℕ)
+    → (b == 34) ≡ t → (b == 39) ≡ u → cond (t || u) (quoted_len b bs) (unquoted_len (b ∷ bs)) ≡ Some n → IsValue (take n (b ∷ bs))
+value_front_by true u b bs n h h' e =
+    let same : b ≡ 34 = eqb-true b 34 h in
+    inr (inr (subst (λ (q : ℕ). IsQuotedValue q (take n (b ∷ bs))) same (quoted_front b bs n e)))
+value_front_by false true b bs n h h' e =
+    let same : b ≡ 39 = eqb-true b 39 h' in
+    inr (inl (subst (λ (q : ℕ). IsQuotedValue q (take n (b ∷ bs))) same (quoted_front b bs n e)))
 value_front_by false false b bs n h h' e =
     let both = some_unless (prefix_len is_unquoted (b ∷ bs) == 0) (Some (prefix_len is_unquoted (b ∷ bs))) n e in
     let size : prefix_len is_unquoted (b ∷ bs) ≡ n = let o = both.1 in cc in
@@ -91,7 +99,8 @@ blanks_value_front bs n h =
       is_value = value_front (drop k bs) m.0 m.1;
     }
 
-equals_front : (bs : List ℕ) (n : ℕ) → begins 61 (drop (prefix_len is_blank bs) bs) ≡ true → blanks_value_len (drop (prefix_len is_blank bs + 1) bs) ≡ Some n → IsValueSpecification (take (prefix_len is_blank bs + 1 + n) bs)
+equals_front : (bs : List ℕ) (n : ℕ) → begins 61 (drop (prefix_len is_blank bs) bs) ≡ true → blanks_value_len (drop (prefix_len is_blank bs + 1) bs) ≡ Some n
+    → IsValueSpecification (take (prefix_len is_blank bs + 1 + n) bs)
 equals_front bs n h e =
     let k : ℕ = prefix_len is_blank bs in
     let equals = begins_front 61 (drop k bs) h in
@@ -109,7 +118,8 @@ equals_front bs n h e =
       is_value = v.is_value;
     }
 
-specification_front_by : (bs : List ℕ) (t : Bool) (o : Option ℕ) → begins 61 (drop (prefix_len is_blank bs) bs) ≡ t → blanks_value_len (drop (prefix_len is_blank bs + 1) bs) ≡ o
+specification_front_by : (bs : List ℕ) (t : Bool) (o : Option ℕ)
+    → begins 61 (drop (prefix_len is_blank bs) bs) ≡ t → blanks_value_len (drop (prefix_len is_blank bs + 1) bs) ≡ o
     → let n : ℕ = cond t (unwrap_or (option_map (λ k. prefix_len is_blank bs + 1 + k) o) 0) 0 in (take n bs ≡ []) ⊎ IsValueSpecification (take n bs)
 specification_front_by bs true None h e = inl refl
 specification_front_by bs true (Some n) h e = inr (equals_front bs n h e)
@@ -117,7 +127,8 @@ specification_front_by bs false o h e = inl refl
 
 specification_front : (bs : List ℕ) → (take (specification_len bs) bs ≡ []) ⊎ IsValueSpecification (take (specification_len bs) bs)
 unfolding specification_len
-specification_front bs = specification_front_by bs (begins 61 (drop (prefix_len is_blank bs) bs)) (blanks_value_len (drop (prefix_len is_blank bs + 1) bs)) refl refl
+specification_front bs =
+    specification_front_by bs (begins 61 (drop (prefix_len is_blank bs) bs)) (blanks_value_len (drop (prefix_len is_blank bs + 1) bs)) refl refl
 
 -- attributes
 record IsNamed (bs : List ℕ) : Type 0 where
@@ -162,7 +173,8 @@ record IsClose (bs : List ℕ) : Type 0 where
   parts : bs ≡ slash ++ 62 ∷ []
   is_slash : (slash ≡ []) ⊎ (slash ≡ 47 ∷ [])
 
-close_front_by : (t u : Bool) (b : ℕ) (bs : List ℕ) (n : ℕ) → (b == 62) ≡ t → (b == 47) ≡ u → cond t (Some 1) (cond (u && begins 62 bs) (Some 2) None) ≡ Some n → IsClose (take n (b ∷ bs))
+close_front_by : (t u : Bool) (b : ℕ) (bs : List ℕ) (n : ℕ)
+    → (b == 62) ≡ t → (b == 47) ≡ u → cond t (Some 1) (cond (u && begins 62 bs) (Some 2) None) ≡ Some n → IsClose (take n (b ∷ bs))
 close_front_by true u b bs n h h' e =
     let size : n ≡ 1 = cc in
     record { slash = []; parts = rw size (ap (λ x. x ∷ []) (eqb-true b 62 h)); is_slash = inl refl }
@@ -199,9 +211,11 @@ are_more (b ∷ others) a are i = (are.0, are_more others a are.1 i)
 concat_one : (a : List ℕ) → concat (a ∷ []) ≡ a
 concat_one a = append-nil a
 
-pub front_more : (bs : List ℕ) (at n : ℕ) → (attributes : List (List ℕ)) × (take at bs ≡ concat attributes) × AreAttributes attributes → attribute_len (drop at bs) ≡ Some n
+pub front_more : (bs : List ℕ) (at n : ℕ)
+    → (attributes : List (List ℕ)) × (take at bs ≡ concat attributes) × AreAttributes attributes → attribute_len (drop at bs) ≡ Some n
     → (attributes : List (List ℕ)) × (take (at + n) bs ≡ concat attributes) × AreAttributes attributes
 front_more bs at n (attributes, parts, are) h =
     let a : List ℕ = take n (drop at bs) in
-    let joined : concat (attributes ++ a ∷ []) ≡ concat attributes ++ a = concat-append attributes (a ∷ []) ∙ ap (λ xs. concat attributes ++ xs) (concat_one a) in
+    let joined : concat (attributes ++ a ∷ []) ≡ concat attributes ++ a =
+    concat-append attributes (a ∷ []) ∙ ap (λ xs. concat attributes ++ xs) (concat_one a) in
     (attributes ++ a ∷ [], take-add at n bs ∙ ap (λ xs. xs ++ a) parts ∙ sym joined, are_more attributes a are (attribute_front (drop at bs) n h))

@@ -1,5 +1,6 @@
 -- Facts on the longest of some names that stands at the front.
-use Rattle.std.proofs.Common.{◌≡◌, ◌↔◌, IsTrue, ℕ, ◌<◌, ◌≤◌, nat_lt, inl, inr, Bool, true, false, true≢false, not, cond, ◌==◌, ◌&&◌, ◌||◌, List, [], ◌∷◌, ◌++◌, length, take, get_or, bytes_eq, refl, sym, ap, ◌∙◌, subst, arith, append-nil}
+use Rattle.std.proofs.Common.{◌≡◌, ◌↔◌, IsTrue, ℕ, ◌<◌, ◌≤◌, nat_lt, inl, inr, Bool, true, false, true≢false, not, cond, ◌==◌, ◌&&◌, ◌||◌, List, [], ◌∷◌, ◌++◌}
+use Rattle.std.proofs.Common.{length, take, get_or, bytes_eq, refl, sym, ap, ◌∙◌, subst, arith, append-nil}
 use Rattle.std.specs.List.{Contains, list_all, list_any}
 use Rattle.std.specs.Char.{to_ascii_lowercase}
 use Rattle.std.proofs.lemmas.Bool.{and_parts, cases_lt, eqb-true}
@@ -44,8 +45,12 @@ unfolding first_name_len
 found_name [] bs all = (omega arith, λ some. absurd (omega arith))
 found_name (name ∷ names) bs all =
     let both = and_parts _ (all_names names) all in
-    (elim (begins_with_name name bs) as (λ t. begins_with_name name bs ≡ t → let n = cond t (length name) (first_name_len names bs) in (n ≤ length bs) × (0 < n → IsBlockName (take n bs))) [
-      | true ↦ λ is. (front_within name bs is, λ some. subst (Contains block_names) (sym (same_from _ _ is)) (Contains-from_any same_from (in_lower_case name) block_names both.0))
+    (elim (begins_with_name name bs)
+    as (λ t. begins_with_name name bs ≡ t → let n = cond t (length name) (first_name_len names bs) in (n ≤ length bs) × (0 < n → IsBlockName (take n bs))) [
+      | true ↦ λ is. (
+        front_within name bs is,
+        λ some. subst (Contains block_names) (sym (same_from _ _ is)) (Contains-from_any same_from (in_lower_case name) block_names both.0),
+      )
       | false ↦ λ isnt. found_name names bs both.1
     ]) refl
 
@@ -57,35 +62,41 @@ longer_first (name ∷ names) = list_all (λ other. not (bytes_eq (in_lower_case
 is_one_of : List (List ℕ) → List ℕ → Bool
 is_one_of names name = list_any (λ other. bytes_eq (in_lower_case name) (in_lower_case other)) names
 
-passes_one : (p : List ℕ → Bool) (name : List ℕ) (names : List (List ℕ)) → list_all (λ other. p (in_lower_case other)) names ≡ true → is_one_of names name ≡ true → p (in_lower_case name) ≡ true
+passes_one : (p : List ℕ → Bool) (name : List ℕ) (names : List (List ℕ))
+    → list_all (λ other. p (in_lower_case other)) names ≡ true → is_one_of names name ≡ true → p (in_lower_case name) ≡ true
 unfolding is_one_of
 passes_one p name [] all one = absurd (true≢false (sym one))
 passes_one p name (other ∷ names) all one =
     let both = and_parts (p (in_lower_case other)) _ all in
-    (elim (bytes_eq (in_lower_case name) (in_lower_case other)) as (λ t. bytes_eq (in_lower_case name) (in_lower_case other) ≡ t → (t || is_one_of names name) ≡ true → p (in_lower_case name) ≡ true) [
+    (elim (bytes_eq (in_lower_case name) (in_lower_case other))
+    as (λ t. bytes_eq (in_lower_case name) (in_lower_case other) ≡ t → (t || is_one_of names name) ≡ true → p (in_lower_case name) ≡ true) [
       | true ↦ λ same one. ap p (same_from _ _ same) ∙ both.0
       | false ↦ λ differs one. passes_one p name names both.1 one
     ]) refl one
 
 -- so none stands at the front that is longer
 none_longer : (name bs front rest : List ℕ) (names : List (List ℕ)) → begins_with_name name bs ≡ true → bs ≡ front ++ rest
-    → list_all (λ other. not (bytes_eq (in_lower_case name) (take (length name) (in_lower_case other)))) names ≡ true → is_one_of names front ≡ true → length front ≤ length name
+    → list_all (λ other. not (bytes_eq (in_lower_case name) (take (length name) (in_lower_case other)))) names ≡ true → is_one_of names front ≡ true
+    → length front ≤ length name
 none_longer name bs front rest names is parts all one =
     elim (cases_lt (length name) (length front)) as (λ _. length front ≤ length name) [
       | inl longer ↦
           let same : in_lower_case name ≡ take (length name) (in_lower_case front) =
-          sym (same_from _ _ is) ∙ ap (λ xs. in_lower_case (take (length name) xs)) parts ∙ ap in_lower_case (take-append-le (length name) front rest (omega arith)) ∙ sym (take-map to_ascii_lowercase (length name) front) in
+          sym (same_from _ _ is) ∙ ap (λ xs. in_lower_case (take (length name) xs)) parts
+          ∙ ap in_lower_case (take-append-le (length name) front rest (omega arith)) ∙ sym (take-map to_ascii_lowercase (length name) front) in
           let differs = passes_one (λ other. not (bytes_eq (in_lower_case name) (take (length name) other))) front names all one in
           absurd (true≢false (sym differs ∙ ap not (eq_from _ _ same)))
       | inr shorter ↦ shorter
     ]
 
-found_longest : (names : List (List ℕ)) (bs front rest : List ℕ) → longer_first names ≡ true → bs ≡ front ++ rest → is_one_of names front ≡ true → length front ≤ first_name_len names bs
+found_longest : (names : List (List ℕ)) (bs front rest : List ℕ)
+    → longer_first names ≡ true → bs ≡ front ++ rest → is_one_of names front ≡ true → length front ≤ first_name_len names bs
 unfolding is_one_of first_name_len
 found_longest [] bs front rest longer parts one = absurd (true≢false (sym one))
 found_longest (name ∷ names) bs front rest longer parts one =
     let both = and_parts _ (longer_first names) longer in
-    (elim (bytes_eq (in_lower_case front) (in_lower_case name)) as (λ t. bytes_eq (in_lower_case front) (in_lower_case name) ≡ t → (t || is_one_of names front) ≡ true → length front ≤ first_name_len (name ∷ names) bs) [
+    (elim (bytes_eq (in_lower_case front) (in_lower_case name))
+    as (λ t. bytes_eq (in_lower_case front) (in_lower_case name) ≡ t → (t || is_one_of names front) ≡ true → length front ≤ first_name_len (name ∷ names) bs) [
       | true ↦ λ same one.
           let e = same_from _ _ same in
           rw (front_stands name bs front rest parts e) (omega (arith, same_length front name e))
@@ -104,11 +115,14 @@ abbrev pub is_group : ℕ → List (List ℕ) → Bool
 is_group c names = all_names names && (longer_first names && has_all c names)
 
 -- a name of a block with that letter is one of them
-group_has : (c : ℕ) (names : List (List ℕ)) (front : List ℕ) → has_all c names ≡ true → IsBlockName front → begins c (in_lower_case front) ≡ true → is_one_of names front ≡ true
+group_has : (c : ℕ) (names : List (List ℕ)) (front : List ℕ)
+    → has_all c names ≡ true → IsBlockName front → begins c (in_lower_case front) ≡ true → is_one_of names front ≡ true
 unfolding is_one_of
-group_has c names front all block letter = rw letter at (contained_passes (λ name. not (begins c name) || list_any (λ other. bytes_eq name (in_lower_case other)) names) block_names (in_lower_case front) all block)
+group_has c names front all block letter = rw letter at (contained_passes
+    (λ name. not (begins c name) || list_any (λ other. bytes_eq name (in_lower_case other)) names) block_names (in_lower_case front) all block)
 
-group_at : (c : ℕ) (names : List (List ℕ)) (b : ℕ) (bs front rest : List ℕ) → longer_first names ≡ true → has_all c names ≡ true → to_ascii_lowercase b ≡ c → b ∷ bs ≡ front ++ rest → IsBlockName front → length front ≤ first_name_len names (b ∷ bs)
+group_at : (c : ℕ) (names : List (List ℕ)) (b : ℕ) (bs front rest : List ℕ) → longer_first names ≡ true → has_all c names ≡ true → to_ascii_lowercase b ≡ c
+    → b ∷ bs ≡ front ++ rest → IsBlockName front → length front ≤ first_name_len names (b ∷ bs)
 group_at c names b bs [] rest longer all letter parts block = omega arith
 group_at c names b bs (d ∷ front) rest longer all letter parts block =
     let same : d ≡ b = cc in
@@ -116,7 +130,8 @@ group_at c names b bs (d ∷ front) rest longer all letter parts block =
     found_longest names (b ∷ bs) (d ∷ front) rest longer parts (group_has c names (d ∷ front) all block begun)
 
 -- the first of them that stands at the front is the longest name of a block there
-pub group_longest : (c : ℕ) (names : List (List ℕ)) (bs : List ℕ) (letter n : ℕ) → 1 ≤ length bs → letter ≡ to_ascii_lowercase (get_or bs 0 0) → letter ≡ c → n ≡ first_name_len names bs → is_group c names ≡ true → IsLongestName bs n
+pub group_longest : (c : ℕ) (names : List (List ℕ)) (bs : List ℕ) (letter n : ℕ)
+    → 1 ≤ length bs → letter ≡ to_ascii_lowercase (get_or bs 0 0) → letter ≡ c → n ≡ first_name_len names bs → is_group c names ≡ true → IsLongestName bs n
 group_longest c names [] letter n some lower is found group = absurd (omega arith)
 group_longest c names (b ∷ bs) letter n some lower is found group =
     let parts = and_parts (all_names names) _ group in
@@ -133,14 +148,17 @@ abbrev pub name_letters : List ℕ
 name_letters = 97 ∷ 98 ∷ 99 ∷ 100 ∷ 102 ∷ 104 ∷ 105 ∷ 108 ∷ 109 ∷ 110 ∷ 111 ∷ 112 ∷ 115 ∷ 116 ∷ 117 ∷ []
 
 -- no name of a block stands after another letter
-other_at : (b : ℕ) (bs front rest : List ℕ) → list_any (λ c. to_ascii_lowercase b == c) name_letters ≡ false → b ∷ bs ≡ front ++ rest → IsBlockName front → length front ≤ 0
+other_at : (b : ℕ) (bs front rest : List ℕ)
+    → list_any (λ c. to_ascii_lowercase b == c) name_letters ≡ false → b ∷ bs ≡ front ++ rest → IsBlockName front → length front ≤ 0
 other_at b bs [] rest none parts block = omega arith
 other_at b bs (d ∷ front) rest none parts block =
     let same : d ≡ b = cc in
-    let begun : list_any (λ c. to_ascii_lowercase d == c) name_letters ≡ true = contained_passes (λ name. list_any (λ c. begins c name) name_letters) block_names (in_lower_case (d ∷ front)) refl block in
+    let begun : list_any (λ c. to_ascii_lowercase d == c) name_letters ≡ true =
+    contained_passes (λ name. list_any (λ c. begins c name) name_letters) block_names (in_lower_case (d ∷ front)) refl block in
     absurd (true≢false (sym begun ∙ ap (λ a. list_any (λ c. to_ascii_lowercase a == c) name_letters) same ∙ none))
 
-pub other_longest : (bs : List ℕ) (letter : ℕ) → 1 ≤ length bs → letter ≡ to_ascii_lowercase (get_or bs 0 0) → list_any (λ c. letter == c) name_letters ≡ false → IsLongestName bs 0
+pub other_longest : (bs : List ℕ) (letter : ℕ)
+    → 1 ≤ length bs → letter ≡ to_ascii_lowercase (get_or bs 0 0) → list_any (λ c. letter == c) name_letters ≡ false → IsLongestName bs 0
 other_longest [] letter some lower none = absurd (omega arith)
 other_longest (b ∷ bs) letter some lower none = record {
   within = omega arith;

@@ -1,5 +1,6 @@
 -- Facts on names of blocks, and on what ends them.
-use Rattle.std.proofs.Common.{◌≡◌, ◌↔◌, ℕ, ◌<◌, ◌≤◌, Bool, true, false, ◌==◌, ◌&&◌, ◌||◌, IsTrue, List, [], ◌∷◌, ◌++◌, length, take, drop, refl, sym, ap, ◌∙◌, subst, arith, nat_lt}
+use Rattle.std.proofs.Common.{◌≡◌, ◌↔◌, ℕ, ◌<◌, ◌≤◌, Bool, true, false, ◌==◌, ◌&&◌, ◌||◌, IsTrue, List, [], ◌∷◌, ◌++◌, length, take, drop, refl, sym, ap, ◌∙◌}
+use Rattle.std.proofs.Common.{subst, arith, nat_lt}
 use Rattle.std.specs.List.{Contains, list_all, prefix_len}
 use Rattle.std.specs.Char.{to_ascii_lowercase, is_ascii_alphanumeric}
 use Rattle.std.proofs.lemmas.Bool.{and_from, and_parts}
@@ -22,7 +23,8 @@ name_some name is =
     grind (arith, nat_tests, some, length-map name to_ascii_lowercase)
 
 -- bytes that all pass in lower case, where no byte passes in lower case alone
-pub all_in_lower_case : (p : ℕ → Bool) → ((b : ℕ) → p (to_ascii_lowercase b) ≡ true → p b ≡ true) → (name : List ℕ) → list_all p (in_lower_case name) ≡ true → list_all p name ≡ true
+pub all_in_lower_case : (p : ℕ → Bool)
+    → ((b : ℕ) → p (to_ascii_lowercase b) ≡ true → p b ≡ true) → (name : List ℕ) → list_all p (in_lower_case name) ≡ true → list_all p name ≡ true
 all_in_lower_case p lower [] h = refl
 all_in_lower_case p lower (b ∷ bs) h =
     let both = and_parts _ (list_all p (in_lower_case bs)) h in
@@ -33,7 +35,8 @@ lower_alphanumeric : (b : ℕ) → is_ascii_alphanumeric (to_ascii_lowercase b) 
 lower_alphanumeric b h = grind (arith, nat_tests, h)
 
 block_name_alphanumeric : (name : List ℕ) → IsBlockName name → list_all is_ascii_alphanumeric name ≡ true
-block_name_alphanumeric name is = all_in_lower_case is_ascii_alphanumeric lower_alphanumeric name (contained_passes (list_all is_ascii_alphanumeric) block_names (in_lower_case name) refl is)
+block_name_alphanumeric name is =
+    all_in_lower_case is_ascii_alphanumeric lower_alphanumeric name (contained_passes (list_all is_ascii_alphanumeric) block_names (in_lower_case name) refl is)
 
 ends_alphanumeric : (b : ℕ) (t : Bool) → (is_ascii_white b || b == 62) || (b == 47 && t) ≡ true → is_ascii_alphanumeric b ≡ false
 ends_alphanumeric b t h = grind (arith, nat_tests, h)
@@ -46,7 +49,8 @@ name_size : (bs : List ℕ) (h : HasBlockName bs) → prefix_len is_ascii_alphan
 name_size bs h = front_size is_ascii_alphanumeric bs h.name h.rest h.parts (block_name_alphanumeric h.name h.is_name) (no_more_name h.rest h.ends)
 
 -- where the name of a block stands, it is the letters and digits at the front
-pub name_found : (bs : List ℕ) (n : ℕ) → n ≡ prefix_len is_ascii_alphanumeric bs → HasBlockName bs → IsBlockName (take n bs) × (ends_block_name (drop n bs) ≡ true)
+pub name_found : (bs : List ℕ) (n : ℕ)
+    → n ≡ prefix_len is_ascii_alphanumeric bs → HasBlockName bs → IsBlockName (take n bs) × (ends_block_name (drop n bs) ≡ true)
 name_found bs n e h =
     let size : n ≡ length h.name = e ∙ name_size bs h in
     (subst IsBlockName (sym (front_of n bs h.name h.rest h.parts size)) h.is_name, ap ends_block_name (rest_behind n bs h.name h.rest h.parts size) ∙ h.ends)

@@ -1,5 +1,6 @@
 -- Facts on what ends the HTML blocks of the kinds 1 to 5, by their first byte.
-use Rattle.std.proofs.Common.{◌≡◌, ◌⊎◌, inl, inr, ℕ, ◌<◌, ◌≤◌, Bool, true, false, cond, ◌==◌, ◌&&◌, ◌||◌, List, [], ◌∷◌, length, take, drop, get_or, bytes_eq, codes, Option, Some, None, Bor, refl, sym, ap, ◌∙◌, subst, arith}
+use Rattle.std.proofs.Common.{◌≡◌, ◌⊎◌, inl, inr, ℕ, ◌<◌, ◌≤◌, Bool, true, false, cond, ◌==◌, ◌&&◌, ◌||◌, List, [], ◌∷◌, length, take, drop, get_or, bytes_eq}
+use Rattle.std.proofs.Common.{codes, Option, Some, None, Bor, refl, sym, ap, ◌∙◌, subst, arith}
 use Rattle.std.specs.List.{list_all, list_any, prefix_len}
 use Rattle.std.specs.Option.{option_or}
 use Rattle.std.specs.Char.{to_ascii_lowercase, is_ascii_alphabetic}
@@ -27,42 +28,50 @@ no_more_letters [] h = refl
 no_more_letters (b ∷ bs) h = rw (ends_alphabetic b h)
 
 -- where such a name and what ends it stand first, all letters at the front are the name
-raw_size : (name bs : List ℕ) → list_all is_ascii_alphabetic (in_lower_case name) ≡ true → begins_with_name name bs ≡ true → ends_raw_name (drop (length name) bs) ≡ true → prefix_len is_ascii_alphabetic bs ≡ length name
+raw_size : (name bs : List ℕ) → list_all is_ascii_alphabetic (in_lower_case name) ≡ true → begins_with_name name bs ≡ true
+    → ends_raw_name (drop (length name) bs) ≡ true → prefix_len is_ascii_alphabetic bs ≡ length name
 raw_size name bs letters is ends =
     let same = (bytes_eq-Decides (in_lower_case (take (length name) bs)) (in_lower_case name)).0 is in
     let all = all_in_lower_case is_ascii_alphabetic lower_alphabetic (take (length name) bs) (ap (list_all is_ascii_alphabetic) same ∙ letters) in
-    front_size is_ascii_alphabetic bs (take (length name) bs) (drop (length name) bs) (sym (take-append-drop (length name) bs)) all (no_more_letters (drop (length name) bs) ends) ∙ length-take-le (length name) bs (front_within name bs is)
+    front_size is_ascii_alphabetic bs (take (length name) bs) (drop (length name) bs) (sym (take-append-drop (length name) bs)) all
+    (no_more_letters (drop (length name) bs) ends) ∙ length-take-le (length name) bs (front_within name bs is)
 
 raw_here : (name bs : List ℕ) → list_all is_ascii_alphabetic (in_lower_case name) ≡ true
-    → let n : ℕ = prefix_len is_ascii_alphabetic bs in begins_raw name bs ≡ (ends_raw_name (drop n bs) && bytes_eq (in_lower_case (take n bs)) (in_lower_case name))
+    → let n : ℕ = prefix_len is_ascii_alphabetic bs in
+    begins_raw name bs ≡ (ends_raw_name (drop n bs) && bytes_eq (in_lower_case (take n bs)) (in_lower_case name))
 raw_here name bs letters =
     let n : ℕ = prefix_len is_ascii_alphabetic bs in
     same_from_decides (begins_raw name bs) (ends_raw_name (drop n bs) && bytes_eq (in_lower_case (take n bs)) (in_lower_case name)) (
       λ h.
           let both = and_parts (begins_with_name name bs) (ends_raw_name (drop (length name) bs)) h in
           let size = sym (raw_size name bs letters both.0 both.1) in
-          and_from _ _ (ap (λ k. ends_raw_name (drop k bs)) (sym size) ∙ both.1) (ap (λ k. bytes_eq (in_lower_case (take k bs)) (in_lower_case name)) (sym size) ∙ both.0),
+          and_from _ _ (ap (λ k. ends_raw_name (drop k bs)) (sym size) ∙ both.1)
+          (ap (λ k. bytes_eq (in_lower_case (take k bs)) (in_lower_case name)) (sym size) ∙ both.0),
       λ h.
           let both = and_parts (ends_raw_name (drop n bs)) (bytes_eq (in_lower_case (take n bs)) (in_lower_case name)) h in
           let size : n ≡ length name = sym (length-prefix_len is_ascii_alphabetic bs) ∙ same_length (take n bs) name ((bytes_eq-Decides _ _).0 both.1) in
-          and_from _ _ (ap (λ k. bytes_eq (in_lower_case (take k bs)) (in_lower_case name)) (sym size) ∙ both.1) (ap (λ k. ends_raw_name (drop k bs)) (sym size) ∙ both.0),
+          and_from _ _ (ap (λ k. bytes_eq (in_lower_case (take k bs)) (in_lower_case name)) (sym size) ∙ both.1)
+          (ap (λ k. ends_raw_name (drop k bs)) (sym size) ∙ both.0),
     ) (λ t. t, λ t. t)
 
 -- the names of raw text one by one
 one_by_one : (ends : Bool) (word : List ℕ) → let is = λ (name : List ℕ). ends && bytes_eq word name in
     cond ends (raw_end_of word) None
-    ≡ cond (is (codes "pre")) (Some (codes "</pre>")) (cond (is (codes "script")) (Some (codes "</script>")) (cond (is (codes "style")) (Some (codes "</style>")) (cond (is (codes "textarea")) (Some (codes "</textarea>")) None)))
+    ≡ cond (is (codes "pre")) (Some (codes "</pre>")) (cond (is (codes "script")) (Some (codes "</script>"))
+    (cond (is (codes "style")) (Some (codes "</style>")) (cond (is (codes "textarea")) (Some (codes "</textarea>")) None)))
 unfolding raw_end_of
 one_by_one true word = refl
 one_by_one false word = refl
 
 raw_ends : (bs : List ℕ) → let is = λ (name : List ℕ). begins_raw name bs in
     raw_end bs
-    ≡ cond (is (codes "pre")) (Some (codes "</pre>")) (cond (is (codes "script")) (Some (codes "</script>")) (cond (is (codes "style")) (Some (codes "</style>")) (cond (is (codes "textarea")) (Some (codes "</textarea>")) None)))
+    ≡ cond (is (codes "pre")) (Some (codes "</pre>")) (cond (is (codes "script")) (Some (codes "</script>"))
+    (cond (is (codes "style")) (Some (codes "</style>")) (cond (is (codes "textarea")) (Some (codes "</textarea>")) None)))
 unfolding raw_end
 raw_ends bs =
     let n : ℕ = prefix_len is_ascii_alphabetic bs in
-    rw (raw_here (codes "pre") bs refl, raw_here (codes "script") bs refl, raw_here (codes "style") bs refl, raw_here (codes "textarea") bs refl) (one_by_one (ends_raw_name (drop n bs)) (in_lower_case (take n bs)))
+    rw (raw_here (codes "pre") bs refl, raw_here (codes "script") bs refl, raw_here (codes "style") bs refl, raw_here (codes "textarea") bs refl)
+    (one_by_one (ends_raw_name (drop n bs)) (in_lower_case (take n bs)))
 
 -- the ends of the kinds 1 to 5 by the first byte
 pub question_end : (bs : List ℕ) → 1 ≤ length bs → get_or bs 0 0 ≡ 63 → html_end bs ≡ Some (codes "?>")
@@ -71,24 +80,31 @@ question_end [] some first = absurd (omega arith)
 question_end (b ∷ bs) some first = subst (λ (c : ℕ). html_end (c ∷ bs) ≡ Some (codes "?>")) (sym first) refl
 
 -- what is said of both cases of a letter
-of_both : (P : List ℕ → Type 0) (c d : ℕ) (bs : List ℕ) → ((rest : List ℕ) → P (c ∷ rest)) → ((rest : List ℕ) → P (d ∷ rest)) → 1 ≤ length bs → (get_or bs 0 0 ≡ c) ⊎ (get_or bs 0 0 ≡ d) → P bs
+of_both : (P : List ℕ → Type 0) (c d : ℕ) (bs : List ℕ)
+    → ((rest : List ℕ) → P (c ∷ rest)) → ((rest : List ℕ) → P (d ∷ rest)) → 1 ≤ length bs → (get_or bs 0 0 ≡ c) ⊎ (get_or bs 0 0 ≡ d) → P bs
 of_both P c d [] upper lower some first = absurd (omega arith)
 of_both P c d (b ∷ bs) upper lower some (inl first) = subst (λ (x : ℕ). P (x ∷ bs)) (sym first) (upper bs)
 of_both P c d (b ∷ bs) upper lower some (inr first) = subst (λ (x : ℕ). P (x ∷ bs)) (sym first) (lower bs)
 
-pub p_end : (bs : List ℕ) → 1 ≤ length bs → (get_or bs 0 0 ≡ 80) ⊎ (get_or bs 0 0 ≡ 112) → html_end bs ≡ cond (begins_raw (codes "pre") bs) (Some (codes "</pre>")) None
+pub p_end : (bs : List ℕ)
+    → 1 ≤ length bs → (get_or bs 0 0 ≡ 80) ⊎ (get_or bs 0 0 ≡ 112) → html_end bs ≡ cond (begins_raw (codes "pre") bs) (Some (codes "</pre>")) None
 unfolding html_end
-p_end bs some first = of_both (λ xs. html_end xs ≡ cond (begins_raw (codes "pre") xs) (Some (codes "</pre>")) None) 80 112 bs (λ rest. raw_ends (80 ∷ rest)) (λ rest. raw_ends (112 ∷ rest)) some first
+p_end bs some first = of_both (λ xs. html_end xs ≡ cond (begins_raw (codes "pre") xs) (Some (codes "</pre>")) None) 80 112 bs (λ rest. raw_ends (80 ∷ rest))
+    (λ rest. raw_ends (112 ∷ rest)) some first
 
 pub s_end : (bs : List ℕ) → 1 ≤ length bs → (get_or bs 0 0 ≡ 83) ⊎ (get_or bs 0 0 ≡ 115)
     → html_end bs ≡ cond (begins_raw (codes "script") bs) (Some (codes "</script>")) (cond (begins_raw (codes "style") bs) (Some (codes "</style>")) None)
 unfolding html_end
 s_end bs some first =
-    of_both (λ xs. html_end xs ≡ cond (begins_raw (codes "script") xs) (Some (codes "</script>")) (cond (begins_raw (codes "style") xs) (Some (codes "</style>")) None)) 83 115 bs (λ rest. raw_ends (83 ∷ rest)) (λ rest. raw_ends (115 ∷ rest)) some first
+    of_both (λ xs. html_end xs
+    ≡ cond (begins_raw (codes "script") xs) (Some (codes "</script>")) (cond (begins_raw (codes "style") xs) (Some (codes "</style>")) None)) 83 115 bs
+    (λ rest. raw_ends (83 ∷ rest)) (λ rest. raw_ends (115 ∷ rest)) some first
 
-pub t_end : (bs : List ℕ) → 1 ≤ length bs → (get_or bs 0 0 ≡ 84) ⊎ (get_or bs 0 0 ≡ 116) → html_end bs ≡ cond (begins_raw (codes "textarea") bs) (Some (codes "</textarea>")) None
+pub t_end : (bs : List ℕ)
+    → 1 ≤ length bs → (get_or bs 0 0 ≡ 84) ⊎ (get_or bs 0 0 ≡ 116) → html_end bs ≡ cond (begins_raw (codes "textarea") bs) (Some (codes "</textarea>")) None
 unfolding html_end
-t_end bs some first = of_both (λ xs. html_end xs ≡ cond (begins_raw (codes "textarea") xs) (Some (codes "</textarea>")) None) 84 116 bs (λ rest. raw_ends (84 ∷ rest)) (λ rest. raw_ends (116 ∷ rest)) some first
+t_end bs some first = of_both (λ xs. html_end xs ≡ cond (begins_raw (codes "textarea") xs) (Some (codes "</textarea>")) None) 84 116 bs
+    (λ rest. raw_ends (84 ∷ rest)) (λ rest. raw_ends (116 ∷ rest)) some first
 
 -- the first bytes of those kinds
 abbrev pub end_bytes : List ℕ
@@ -98,7 +114,8 @@ plain_end : (b : ℕ) (bs : List ℕ) → (33 == b) ≡ false → (63 == b) ≡ 
 unfolding html_end
 plain_end b bs bang question = rw (bang, question)
 
-other_raw : (b : ℕ) (bs : List ℕ) → (to_ascii_lowercase b == 112) ≡ false → (to_ascii_lowercase b == 115) ≡ false → (to_ascii_lowercase b == 116) ≡ false → raw_end (b ∷ bs) ≡ None
+other_raw : (b : ℕ) (bs : List ℕ)
+    → (to_ascii_lowercase b == 112) ≡ false → (to_ascii_lowercase b == 115) ≡ false → (to_ascii_lowercase b == 116) ≡ false → raw_end (b ∷ bs) ≡ None
 other_raw b bs p s t = raw_ends (b ∷ bs) ∙ rw (p, s, t) refl
 
 pub other_end : (bs : List ℕ) → 1 ≤ length bs → list_any (λ c. get_or bs 0 0 == c) end_bytes ≡ false → html_end bs ≡ None
@@ -122,7 +139,8 @@ pub ended : (named : Bool) (end : List ℕ) (kind : Option (List ℕ)) (found : 
 ended named end kind None by isnt = by ∙ ap (λ t. cond t (Some end) None) isnt
 ended named end kind (Some text) by is = by ∙ ap (λ t. cond t (Some end) None) is.0 ∙ ap Some (sym is.1)
 
-pub ended_twice : (named other : Bool) (end end' : List ℕ) (kind : Option (List ℕ)) (found found' first : Option (Bor (List ℕ))) → kind ≡ cond named (Some end) (cond other (Some end') None) → first ≡ option_or found found'
+pub ended_twice : (named other : Bool) (end end' : List ℕ) (kind : Option (List ℕ)) (found found' first : Option (Bor (List ℕ)))
+    → kind ≡ cond named (Some end) (cond other (Some end') None) → first ≡ option_or found found'
     → IsTextIf named end found → IsTextIf other end' found' → IsText kind first
 ended_twice named other end end' kind None found' first by e isnt is =
     rw e (ended other end' kind found' (by ∙ ap (λ t. cond t (Some end) (cond other (Some end') None)) isnt) is)

@@ -15,8 +15,10 @@ use Rattle.first_pass_html.proofs.NameFacts.{name_found}
 -- the test of a name finds the names of blocks, and no others
 pub block_name_iff : (name : List ℕ) → IsTrue (is_block_name name) ↔ IsBlockName name
 unfolding is_block_name
-block_name_iff name =
-    (Contains-from_any (λ x y. (bytes_eq-Decides x y).0) (in_lower_case name) block_names, list_any-from_Contains nat_list_eq_equiv (in_lower_case name) block_names)
+block_name_iff name = (
+  Contains-from_any (λ x y. (bytes_eq-Decides x y).0) (in_lower_case name) block_names,
+  list_any-from_Contains nat_list_eq_equiv (in_lower_case name) block_names,
+)
 
 -- the test of a name and what ends it finds the starts that are a name and what ends it, and no others
 pub block_start_iff : (bs : List ℕ) → IsTrue (begins_block_name bs) ↔ HasBlockName bs
@@ -24,7 +26,8 @@ unfolding begins_block_name
 block_start_iff bs =
     let n : ℕ = prefix_len is_ascii_alphanumeric bs in
     let name = block_name_iff (take n bs) in (
-      λ t. let both = and_parts _ _ t in record { name = take n bs; rest = drop n bs; parts = sym (take-append-drop n bs); is_name = name.0 both.0; ends = both.1 },
+      λ t. let both = and_parts _ _ t in
+          record { name = take n bs; rest = drop n bs; parts = sym (take-append-drop n bs); is_name = name.0 both.0; ends = both.1 },
       λ h. let found = name_found bs n refl h in and_from _ _ (name.1 found.0) found.1,
     )
 

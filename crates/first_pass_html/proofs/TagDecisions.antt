@@ -1,5 +1,6 @@
 -- A tag that begins HTML blocks of the seventh kind stands first, or none does.
-use Rattle.std.proofs.Common.{◌≡◌, ◌⊎◌, inl, inr, ℕ, zero, suc, ◌+◌, ◌<◌, ◌≤◌, Bool, true, false, cond, ◌==◌, ◌&&◌, List, [], ◌∷◌, ◌++◌, length, take, drop, Option, Some, None, refl, sym, ap, ◌∙◌, subst, arith}
+use Rattle.std.proofs.Common.{◌≡◌, ◌⊎◌, inl, inr, ℕ, zero, suc, ◌+◌, ◌<◌, ◌≤◌, Bool, true, false, cond, ◌==◌, ◌&&◌, List, [], ◌∷◌, ◌++◌, length, take, drop}
+use Rattle.std.proofs.Common.{Option, Some, None, refl, sym, ap, ◌∙◌, subst, arith}
 use Rattle.std.specs.Option.{option_map, is_some}
 use Rattle.std.specs.List.{prefix_len}
 use Rattle.std.proofs.lemmas.Bool.{cases_lt}
@@ -16,7 +17,9 @@ use Rattle.first_pass_html.specs.TagLengths.{word_len, tag_name_len, named_len, 
 use Rattle.first_pass_html.specs.Fronts.{IsOnlyFront, HasNoFront, IsEndBefore, IsPastAttributes}
 use Rattle.first_pass_html.proofs.TagFacts.{step, last}
 use Rattle.first_pass_html.proofs.FrontFacts.{some_if, some_unless, some_map, begins_front, attribute_front}
-use Rattle.first_pass_html.proofs.WholeTagFacts.{opening_found, opening_needs_name, opening_not_raw, opening_needs_end, closing_found, closing_needs_name, closing_needs_end, first_byte, open_found, open_none, close_found, close_none, needs_bracket, tag_line_none, tag_line_not_blank}
+use Rattle.first_pass_html.proofs.WholeTagFacts.{opening_found, opening_needs_name, opening_not_raw, opening_needs_end, closing_found, closing_needs_name}
+use Rattle.first_pass_html.proofs.WholeTagFacts.{closing_needs_end, first_byte, open_found, open_none, close_found, close_none, needs_bracket, tag_line_none}
+use Rattle.first_pass_html.proofs.WholeTagFacts.{tag_line_not_blank}
 
 -- what is counted lies within the bytes
 name_within : (first other : ℕ → Bool) (bs : List ℕ) (n : ℕ) → word_len first other bs ≡ Some n → n ≤ length bs

@@ -1,12 +1,15 @@
 -- The parts of a tag that the bytes begin with have the lengths that are counted.
-use Rattle.std.proofs.Common.{◌≡◌, ◌⊎◌, inl, inr, ℕ, ◌+◌, Bool, true, false, true≢false, cond, ◌==◌, ◌||◌, List, [], ◌∷◌, ◌++◌, length, drop, Option, Some, None, refl, sym, ap, ◌∙◌, arith, append_assoc, length-append}
+use Rattle.std.proofs.Common.{◌≡◌, ◌⊎◌, inl, inr, ℕ, ◌+◌, Bool, true, false, true≢false, cond, ◌==◌, ◌||◌, List, [], ◌∷◌, ◌++◌, length, drop, Option, Some}
+use Rattle.std.proofs.Common.{None, refl, sym, ap, ◌∙◌, arith, append_assoc, length-append}
 use Rattle.std.specs.List.{prefix_len, list_all, concat}
 use Rattle.std.proofs.lemmas.Bool.{and_parts}
 use Rattle.std.proofs.lemmas.Bool.Decides.{nat_tests}
 use Rattle.std.proofs.Math.Seq.{drop-append_seam, drop-append-add}
 use Rattle.first_pass_lines.specs.Lines.{is_blank}
-use Rattle.first_pass_html.specs.Tags.{starts_attribute, is_attribute_byte, is_unquoted, is_quoted, is_word, is_attribute_name, IsQuotedValue, IsValue, IsValueSpecification, IsAttribute, AreAttributes, IsOpenTagEnd}
-use Rattle.first_pass_html.specs.TagLengths.{word_len, quoted_len, value_len, blanks_value_len, specification_len, attribute_name_len, named_len, attribute_len, close_len, open_end_len}
+use Rattle.first_pass_html.specs.Tags.{starts_attribute, is_attribute_byte, is_unquoted, is_quoted, is_word, is_attribute_name, IsQuotedValue, IsValue}
+use Rattle.first_pass_html.specs.Tags.{IsValueSpecification, IsAttribute, AreAttributes, IsOpenTagEnd}
+use Rattle.first_pass_html.specs.TagLengths.{word_len, quoted_len, value_len, blanks_value_len, specification_len, attribute_name_len, named_len, attribute_len}
+use Rattle.first_pass_html.specs.TagLengths.{close_len, open_end_len}
 use Rattle.first_pass_html.specs.Fronts.{IsTagRest, IsEndBefore}
 use Rattle.first_pass_html.proofs.ListFacts.{prefix_all, prefix_none}
 use Rattle.first_pass_html.proofs.TailFacts.{word_all, rest_no_attribute, rest_no_equals, rest_unquoted}
@@ -74,7 +77,8 @@ value_no_blank v bs (inr (inl (inside, parts, all))) = rw parts (prefix_none is_
 value_no_blank v bs (inr (inr (inside, parts, all))) = rw parts (prefix_none is_blank 34 ((inside ++ 34 ∷ []) ++ bs) refl)
 
 -- value specifications
-blanks_value_is : (blanks v bs : List ℕ) (k : ℕ) → list_all is_blank blanks ≡ true → IsValue v → value_len (v ++ bs) ≡ Some k → blanks_value_len (blanks ++ (v ++ bs)) ≡ Some (length blanks + k)
+blanks_value_is : (blanks v bs : List ℕ) (k : ℕ)
+    → list_all is_blank blanks ≡ true → IsValue v → value_len (v ++ bs) ≡ Some k → blanks_value_len (blanks ++ (v ++ bs)) ≡ Some (length blanks + k)
 unfolding blanks_value_len
 blanks_value_is blanks v bs k h is e =
     let more = prefix_all is_blank blanks (v ++ bs) h in
@@ -82,7 +86,8 @@ blanks_value_is blanks v bs k h is e =
     let size : prefix_len is_blank (blanks ++ (v ++ bs)) ≡ length blanks = omega arith in
     rw (size, drop-append_seam, e)
 
-equals_is : (blanks bs : List ℕ) (k : ℕ) → list_all is_blank blanks ≡ true → blanks_value_len bs ≡ Some k → specification_len (blanks ++ 61 ∷ bs) ≡ length blanks + 1 + k
+equals_is : (blanks bs : List ℕ) (k : ℕ)
+    → list_all is_blank blanks ≡ true → blanks_value_len bs ≡ Some k → specification_len (blanks ++ 61 ∷ bs) ≡ length blanks + 1 + k
 unfolding specification_len
 equals_is blanks bs k h e =
     let more = prefix_all is_blank blanks (61 ∷ bs) h in
@@ -99,12 +104,14 @@ specification_whole : (s bs : List ℕ) (i : IsValueSpecification s) → s ++ bs
 specification_whole s bs i =
     rw i.parts (append_assoc i.before (61 ∷ (i.behind ++ i.value)) bs ∙ ap (λ xs. i.before ++ 61 ∷ xs) (append_assoc i.behind i.value bs))
 
-specification_is : (s bs behind : List ℕ) → (s ≡ []) ⊎ IsValueSpecification s → IsTagRest bs behind → (e : ℕ) × (specification_len (s ++ bs) ≡ length s + e) × IsTagRest (drop e bs) behind
+specification_is : (s bs behind : List ℕ)
+    → (s ≡ []) ⊎ IsValueSpecification s → IsTagRest bs behind → (e : ℕ) × (specification_len (s ++ bs) ≡ length s + e) × IsTagRest (drop e bs) behind
 specification_is s bs behind (inl none) r = (0, rw none (no_specification bs behind r), r)
 specification_is s bs behind (inr i) r =
     let v = value_is i.value bs behind i.is_value r in
     let k : ℕ = length i.value + v.0 in
-    let len = equals_is i.before (i.behind ++ (i.value ++ bs)) (length i.behind + k) i.before_blank (blanks_value_is i.behind i.value bs k i.behind_blank i.is_value v.1) in
+    let len = equals_is i.before (i.behind ++ (i.value ++ bs)) (length i.behind + k) i.before_blank
+    (blanks_value_is i.behind i.value bs k i.behind_blank i.is_value v.1) in
     let size : length s ≡ length i.before + 1 + (length i.behind + length i.value) =
     ap length i.parts ∙ omega (arith, length-append i.before (61 ∷ (i.behind ++ i.value)), length-append i.behind i.value) in
     (v.0, rw (specification_whole s bs i) (len ∙ omega arith), v.2)
@@ -118,7 +125,8 @@ specification_no_name : (s bs behind : List ℕ) → (s ≡ []) ⊎ IsValueSpeci
 specification_no_name s bs behind (inl none) r = rw none (rest_no_attribute bs behind r)
 specification_no_name s bs behind (inr i) r = rw (specification_whole s bs i) (specification_no_name_by i.before (i.behind ++ (i.value ++ bs)) i.before_blank)
 
-pub name_is : (first other : ℕ → Bool) (name bs : List ℕ) → is_word first other name ≡ true → prefix_len other bs ≡ 0 → word_len first other (name ++ bs) ≡ Some (length name)
+pub name_is : (first other : ℕ → Bool) (name bs : List ℕ)
+    → is_word first other name ≡ true → prefix_len other bs ≡ 0 → word_len first other (name ++ bs) ≡ Some (length name)
 name_is first other [] bs h none = absurd (true≢false (sym h))
 name_is first other (b ∷ name) bs h none =
     let both = and_parts (first b) (list_all other name) h in
@@ -126,7 +134,8 @@ name_is first other (b ∷ name) bs h none =
     let size : 1 + prefix_len other (name ++ bs) ≡ length (b ∷ name) = omega arith in
     rw both.0 (ap Some size)
 
-named_is : (name s bs behind : List ℕ) (k : ℕ) → is_attribute_name name ≡ true → prefix_len is_attribute_byte (s ++ bs) ≡ 0 → specification_len (s ++ bs) ≡ k → named_len (name ++ (s ++ bs)) ≡ Some (length name + k)
+named_is : (name s bs behind : List ℕ) (k : ℕ) → is_attribute_name name ≡ true → prefix_len is_attribute_byte (s ++ bs) ≡ 0 → specification_len (s ++ bs) ≡ k
+    → named_len (name ++ (s ++ bs)) ≡ Some (length name + k)
 unfolding named_len
 named_is name s bs behind k h none e =
     let first : attribute_name_len (name ++ (s ++ bs)) ≡ Some (length name) = name_is starts_attribute is_attribute_byte name (s ++ bs) h none in
@@ -141,7 +150,8 @@ some_blank : (blanks : List ℕ) → is_word is_blank is_blank blanks ≡ true �
 some_blank [] h = absurd (true≢false (sym h))
 some_blank (b ∷ blanks) h = grind (arith, nat_tests)
 
-blanks_named_is : (blanks name bs : List ℕ) (k : ℕ) → is_word is_blank is_blank blanks ≡ true → is_attribute_name name ≡ true → named_len (name ++ bs) ≡ Some k → attribute_len (blanks ++ (name ++ bs)) ≡ Some (length blanks + k)
+blanks_named_is : (blanks name bs : List ℕ) (k : ℕ) → is_word is_blank is_blank blanks ≡ true → is_attribute_name name ≡ true → named_len (name ++ bs) ≡ Some k
+    → attribute_len (blanks ++ (name ++ bs)) ≡ Some (length blanks + k)
 unfolding attribute_len
 blanks_named_is blanks name bs k h named e =
     let more = prefix_all is_blank blanks (name ++ bs) (word_all is_blank blanks h) in
@@ -149,10 +159,12 @@ blanks_named_is blanks name bs k h named e =
     let size : prefix_len is_blank (blanks ++ (name ++ bs)) ≡ length blanks = omega arith in
     rw (size, some_blank blanks h, drop-append_seam, e)
 
-attribute_is : (a bs behind : List ℕ) → IsAttribute a → IsTagRest bs behind → (e : ℕ) × (attribute_len (a ++ bs) ≡ Some (length a + e)) × IsTagRest (drop e bs) behind
+attribute_is : (a bs behind : List ℕ)
+    → IsAttribute a → IsTagRest bs behind → (e : ℕ) × (attribute_len (a ++ bs) ≡ Some (length a + e)) × IsTagRest (drop e bs) behind
 attribute_is a bs behind i r =
     let s = specification_is i.specification bs behind i.specified r in
-    let named = named_is i.name i.specification bs behind (length i.specification + s.0) i.is_name (specification_no_name i.specification bs behind i.specified r) s.1 in
+    let named =
+    named_is i.name i.specification bs behind (length i.specification + s.0) i.is_name (specification_no_name i.specification bs behind i.specified r) s.1 in
     let len = blanks_named_is i.blanks i.name (i.specification ++ bs) (length i.name + (length i.specification + s.0)) i.is_blanks i.is_name named in
     let whole : a ++ bs ≡ i.blanks ++ (i.name ++ (i.specification ++ bs)) =
     rw i.parts (append_assoc i.blanks (i.name ++ i.specification) bs ∙ ap (λ xs. i.blanks ++ xs) (append_assoc i.name i.specification bs)) in
@@ -162,7 +174,8 @@ attribute_is a bs behind i r =
 
 -- the end of an open tag
 -- at the end of an open tag no attribute begins
-no_attribute_at : (blanks : List ℕ) (c : ℕ) (others : List ℕ) → list_all is_blank blanks ≡ true → is_blank c ≡ false → starts_attribute c ≡ false → attribute_len (blanks ++ c ∷ others) ≡ None
+no_attribute_at : (blanks : List ℕ) (c : ℕ) (others : List ℕ)
+    → list_all is_blank blanks ≡ true → is_blank c ≡ false → starts_attribute c ≡ false → attribute_len (blanks ++ c ∷ others) ≡ None
 unfolding attribute_len named_len
 no_attribute_at blanks c others h solid none =
     let more = prefix_all is_blank blanks (c ∷ others) h in
@@ -170,7 +183,8 @@ no_attribute_at blanks c others h solid none =
     let size : prefix_len is_blank (blanks ++ c ∷ others) ≡ length blanks = omega arith in
     rw (size, drop-append_seam, none) (elim (length blanks == 0) as (λ t. cond {A = Option ℕ} t None None ≡ None) [ true ↦ refl | false ↦ refl ])
 
-end_no_attribute_by : (blanks slash behind : List ℕ) → list_all is_blank blanks ≡ true → (slash ≡ []) ⊎ (slash ≡ 47 ∷ []) → attribute_len ((blanks ++ (slash ++ 62 ∷ [])) ++ behind) ≡ None
+end_no_attribute_by : (blanks slash behind : List ℕ)
+    → list_all is_blank blanks ≡ true → (slash ≡ []) ⊎ (slash ≡ 47 ∷ []) → attribute_len ((blanks ++ (slash ++ 62 ∷ [])) ++ behind) ≡ None
 end_no_attribute_by blanks slash behind h (inl none) = rw (none, append_assoc blanks (62 ∷ []) behind) (no_attribute_at blanks 62 behind h refl refl)
 end_no_attribute_by blanks slash behind h (inr one) = rw (one, append_assoc blanks (47 ∷ 62 ∷ []) behind) (no_attribute_at blanks 47 (62 ∷ behind) h refl refl)
 
@@ -178,7 +192,8 @@ end_no_attribute : (ending behind : List ℕ) → IsOpenTagEnd ending → attrib
 end_no_attribute ending behind e = rw e.parts (end_no_attribute_by e.blanks e.slash behind e.is_blanks e.is_slash)
 
 -- the end of an open tag has the length that is counted
-end_len_at : (blanks others : List ℕ) (c k : ℕ) → list_all is_blank blanks ≡ true → is_blank c ≡ false → close_len (c ∷ others) ≡ Some k → open_end_len (blanks ++ c ∷ others) ≡ Some (length blanks + k)
+end_len_at : (blanks others : List ℕ) (c k : ℕ)
+    → list_all is_blank blanks ≡ true → is_blank c ≡ false → close_len (c ∷ others) ≡ Some k → open_end_len (blanks ++ c ∷ others) ≡ Some (length blanks + k)
 unfolding open_end_len
 end_len_at blanks others c k h solid e =
     let more = prefix_all is_blank blanks (c ∷ others) h in
@@ -186,20 +201,24 @@ end_len_at blanks others c k h solid e =
     let size : prefix_len is_blank (blanks ++ c ∷ others) ≡ length blanks = omega arith in
     rw (size, drop-append_seam, e)
 
-end_is_by : (blanks slash behind : List ℕ) → list_all is_blank blanks ≡ true → (slash ≡ []) ⊎ (slash ≡ 47 ∷ []) → open_end_len ((blanks ++ (slash ++ 62 ∷ [])) ++ behind) ≡ Some (length (blanks ++ (slash ++ 62 ∷ [])))
+end_is_by : (blanks slash behind : List ℕ) → list_all is_blank blanks ≡ true → (slash ≡ []) ⊎ (slash ≡ 47 ∷ [])
+    → open_end_len ((blanks ++ (slash ++ 62 ∷ [])) ++ behind) ≡ Some (length (blanks ++ (slash ++ 62 ∷ [])))
 end_is_by blanks slash behind h (inl none) =
     rw (none, append_assoc blanks (62 ∷ []) behind) (end_len_at blanks behind 62 1 h refl refl ∙ ap Some (omega (arith, length-append blanks (62 ∷ []))))
 end_is_by blanks slash behind h (inr one) =
-    rw (one, append_assoc blanks (47 ∷ 62 ∷ []) behind) (end_len_at blanks (62 ∷ behind) 47 2 h refl refl ∙ ap Some (omega (arith, length-append blanks (47 ∷ 62 ∷ []))))
+    rw (one, append_assoc blanks (47 ∷ 62 ∷ []) behind)
+    (end_len_at blanks (62 ∷ behind) 47 2 h refl refl ∙ ap Some (omega (arith, length-append blanks (47 ∷ 62 ∷ []))))
 
 pub end_is : (ending behind : List ℕ) → IsOpenTagEnd ending → open_end_len (ending ++ behind) ≡ Some (length ending)
 end_is ending behind e = rw e.parts (end_is_by e.blanks e.slash behind e.is_blanks e.is_slash)
 
 -- the rest of a tag continues after an attribute, and without one it is its end
-pub rest_of_others : (others : List (List ℕ)) (ending behind : List ℕ) → AreAttributes others → IsOpenTagEnd ending → IsTagRest (concat others ++ (ending ++ behind)) behind
+pub rest_of_others : (others : List (List ℕ)) (ending behind : List ℕ)
+    → AreAttributes others → IsOpenTagEnd ending → IsTagRest (concat others ++ (ending ++ behind)) behind
 rest_of_others others ending behind are e = record { attributes = others; ending = ending; parts = refl; are_attributes = are; ends = e }
 
-step_by : (attributes : List (List ℕ)) (ending behind : List ℕ) (n : ℕ) → AreAttributes attributes → IsOpenTagEnd ending → attribute_len (concat attributes ++ (ending ++ behind)) ≡ Some n
+step_by : (attributes : List (List ℕ)) (ending behind : List ℕ) (n : ℕ)
+    → AreAttributes attributes → IsOpenTagEnd ending → attribute_len (concat attributes ++ (ending ++ behind)) ≡ Some n
     → IsTagRest (drop n (concat attributes ++ (ending ++ behind))) behind
 step_by [] ending behind n are e h = let none = end_no_attribute ending behind e in cc
 step_by (a ∷ others) ending behind n are e h =
@@ -215,7 +234,8 @@ step bs behind n r h =
     let some : attribute_len (concat r.attributes ++ (r.ending ++ behind)) ≡ Some n = ap attribute_len (sym r.parts) ∙ h in
     rw r.parts (step_by r.attributes r.ending behind n r.are_attributes r.ends some)
 
-last_by : (attributes : List (List ℕ)) (ending behind : List ℕ) → AreAttributes attributes → IsOpenTagEnd ending → attribute_len (concat attributes ++ (ending ++ behind)) ≡ None
+last_by : (attributes : List (List ℕ)) (ending behind : List ℕ)
+    → AreAttributes attributes → IsOpenTagEnd ending → attribute_len (concat attributes ++ (ending ++ behind)) ≡ None
     → IsEndBefore (concat attributes ++ (ending ++ behind)) behind
 last_by [] ending behind are e h = record { ending = ending; parts = refl; ends = e }
 last_by (a ∷ others) ending behind are e h =

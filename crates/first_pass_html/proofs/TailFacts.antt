@@ -1,10 +1,12 @@
 -- How the rest of an open tag after its name begins.
-use Rattle.std.proofs.Common.{◌≡◌, ◌⊎◌, inl, inr, ℕ, Bool, true, false, true≢false, ◌==◌, ◌||◌, List, [], ◌∷◌, ◌++◌, length, drop, refl, sym, ap, ◌∙◌, arith, append_assoc}
+use Rattle.std.proofs.Common.{◌≡◌, ◌⊎◌, inl, inr, ℕ, Bool, true, false, true≢false, ◌==◌, ◌||◌, List, [], ◌∷◌, ◌++◌, length, drop, refl, sym, ap, ◌∙◌, arith}
+use Rattle.std.proofs.Common.{append_assoc}
 use Rattle.std.specs.List.{prefix_len, list_all, concat}
 use Rattle.std.proofs.lemmas.Bool.{and_parts}
 use Rattle.std.proofs.lemmas.Bool.Decides.{nat_tests}
 use Rattle.first_pass_lines.specs.Lines.{begins, is_blank}
-use Rattle.first_pass_html.specs.Tags.{is_tag_byte, starts_attribute, is_attribute_byte, is_unquoted, is_word, is_attribute_name, IsAttribute, AreAttributes, IsOpenTagEnd}
+use Rattle.first_pass_html.specs.Tags.{is_tag_byte, starts_attribute, is_attribute_byte, is_unquoted, is_word, is_attribute_name, IsAttribute, AreAttributes}
+use Rattle.first_pass_html.specs.Tags.{IsOpenTagEnd}
 use Rattle.first_pass_html.specs.Fronts.{IsTagRest}
 use Rattle.first_pass_html.proofs.ListFacts.{prefix_all, prefix_none, rest_behind}
 
@@ -62,20 +64,42 @@ none_first : (p q : ℕ → Bool) (bs : List ℕ) → ((b : ℕ) → q b ≡ tru
 none_first p q bs apart s = rw s.parts (prefix_none p s.first s.others (apart s.first s.passes))
 
 -- the end of an open tag
-end_stops_by : (blanks slash behind : List ℕ) → list_all is_blank blanks ≡ true → (slash ≡ []) ⊎ (slash ≡ 47 ∷ []) → StopsAt ((blanks ++ (slash ++ 62 ∷ [])) ++ behind)
-end_stops_by blanks slash behind h (inl none) = record { blanks = blanks; stop = 62; others = behind; parts = rw none (append_assoc blanks (62 ∷ []) behind); is_blanks = h; stops = refl }
-end_stops_by blanks slash behind h (inr one) = record { blanks = blanks; stop = 47; others = 62 ∷ behind; parts = rw one (append_assoc blanks (47 ∷ 62 ∷ []) behind); is_blanks = h; stops = refl }
+end_stops_by : (blanks slash behind : List ℕ)
+    → list_all is_blank blanks ≡ true → (slash ≡ []) ⊎ (slash ≡ 47 ∷ []) → StopsAt ((blanks ++ (slash ++ 62 ∷ [])) ++ behind)
+end_stops_by blanks slash behind h (inl none) = record {
+  blanks = blanks;
+  stop = 62;
+  others = behind;
+  parts = rw none (append_assoc blanks (62 ∷ []) behind);
+  is_blanks = h;
+  stops = refl;
+}
+end_stops_by blanks slash behind h (inr one) = record {
+  blanks = blanks;
+  stop = 47;
+  others = 62 ∷ behind;
+  parts = rw one (append_assoc blanks (47 ∷ 62 ∷ []) behind);
+  is_blanks = h;
+  stops = refl;
+}
 
 pub end_stops : (ending behind : List ℕ) → IsOpenTagEnd ending → StopsAt (ending ++ behind)
 end_stops ending behind e = rw e.parts (end_stops_by e.blanks e.slash behind e.is_blanks e.is_slash)
 
-end_starts_by : (blanks slash behind : List ℕ) → list_all is_blank blanks ≡ true → (slash ≡ []) ⊎ (slash ≡ 47 ∷ []) → StartsBy is_tail ((blanks ++ (slash ++ 62 ∷ [])) ++ behind)
+end_starts_by : (blanks slash behind : List ℕ)
+    → list_all is_blank blanks ≡ true → (slash ≡ []) ⊎ (slash ≡ 47 ∷ []) → StartsBy is_tail ((blanks ++ (slash ++ 62 ∷ [])) ++ behind)
 end_starts_by [] slash behind h (inl none) = record { first = 62; others = behind; parts = rw none; passes = refl }
 end_starts_by [] slash behind h (inr one) = record { first = 47; others = 62 ∷ behind; parts = rw one; passes = refl }
-end_starts_by (b ∷ bs) slash behind h some = record { first = b; others = (bs ++ (slash ++ 62 ∷ [])) ++ behind; parts = refl; passes = blank_tail b (and_parts _ _ h).0 }
+end_starts_by (b ∷ bs) slash behind h some = record {
+  first = b;
+  others = (bs ++ (slash ++ 62 ∷ [])) ++ behind;
+  parts = refl;
+  passes = blank_tail b (and_parts _ _ h).0;
+}
 
 -- an attribute
-attribute_stops_by : (blanks name specification others : List ℕ) → list_all is_blank blanks ≡ true → is_attribute_name name ≡ true → StopsAt ((blanks ++ (name ++ specification)) ++ others)
+attribute_stops_by : (blanks name specification others : List ℕ)
+    → list_all is_blank blanks ≡ true → is_attribute_name name ≡ true → StopsAt ((blanks ++ (name ++ specification)) ++ others)
 attribute_stops_by blanks [] specification others h named = absurd (true≢false (sym named))
 attribute_stops_by blanks (c ∷ name) specification others h named = record {
   blanks = blanks;
@@ -98,9 +122,11 @@ attribute_starts bs others a =
     rw (a.parts, append_assoc a.blanks (a.name ++ a.specification) others) (attribute_starts_by a.blanks ((a.name ++ a.specification) ++ others) a.is_blanks)
 
 -- the rest of an open tag
-rest_stops_by : (attributes : List (List ℕ)) (ending behind : List ℕ) → AreAttributes attributes → IsOpenTagEnd ending → StopsAt (concat attributes ++ (ending ++ behind))
+rest_stops_by : (attributes : List (List ℕ)) (ending behind : List ℕ)
+    → AreAttributes attributes → IsOpenTagEnd ending → StopsAt (concat attributes ++ (ending ++ behind))
 rest_stops_by [] ending behind are e = end_stops ending behind e
-rest_stops_by (a ∷ others) ending behind are e = rw (append_assoc a (concat others) (ending ++ behind)) (attribute_stops a (concat others ++ (ending ++ behind)) are.0)
+rest_stops_by (a ∷ others) ending behind are e =
+    rw (append_assoc a (concat others) (ending ++ behind)) (attribute_stops a (concat others ++ (ending ++ behind)) are.0)
 
 pub rest_stops : (bs behind : List ℕ) → IsTagRest bs behind → StopsAt bs
 rest_stops bs behind r = rw r.parts (rest_stops_by r.attributes r.ending behind r.are_attributes r.ends)
@@ -108,7 +134,8 @@ rest_stops bs behind r = rw r.parts (rest_stops_by r.attributes r.ending behind 
 starts_tail : (bs : List ℕ) → StartsBy is_blank bs → StartsBy is_tail bs
 starts_tail bs s = record { first = s.first; others = s.others; parts = s.parts; passes = blank_tail s.first s.passes }
 
-rest_starts_by : (attributes : List (List ℕ)) (ending behind : List ℕ) → AreAttributes attributes → IsOpenTagEnd ending → StartsBy is_tail (concat attributes ++ (ending ++ behind))
+rest_starts_by : (attributes : List (List ℕ)) (ending behind : List ℕ)
+    → AreAttributes attributes → IsOpenTagEnd ending → StartsBy is_tail (concat attributes ++ (ending ++ behind))
 rest_starts_by [] ending behind are e = rw e.parts (end_starts_by e.blanks e.slash behind e.is_blanks e.is_slash)
 rest_starts_by (a ∷ others) ending behind are e =
     rw (append_assoc a (concat others) (ending ++ behind)) (starts_tail _ (attribute_starts a (concat others ++ (ending ++ behind)) are.0))
@@ -153,7 +180,8 @@ end_alone behind = record {
   ends = record { blanks = []; slash = []; parts = refl; is_blanks = refl; is_slash = inl refl };
 }
 
-end_unquoted_by : (blanks slash bs behind : List ℕ) → bs ≡ (blanks ++ (slash ++ 62 ∷ [])) ++ behind → list_all is_blank blanks ≡ true → (slash ≡ []) ⊎ (slash ≡ 47 ∷ []) → IsTagRest bs behind
+end_unquoted_by : (blanks slash bs behind : List ℕ)
+    → bs ≡ (blanks ++ (slash ++ 62 ∷ [])) ++ behind → list_all is_blank blanks ≡ true → (slash ≡ []) ⊎ (slash ≡ 47 ∷ []) → IsTagRest bs behind
     → IsTagRest (drop (prefix_len is_unquoted bs) bs) behind
 end_unquoted_by [] slash bs behind parts h (inl none) r =
     let whole : bs ≡ 62 ∷ behind = parts ∙ rw none refl in
@@ -164,9 +192,11 @@ end_unquoted_by [] slash bs behind parts h (inr one) r =
 end_unquoted_by (b ∷ blanks) slash bs behind parts h some r =
     blank_kept bs behind (record { first = b; others = (blanks ++ (slash ++ 62 ∷ [])) ++ behind; parts = parts; passes = (and_parts _ _ h).0 }) r
 
-rest_unquoted_by : (attributes : List (List ℕ)) (ending bs behind : List ℕ) → bs ≡ concat attributes ++ (ending ++ behind) → AreAttributes attributes → IsOpenTagEnd ending → IsTagRest bs behind
+rest_unquoted_by : (attributes : List (List ℕ)) (ending bs behind : List ℕ)
+    → bs ≡ concat attributes ++ (ending ++ behind) → AreAttributes attributes → IsOpenTagEnd ending → IsTagRest bs behind
     → IsTagRest (drop (prefix_len is_unquoted bs) bs) behind
-rest_unquoted_by [] ending bs behind parts are e r = end_unquoted_by e.blanks e.slash bs behind (parts ∙ ap (λ xs. xs ++ behind) e.parts) e.is_blanks e.is_slash r
+rest_unquoted_by [] ending bs behind parts are e r =
+    end_unquoted_by e.blanks e.slash bs behind (parts ∙ ap (λ xs. xs ++ behind) e.parts) e.is_blanks e.is_slash r
 rest_unquoted_by (a ∷ others) ending bs behind parts are e r =
     let whole : bs ≡ a ++ (concat others ++ (ending ++ behind)) = parts ∙ append_assoc a (concat others) (ending ++ behind) in
     blank_kept bs behind (rw whole (attribute_starts a (concat others ++ (ending ++ behind)) are.0)) r

@@ -1,5 +1,6 @@
 -- Whole tags at the front of the bytes.
-use Rattle.std.proofs.Common.{◌≡◌, inl, inr, ℕ, suc, ◌+◌, ◌≤◌, true, false, true≢false, List, [], ◌∷◌, ◌++◌, length, take, drop, Some, None, refl, sym, ap, ◌∙◌, subst, arith, append_assoc, length-append, length-drop, add-one}
+use Rattle.std.proofs.Common.{◌≡◌, inl, inr, ℕ, suc, ◌+◌, ◌≤◌, true, false, true≢false, List, [], ◌∷◌, ◌++◌, length, take, drop, Some, None, refl, sym, ap, ◌∙◌}
+use Rattle.std.proofs.Common.{subst, arith, append_assoc, length-append, length-drop, add-one}
 use Rattle.std.specs.Option.{is_some}
 use Rattle.std.specs.List.{prefix_len, list_all, concat}
 use Rattle.std.proofs.lemmas.Bool.{and_parts, eqb-true}
@@ -32,11 +33,13 @@ name_same : (bs behind : List ℕ) (n : ℕ) (r : NameThenRest bs behind) → ta
 name_same bs behind n r h = let e = name_counted bs behind r in cc
 
 -- open tags
-opening_parts : (bs front behind : List ℕ) → bs ≡ front ++ behind → (tag : IsBehindOpening front) → bs ≡ tag.0.name ++ (concat tag.0.attributes ++ (tag.0.ending ++ behind))
+opening_parts : (bs front behind : List ℕ)
+    → bs ≡ front ++ behind → (tag : IsBehindOpening front) → bs ≡ tag.0.name ++ (concat tag.0.attributes ++ (tag.0.ending ++ behind))
 opening_parts bs front behind parts tag =
     let t = tag.0 in
     let inside : front ≡ t.name ++ (concat t.attributes ++ t.ending) = let e = t.parts in cc in
-    parts ∙ ap (λ xs. xs ++ behind) inside ∙ append_assoc t.name (concat t.attributes ++ t.ending) behind ∙ ap (λ xs. t.name ++ xs) (append_assoc (concat t.attributes) t.ending behind)
+    parts ∙ ap (λ xs. xs ++ behind) inside ∙ append_assoc t.name (concat t.attributes ++ t.ending) behind
+    ∙ ap (λ xs. t.name ++ xs) (append_assoc (concat t.attributes) t.ending behind)
 
 opening_rest : (bs front behind : List ℕ) → bs ≡ front ++ behind → (tag : IsBehindOpening front) → NameThenRest bs behind
 opening_rest bs front behind parts tag = record {
@@ -58,7 +61,8 @@ opening_not_raw bs n h raw front behind parts tag =
     true≢false (sym raw ∙ ap is_raw_name same ∙ tag.1)
 
 -- after the name and the attributes that are counted stands the end of the tag
-opening_end : (bs front behind : List ℕ) (n a : ℕ) → bs ≡ front ++ behind → IsBehindOpening front → tag_name_len bs ≡ Some n → IsPastAttributes (drop n bs) a → IsEndBefore (drop a (drop n bs)) behind
+opening_end : (bs front behind : List ℕ) (n a : ℕ)
+    → bs ≡ front ++ behind → IsBehindOpening front → tag_name_len bs ≡ Some n → IsPastAttributes (drop n bs) a → IsEndBefore (drop a (drop n bs)) behind
 opening_end bs front behind n a parts tag h past =
     let r = opening_rest bs front behind parts tag in
     let same : drop n bs ≡ r.others = rest_behind n bs r.name r.others r.parts (name_same bs behind n r h) in
@@ -67,13 +71,15 @@ opening_end bs front behind n a parts tag h past =
 end_counted : (bs behind : List ℕ) → (e : IsEndBefore bs behind) → open_end_len bs ≡ Some (length e.ending)
 end_counted bs behind e = rw e.parts (end_is e.ending behind e.ends)
 
-pub opening_needs_end : (bs : List ℕ) (n a : ℕ) → tag_name_len bs ≡ Some n → IsPastAttributes (drop n bs) a → open_end_len (drop a (drop n bs)) ≡ None → HasNoFront IsBehindOpening bs
+pub opening_needs_end : (bs : List ℕ) (n a : ℕ)
+    → tag_name_len bs ≡ Some n → IsPastAttributes (drop n bs) a → open_end_len (drop a (drop n bs)) ≡ None → HasNoFront IsBehindOpening bs
 opening_needs_end bs n a h past none front behind parts tag =
     let e = opening_end bs front behind n a parts tag h past in
     let some = end_counted (drop a (drop n bs)) behind e in
     cc
 
-opening_only : (bs front behind : List ℕ) (n a k : ℕ) → bs ≡ front ++ behind → IsBehindOpening front → tag_name_len bs ≡ Some n → n ≤ length bs → IsPastAttributes (drop n bs) a → a ≤ length (drop n bs)
+opening_only : (bs front behind : List ℕ) (n a k : ℕ)
+    → bs ≡ front ++ behind → IsBehindOpening front → tag_name_len bs ≡ Some n → n ≤ length bs → IsPastAttributes (drop n bs) a → a ≤ length (drop n bs)
     → open_end_len (drop a (drop n bs)) ≡ Some k → length front ≡ n + a + k
 opening_only bs front behind n a k parts tag h fits past within some =
     let e = opening_end bs front behind n a parts tag h past in
@@ -83,7 +89,8 @@ opening_only bs front behind n a k parts tag h fits past within some =
     let left : length (drop a (drop n bs)) ≡ length e.ending + length behind = ap length e.parts ∙ length-append e.ending behind in
     omega (arith, length-drop a (drop n bs), length-drop n bs)
 
-opening_is : (bs : List ℕ) (n a k : ℕ) → tag_name_len bs ≡ Some n → is_raw_name (take n bs) ≡ false → IsPastAttributes (drop n bs) a → open_end_len (drop a (drop n bs)) ≡ Some k → IsBehindOpening (take (n + a + k) bs)
+opening_is : (bs : List ℕ) (n a k : ℕ) → tag_name_len bs ≡ Some n → is_raw_name (take n bs) ≡ false → IsPastAttributes (drop n bs) a
+    → open_end_len (drop a (drop n bs)) ≡ Some k → IsBehindOpening (take (n + a + k) bs)
 opening_is bs n a k h raw past some =
     let behind : drop (n + a) bs ≡ drop a (drop n bs) = sym (drop-drop a n bs) in
     let whole : take (n + a + k) bs ≡ take n bs ++ (concat past.attributes ++ take k (drop a (drop n bs))) =
@@ -103,7 +110,8 @@ opening_is bs n a k h raw past some =
       raw,
     )
 
-pub opening_found : (bs : List ℕ) (n a k : ℕ) → tag_name_len bs ≡ Some n → n ≤ length bs → is_raw_name (take n bs) ≡ false → IsPastAttributes (drop n bs) a → a ≤ length (drop n bs)
+pub opening_found : (bs : List ℕ) (n a k : ℕ)
+    → tag_name_len bs ≡ Some n → n ≤ length bs → is_raw_name (take n bs) ≡ false → IsPastAttributes (drop n bs) a → a ≤ length (drop n bs)
     → open_end_len (drop a (drop n bs)) ≡ Some k → k ≤ length (drop a (drop n bs)) → IsOnlyFront IsBehindOpening bs (n + a + k)
 opening_found bs n a k h fits raw past within some ends = record {
   within = omega (arith, length-drop a (drop n bs), length-drop n bs);
@@ -123,7 +131,8 @@ closing_name bs front behind parts tag = record {
   others = (tag.blanks ++ 62 ∷ []) ++ behind;
   parts = closing_rest bs front behind parts tag;
   is_name = tag.is_name;
-  rest = rest_of_others [] (tag.blanks ++ 62 ∷ []) behind tt (record { blanks = tag.blanks; slash = []; parts = refl; is_blanks = tag.is_blanks; is_slash = inl refl });
+  rest = rest_of_others [] (tag.blanks ++ 62 ∷ []) behind tt
+      (record { blanks = tag.blanks; slash = []; parts = refl; is_blanks = tag.is_blanks; is_slash = inl refl });
 }
 
 pub closing_needs_name : (bs : List ℕ) → tag_name_len bs ≡ None → HasNoFront IsBehindClosing bs
@@ -137,7 +146,8 @@ closing_end_is blanks behind h =
     let size : prefix_len is_blank (blanks ++ 62 ∷ behind) ≡ length blanks = omega arith in
     rw (append_assoc blanks (62 ∷ []) behind, size, drop-append_seam)
 
-closing_end : (bs front behind : List ℕ) (n : ℕ) → bs ≡ front ++ behind → (tag : IsBehindClosing front) → tag_name_len bs ≡ Some n → (n ≡ length tag.name) × (closing_end_len (drop n bs) ≡ Some (length tag.blanks + 1))
+closing_end : (bs front behind : List ℕ) (n : ℕ) → bs ≡ front ++ behind → (tag : IsBehindClosing front) → tag_name_len bs ≡ Some n
+    → (n ≡ length tag.name) × (closing_end_len (drop n bs) ≡ Some (length tag.blanks + 1))
 unfolding closing_name
 closing_end bs front behind n parts tag h =
     let r = closing_name bs front behind parts tag in
@@ -147,7 +157,8 @@ closing_end bs front behind n parts tag h =
 pub closing_needs_end : (bs : List ℕ) (n : ℕ) → tag_name_len bs ≡ Some n → closing_end_len (drop n bs) ≡ None → HasNoFront IsBehindClosing bs
 closing_needs_end bs n h none front behind parts tag = let some = (closing_end bs front behind n parts tag h).1 in cc
 
-closing_only : (bs front behind : List ℕ) (n k : ℕ) → bs ≡ front ++ behind → IsBehindClosing front → tag_name_len bs ≡ Some n → closing_end_len (drop n bs) ≡ Some k → length front ≡ n + k
+closing_only : (bs front behind : List ℕ) (n k : ℕ)
+    → bs ≡ front ++ behind → IsBehindClosing front → tag_name_len bs ≡ Some n → closing_end_len (drop n bs) ≡ Some k → length front ≡ n + k
 closing_only bs front behind n k parts tag h some =
     let both = closing_end bs front behind n parts tag h in
     let size : k ≡ length tag.blanks + 1 = let counted = both.1 in cc in
@@ -170,7 +181,8 @@ closing_is bs n k h some =
       is_blanks = prefix_passes is_blank left;
     }
 
-pub closing_found : (bs : List ℕ) (n k : ℕ) → tag_name_len bs ≡ Some n → n ≤ length bs → closing_end_len (drop n bs) ≡ Some k → k ≤ length (drop n bs) → IsOnlyFront IsBehindClosing bs (n + k)
+pub closing_found : (bs : List ℕ) (n k : ℕ)
+    → tag_name_len bs ≡ Some n → n ≤ length bs → closing_end_len (drop n bs) ≡ Some k → k ≤ length (drop n bs) → IsOnlyFront IsBehindClosing bs (n + k)
 closing_found bs n k h fits some within = record {
   within = omega (arith, length-drop n bs);
   is_text = closing_is bs n k h some;
@@ -192,12 +204,14 @@ name_no_slash (b ∷ name) others rest h e =
     let same : b ≡ 47 = cc in
     true≢false (sym (and_parts _ _ h).0 ∙ ap is_ascii_alphabetic same)
 
-open_tag : (bs rest front behind : List ℕ) → bs ≡ 60 ∷ rest → bs ≡ front ++ behind → IsBlockOpenTag front → (others : List ℕ) × (front ≡ 60 ∷ others) × (rest ≡ others ++ behind) × IsBehindOpening others
+open_tag : (bs rest front behind : List ℕ) → bs ≡ 60 ∷ rest → bs ≡ front ++ behind → IsBlockOpenTag front
+    → (others : List ℕ) × (front ≡ 60 ∷ others) × (rest ≡ others ++ behind) × IsBehindOpening others
 open_tag bs rest front behind whole parts tag =
     let others : List ℕ = tag.0.name ++ (concat tag.0.attributes ++ tag.0.ending) in
     (others, tag.0.parts, behind_first 60 bs rest front others behind whole parts tag.0.parts, subst IsBlockOpenTag tag.0.parts tag)
 
-closing_tag : (bs rest front behind : List ℕ) → bs ≡ 60 ∷ rest → bs ≡ front ++ behind → IsClosingTag front → (others : List ℕ) × (front ≡ 60 ∷ 47 ∷ others) × (rest ≡ 47 ∷ (others ++ behind)) × IsBehindClosing others
+closing_tag : (bs rest front behind : List ℕ) → bs ≡ 60 ∷ rest → bs ≡ front ++ behind → IsClosingTag front
+    → (others : List ℕ) × (front ≡ 60 ∷ 47 ∷ others) × (rest ≡ 47 ∷ (others ++ behind)) × IsBehindClosing others
 closing_tag bs rest front behind whole parts tag =
     let others : List ℕ = tag.name ++ (tag.blanks ++ 62 ∷ []) in
     (others, tag.parts, behind_first 60 bs rest front (47 ∷ others) behind whole parts tag.parts, subst IsClosingTag tag.parts tag)
@@ -229,7 +243,8 @@ no_open bs rest front behind whole parts tag =
     let r = opening_rest (47 ∷ rest) t.0 behind t.2 t.3 in
     name_no_slash r.name r.others rest r.is_name (sym r.parts)
 
-closing_behind : (bs rest front behind : List ℕ) → bs ≡ 60 ∷ 47 ∷ rest → bs ≡ front ++ behind → IsClosingTag front → (others : List ℕ) × (front ≡ 60 ∷ 47 ∷ others) × (rest ≡ others ++ behind) × IsBehindClosing others
+closing_behind : (bs rest front behind : List ℕ) → bs ≡ 60 ∷ 47 ∷ rest → bs ≡ front ++ behind → IsClosingTag front
+    → (others : List ℕ) × (front ≡ 60 ∷ 47 ∷ others) × (rest ≡ others ++ behind) × IsBehindClosing others
 closing_behind bs rest front behind whole parts tag =
     let t = closing_tag bs (47 ∷ rest) front behind whole parts tag in
     (t.0, t.1, let e = t.2 in cc, t.3)

@@ -2,7 +2,8 @@
 use Rattle.std.specs.Prelude.{◌≡◌, ◌≤◌, ℕ, ◌⊎◌, Bool, true, false, ◌==◌, ◌&&◌, ◌||◌, not, List, [], ◌∷◌, ◌++◌, length, drop, take}
 use Rattle.std.specs.List.{list_all, concat}
 use Rattle.std.specs.Char.{is_ascii_alphabetic, is_ascii_alphanumeric}
-use Rattle.first_pass_items.specs.Bytes.{quotation_mark, apostrophe, hyphen, full_stop, solidus, colon, less_than, equals_sign, greater_than, underscore, backquote}
+use Rattle.first_pass_items.specs.Bytes.{quotation_mark, apostrophe, hyphen, full_stop, solidus, colon, less_than, equals_sign, greater_than, underscore}
+use Rattle.first_pass_items.specs.Bytes.{backquote}
 use Rattle.first_pass_lines.specs.Lines.{is_line_end, is_blank, is_blank_line}
 use Rattle.first_pass_html.specs.Starts.{is_raw_name}
 

@@ -1,5 +1,6 @@
 -- What a table of labels returns, and what one more definition changes.
-use Rattle.std.proofs.Common.{◌≡◌, ◌≢◌, ℕ, zero, suc, Bool, true, false, cond, List, [], ◌∷◌, All, Option, None, Some, is_some, nat_eq, refl, sym, ap, subst, ◌∙◌, le_of_suc-le-suc, suc-le-suc, zero-le, not-suc-le-zero}
+use Rattle.std.proofs.Common.{◌≡◌, ◌≢◌, ℕ, zero, suc, Bool, true, false, cond, List, [], ◌∷◌, All, Option, None, Some, is_some, nat_eq, refl, sym, ap, subst}
+use Rattle.std.proofs.Common.{◌∙◌, le_of_suc-le-suc, suc-le-suc, zero-le, not-suc-le-zero}
 use Rattle.std.proofs.lemmas.Bool.{true≢false}
 use Rattle.std.specs.declared.cmp.Ordering.{Ordering}
 use Rattle.std.specs.declared.cmp.Ordering.TheVariants.{Less, Equal, Greater}

@@ -136,7 +136,8 @@ not_both f k l is a b =
 module _ {X : Type 0} (f : List ℕ) (l : CowStr) (x : X) where
   under_cons : (e : CowStr × X) (es : List (CowStr × X)) (o : Ordering) → label_cmp l e.0 ≡ o
       → defined_under f (insert_entry label_cmp es l x) ≡ cond (has f l) (Some x) (defined_under f es)
-      → defined_under f (match_ordering o ((l, x) ∷ e ∷ es) ((e.0, x) ∷ es) (e ∷ insert_entry label_cmp es l x)) ≡ cond (has f l) (Some x) (defined_under f (e ∷ es))
+      → defined_under f (match_ordering o ((l, x) ∷ e ∷ es) ((e.0, x) ∷ es) (e ∷ insert_entry label_cmp es l x))
+      ≡ cond (has f l) (Some x) (defined_under f (e ∷ es))
   under_cons e es Less is rest = refl
   under_cons e es Equal is rest = one_answer (has f l) (has f e.0) x e.1 (defined_under f es) (has_tied f e.0 l is)
   under_cons e es Greater is rest =

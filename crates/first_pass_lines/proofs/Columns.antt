@@ -33,11 +33,13 @@ pub indent-some : (r s : Rest) → next_column r ≡ Some s → indent r ≡ 1 +
 indent-some r s h = owed-some r.owed r s h
 
 -- what a call that takes a column says, where it is yes and where it is no
-pub taken-yes : (o : Option Rest) (old new : Rest) (b : Bool) → MatchOption o ((b ≡ false) × (new ≡ old)) (λ next. (b ≡ true) × (new ≡ next)) → b ≡ true → o ≡ Some new
+pub taken-yes : (o : Option Rest) (old new : Rest) (b : Bool)
+    → MatchOption o ((b ≡ false) × (new ≡ old)) (λ next. (b ≡ true) × (new ≡ next)) → b ≡ true → o ≡ Some new
 taken-yes None old new b h e = cc
 taken-yes (Some s) old new b h e = ap Some (sym h.1)
 
-pub taken-no : (o : Option Rest) (old new : Rest) (b : Bool) → MatchOption o ((b ≡ false) × (new ≡ old)) (λ next. (b ≡ true) × (new ≡ next)) → b ≡ false → (o ≡ None) × (new ≡ old)
+pub taken-no : (o : Option Rest) (old new : Rest) (b : Bool)
+    → MatchOption o ((b ≡ false) × (new ≡ old)) (λ next. (b ≡ true) × (new ≡ next)) → b ≡ false → (o ≡ None) × (new ≡ old)
 taken-no None old new b h e = (refl, h.1)
 taken-no (Some s) old new b h e = cc
 

@@ -36,7 +36,8 @@ heading_by true n level e = (e, refl)
 heading_by false n level e = cc
 
 -- the signs of a heading, and what follows them
-pub atx_level-signs : (bs : List ℕ) (level : HeadingLevel) → atx_level bs ≡ Some level → (level_number level ≡ prefix_len is_number_sign bs) × (level_number level ≤ length bs) × (ends_signs (drop (level_number level) bs) ≡ true)
+pub atx_level-signs : (bs : List ℕ) (level : HeadingLevel) → atx_level bs ≡ Some level
+    → (level_number level ≡ prefix_len is_number_sign bs) × (level_number level ≤ length bs) × (ends_signs (drop (level_number level) bs) ≡ true)
 unfolding atx_level
 atx_level-signs bs level h =
     let n : ℕ = prefix_len is_number_sign bs in

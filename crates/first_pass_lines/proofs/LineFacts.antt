@@ -1,5 +1,6 @@
 -- Facts on lines.
-use Rattle.std.proofs.Common.{◌≡◌, ℕ, zero, suc, ◌+◌, ◌<◌, ◌≤◌, Bool, true, false, cond, not, ◌==◌, List, [], ◌∷◌, ◌++◌, length, take, drop, map, Some, None, Option, unwrap_or, refl, sym, ap, ◌∙◌, arith, add-one, length-drop, inl, inr, if◌then◌else◌}
+use Rattle.std.proofs.Common.{◌≡◌, ℕ, zero, suc, ◌+◌, ◌<◌, ◌≤◌, Bool, true, false, cond, not, ◌==◌, List, [], ◌∷◌, ◌++◌, length, take, drop, map, Some, None}
+use Rattle.std.proofs.Common.{Option, unwrap_or, refl, sym, ap, ◌∙◌, arith, add-one, length-drop, inl, inr, if◌then◌else◌}
 use Rattle.std.specs.Option.{option_map}
 use Rattle.std.specs.List.{prefix_len, concat, list_all, All}
 use Rattle.std.proofs.lemmas.List.{take-append-drop, drop-drop, length-take-le, append_cancel_left, at_drop_all}
@@ -73,12 +74,15 @@ shift s k b bs =
 behind_first : (b s n : ℕ) (bs : List ℕ) → n ≡ line_len (b ∷ bs) → lines_behind b (s + 1) bs ≡ lines_at (s + n) (drop n (b ∷ bs))
 unfolding lines_at lines_behind
 behind_first b s n [] h =
-    let e : n ≡ 1 = h ∙ line_len-step b [] ∙ elim (ends_line b []) as (λ t. cond t 1 (line_len [] + 1) ≡ 1) [ true ↦ refl | false ↦ omega (arith, line_len-none) ] in
+    let e : n ≡ 1 =
+    h ∙ line_len-step b [] ∙ elim (ends_line b []) as (λ t. cond t 1 (line_len [] + 1) ≡ 1) [ true ↦ refl | false ↦ omega (arith, line_len-none) ] in
     rw e
 behind_first b s n (c ∷ cs) h =
-    (elim (ends_line b (c ∷ cs)) as (λ t. n ≡ cond t 1 (line_len (c ∷ cs) + 1) → (let further = lines_behind c ((s + 1) + 1) cs in cond t (line_place (s + 1) (c ∷ cs) ∷ further) further) ≡ lines_at (s + n) (drop n (b ∷ c ∷ cs))) [
+    (elim (ends_line b (c ∷ cs)) as (λ t. n ≡ cond t 1 (line_len (c ∷ cs) + 1)
+    → (let further = lines_behind c ((s + 1) + 1) cs in cond t (line_place (s + 1) (c ∷ cs) ∷ further) further) ≡ lines_at (s + n) (drop n (b ∷ c ∷ cs))) [
       | true ↦ λ e. rw e
-      | false ↦ λ e. behind_first c (s + 1) (line_len (c ∷ cs)) cs refl ∙ shift s (line_len (c ∷ cs)) b (c ∷ cs) ∙ ap (λ k. lines_at (s + k) (drop k (b ∷ c ∷ cs))) (sym e)
+      | false ↦ λ e.
+          behind_first c (s + 1) (line_len (c ∷ cs)) cs refl ∙ shift s (line_len (c ∷ cs)) b (c ∷ cs) ∙ ap (λ k. lines_at (s + k) (drop k (b ∷ c ∷ cs))) (sym e)
     ]) (h ∙ line_len-step b (c ∷ cs))
 
 pub lines_at-first : (s b : ℕ) (bs : List ℕ) → let n : ℕ = line_len (b ∷ bs) in lines_at s (b ∷ bs) ≡ line_place s (b ∷ bs) ∷ lines_at (s + n) (drop n (b ∷ bs))
@@ -89,7 +93,8 @@ lines_at-some : (s : ℕ) (bs : List ℕ) → 0 < length bs → let n : ℕ = li
 lines_at-some s [] h = absurd (omega arith)
 lines_at-some s (b ∷ bs) h = lines_at-first s b bs
 
-pub lines_at-line : (text : List ℕ) (s : ℕ) → s < length text → let n : ℕ = line_len (drop s text) in lines_at s (drop s text) ≡ line_place s (drop s text) ∷ lines_at (s + n) (drop (s + n) text)
+pub lines_at-line : (text : List ℕ) (s : ℕ)
+    → s < length text → let n : ℕ = line_len (drop s text) in lines_at s (drop s text) ≡ line_place s (drop s text) ∷ lines_at (s + n) (drop (s + n) text)
 lines_at-line text s h =
     let l = length-drop s text in
     let n : ℕ = line_len (drop s text) in
@@ -151,7 +156,8 @@ front_content b bs n h f =
     let d : drop (n + 1) (b ∷ bs) ≡ drop n bs = rw add-one in
     record { content = b ∷ f.content; ending = f.ending; parts = t ∙ ap (λ xs. b ∷ xs) f.parts; plain = rw h f.plain; ends = rw d f.ends }
 
-front_by : (t u v : Bool) (b : ℕ) (bs : List ℕ) → (b == 10) ≡ t → (b == 13) ≡ u → begins 10 bs ≡ v → Front bs (line_len bs) → Front (b ∷ bs) (cond (ends_line b bs) 1 (line_len bs + 1))
+front_by : (t u v : Bool) (b : ℕ) (bs : List ℕ)
+    → (b == 10) ≡ t → (b == 13) ≡ u → begins 10 bs ≡ v → Front bs (line_len bs) → Front (b ∷ bs) (cond (ends_line b bs) 1 (line_len bs + 1))
 front_by true u v b bs h h' h'' f = rw h (front_newline b bs (eqb-true b 10 h))
 front_by false true false b bs h h' h'' f = rw (h, h', h'') (front_return b bs (eqb-true b 13 h') h'')
 front_by false true true b bs h h' h'' f =
@@ -206,7 +212,8 @@ one_division text (p ∷ ps) [] c d = absurd (c.lines.0.some (front-empty p (con
 one_division text (p ∷ ps) (q ∷ qs) c d =
     let same : p ++ concat ps ≡ q ++ concat qs = c.whole ∙ sym d.whole in
     let n : length p ≡ length q = sym (line_len-line p (concat ps) c.lines.0) ∙ ap line_len same ∙ line_len-line q (concat qs) d.lines.0 in
-    let t : p ≡ q = sym (take-append_seam p (concat ps)) ∙ ap (λ xs. take (length p) xs) same ∙ ap (λ k. take k (q ++ concat qs)) n ∙ take-append_seam q (concat qs) in
+    let t : p ≡ q =
+    sym (take-append_seam p (concat ps)) ∙ ap (λ xs. take (length p) xs) same ∙ ap (λ k. take k (q ++ concat qs)) n ∙ take-append_seam q (concat qs) in
     let r : concat ps ≡ concat qs = append_cancel_left q (concat ps) (concat qs) (ap (λ xs. xs ++ concat ps) (sym t) ∙ same) in
     let rest : ps ≡ qs = one_division (concat ps) ps qs (record { whole = refl; lines = c.lines.1 }) (record { whole = sym r; lines = d.lines.1 }) in
     cc
@@ -219,7 +226,8 @@ places_by text b s (c ∷ cs) h =
     let next : drop (s + 1) text ≡ cs = sym (drop-drop 1 s text) ∙ ap (drop 1) h in
     let further = places_by text c (s + 1) cs next in
     let here : IsLinePlace text (line_place s (c ∷ cs)) = ap (line_place s) (sym h) in
-    elim (ends_line b (c ∷ cs)) as (λ t. let further : List Place = lines_behind c (s + 1) cs in All (IsLinePlace text) (cond t (line_place s (c ∷ cs) ∷ further) further)) [
+    elim (ends_line b (c ∷ cs))
+    as (λ t. let further : List Place = lines_behind c (s + 1) cs in All (IsLinePlace text) (cond t (line_place s (c ∷ cs) ∷ further) further)) [
       | true ↦ All-cons (IsLinePlace text) _ _ here further
       | false ↦ further
     ]
@@ -261,7 +269,8 @@ no_white : (o : Option ℕ) (n : ℕ) → option_map (λ k. 0 + k) o ≡ Some n 
 no_white None n h = cc
 no_white (Some k) n h = let e : 0 + k ≡ n = cc in ap Some (omega arith)
 
-blank_by : (t : Bool) (b : ℕ) (bs : List ℕ) (n : ℕ) → is_white b ≡ t → ((m : ℕ) → blank_len bs ≡ Some m → line_len bs ≡ m) → blank_len (b ∷ bs) ≡ Some n → line_len (b ∷ bs) ≡ n
+blank_by : (t : Bool) (b : ℕ) (bs : List ℕ) (n : ℕ)
+    → is_white b ≡ t → ((m : ℕ) → blank_len bs ≡ Some m → line_len bs ≡ m) → blank_len (b ∷ bs) ≡ Some n → line_len (b ∷ bs) ≡ n
 blank_by true b bs n h f e =
     let w : ℕ = prefix_len is_white bs in
     let p : prefix_len is_white (b ∷ bs) ≡ w + 1 = rw h (omega arith) in
@@ -287,7 +296,9 @@ some_end false false b bs h h' e = absurd (grind (arith, h, h', e))
 ends_at : (bs : List ℕ) (k : ℕ) → eol_len bs ≡ Some k → eol_len bs ≡ Some (line_len bs)
 ends_at bs k h = h ∙ ap Some (sym (line_len-eol bs k h))
 
-content_by : (t : Bool) (b : ℕ) (bs : List ℕ) → is_content b ≡ t → (let rest : List ℕ = drop (prefix_len is_content bs) bs in eol_len rest ≡ Some (line_len rest)) → let rest : List ℕ = drop (prefix_len is_content (b ∷ bs)) (b ∷ bs) in eol_len rest ≡ Some (line_len rest)
+content_by : (t : Bool) (b : ℕ) (bs : List ℕ)
+    → is_content b ≡ t → (let rest : List ℕ = drop (prefix_len is_content bs) bs in eol_len rest ≡ Some (line_len rest))
+    → let rest : List ℕ = drop (prefix_len is_content (b ∷ bs)) (b ∷ bs) in eol_len rest ≡ Some (line_len rest)
 content_by true b bs h f =
     let k : ℕ = prefix_len is_content bs in
     let n : prefix_len is_content (b ∷ bs) ≡ k + 1 = rw h (omega arith) in

@@ -1,5 +1,6 @@
 -- Facts on places in the text, and on the columns of a rest.
-use Rattle.std.proofs.Common.{◌≡◌, ◌⊎◌, inl, inr, ℕ, zero, suc, ◌+◌, ◌-◌, ◌<◌, ◌≤◌, Bool, true, false, ◌==◌, List, [], ◌∷◌, length, drop, get_or, slice_index, Option, Some, None, IsUtf8, IsCharBoundary, if◌then◌else◌, refl, sym, ap, subst, ◌∙◌, arith, length-drop, get_or-drop, drop-drop}
+use Rattle.std.proofs.Common.{◌≡◌, ◌⊎◌, inl, inr, ℕ, zero, suc, ◌+◌, ◌-◌, ◌<◌, ◌≤◌, Bool, true, false, ◌==◌, List, [], ◌∷◌, length, drop, get_or, slice_index}
+use Rattle.std.proofs.Common.{Option, Some, None, IsUtf8, IsCharBoundary, if◌then◌else◌, refl, sym, ap, subst, ◌∙◌, arith, length-drop, get_or-drop, drop-drop}
 use Rattle.std.proofs.lemmas.Option.{none-some}
 use Rattle.std.specs.List.{prefix_len, All}
 use Rattle.std.proofs.lemmas.List.Elements.{All-nil, All-cons}
@@ -9,7 +10,8 @@ use Rattle.std.proofs.lemmas.Bool.{eqb-true, cases_lt}
 use Rattle.std.proofs.lemmas.Bool.Decides.{nat_tests}
 use Rattle.first_pass_lines.specs.Lines.{begins, ends_line, line_len, is_content, is_white, is_number_sign}
 use Rattle.first_pass_lines.specs.Rest.{Rest, past_byte, past_bytes, past_quote_byte, past_quote, column_of_byte, column_of, next_column, after_columns, indent}
-use Rattle.first_pass_lines.specs.Places.{Place, place_at, line_rest, offset, line_place, IsPlaceOf, moved_columns, moved_bytes, line_end, content_end, start_of, lines_at}
+use Rattle.first_pass_lines.specs.Places.{Place, place_at, line_rest, offset, line_place, IsPlaceOf, moved_columns, moved_bytes, line_end, content_end}
+use Rattle.first_pass_lines.specs.Places.{start_of, lines_at}
 use Rattle.first_pass_lines.proofs.LineFacts.{line_len-none, line_len-step, line_len-some, line_len-within, line_len-content_first, lines_at-line, lines_at-end}
 use Rattle.first_pass_lines.proofs.Columns.{after-more, after-none, indent-none, indent-some, all-more, all-none}
 
@@ -25,7 +27,8 @@ owed_none (suc o) r h = cc
 pub none_left : (r : Rest) → next_column r ≡ None → (r.owed ≡ 0) × (begins 32 r.left ≡ false) × (begins 9 r.left ≡ false)
 none_left r h = owed_none r.owed r h
 
-no_more_step : (k : ℕ) (r : Rest) (o : Option Rest) → next_column r ≡ o → indent r ≤ suc k → ((s : Rest) → indent s ≤ k → next_column (after_columns k s) ≡ None) → next_column (after_columns (suc k) r) ≡ None
+no_more_step : (k : ℕ) (r : Rest) (o : Option Rest)
+    → next_column r ≡ o → indent r ≤ suc k → ((s : Rest) → indent s ≤ k → next_column (after_columns k s) ≡ None) → next_column (after_columns (suc k) r) ≡ None
 no_more_step k r None e h f = ap next_column (after-none (suc k) r e) ∙ e
 no_more_step k r (Some s) e h f = ap next_column (after-more (suc k) k r s refl e) ∙ f s (omega (arith, indent-some r s e))
 
@@ -41,7 +44,8 @@ pub all_columns : (r : Rest) → let s : Rest = after_columns (indent r) r in (s
 all_columns r = none_left (after_columns (indent r) r) (no_more (indent r) r (omega arith))
 
 -- as many columns as there are, up to a number that is no less
-up_to_step : (k : ℕ) (r : Rest) (o : Option Rest) → next_column r ≡ o → indent r ≤ suc k → ((s : Rest) → indent s ≤ k → after_columns k s ≡ after_columns (indent s) s) → after_columns (suc k) r ≡ after_columns (indent r) r
+up_to_step : (k : ℕ) (r : Rest) (o : Option Rest) → next_column r ≡ o → indent r ≤ suc k
+    → ((s : Rest) → indent s ≤ k → after_columns k s ≡ after_columns (indent s) s) → after_columns (suc k) r ≡ after_columns (indent r) r
 up_to_step k r None e h f = after-none (suc k) r e ∙ sym (all-none r e)
 up_to_step k r (Some s) e h f = after-more (suc k) k r s refl e ∙ f s (omega (arith, indent-some r s e)) ∙ all-more r s e
 
@@ -50,7 +54,8 @@ all_columns_up_to zero r h = let e : indent r ≡ 0 = omega arith in rw e
 all_columns_up_to (suc k) r h = up_to_step k r (next_column r) refl h (all_columns_up_to k)
 
 -- the columns that are left after some
-left_step : (k : ℕ) (r : Rest) (o : Option Rest) → next_column r ≡ o → ((s : Rest) → indent (after_columns k s) ≡ indent s - k) → indent (after_columns (suc k) r) ≡ indent r - suc k
+left_step : (k : ℕ) (r : Rest) (o : Option Rest)
+    → next_column r ≡ o → ((s : Rest) → indent (after_columns k s) ≡ indent s - k) → indent (after_columns (suc k) r) ≡ indent r - suc k
 left_step k r None e f = ap indent (after-none (suc k) r e) ∙ omega (arith, indent-none r e)
 left_step k r (Some s) e f = ap indent (after-more (suc k) k r s refl e) ∙ f s ∙ omega (arith, indent-some r s e)
 
@@ -88,17 +93,20 @@ bytes_keep text p n i h =
     }
 
 -- the more so after bytes of which the last is ASCII
-pub ascii_boundary : (text : List ℕ) (p : Place) (n : ℕ) → IsUtf8 text → IsPlaceOf text p → n < length p.rest.left → slice_index p.rest.left n < 128 → IsCharBoundary text (offset p + (n + 1))
+pub ascii_boundary : (text : List ℕ) (p : Place) (n : ℕ)
+    → IsUtf8 text → IsPlaceOf text p → n < length p.rest.left → slice_index p.rest.left n < 128 → IsCharBoundary text (offset p + (n + 1))
 ascii_boundary text p n u i l h =
     let d : length p.rest.left ≡ length text - offset p = ap length i.left ∙ length-drop (offset p) text in
     let b = byte_at text (offset p) n p.rest.left i.left in
     let e : offset p + (n + 1) ≡ offset p + n + 1 = omega arith in
     rw e (IsCharBoundary-after_ascii text (offset p + n) u (omega arith) (omega arith))
 
-pub ascii_keeps : (text : List ℕ) (p : Place) (n : ℕ) → IsUtf8 text → IsPlaceOf text p → n < length p.rest.left → slice_index p.rest.left n < 128 → IsPlaceOf text (moved_bytes (n + 1) p)
+pub ascii_keeps : (text : List ℕ) (p : Place) (n : ℕ)
+    → IsUtf8 text → IsPlaceOf text p → n < length p.rest.left → slice_index p.rest.left n < 128 → IsPlaceOf text (moved_bytes (n + 1) p)
 ascii_keeps text p n u i l h = bytes_keep text p (n + 1) i (ascii_boundary text p n u i l h)
 
-prefix_by : (test : ℕ → Bool) → ((b : ℕ) → test b ≡ true → b < 128) → (text : List ℕ) (p : Place) (n : ℕ) → IsUtf8 text → IsPlaceOf text p → n ≡ prefix_len test p.rest.left → IsPlaceOf text (moved_bytes n p)
+prefix_by : (test : ℕ → Bool) → ((b : ℕ) → test b ≡ true → b < 128) → (text : List ℕ) (p : Place) (n : ℕ) → IsUtf8 text → IsPlaceOf text p
+    → n ≡ prefix_len test p.rest.left → IsPlaceOf text (moved_bytes n p)
 prefix_by test ascii text p zero u i e = let o : offset p + 0 ≡ offset p = omega arith in bytes_keep text p 0 i (rw o i.boundary)
 prefix_by test ascii text p (suc n) u i e =
     let fits = prefix_len-le-length test p.rest.left in
@@ -107,7 +115,8 @@ prefix_by test ascii text p (suc n) u i e =
     rw s (ascii_keeps text p n u i (omega arith) (ascii _ passes))
 
 -- and after the first bytes that pass a test that only ASCII passes
-pub prefix_keeps : (test : ℕ → Bool) → ((b : ℕ) → test b ≡ true → b < 128) → (text : List ℕ) (p : Place) → IsUtf8 text → IsPlaceOf text p → IsPlaceOf text (moved_bytes (prefix_len test p.rest.left) p)
+pub prefix_keeps : (test : ℕ → Bool) → ((b : ℕ) → test b ≡ true → b < 128) → (text : List ℕ) (p : Place) → IsUtf8 text → IsPlaceOf text p
+    → IsPlaceOf text (moved_bytes (prefix_len test p.rest.left) p)
 prefix_keeps test ascii text p u i = prefix_by test ascii text p (prefix_len test p.rest.left) u i refl
 
 pub white_keeps : (text : List ℕ) (p : Place) → IsUtf8 text → IsPlaceOf text p → IsPlaceOf text (moved_bytes (prefix_len is_white p.rest.left) p)
@@ -117,7 +126,8 @@ pub signs_keep : (text : List ℕ) (p : Place) → IsUtf8 text → IsPlaceOf tex
 signs_keep text p u i = prefix_keeps is_number_sign (λ b h. grind (arith, nat_tests, h)) text p u i
 
 -- and after columns
-byte_by : (t u : Bool) (r s : Rest) (b : ℕ) (bs : List ℕ) → (b == 32) ≡ t → (b == 9) ≡ u → column_of_byte r (b ∷ bs) ≡ Some s → (b < 128) × (s.left ≡ bs) × (s.taken ≡ r.taken + 1) × (is_content b ≡ true)
+byte_by : (t u : Bool) (r s : Rest) (b : ℕ) (bs : List ℕ)
+    → (b == 32) ≡ t → (b == 9) ≡ u → column_of_byte r (b ∷ bs) ≡ Some s → (b < 128) × (s.left ≡ bs) × (s.taken ≡ r.taken + 1) × (is_content b ≡ true)
 byte_by true u r s b bs h h' e =
     let small = eqb-true b 32 h in
     let f : past_byte r bs ≡ s = grind (arith, h, e) in
@@ -127,7 +137,8 @@ byte_by false true r s b bs h h' e =
     (omega arith, grind (arith, h, h', e), grind (arith, h, h', e), grind (arith, nat_tests, h'))
 byte_by false false r s b bs h h' e = absurd (grind (arith, h, h', e))
 
-byte_moves : (text : List ℕ) (p : Place) (s : Rest) (bs : List ℕ) → IsUtf8 text → IsPlaceOf text p → bs ≡ p.rest.left → column_of_byte p.rest bs ≡ Some s → IsPlaceOf text (place_at p.line s)
+byte_moves : (text : List ℕ) (p : Place) (s : Rest) (bs : List ℕ)
+    → IsUtf8 text → IsPlaceOf text p → bs ≡ p.rest.left → column_of_byte p.rest bs ≡ Some s → IsPlaceOf text (place_at p.line s)
 byte_moves text p s [] u i e h = cc
 byte_moves text p s (b ∷ bs) u i e h =
     let m = byte_by (b == 32) (b == 9) p.rest s b bs refl refl h in
@@ -143,13 +154,15 @@ byte_moves text p s (b ∷ bs) u i e h =
       boundary = rw o c;
     }
 
-column_moves : (text : List ℕ) (p : Place) (s : Rest) (o : ℕ) → IsUtf8 text → IsPlaceOf text p → column_of o p.rest ≡ Some s → IsPlaceOf text (place_at p.line s)
+column_moves : (text : List ℕ) (p : Place) (s : Rest) (o : ℕ)
+    → IsUtf8 text → IsPlaceOf text p → column_of o p.rest ≡ Some s → IsPlaceOf text (place_at p.line s)
 column_moves text p s zero u i h = byte_moves text p s p.rest.left u i refl h
 column_moves text p s (suc o) u i h =
     let e : record p.rest { owed = o } ≡ s = cc in
     subst (λ r. IsPlaceOf text (place_at p.line r)) e (record { left = i.left; within = i.within; boundary = i.boundary })
 
-columns_step : (text : List ℕ) (k : ℕ) (p : Place) (o : Option Rest) → IsUtf8 text → IsPlaceOf text p → next_column p.rest ≡ o → ((q : Place) → IsPlaceOf text q → IsPlaceOf text (moved_columns k q)) → IsPlaceOf text (moved_columns (suc k) p)
+columns_step : (text : List ℕ) (k : ℕ) (p : Place) (o : Option Rest) → IsUtf8 text → IsPlaceOf text p → next_column p.rest ≡ o
+    → ((q : Place) → IsPlaceOf text q → IsPlaceOf text (moved_columns k q)) → IsPlaceOf text (moved_columns (suc k) p)
 columns_step text k p None u i e f = rw (after-none (suc k) p.rest e) i
 columns_step text k p (Some s) u i e f = rw (after-more (suc k) k p.rest s refl e) (f (place_at p.line s) (column_moves text p s p.rest.owed u i e))
 
@@ -161,11 +174,13 @@ columns_keep text (suc k) p u i = columns_step text k p (next_column p.rest) u i
 pub starts_at : (text bytes : List ℕ) (s : ℕ) (r : Rest) → bytes ≡ drop s text → r ≡ line_rest bytes → IsCharBoundary text s → IsPlaceOf text (place_at s r)
 starts_at text bytes s r e h b = subst (λ q. IsPlaceOf text (place_at s q)) (ap line_rest (sym e) ∙ sym h) (line_is_place text s b)
 
-pub taken_columns : (text : List ℕ) (k line : ℕ) (r s : Rest) → IsUtf8 text → s ≡ after_columns k r → IsPlaceOf text (place_at line r) → IsPlaceOf text (place_at line s)
+pub taken_columns : (text : List ℕ) (k line : ℕ) (r s : Rest)
+    → IsUtf8 text → s ≡ after_columns k r → IsPlaceOf text (place_at line r) → IsPlaceOf text (place_at line s)
 taken_columns text k line r s u e i = subst (λ q. IsPlaceOf text (place_at line q)) (sym e) (columns_keep text k (place_at line r) u i)
 
 -- a line ends after an ASCII byte, or with the text
-last_step : (t : Bool) (b : ℕ) (bs : List ℕ) → ends_line b bs ≡ t → (0 < length bs → (slice_index bs (line_len bs - 1) < 128) ⊎ (line_len bs ≡ length bs)) → (slice_index (b ∷ bs) (line_len (b ∷ bs) - 1) < 128) ⊎ (line_len (b ∷ bs) ≡ length (b ∷ bs))
+last_step : (t : Bool) (b : ℕ) (bs : List ℕ) → ends_line b bs ≡ t → (0 < length bs → (slice_index bs (line_len bs - 1) < 128) ⊎ (line_len bs ≡ length bs))
+    → (slice_index (b ∷ bs) (line_len (b ∷ bs) - 1) < 128) ⊎ (line_len (b ∷ bs) ≡ length (b ∷ bs))
 last_step true b bs h f =
     let e : line_len (b ∷ bs) ≡ 1 = line_len-step b bs ∙ rw h in
     let small : b < 128 = grind (arith, nat_tests, h) in
@@ -183,7 +198,8 @@ last_of_line : (bs : List ℕ) → 0 < length bs → (slice_index bs (line_len b
 last_of_line [] h = absurd (omega arith)
 last_of_line (b ∷ bs) h = last_step (ends_line b bs) b bs refl (last_of_line bs)
 
-end_by : (text : List ℕ) (s : ℕ) (bs : List ℕ) → bs ≡ drop s text → IsUtf8 text → s < length text → 0 < line_len bs → s + line_len bs ≤ length text → length bs ≡ length text - s → (slice_index bs (line_len bs - 1) < 128) ⊎ (line_len bs ≡ length bs) → IsCharBoundary text (s + line_len bs)
+end_by : (text : List ℕ) (s : ℕ) (bs : List ℕ) → bs ≡ drop s text → IsUtf8 text → s < length text → 0 < line_len bs → s + line_len bs ≤ length text
+    → length bs ≡ length text - s → (slice_index bs (line_len bs - 1) < 128) ⊎ (line_len bs ≡ length bs) → IsCharBoundary text (s + line_len bs)
 end_by text s bs e u l some fits d (inl small) =
     let b = byte_at text s (line_len bs - 1) bs e in
     let k : s + line_len bs ≡ s + (line_len bs - 1) + 1 = omega arith in
@@ -199,7 +215,8 @@ line_end_boundary text s u h l =
     end_by text s (drop s text) refl u l w.0 w.1 d (last_of_line (drop s text) (omega arith))
 
 -- the content of a line ends before an ASCII byte, or with the text
-content_by : (text : List ℕ) (s : ℕ) (bs : List ℕ) (n : ℕ) → bs ≡ drop s text → s ≤ length text → length bs ≡ length text - s → n ≡ prefix_len is_content bs → n ≤ length bs → (n < length bs) ⊎ (length bs ≤ n) → IsCharBoundary text (s + n)
+content_by : (text : List ℕ) (s : ℕ) (bs : List ℕ) (n : ℕ) → bs ≡ drop s text → s ≤ length text → length bs ≡ length text - s → n ≡ prefix_len is_content bs
+    → n ≤ length bs → (n < length bs) ⊎ (length bs ≤ n) → IsCharBoundary text (s + n)
 content_by text s bs n e l d same fits (inl more) =
     let b = byte_at text s n bs e in
     let stops : is_content (get_or bs n 0) ≡ false = rw same (prefix_len_stops is_content bs 0 (omega arith)) in
@@ -216,7 +233,8 @@ content_end_boundary text s l =
     content_by text s bs n refl l (length-drop s text) refl (prefix_len-le-length is_content bs) (cases_lt n (length bs))
 
 -- the same from a place in the line on
-pub place_line_end : (text : List ℕ) (p : Place) → IsUtf8 text → IsPlaceOf text p → 0 < length p.rest.left → IsCharBoundary text (offset p + line_len p.rest.left)
+pub place_line_end : (text : List ℕ) (p : Place)
+    → IsUtf8 text → IsPlaceOf text p → 0 < length p.rest.left → IsCharBoundary text (offset p + line_len p.rest.left)
 place_line_end text p u i h =
     let d : length p.rest.left ≡ length text - offset p = ap length i.left ∙ length-drop (offset p) text in
     rw i.left (line_end_boundary text (offset p) u i.boundary (omega arith))
@@ -233,7 +251,8 @@ place_length text p i =
 
 -- where the line of a place ends, and where its content does, stays the same after columns and after content:
 -- both are so many content bytes away
-content_by_step : (f : List ℕ → ℕ) → ((b : ℕ) (bs : List ℕ) → is_content b ≡ true → f (b ∷ bs) ≡ f bs + 1) → (r s : Rest) (bs : List ℕ) → column_of_byte r bs ≡ Some s → s.taken + f s.left ≡ r.taken + f bs
+content_by_step : (f : List ℕ → ℕ) → ((b : ℕ) (bs : List ℕ) → is_content b ≡ true → f (b ∷ bs) ≡ f bs + 1) → (r s : Rest) (bs : List ℕ)
+    → column_of_byte r bs ≡ Some s → s.taken + f s.left ≡ r.taken + f bs
 content_by_step f step r s [] h = cc
 content_by_step f step r s (b ∷ bs) h =
     let m = byte_by (b == 32) (b == 9) r s b bs refl refl h in
@@ -241,15 +260,19 @@ content_by_step f step r s (b ∷ bs) h =
     let e = ap f m.1 in
     omega arith
 
-column_away : (f : List ℕ → ℕ) → ((b : ℕ) (bs : List ℕ) → is_content b ≡ true → f (b ∷ bs) ≡ f bs + 1) → (o : ℕ) (r s : Rest) → column_of o r ≡ Some s → s.taken + f s.left ≡ r.taken + f r.left
+column_away : (f : List ℕ → ℕ) → ((b : ℕ) (bs : List ℕ) → is_content b ≡ true → f (b ∷ bs) ≡ f bs + 1) → (o : ℕ) (r s : Rest) → column_of o r ≡ Some s
+    → s.taken + f s.left ≡ r.taken + f r.left
 column_away f step zero r s h = content_by_step f step r s r.left h
 column_away f step (suc o) r s h = let e : record r { owed = o } ≡ s = cc in ap (λ q. q.taken + f q.left) (sym e)
 
-away_step : (f : List ℕ → ℕ) → ((b : ℕ) (bs : List ℕ) → is_content b ≡ true → f (b ∷ bs) ≡ f bs + 1) → (k : ℕ) (r : Rest) (o : Option Rest) → next_column r ≡ o → ((s : Rest) → (after_columns k s).taken + f (after_columns k s).left ≡ s.taken + f s.left) → (after_columns (suc k) r).taken + f (after_columns (suc k) r).left ≡ r.taken + f r.left
+away_step : (f : List ℕ → ℕ) → ((b : ℕ) (bs : List ℕ) → is_content b ≡ true → f (b ∷ bs) ≡ f bs + 1) → (k : ℕ) (r : Rest) (o : Option Rest)
+    → next_column r ≡ o → ((s : Rest) → (after_columns k s).taken + f (after_columns k s).left ≡ s.taken + f s.left)
+    → (after_columns (suc k) r).taken + f (after_columns (suc k) r).left ≡ r.taken + f r.left
 away_step f step k r None e g = ap (λ q. q.taken + f q.left) (after-none (suc k) r e)
 away_step f step k r (Some s) e g = ap (λ q. q.taken + f q.left) (after-more (suc k) k r s refl e) ∙ g s ∙ column_away f step r.owed r s e
 
-columns_away : (f : List ℕ → ℕ) → ((b : ℕ) (bs : List ℕ) → is_content b ≡ true → f (b ∷ bs) ≡ f bs + 1) → (k : ℕ) (r : Rest) → (after_columns k r).taken + f (after_columns k r).left ≡ r.taken + f r.left
+columns_away : (f : List ℕ → ℕ) → ((b : ℕ) (bs : List ℕ) → is_content b ≡ true → f (b ∷ bs) ≡ f bs + 1) → (k : ℕ) (r : Rest)
+    → (after_columns k r).taken + f (after_columns k r).left ≡ r.taken + f r.left
 columns_away f step zero r = refl
 columns_away f step (suc k) r = away_step f step k r (next_column r) refl (columns_away f step k)
 
@@ -262,7 +285,8 @@ columns_line_end k p = let e = columns_away line_len line_len-content_first k p.
 pub columns_content_end : (k : ℕ) (p : Place) → content_end (moved_columns k p) ≡ content_end p
 columns_content_end k p = let e = columns_away (prefix_len is_content) content_first k p.rest in omega arith
 
-bytes_step : (f : List ℕ → ℕ) → ((b : ℕ) (bs : List ℕ) → is_content b ≡ true → f (b ∷ bs) ≡ f bs + 1) → (t : Bool) (b n : ℕ) (bs : List ℕ) → is_content b ≡ t → suc n ≤ prefix_len is_content (b ∷ bs) → (n ≤ prefix_len is_content bs → n + f (drop n bs) ≡ f bs) → suc n + f (drop n bs) ≡ f (b ∷ bs)
+bytes_step : (f : List ℕ → ℕ) → ((b : ℕ) (bs : List ℕ) → is_content b ≡ true → f (b ∷ bs) ≡ f bs + 1) → (t : Bool) (b n : ℕ) (bs : List ℕ) → is_content b ≡ t
+    → suc n ≤ prefix_len is_content (b ∷ bs) → (n ≤ prefix_len is_content bs → n + f (drop n bs) ≡ f bs) → suc n + f (drop n bs) ≡ f (b ∷ bs)
 bytes_step f step true b n bs h w g =
     let p = content_first b bs h in
     let c = step b bs h in
@@ -272,7 +296,8 @@ bytes_step f step false b n bs h w g =
     let p : prefix_len is_content (b ∷ bs) ≡ 0 = rw h in
     absurd (omega arith)
 
-bytes_away : (f : List ℕ → ℕ) → ((b : ℕ) (bs : List ℕ) → is_content b ≡ true → f (b ∷ bs) ≡ f bs + 1) → (n : ℕ) (bs : List ℕ) → n ≤ prefix_len is_content bs → n + f (drop n bs) ≡ f bs
+bytes_away : (f : List ℕ → ℕ)
+    → ((b : ℕ) (bs : List ℕ) → is_content b ≡ true → f (b ∷ bs) ≡ f bs + 1) → (n : ℕ) (bs : List ℕ) → n ≤ prefix_len is_content bs → n + f (drop n bs) ≡ f bs
 bytes_away f step zero bs w = omega arith
 bytes_away f step (suc n) [] w = absurd (omega arith)
 bytes_away f step (suc n) (b ∷ bs) w = bytes_step f step (is_content b) b n bs refl w (bytes_away f step n bs)
@@ -291,7 +316,9 @@ start_by text s h (inr l) = ap (start_of (length text)) (lines_at-end text s l) 
 pub start_of-lines : (text : List ℕ) (s : ℕ) → s ≤ length text → start_of (length text) (lines_at s (drop s text)) ≡ s
 start_of-lines text s h = start_by text s h (cases_lt s (length text))
 
-places_step : (text : List ℕ) (most s : ℕ) → IsUtf8 text → IsCharBoundary text s → length text ≤ s + suc most → ((t : ℕ) → IsCharBoundary text t → length text ≤ t + most → All (IsPlaceOf text) (lines_at t (drop t text))) → (s < length text) ⊎ (length text ≤ s) → All (IsPlaceOf text) (lines_at s (drop s text))
+places_step : (text : List ℕ) (most s : ℕ) → IsUtf8 text → IsCharBoundary text s → length text ≤ s + suc most
+    → ((t : ℕ) → IsCharBoundary text t → length text ≤ t + most → All (IsPlaceOf text) (lines_at t (drop t text))) → (s < length text) ⊎ (length text ≤ s)
+    → All (IsPlaceOf text) (lines_at s (drop s text))
 places_step text most s u b m f (inl l) =
     let w = line_len-within text s l in
     let further = f (s + line_len (drop s text)) (line_end_boundary text s u b l) (omega arith) in
@@ -317,16 +344,19 @@ quote_byte_by true r s b bs h e q =
     (sym f ∙ g, omega arith, omega arith, omega arith)
 quote_byte_by false r s b bs h e q = absurd (none-some s q)
 
-quote_byte : (r s : Rest) (bs : List ℕ) → bs ≡ r.left → past_quote_byte r bs ≡ Some s → (s ≡ past_bytes 1 r) × (0 < length r.left) × (slice_index r.left 0 < 128) × (1 ≤ prefix_len is_content r.left)
+quote_byte : (r s : Rest) (bs : List ℕ) → bs ≡ r.left → past_quote_byte r bs ≡ Some s
+    → (s ≡ past_bytes 1 r) × (0 < length r.left) × (slice_index r.left 0 < 128) × (1 ≤ prefix_len is_content r.left)
 quote_byte r s [] e q = absurd (none-some s q)
 quote_byte r s (b ∷ bs) e q = quote_byte_by (b == 62) r s b bs refl e q
 
-quote_by : (t : Bool) (r s : Rest) → (if t then past_quote_byte r r.left else None) ≡ Some s → (s ≡ past_bytes 1 r) × (0 < length r.left) × (slice_index r.left 0 < 128) × (1 ≤ prefix_len is_content r.left)
+quote_by : (t : Bool) (r s : Rest) → (if t then past_quote_byte r r.left else None) ≡ Some s
+    → (s ≡ past_bytes 1 r) × (0 < length r.left) × (slice_index r.left 0 < 128) × (1 ≤ prefix_len is_content r.left)
 quote_by true r s q = quote_byte r s r.left refl q
 quote_by false r s q = absurd (none-some s q)
 
 -- after a block quote marker
-pub quote_keeps : (text : List ℕ) (line : ℕ) (r s : Rest) → IsUtf8 text → past_quote r ≡ Some s → IsPlaceOf text (place_at line r) → IsPlaceOf text (place_at line s)
+pub quote_keeps : (text : List ℕ) (line : ℕ) (r s : Rest)
+    → IsUtf8 text → past_quote r ≡ Some s → IsPlaceOf text (place_at line r) → IsPlaceOf text (place_at line s)
 quote_keeps text line r s u q i =
     let f = quote_by (r.owed == 0) r s q in
     subst (λ z. IsPlaceOf text (place_at line z)) (sym f.0) (ascii_keeps text (place_at line r) 0 u i f.1 f.2)
@@ -351,7 +381,8 @@ column_shorter (suc o) r s h =
     let n = ap (λ q. length q.left) e in
     omega arith
 
-shorter_step : (k : ℕ) (r : Rest) (o : Option Rest) → next_column r ≡ o → ((s : Rest) → length (after_columns k s).left ≤ length s.left) → length (after_columns (suc k) r).left ≤ length r.left
+shorter_step : (k : ℕ) (r : Rest) (o : Option Rest)
+    → next_column r ≡ o → ((s : Rest) → length (after_columns k s).left ≤ length s.left) → length (after_columns (suc k) r).left ≤ length r.left
 shorter_step k r None e f = let n = ap (λ q. length q.left) (after-none (suc k) r e) in omega arith
 shorter_step k r (Some s) e f =
     let n = ap (λ q. length q.left) (after-more (suc k) k r s refl e) in

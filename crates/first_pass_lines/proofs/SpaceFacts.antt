@@ -19,13 +19,15 @@ next_space r b bs l o first = rw o (rw l (rw first refl))
 
 pub spaces_by : (n : ℕ) (bs : List ℕ) (r : Rest) → r.left ≡ bs → r.owed ≡ 0 → n ≤ length bs → ((k : ℕ) → k < n → slice_index bs k ≡ 32)
     → (after_columns n r ≡ past_bytes n r) × (n ≤ indent r)
-spaces_by zero bs r l o within all = (rest_by r.left r.left r.taken (r.taken + 0) r.owed 0 r.column (r.column + 0) refl (omega arith) o (omega arith), omega arith)
+spaces_by zero bs r l o within all =
+    (rest_by r.left r.left r.taken (r.taken + 0) r.owed 0 r.column (r.column + 0) refl (omega arith) o (omega arith), omega arith)
 spaces_by (suc n) [] r l o within all = absurd (omega arith)
 spaces_by (suc n) (b ∷ bs) r l o within all =
     let s : Rest = past_byte r bs in
     let next = next_space r b bs l o (all 0 (omega arith)) in
     let ih = spaces_by n bs s refl refl (omega arith) (λ k low. all (suc k) (omega arith)) in (
       after-more (suc n) n r s refl next ∙ ih.0
-          ∙ rest_by (drop n bs) (drop (suc n) r.left) (r.taken + 1 + n) (r.taken + suc n) 0 0 (r.column + 1 + n) (r.column + suc n) (sym (ap (drop (suc n)) l)) (omega arith) refl (omega arith),
+          ∙ rest_by (drop n bs) (drop (suc n) r.left) (r.taken + 1 + n) (r.taken + suc n) 0 0 (r.column + 1 + n) (r.column + suc n) (sym (ap (drop (suc n)) l))
+          (omega arith) refl (omega arith),
       omega (arith, indent-some r s next, ih.1),
     )

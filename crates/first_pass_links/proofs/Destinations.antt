@@ -1,5 +1,6 @@
 -- Texts in brackets and runs, byte by byte.
-use Rattle.std.proofs.Common.{◌≡◌, ℕ, ◌+◌, ◌<◌, ◌≤◌, ◌==◌, nat_lt, Bool, true, false, List, [], ◌∷◌, length, drop, get_or, Option, Some, None, refl, sym, ap, subst, ◌∙◌, arith, length-drop, if◌then◌else◌}
+use Rattle.std.proofs.Common.{◌≡◌, ℕ, ◌+◌, ◌<◌, ◌≤◌, ◌==◌, nat_lt, Bool, true, false, List, [], ◌∷◌, length, drop, get_or, Option, Some, None, refl, sym, ap}
+use Rattle.std.proofs.Common.{subst, ◌∙◌, arith, length-drop, if◌then◌else◌}
 use Rattle.std.proofs.lemmas.Bool.{eqb-true, and_parts, le-ltb, lt-ltb}
 use Rattle.std.proofs.lemmas.Bool.Decides.{nat_tests}
 use Rattle.std.proofs.lemmas.List.{drop_more, drop-drop, drop_all, get_or-drop}
@@ -24,32 +25,38 @@ pub upto-stop : (stops : ℕ → Bool) (b : ℕ) (bs : List ℕ) → begins_esca
 unfolding unescaped_upto
 upto-stop stops b bs h s = rw (h, s)
 
-pub upto-byte : (stops : ℕ → Bool) (b : ℕ) (bs : List ℕ) → begins_escape (b ∷ bs) ≡ false → stops b ≡ false → unescaped_upto stops 0 (b ∷ bs) ≡ 1 + unescaped_upto stops 0 bs
+pub upto-byte : (stops : ℕ → Bool) (b : ℕ) (bs : List ℕ)
+    → begins_escape (b ∷ bs) ≡ false → stops b ≡ false → unescaped_upto stops 0 (b ∷ bs) ≡ 1 + unescaped_upto stops 0 bs
 unfolding unescaped_upto
 upto-byte stops b bs h s = rw (h, s)
 
-pub upto-escape : (stops : ℕ → Bool) (b p : ℕ) (bs : List ℕ) → begins_escape (b ∷ p ∷ bs) ≡ true → unescaped_upto stops 0 (b ∷ p ∷ bs) ≡ 2 + unescaped_upto stops 0 bs
+pub upto-escape : (stops : ℕ → Bool) (b p : ℕ) (bs : List ℕ)
+    → begins_escape (b ∷ p ∷ bs) ≡ true → unescaped_upto stops 0 (b ∷ p ∷ bs) ≡ 2 + unescaped_upto stops 0 bs
 unfolding unescaped_upto
 upto-escape stops b p bs h = rw h (omega arith)
 
 -- one unit on: an escape, or a byte that does not stop
-upto_unit_by : (t : Bool) (stops : ℕ → Bool) (bs : List ℕ) → begins_escape bs ≡ t → 0 < length bs → stops (get_or bs 0 0) ≡ false → unescaped_upto stops 0 bs ≡ (if t then 2 else 1) + unescaped_upto stops 0 (drop (if t then 2 else 1) bs)
+upto_unit_by : (t : Bool) (stops : ℕ → Bool) (bs : List ℕ) → begins_escape bs ≡ t → 0 < length bs → stops (get_or bs 0 0) ≡ false
+    → unescaped_upto stops 0 bs ≡ (if t then 2 else 1) + unescaped_upto stops 0 (drop (if t then 2 else 1) bs)
 upto_unit_by t stops [] h l s = absurd (omega arith)
 upto_unit_by true stops (b ∷ []) h l s = let z = second b [] h in absurd (omega arith)
 upto_unit_by true stops (b ∷ p ∷ bs) h l s = upto-escape stops b p bs h
 upto_unit_by false stops (b ∷ bs) h l s = upto-byte stops b bs h s
 
-pub upto_unit : (stops : ℕ → Bool) (bs : List ℕ) (at n : ℕ) → at < length bs → n ≡ (if begins_escape (drop at bs) then 2 else 1) → stops (get_or bs at 0) ≡ false → at + n + unescaped_upto stops 0 (drop (at + n) bs) ≡ at + unescaped_upto stops 0 (drop at bs)
+pub upto_unit : (stops : ℕ → Bool) (bs : List ℕ) (at n : ℕ) → at < length bs → n ≡ (if begins_escape (drop at bs) then 2 else 1)
+    → stops (get_or bs at 0) ≡ false → at + n + unescaped_upto stops 0 (drop (at + n) bs) ≡ at + unescaped_upto stops 0 (drop at bs)
 upto_unit stops bs at n l e s =
     let d = drop_more bs at 0 l in
     let s' : stops (get_or (drop at bs) 0 0) ≡ false = ap (λ xs. stops (get_or xs 0 0)) d ∙ s in
     let k = ap length d in
     let u = upto_unit_by _ stops (drop at bs) refl (omega arith) s' in
-    let v : unescaped_upto stops 0 (drop at bs) ≡ n + unescaped_upto stops 0 (drop n (drop at bs)) = u ∙ ap (λ m. m + unescaped_upto stops 0 (drop m (drop at bs))) (sym e) in
+    let v : unescaped_upto stops 0 (drop at bs) ≡ n + unescaped_upto stops 0 (drop n (drop at bs)) =
+    u ∙ ap (λ m. m + unescaped_upto stops 0 (drop m (drop at bs))) (sym e) in
     let w = ap (unescaped_upto stops 0) (drop-drop n at bs) in
     omega arith
 
-pub upto_stopped : (stops : ℕ → Bool) (bs : List ℕ) (at : ℕ) → at < length bs → stops (get_or bs at 0) ≡ true → (get_or bs at 0 == 92) ≡ false → unescaped_upto stops 0 (drop at bs) ≡ 0
+pub upto_stopped : (stops : ℕ → Bool) (bs : List ℕ) (at : ℕ)
+    → at < length bs → stops (get_or bs at 0) ≡ true → (get_or bs at 0 == 92) ≡ false → unescaped_upto stops 0 (drop at bs) ≡ 0
 upto_stopped stops bs at l s h =
     ap (unescaped_upto stops 0) (drop_more bs at 0 l) ∙ upto-stop stops (get_or bs at 0) (drop (at + 1) bs) (rw h) s
 
@@ -65,7 +72,8 @@ pub run-end : (deepest nesting b : ℕ) (bs : List ℕ) → ends_run b ≡ true 
 unfolding run_len
 run-end deepest nesting b bs h = rw h
 
-pub run-escape : (deepest nesting b p : ℕ) (bs : List ℕ) → ends_run b ≡ false → begins_escape (b ∷ p ∷ bs) ≡ true → run_len deepest nesting 0 (b ∷ p ∷ bs) ≡ longer 1 (longer 1 (run_len deepest nesting 0 bs))
+pub run-escape : (deepest nesting b p : ℕ) (bs : List ℕ)
+    → ends_run b ≡ false → begins_escape (b ∷ p ∷ bs) ≡ true → run_len deepest nesting 0 (b ∷ p ∷ bs) ≡ longer 1 (longer 1 (run_len deepest nesting 0 bs))
 unfolding run_len
 run-escape deepest nesting b p bs h h' = rw (h, h')
 
@@ -77,11 +85,13 @@ run-unopened deepest nesting b bs h =
     let k : begins_escape (b ∷ bs) ≡ false = rw (eqb-true b 41 p.0) in
     rw (e, k, h)
 
-pub run-deep : (deepest nesting b : ℕ) (bs : List ℕ) → ends_run b ≡ false → begins_escape (b ∷ bs) ≡ false → closes_none b nesting ≡ false → nat_lt deepest (nesting_behind b nesting) ≡ true → run_len deepest nesting 0 (b ∷ bs) ≡ None
+pub run-deep : (deepest nesting b : ℕ) (bs : List ℕ) → ends_run b ≡ false → begins_escape (b ∷ bs) ≡ false → closes_none b nesting ≡ false
+    → nat_lt deepest (nesting_behind b nesting) ≡ true → run_len deepest nesting 0 (b ∷ bs) ≡ None
 unfolding run_len
 run-deep deepest nesting b bs h i j k = rw (h, i, j, k)
 
-pub run-byte : (deepest nesting b : ℕ) (bs : List ℕ) → ends_run b ≡ false → begins_escape (b ∷ bs) ≡ false → closes_none b nesting ≡ false → nat_lt deepest (nesting_behind b nesting) ≡ false → run_len deepest nesting 0 (b ∷ bs) ≡ longer 1 (run_len deepest (nesting_behind b nesting) 0 bs)
+pub run-byte : (deepest nesting b : ℕ) (bs : List ℕ) → ends_run b ≡ false → begins_escape (b ∷ bs) ≡ false → closes_none b nesting ≡ false
+    → nat_lt deepest (nesting_behind b nesting) ≡ false → run_len deepest nesting 0 (b ∷ bs) ≡ longer 1 (run_len deepest (nesting_behind b nesting) 0 bs)
 unfolding run_len
 run-byte deepest nesting b bs h i j k = rw (h, i, j, k)
 
@@ -89,40 +99,53 @@ backslash_nests : (b nesting : ℕ) (bs : List ℕ) → begins_escape (b ∷ bs)
 backslash_nests b nesting bs h = rw (eqb-true b 92 (and_parts _ _ h).0)
 
 -- one unit on: an escape, or a byte
-run_unit_by : (t : Bool) (deepest nesting b : ℕ) (bs : List ℕ) → begins_escape (b ∷ bs) ≡ t → ends_run b ≡ false → closes_none b nesting ≡ false → nat_lt deepest (nesting_behind b nesting) ≡ false
+run_unit_by : (t : Bool) (deepest nesting b : ℕ) (bs : List ℕ)
+    → begins_escape (b ∷ bs) ≡ t → ends_run b ≡ false → closes_none b nesting ≡ false → nat_lt deepest (nesting_behind b nesting) ≡ false
     → run_len deepest nesting 0 (b ∷ bs) ≡ longer (if t then 2 else 1) (run_len deepest (nesting_behind b nesting) 0 (drop (if t then 2 else 1) (b ∷ bs)))
 run_unit_by true deepest nesting b [] h e u n = let z = second b [] h in absurd (omega arith)
 run_unit_by true deepest nesting b (p ∷ bs) h e u n =
-    run-escape deepest nesting b p bs e h ∙ longer-longer 1 1 (run_len deepest nesting 0 bs) ∙ ap (λ k. longer 2 (run_len deepest k 0 bs)) (sym (backslash_nests b nesting (p ∷ bs) h))
+    run-escape deepest nesting b p bs e h ∙ longer-longer 1 1 (run_len deepest nesting 0 bs)
+    ∙ ap (λ k. longer 2 (run_len deepest k 0 bs)) (sym (backslash_nests b nesting (p ∷ bs) h))
 run_unit_by false deepest nesting b bs h e u n = run-byte deepest nesting b bs e h u n
 
-pub run_unit : (deepest nesting : ℕ) (bs : List ℕ) (at n : ℕ) → at < length bs → n ≡ (if begins_escape (drop at bs) then 2 else 1) → ends_run (get_or bs at 0) ≡ false → closes_none (get_or bs at 0) nesting ≡ false → nesting_behind (get_or bs at 0) nesting ≤ deepest
+pub run_unit : (deepest nesting : ℕ) (bs : List ℕ) (at n : ℕ) → at < length bs → n ≡ (if begins_escape (drop at bs) then 2 else 1)
+    → ends_run (get_or bs at 0) ≡ false → closes_none (get_or bs at 0) nesting ≡ false → nesting_behind (get_or bs at 0) nesting ≤ deepest
     → longer (at + n) (run_len deepest (nesting_behind (get_or bs at 0) nesting) 0 (drop (at + n) bs)) ≡ longer at (run_len deepest nesting 0 (drop at bs))
 run_unit deepest nesting bs at n l e s u i =
     let b = get_or bs at 0 in
     let behind = nesting_behind b nesting in
     let d = drop_more bs at 0 l in
     let x = run_unit_by _ deepest nesting b (drop (at + 1) bs) refl s u (le-ltb _ _ i) in
-    let v : run_len deepest nesting 0 (drop at bs) ≡ longer (if begins_escape (drop at bs) then 2 else 1) (run_len deepest behind 0 (drop (if begins_escape (drop at bs) then 2 else 1) (drop at bs))) =
-    subst (λ xs. run_len deepest nesting 0 xs ≡ longer (if begins_escape xs then 2 else 1) (run_len deepest behind 0 (drop (if begins_escape xs then 2 else 1) xs))) (sym d) x
+    let v : run_len deepest nesting 0 (drop at bs)
+    ≡ longer (if begins_escape (drop at bs) then 2 else 1) (run_len deepest behind 0 (drop (if begins_escape (drop at bs) then 2 else 1) (drop at bs))) =
+    subst (λ xs.
+    run_len deepest nesting 0 xs ≡ longer (if begins_escape xs then 2 else 1) (run_len deepest behind 0 (drop (if begins_escape xs then 2 else 1) xs)))
+    (sym d) x
     in
     let w : run_len deepest nesting 0 (drop at bs) ≡ longer n (run_len deepest behind 0 (drop n (drop at bs))) =
     v ∙ ap (λ m. longer m (run_len deepest behind 0 (drop m (drop at bs)))) (sym e)
     in
-    sym (ap (longer at) w ∙ longer-longer at n (run_len deepest behind 0 (drop n (drop at bs))) ∙ ap (λ xs. longer (at + n) (run_len deepest behind 0 xs)) (drop-drop n at bs))
+    sym (ap (longer at) w ∙ longer-longer at n (run_len deepest behind 0 (drop n (drop at bs)))
+    ∙ ap (λ xs. longer (at + n) (run_len deepest behind 0 xs)) (drop-drop n at bs))
 
 -- what stops a run
-deep_by : (t : Bool) (deepest nesting b : ℕ) (bs : List ℕ) → begins_escape (b ∷ bs) ≡ t → ends_run b ≡ false → closes_none b nesting ≡ false → nesting ≤ deepest → deepest < nesting_behind b nesting → run_len deepest nesting 0 (b ∷ bs) ≡ None
+deep_by : (t : Bool) (deepest nesting b : ℕ) (bs : List ℕ) → begins_escape (b ∷ bs) ≡ t → ends_run b ≡ false → closes_none b nesting ≡ false → nesting ≤ deepest
+    → deepest < nesting_behind b nesting → run_len deepest nesting 0 (b ∷ bs) ≡ None
 deep_by true deepest nesting b bs h e u i s = let z = backslash_nests b nesting bs h in absurd (omega arith)
 deep_by false deepest nesting b bs h e u i s = run-deep deepest nesting b bs e h u (lt-ltb _ _ s)
 
-pub run_deep : (deepest nesting : ℕ) (bs : List ℕ) (at : ℕ) → at < length bs → ends_run (get_or bs at 0) ≡ false → closes_none (get_or bs at 0) nesting ≡ false → nesting ≤ deepest → deepest < nesting_behind (get_or bs at 0) nesting → run_len deepest nesting 0 (drop at bs) ≡ None
-run_deep deepest nesting bs at l e u i s = ap (run_len deepest nesting 0) (drop_more bs at 0 l) ∙ deep_by _ deepest nesting (get_or bs at 0) (drop (at + 1) bs) refl e u i s
+pub run_deep : (deepest nesting : ℕ) (bs : List ℕ) (at : ℕ) → at < length bs → ends_run (get_or bs at 0) ≡ false → closes_none (get_or bs at 0) nesting ≡ false
+    → nesting ≤ deepest → deepest < nesting_behind (get_or bs at 0) nesting → run_len deepest nesting 0 (drop at bs) ≡ None
+run_deep deepest nesting bs at l e u i s =
+    ap (run_len deepest nesting 0) (drop_more bs at 0 l) ∙ deep_by _ deepest nesting (get_or bs at 0) (drop (at + 1) bs) refl e u i s
 
-pub run_unopened : (deepest nesting : ℕ) (bs : List ℕ) (at : ℕ) → at < length bs → closes_none (get_or bs at 0) nesting ≡ true → run_len deepest nesting 0 (drop at bs) ≡ Some 0
-run_unopened deepest nesting bs at l e = ap (run_len deepest nesting 0) (drop_more bs at 0 l) ∙ run-unopened deepest nesting (get_or bs at 0) (drop (at + 1) bs) e
+pub run_unopened : (deepest nesting : ℕ) (bs : List ℕ) (at : ℕ)
+    → at < length bs → closes_none (get_or bs at 0) nesting ≡ true → run_len deepest nesting 0 (drop at bs) ≡ Some 0
+run_unopened deepest nesting bs at l e =
+    ap (run_len deepest nesting 0) (drop_more bs at 0 l) ∙ run-unopened deepest nesting (get_or bs at 0) (drop (at + 1) bs) e
 
-pub run_stopped : (deepest nesting : ℕ) (bs : List ℕ) (at : ℕ) → at < length bs → ends_run (get_or bs at 0) ≡ true → run_len deepest nesting 0 (drop at bs) ≡ if_closed nesting
+pub run_stopped : (deepest nesting : ℕ) (bs : List ℕ) (at : ℕ)
+    → at < length bs → ends_run (get_or bs at 0) ≡ true → run_len deepest nesting 0 (drop at bs) ≡ if_closed nesting
 run_stopped deepest nesting bs at l e = ap (run_len deepest nesting 0) (drop_more bs at 0 l) ∙ run-end deepest nesting (get_or bs at 0) (drop (at + 1) bs) e
 
 pub run_ended : (deepest nesting : ℕ) (bs : List ℕ) (at : ℕ) → length bs ≤ at → run_len deepest nesting 0 (drop at bs) ≡ if_closed nesting

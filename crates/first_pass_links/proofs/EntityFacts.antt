@@ -1,5 +1,6 @@
 -- What a reference is made of: it has no backslash, ends with `;` and has more bytes than its character.
-use Rattle.std.proofs.Common.{◌≡◌, ◌⊎◌, inl, inr, ℕ, suc, ◌+◌, ◌-◌, ◌<◌, ◌≤◌, ◌==◌, ◌&&◌, nat_le, not, Bool, true, false, List, [], ◌∷◌, length, take, drop, get_or, Option, Some, None, refl, sym, ap, subst, ◌∙◌, arith, codes, if◌then◌else◌}
+use Rattle.std.proofs.Common.{◌≡◌, ◌⊎◌, inl, inr, ℕ, suc, ◌+◌, ◌-◌, ◌<◌, ◌≤◌, ◌==◌, ◌&&◌, nat_le, not, Bool, true, false, List, [], ◌∷◌, length, take, drop}
+use Rattle.std.proofs.Common.{get_or, Option, Some, None, refl, sym, ap, subst, ◌∙◌, arith, codes, if◌then◌else◌}
 use Rattle.std.specs.Option.{option_map, option_or}
 use Rattle.std.specs.List.{prefix_len}
 use Rattle.std.specs.Str.{bytes_eq}
@@ -38,7 +39,9 @@ plain_from : (p : ℕ → Bool) → p 92 ≡ false → (b : ℕ) → p b ≡ tru
 plain_from p q b h true e = absurd (false≢true (sym q ∙ ap p (sym (eqb-true b 92 e)) ∙ h))
 plain_from p q b h false e = rw e
 
-plain_by : (p : ℕ → Bool) → p 92 ≡ false → (t : Bool) (b : ℕ) (bs : List ℕ) → p b ≡ t → prefix_len p bs + prefix_len is_plain (drop (prefix_len p bs) bs) ≡ prefix_len is_plain bs → prefix_len p (b ∷ bs) + prefix_len is_plain (drop (prefix_len p (b ∷ bs)) (b ∷ bs)) ≡ prefix_len is_plain (b ∷ bs)
+plain_by : (p : ℕ → Bool)
+    → p 92 ≡ false → (t : Bool) (b : ℕ) (bs : List ℕ) → p b ≡ t → prefix_len p bs + prefix_len is_plain (drop (prefix_len p bs) bs) ≡ prefix_len is_plain bs
+    → prefix_len p (b ∷ bs) + prefix_len is_plain (drop (prefix_len p (b ∷ bs)) (b ∷ bs)) ≡ prefix_len is_plain (b ∷ bs)
 plain_by p q true b bs h i =
     let k : ℕ = prefix_len p bs in
     let e : prefix_len p (b ∷ bs) ≡ suc k = rw h (omega arith) in
@@ -122,7 +125,8 @@ pub record IsShortName (name : List ℕ) (c : ℕ) : Type 0 where
   pub some : 2 ≤ length name
   pub short : len_utf8 c ≤ 3
 
-name_case : (t : Bool) (text name : List ℕ) (v c : ℕ) (rest : Option ℕ) → bytes_eq name text ≡ t → 2 ≤ length text → len_utf8 v ≤ 3 → (rest ≡ Some c → IsShortName name c) → (if t then Some v else rest) ≡ Some c → IsShortName name c
+name_case : (t : Bool) (text name : List ℕ) (v c : ℕ) (rest : Option ℕ) → bytes_eq name text ≡ t → 2 ≤ length text → len_utf8 v ≤ 3
+    → (rest ≡ Some c → IsShortName name c) → (if t then Some v else rest) ≡ Some c → IsShortName name c
 name_case true text name v c rest h some short f e =
     let same : length name ≡ length text = grind (arith, common_steps, h) in
     let d : v ≡ c = cc in
@@ -156,7 +160,8 @@ punctuation_facts name c e =
     (name_case _ (codes "mdash") name 0x2014 c _ refl (omega arith) (omega arith)
     (name_case _ (codes "ndash") name 0x2013 c _ refl (omega arith) (omega arith) (no_name name c))) e
 
-named_by : (name : List ℕ) (c : ℕ) (x s p : Option ℕ) → (x ≡ Some c → IsShortName name c) → (s ≡ Some c → IsShortName name c) → (p ≡ Some c → IsShortName name c) → option_or x (option_or s p) ≡ Some c → IsShortName name c
+named_by : (name : List ℕ) (c : ℕ) (x s p : Option ℕ) → (x ≡ Some c → IsShortName name c) → (s ≡ Some c → IsShortName name c)
+    → (p ≡ Some c → IsShortName name c) → option_or x (option_or s p) ≡ Some c → IsShortName name c
 named_by name c (Some v) s p f g h e = f e
 named_by name c None (Some v) p f g h e = g e
 named_by name c None None p f g h e = h e
@@ -194,7 +199,8 @@ above : (n l : ℕ) → 2 ≤ n → l ≤ 4 → (n ≡ 2 → l ≤ 3) → (2 < n
 above n l some four short (inl more) = omega arith
 above n l some four short (inr two) = let s = short (omega arith) in omega arith
 
-numeric_by : (t u : Bool) (bs : List ℕ) (n c : ℕ) → begins 120 bs ≡ t → begins 88 bs ≡ u → numeric_at bs ≡ Some (n, c) → EndsReference bs n × (len_utf8 c < 2 + n)
+numeric_by : (t u : Bool) (bs : List ℕ) (n c : ℕ)
+    → begins 120 bs ≡ t → begins 88 bs ≡ u → numeric_at bs ≡ Some (n, c) → EndsReference bs n × (len_utf8 c < 2 + n)
 unfolding numeric_at
 numeric_by true u bs n c h h' e =
     let b = behind_some 1 n c _ (rw h at e) in
@@ -224,7 +230,8 @@ entity_by true true bs n c h h' e =
     let k = a.2 in
     let m = b.2 in
     record {
-      ends = subst (EndsReference bs) (sym k) (one_more 0 38 a.0 bs h refl (subst (EndsReference (drop 1 bs)) (sym m) (one_more 0 35 b.0 (drop 1 bs) h' refl f.0)));
+      ends = subst (EndsReference bs) (sym k)
+          (one_more 0 38 a.0 bs h refl (subst (EndsReference (drop 1 bs)) (sym m) (one_more 0 35 b.0 (drop 1 bs) h' refl f.0)));
       shorter = omega arith;
     }
 entity_by true false bs n c h h' e =

@@ -1,5 +1,7 @@
 -- Unescaped texts, change by change.
-use Rattle.std.proofs.Common.{◌≡◌, ◌⊎◌, inl, inr, ℕ, zero, suc, ◌+◌, ◌-◌, ◌<◌, ◌≤◌, ◌==◌, ◌&&◌, Bool, true, false, List, [], ◌∷◌, ◌++◌, length, take, drop, get_or, slice_index, encode_utf8, Option, Some, None, refl, sym, ap, subst, ◌∙◌, arith, append_assoc, length-append, length-drop, IsUtf8}
+use Rattle.std.proofs.Common.{◌≡◌, ◌⊎◌, inl, inr, ℕ, zero, suc, ◌+◌, ◌-◌, ◌<◌, ◌≤◌, ◌==◌, ◌&&◌, Bool, true, false, List, [], ◌∷◌, ◌++◌, length, take, drop}
+use Rattle.std.proofs.Common.{get_or, slice_index, encode_utf8, Option, Some, None, refl, sym, ap, subst, ◌∙◌, arith, append_assoc, length-append, length-drop}
+use Rattle.std.proofs.Common.{IsUtf8}
 use Rattle.std.specs.List.{prefix_len}
 use Rattle.std.specs.Char.{is_ascii_punctuation}
 use Rattle.std.specs.Str.{IsCharBoundary}
@@ -45,13 +47,15 @@ behind_plain : (b : ℕ) (bs : List ℕ) → replaced_at (b ∷ bs) ≡ None →
 unfolding unescaped_behind
 behind_plain b bs h = rw h
 
-behind_changed : (b n c : ℕ) (bs : List ℕ) → replaced_at (b ∷ bs) ≡ Some (suc n, c) → unescaped_behind 0 (b ∷ bs) ≡ encode_utf8 c ++ unescaped_behind 0 (drop n bs)
+behind_changed : (b n c : ℕ) (bs : List ℕ)
+    → replaced_at (b ∷ bs) ≡ Some (suc n, c) → unescaped_behind 0 (b ∷ bs) ≡ encode_utf8 c ++ unescaped_behind 0 (drop n bs)
 unfolding unescaped_behind
 behind_changed b n c bs h =
     let e : suc n - 1 ≡ n = omega arith in
     rw h (ap (λ k. encode_utf8 c ++ unescaped_behind k bs) e ∙ ap (λ xs. encode_utf8 c ++ xs) (skipped n bs))
 
-changed_at : (n c : ℕ) (bs : List ℕ) → 0 < length bs → 0 < n → replaced_at bs ≡ Some (n, c) → unescaped_behind 0 bs ≡ encode_utf8 c ++ unescaped_behind 0 (drop n bs)
+changed_at : (n c : ℕ) (bs : List ℕ)
+    → 0 < length bs → 0 < n → replaced_at bs ≡ Some (n, c) → unescaped_behind 0 bs ≡ encode_utf8 c ++ unescaped_behind 0 (drop n bs)
 changed_at n c [] l s h = absurd (omega arith)
 changed_at zero c (b ∷ bs) l s h = absurd (omega arith)
 changed_at (suc n) c (b ∷ bs) l s h = behind_changed b n c bs h
@@ -84,17 +88,22 @@ cell_pipe_escape bs =
     let e : without_pipe_escapes (92 ∷ 92 ∷ 124 ∷ bs) ≡ 92 ∷ 124 ∷ without_pipe_escapes bs =
     cell-kept 92 (92 ∷ 124 ∷ bs) refl ∙ ap (λ xs. 92 ∷ xs) (cell-dropped 92 (124 ∷ bs) refl refl ∙ pipe_behind (124 ∷ bs) refl)
     in
-    ap (unescaped_behind 0) e ∙ behind_changed 92 1 124 (124 ∷ without_pipe_escapes bs) (escape_at 124 (without_pipe_escapes bs) refl) ∙ ap (λ xs. xs ++ unescaped true bs) (encode_ascii 124 (omega arith))
+    ap (unescaped_behind 0) e ∙ behind_changed 92 1 124 (124 ∷ without_pipe_escapes bs) (escape_at 124 (without_pipe_escapes bs) refl)
+    ∙ ap (λ xs. xs ++ unescaped true bs) (encode_ascii 124 (omega arith))
 
 cell_pipe : (bs : List ℕ) → unescaped true (92 ∷ 124 ∷ bs) ≡ 124 ∷ unescaped true bs
 cell_pipe bs =
-    ap (unescaped_behind 0) (cell-dropped 92 (124 ∷ bs) refl refl ∙ pipe_behind (124 ∷ bs) refl) ∙ behind_plain 124 (without_pipe_escapes bs) (no_replacement 124 (without_pipe_escapes bs) refl refl)
+    ap (unescaped_behind 0) (cell-dropped 92 (124 ∷ bs) refl refl ∙ pipe_behind (124 ∷ bs) refl)
+    ∙ behind_plain 124 (without_pipe_escapes bs) (no_replacement 124 (without_pipe_escapes bs) refl refl)
 
-cell_escape_by : (p : ℕ) (bs : List ℕ) → is_ascii_punctuation p ≡ true → p < 128 → without_pipe_escapes (92 ∷ p ∷ bs) ≡ 92 ∷ p ∷ without_pipe_escapes bs → unescaped true (92 ∷ p ∷ bs) ≡ p ∷ unescaped true bs
+cell_escape_by : (p : ℕ) (bs : List ℕ) → is_ascii_punctuation p ≡ true → p < 128 → without_pipe_escapes (92 ∷ p ∷ bs) ≡ 92 ∷ p ∷ without_pipe_escapes bs
+    → unescaped true (92 ∷ p ∷ bs) ≡ p ∷ unescaped true bs
 cell_escape_by p bs h l e =
-    ap (unescaped_behind 0) e ∙ behind_changed 92 1 p (p ∷ without_pipe_escapes bs) (escape_at p (without_pipe_escapes bs) h) ∙ ap (λ xs. xs ++ unescaped true bs) (encode_ascii p l)
+    ap (unescaped_behind 0) e ∙ behind_changed 92 1 p (p ∷ without_pipe_escapes bs) (escape_at p (without_pipe_escapes bs) h)
+    ∙ ap (λ xs. xs ++ unescaped true bs) (encode_ascii p l)
 
-cell_escape : (t u : Bool) (p : ℕ) (bs : List ℕ) → (p == 124) ≡ t → (p == 92) ≡ u → is_ascii_punctuation p ≡ true → p < 128 → (p == 92) && begins 124 bs ≡ false → unescaped true (92 ∷ p ∷ bs) ≡ p ∷ unescaped true bs
+cell_escape : (t u : Bool) (p : ℕ) (bs : List ℕ) → (p == 124) ≡ t → (p == 92) ≡ u → is_ascii_punctuation p ≡ true → p < 128 → (p == 92) && begins 124 bs ≡ false
+    → unescaped true (92 ∷ p ∷ bs) ≡ p ∷ unescaped true bs
 cell_escape true u p bs h h' i l k =
     let e = eqb-true p 124 h in
     subst (λ x. unescaped true (92 ∷ x ∷ bs) ≡ x ∷ unescaped true bs) (sym e) (cell_pipe bs)
@@ -142,7 +151,8 @@ escape_parts [] h = cc
 escape_parts (b ∷ []) h = absurd (grind (arith, nat_tests, h))
 escape_parts (b ∷ p ∷ bs) h = let q = and_parts _ _ h in ap (λ x. x ∷ p ∷ bs) (eqb-true b 92 q.0)
 
-escape_from : (t : Bool) (bs : List ℕ) (n c : ℕ) → begins_escape bs ≡ true → (t && begins_pipe_escape bs) ≡ false → 2 ≡ n → slice_index bs 1 ≡ c → Changes t bs n c
+escape_from : (t : Bool) (bs : List ℕ) (n c : ℕ)
+    → begins_escape bs ≡ true → (t && begins_pipe_escape bs) ≡ false → 2 ≡ n → slice_index bs 1 ≡ c → Changes t bs n c
 escape_from t bs n c h k e f =
     let p = escape_parts bs h in
     let i : is_ascii_punctuation (slice_index bs 1) ≡ true = (and_parts _ _ h).1 in
@@ -206,7 +216,8 @@ cell_entity (b ∷ bs) n c h q =
     entity_replaced (without_pipe_escapes (b ∷ bs)) (ap begins_escape e ∙ k) ∙ entity_at-cell (b ∷ bs) ∙ h
     in
     let l = ap length e in
-    changed_at n c (without_pipe_escapes (b ∷ bs)) (omega arith) some z ∙ ap (λ xs. encode_utf8 c ++ unescaped_behind 0 xs) (drop-without_pipe_escapes n (b ∷ bs) plain)
+    changed_at n c (without_pipe_escapes (b ∷ bs)) (omega arith) some z
+    ∙ ap (λ xs. encode_utf8 c ++ unescaped_behind 0 xs) (drop-without_pipe_escapes n (b ∷ bs) plain)
 
 entity_changes : (t : Bool) (bs : List ℕ) (n c : ℕ) → begins_escape bs ≡ false → entity_at bs ≡ Some (n, c) → Changes t bs n c
 entity_changes true bs n c q h = record { shorter = entity_shorter bs n c h; changed = cell_entity bs n c h q }
@@ -235,13 +246,15 @@ pub changes : (t : Bool) (bs : List ℕ) (n c : ℕ) → change_at t bs ≡ Some
 changes t bs n c e = change_by t _ _ bs n c refl refl e
 
 -- no change
-second_kept : (bs : List ℕ) → is_ascii_punctuation (slice_index bs 0) ≡ false → (begins 124 bs ≡ false) × (slice_index (without_pipe_escapes bs) 0 ≡ slice_index bs 0)
+second_kept : (bs : List ℕ)
+    → is_ascii_punctuation (slice_index bs 0) ≡ false → (begins 124 bs ≡ false) × (slice_index (without_pipe_escapes bs) 0 ≡ slice_index bs 0)
 second_kept [] h = (refl, ap (λ xs. slice_index xs 0) cell-nil)
 second_kept (b ∷ bs) h =
     let e : (b == 92) ≡ false = grind (arith, nat_tests, h) in
     (grind (arith, nat_tests, h), ap (λ xs. slice_index xs 0) (cell-other b bs e))
 
-cell_plain : (t : Bool) (b : ℕ) (bs : List ℕ) → (b == 92) ≡ t → begins_escape (b ∷ bs) ≡ false → entity_at (b ∷ bs) ≡ None → unescaped true (b ∷ bs) ≡ b ∷ unescaped true bs
+cell_plain : (t : Bool) (b : ℕ) (bs : List ℕ)
+    → (b == 92) ≡ t → begins_escape (b ∷ bs) ≡ false → entity_at (b ∷ bs) ≡ None → unescaped true (b ∷ bs) ≡ b ∷ unescaped true bs
 cell_plain false b bs h q e =
     let w = cell-other b bs h in
     let k : begins_escape (b ∷ without_pipe_escapes bs) ≡ false = rw h in
@@ -259,7 +272,8 @@ cell_plain true b bs h q e =
     in
     ap (unescaped_behind 0) w ∙ behind_plain b (without_pipe_escapes bs) z
 
-plain_byte_by : (t u v : Bool) (b : ℕ) (bs : List ℕ) → (t && begins_pipe_escape (b ∷ bs)) ≡ u → begins_escape (b ∷ bs) ≡ v → change_at t (b ∷ bs) ≡ None → unescaped t (b ∷ bs) ≡ b ∷ unescaped t bs
+plain_byte_by : (t u v : Bool) (b : ℕ) (bs : List ℕ)
+    → (t && begins_pipe_escape (b ∷ bs)) ≡ u → begins_escape (b ∷ bs) ≡ v → change_at t (b ∷ bs) ≡ None → unescaped t (b ∷ bs) ≡ b ∷ unescaped t bs
 unfolding change_at replaced_at
 plain_byte_by t true v b bs h h' e = let z : Some (3, 124) ≡ None = rw h at e in absurd (none-some (3, 124) (sym z))
 plain_byte_by t false true b bs h h' e = let z : Some (2, slice_index bs 0) ≡ None = rw (h, h') at e in absurd (none-some (2, slice_index bs 0) (sym z))
@@ -275,7 +289,8 @@ unescaped-nil true = refl
 unescaped-nil false = refl
 
 -- nothing gets longer
-shrinks_by : (t : Bool) (k b : ℕ) (bs : List ℕ) (o : Option (ℕ × ℕ)) → change_at t (b ∷ bs) ≡ o → length bs ≤ k → ((xs : List ℕ) → length xs ≤ k → length (unescaped t xs) ≤ length xs) → length (unescaped t (b ∷ bs)) ≤ suc (length bs)
+shrinks_by : (t : Bool) (k b : ℕ) (bs : List ℕ) (o : Option (ℕ × ℕ)) → change_at t (b ∷ bs) ≡ o → length bs ≤ k
+    → ((xs : List ℕ) → length xs ≤ k → length (unescaped t xs) ≤ length xs) → length (unescaped t (b ∷ bs)) ≤ suc (length bs)
 shrinks_by t k b bs None e l f =
     let i = ap length (plain_byte t b bs e) in
     let r = f bs l in
@@ -305,7 +320,8 @@ kept_none t text from l =
     let e : from - from ≡ 0 = omega arith in
     record { order = omega arith; within = l; kept = rw e }
 
-pub kept_more : (t : Bool) (text : List ℕ) (from at : ℕ) → IsKept t text from at → at < length text → change_at t (drop at text) ≡ None → IsKept t text from (at + 1)
+pub kept_more : (t : Bool) (text : List ℕ) (from at : ℕ)
+    → IsKept t text from at → at < length text → change_at t (drop at text) ≡ None → IsKept t text from (at + 1)
 kept_more t text from at i l e =
     let order = i.order in
     let d = drop_more text at 0 l in
@@ -330,7 +346,8 @@ plain_at t b bs f true v h h' = absurd (f (rw h))
 plain_at t b bs f false true h h' = absurd (f (rw (h, h')))
 plain_at t b bs f false false h h' = no_change t b bs h h'
 
-pub kept_run : (t : Bool) (text : List ℕ) (from at k : ℕ) → IsKept t text from at → at + k ≤ length text → ((j : ℕ) → j < k → is_byte2 92 38 (get_or (drop at text) j 0) ≡ true → ⊥) → IsKept t text from (at + k)
+pub kept_run : (t : Bool) (text : List ℕ) (from at k : ℕ)
+    → IsKept t text from at → at + k ≤ length text → ((j : ℕ) → j < k → is_byte2 92 38 (get_or (drop at text) j 0) ≡ true → ⊥) → IsKept t text from (at + k)
 kept_run t text from at zero i l f = let e : at + 0 ≡ at = omega arith in rw e i
 kept_run t text from at (suc k) i l f =
     let r = kept_run t text from at k i (omega arith) (λ j h. f j (omega arith)) in
@@ -340,7 +357,8 @@ kept_run t text from at (suc k) i l f =
     let s : at + suc k ≡ at + k + 1 = omega arith in
     rw s (kept_more t text from (at + k) r (omega arith) (ap (change_at t) d ∙ p))
 
-pub change_here : (t : Bool) (text : List ℕ) (from at n c : ℕ) → IsKept t text from at → change_at t (drop at text) ≡ Some (n, c) → IsChange t text from (at, n, c)
+pub change_here : (t : Bool) (text : List ℕ) (from at n c : ℕ)
+    → IsKept t text from at → change_at t (drop at text) ≡ Some (n, c) → IsChange t text from (at, n, c)
 change_here t text from at n c i e =
     let x = changes t (drop at text) n c e in
     let some = x.shorter.some in
@@ -366,7 +384,8 @@ pub kept_all : (t : Bool) (text : List ℕ) (from at : ℕ) → IsKept t text fr
 kept_all t text from at i e =
     let d = length-drop from text in
     let none : drop at text ≡ [] = drop_all at text (omega arith) in
-    i.kept ∙ ap (λ xs. take (at - from) (drop from text) ++ unescaped t xs) none ∙ ap (λ xs. take (at - from) (drop from text) ++ xs) (unescaped-nil t) ∙ append-nil (take (at - from) (drop from text)) ∙ take_all (at - from) (drop from text) (omega arith)
+    i.kept ∙ ap (λ xs. take (at - from) (drop from text) ++ unescaped t xs) none ∙ ap (λ xs. take (at - from) (drop from text) ++ xs) (unescaped-nil t)
+    ∙ append-nil (take (at - from) (drop from text)) ∙ take_all (at - from) (drop from text) (omega arith)
 
 -- what is written
 pub written_none : (t : Bool) (text : List ℕ) → IsCharBoundary text 0 → IsWritten t text 0 []
@@ -376,7 +395,8 @@ written_length : (from at n : ℕ) (written : List ℕ) → ((from ≡ 0) × (wr
 written_length from at n written (inl h) = let e = ap length h.1 in omega arith
 written_length from at n written (inr h) = omega arith
 
-pub written_more : (t : Bool) (text : List ℕ) (from at n c : ℕ) (written : List ℕ) → IsUtf8 text → IsWritten t text from written → IsChange t text from (at, n, c)
+pub written_more : (t : Bool) (text : List ℕ) (from at n c : ℕ) (written : List ℕ)
+    → IsUtf8 text → IsWritten t text from written → IsChange t text from (at, n, c)
     → IsWritten t text (at + n) ((written ++ take (at - from) (drop from text)) ++ encode_utf8 c)
 written_more t text from at n c written u i x =
     let order = x.order in
@@ -394,12 +414,14 @@ written_more t text from at n c written u i x =
     record {
       within = within;
       boundary = subst (IsCharBoundary text) s b;
-      so_far = i.so_far ∙ ap (λ xs. written ++ xs) x.replaced ∙ sym (append_assoc written middle (encode_utf8 c ++ rest)) ∙ sym (append_assoc (written ++ middle) (encode_utf8 c) rest);
+      so_far = i.so_far ∙ ap (λ xs. written ++ xs) x.replaced ∙ sym (append_assoc written middle (encode_utf8 c ++ rest))
+          ∙ sym (append_assoc (written ++ middle) (encode_utf8 c) rest);
       fewer = inr (omega arith);
     }
 
 -- a text with a change is not itself
-pub change_differs : (t : Bool) (text : List ℕ) (from at n c : ℕ) (written : List ℕ) → IsWritten t text from written → IsChange t text from (at, n, c) → unescaped t text ≡ text → ⊥
+pub change_differs : (t : Bool) (text : List ℕ) (from at n c : ℕ) (written : List ℕ)
+    → IsWritten t text from written → IsChange t text from (at, n, c) → unescaped t text ≡ text → ⊥
 change_differs t text from at n c written i x e =
     let order = x.order in
     let within = x.within in
@@ -416,7 +438,8 @@ change_differs t text from at n c written i x e =
     let d = length-drop (at + n) text in
     omega arith
 
-pub written_differs : (t : Bool) (text : List ℕ) (from : ℕ) (written : List ℕ) → IsWritten t text from written → 0 < from → unescaped t (drop from text) ≡ drop from text → unescaped t text ≡ text → ⊥
+pub written_differs : (t : Bool) (text : List ℕ) (from : ℕ) (written : List ℕ)
+    → IsWritten t text from written → 0 < from → unescaped t (drop from text) ≡ drop from text → unescaped t text ≡ text → ⊥
 written_differs t text from written i some k e =
     let within = i.within in
     let l = ap length (sym e ∙ i.so_far ∙ ap (λ xs. written ++ xs) k) in
@@ -424,8 +447,10 @@ written_differs t text from written i some k e =
     let d = length-drop from text in
     elim i.fewer [ inl h ↦ absurd (omega (arith, h.0)) | inr h ↦ omega arith ]
 
-pub written_all : (t : Bool) (text : List ℕ) (from : ℕ) (written : List ℕ) → IsWritten t text from written → unescaped t (drop from text) ≡ drop from text → unescaped t text ≡ written ++ drop from text
+pub written_all : (t : Bool) (text : List ℕ) (from : ℕ) (written : List ℕ)
+    → IsWritten t text from written → unescaped t (drop from text) ≡ drop from text → unescaped t text ≡ written ++ drop from text
 written_all t text from written i k = i.so_far ∙ ap (λ xs. written ++ xs) k
 
-pub written_nothing : (t : Bool) (text : List ℕ) (from : ℕ) (written : List ℕ) → IsWritten t text from written → from ≡ 0 → unescaped t (drop from text) ≡ drop from text → unescaped t text ≡ text
+pub written_nothing : (t : Bool) (text : List ℕ) (from : ℕ) (written : List ℕ)
+    → IsWritten t text from written → from ≡ 0 → unescaped t (drop from text) ≡ drop from text → unescaped t text ≡ text
 written_nothing t text from written i z k = ap (λ n. unescaped t (drop n text)) (sym z) ∙ k ∙ ap (λ n. drop n text) z

@@ -1,5 +1,6 @@
 -- Lemmas on heads of footnote definitions.
-use Rattle.std.proofs.Common.{◌≡◌, ℕ, ◌+◌, ◌&&◌, Bool, true, false, List, drop, Option, Some, None, IsUtf8, IsSomeAnd, MatchOption, refl, sym, ap, subst, ◌∙◌, if◌then◌else◌, arith}
+use Rattle.std.proofs.Common.{◌≡◌, ℕ, ◌+◌, ◌&&◌, Bool, true, false, List, drop, Option, Some, None, IsUtf8, IsSomeAnd, MatchOption, refl, sym, ap, subst, ◌∙◌}
+use Rattle.std.proofs.Common.{if◌then◌else◌, arith}
 use Rattle.std.specs.Option.{option_and_then}
 use Rattle.std.specs.Str.{IsCharBoundary}
 use Rattle.std.proofs.lemmas.List.{drop-drop}
@@ -67,7 +68,8 @@ pub head_by : (u : Bool) (prefix : List ℕ → Option ℕ) (t : Bool) (text : L
 head_by u prefix t text n label h k c =
     let m : 2 + n ≡ n + 2 = omega arith in
     let e : begins 58 (drop n (drop 2 text)) ≡ u = ap (begins 58) (drop-drop n 2 text ∙ ap (λ x. drop x text) m) ∙ c in
-    subst (λ o. IsAnswer o (if u then Some (n + 3, label) else None)) (sym (head_of prefix t text h)) (colon_by u (drop 2 text) (label_at prefix t (drop 2 text)) n label k e)
+    subst (λ o. IsAnswer o (if u then Some (n + 3, label) else None)) (sym (head_of prefix t text h))
+    (colon_by u (drop 2 text) (label_at prefix t (drop 2 text)) n label k e)
 
 -- a place after the colon
 pub behind_colon : (text : List ℕ) (n : ℕ) → IsUtf8 text → begins 58 (drop (n + 2) text) ≡ true → IsCharBoundary text (n + 3)

@@ -1,5 +1,7 @@
 -- The units of a label.
-use Rattle.std.proofs.Common.{◌≡◌, ◌⊎◌, inl, inr, ℕ, zero, suc, ◌+◌, ◌-◌, ◌<◌, ◌≤◌, ◌==◌, ◌&&◌, ◌||◌, not, nat_le, Bool, true, false, List, [], ◌∷◌, ◌++◌, length, take, drop, get_or, slice_index, Option, Some, None, refl, sym, ap, ◌∙◌, arith, append_assoc, length-append, length-drop, IsUtf8, if◌then◌else◌}
+use Rattle.std.proofs.Common.{◌≡◌, ◌⊎◌, inl, inr, ℕ, zero, suc, ◌+◌, ◌-◌, ◌<◌, ◌≤◌, ◌==◌, ◌&&◌, ◌||◌, not, nat_le, Bool, true, false, List, [], ◌∷◌, ◌++◌}
+use Rattle.std.proofs.Common.{length, take, drop, get_or, slice_index, Option, Some, None, refl, sym, ap, ◌∙◌, arith, append_assoc, length-append, length-drop}
+use Rattle.std.proofs.Common.{IsUtf8, if◌then◌else◌}
 use Rattle.std.specs.List.{list_any, list_all, count_by}
 use Rattle.std.specs.Char.{is_ascii_punctuation}
 use Rattle.std.specs.Str.{IsCharBoundary}
@@ -13,7 +15,8 @@ use Rattle.first_pass_links.specs.declared.label.Unit.{Unit}
 use Rattle.first_pass_links.specs.Escapes.{begins_escape, without_pipe_escapes}
 use Rattle.first_pass_links.specs.Changes.{begins_pipe_escape}
 use Rattle.first_pass_links.specs.Labels.{is_bracket, begins_character, joined, bytes_of, offsets_of, label_len, single_spaced, shown, label_at}
-use Rattle.first_pass_links.specs.Units.{part, read_of, left_at, kept_unit, space_unit, dropped_unit, backslash_unit, IsUnit, Reads, IsWhiteRun, IsBlankRest, EndsWhiteRun, weight}
+use Rattle.first_pass_links.specs.Units.{part, read_of, left_at, kept_unit, space_unit, dropped_unit, backslash_unit, IsUnit, Reads, IsWhiteRun, IsBlankRest}
+use Rattle.first_pass_links.specs.Units.{EndsWhiteRun, weight}
 use Rattle.first_pass_links.proofs.PipeEscapes.{cell-nil, cell-other, cell-kept, cell-dropped, pipe_behind}
 use Rattle.first_pass_links.proofs.Destinations.{upto-nil, upto-stop, upto-byte, upto-escape, first_byte}
 use Rattle.first_pass_links.proofs.Parts.{part-none, part-one, part-two, weight-length, weight-nil, weight-space, weight-other}
@@ -29,7 +32,8 @@ joined-byte : (h : List ℕ → Option ℕ) (at b : ℕ) (bs : List ℕ) → end
 unfolding joined
 joined-byte h at b bs e = rw e
 
-joined-end : (h : List ℕ → Option ℕ) (at b n : ℕ) (bs : List ℕ) → ends_line b bs ≡ true → h bs ≡ Some n → joined h at 0 (b ∷ bs) ≡ (at, b) ∷ joined h (at + 1) n bs
+joined-end : (h : List ℕ → Option ℕ) (at b n : ℕ) (bs : List ℕ)
+    → ends_line b bs ≡ true → h bs ≡ Some n → joined h at 0 (b ∷ bs) ≡ (at, b) ∷ joined h (at + 1) n bs
 unfolding joined
 joined-end h at b n bs e f = rw (e, f)
 
@@ -44,29 +48,35 @@ joined-nil h at = refl
 pub left-past : (h : List ℕ → Option ℕ) (text : List ℕ) (at : ℕ) → length text ≤ at → left_at h text at ≡ []
 left-past h text at l = ap (joined h at 0) (drop_all at text l) ∙ joined-nil h at
 
-pub left-byte : (h : List ℕ → Option ℕ) (text : List ℕ) (at : ℕ) → at < length text → ends_line (get_or text at 0) (drop (at + 1) text) ≡ false → left_at h text at ≡ (at, get_or text at 0) ∷ left_at h text (at + 1)
+pub left-byte : (h : List ℕ → Option ℕ) (text : List ℕ) (at : ℕ)
+    → at < length text → ends_line (get_or text at 0) (drop (at + 1) text) ≡ false → left_at h text at ≡ (at, get_or text at 0) ∷ left_at h text (at + 1)
 left-byte h text at l e = ap (joined h at 0) (drop_more text at 0 l) ∙ joined-byte h at (get_or text at 0) (drop (at + 1) text) e
 
-pub left-end : (h : List ℕ → Option ℕ) (text : List ℕ) (at n : ℕ) → at < length text → ends_line (get_or text at 0) (drop (at + 1) text) ≡ true → h (drop (at + 1) text) ≡ Some n → left_at h text at ≡ (at, get_or text at 0) ∷ left_at h text (at + 1 + n)
+pub left-end : (h : List ℕ → Option ℕ) (text : List ℕ) (at n : ℕ) → at < length text → ends_line (get_or text at 0) (drop (at + 1) text) ≡ true
+    → h (drop (at + 1) text) ≡ Some n → left_at h text at ≡ (at, get_or text at 0) ∷ left_at h text (at + 1 + n)
 left-end h text at n l e f =
     ap (joined h at 0) (drop_more text at 0 l) ∙ joined-end h at (get_or text at 0) n (drop (at + 1) text) e f
     ∙ ap (λ cs. (at, get_or text at 0) ∷ cs) (joined_behind h (at + 1) n (drop (at + 1) text) ∙ ap (joined h (at + 1 + n) 0) (drop-drop n (at + 1) text))
 
-pub left-stop : (h : List ℕ → Option ℕ) (text : List ℕ) (at : ℕ) → at < length text → ends_line (get_or text at 0) (drop (at + 1) text) ≡ true → h (drop (at + 1) text) ≡ None → left_at h text at ≡ []
+pub left-stop : (h : List ℕ → Option ℕ) (text : List ℕ) (at : ℕ)
+    → at < length text → ends_line (get_or text at 0) (drop (at + 1) text) ≡ true → h (drop (at + 1) text) ≡ None → left_at h text at ≡ []
 left-stop h text at l e f = ap (joined h at 0) (drop_more text at 0 l) ∙ joined-stop h at (get_or text at 0) (drop (at + 1) text) e f
 
 -- its first byte, if it has one, is the text's
-first_by : (t : Bool) (h : List ℕ → Option ℕ) (at b : ℕ) (bs : List ℕ) (o : Option ℕ) → ends_line b bs ≡ t → h bs ≡ o → (slice_index (bytes_of (joined h at 0 (b ∷ bs))) 0 ≡ b) ⊎ (slice_index (bytes_of (joined h at 0 (b ∷ bs))) 0 ≡ 0)
+first_by : (t : Bool) (h : List ℕ → Option ℕ) (at b : ℕ) (bs : List ℕ) (o : Option ℕ)
+    → ends_line b bs ≡ t → h bs ≡ o → (slice_index (bytes_of (joined h at 0 (b ∷ bs))) 0 ≡ b) ⊎ (slice_index (bytes_of (joined h at 0 (b ∷ bs))) 0 ≡ 0)
 first_by false h at b bs o e f = inl (ap (λ cs. slice_index (bytes_of cs) 0) (joined-byte h at b bs e))
 first_by true h at b bs (Some n) e f = inl (ap (λ cs. slice_index (bytes_of cs) 0) (joined-end h at b n bs e f))
 first_by true h at b bs None e f = inr (ap (λ cs. slice_index (bytes_of cs) 0) (joined-stop h at b bs e f))
 
-first_of : (h : List ℕ → Option ℕ) (at : ℕ) (bs : List ℕ) → (slice_index (bytes_of (joined h at 0 bs)) 0 ≡ slice_index bs 0) ⊎ (slice_index (bytes_of (joined h at 0 bs)) 0 ≡ 0)
+first_of : (h : List ℕ → Option ℕ) (at : ℕ) (bs : List ℕ)
+    → (slice_index (bytes_of (joined h at 0 bs)) 0 ≡ slice_index bs 0) ⊎ (slice_index (bytes_of (joined h at 0 bs)) 0 ≡ 0)
 first_of h at [] = inr (ap (λ cs. slice_index (bytes_of cs) 0) (joined-nil h at))
 first_of h at (b ∷ bs) = first_by _ h at b bs _ refl refl
 
 -- the first of some bytes that begin it
-first_joined : (us cs : List (ℕ × ℕ)) (b : ℕ) → 0 < length us → (slice_index (bytes_of (us ++ cs)) 0 ≡ b) ⊎ (slice_index (bytes_of (us ++ cs)) 0 ≡ 0) → (slice_index (bytes_of us) 0 ≡ b) ⊎ (slice_index (bytes_of us) 0 ≡ 0)
+first_joined : (us cs : List (ℕ × ℕ)) (b : ℕ) → 0 < length us → (slice_index (bytes_of (us ++ cs)) 0 ≡ b) ⊎ (slice_index (bytes_of (us ++ cs)) 0 ≡ 0)
+    → (slice_index (bytes_of us) 0 ≡ b) ⊎ (slice_index (bytes_of us) 0 ≡ 0)
 first_joined [] cs b l f = absurd (omega arith)
 first_joined (u ∷ us) cs b l f = f
 
@@ -76,7 +86,8 @@ first_taken (suc n) [] = inr refl
 first_taken (suc n) (b ∷ bs) = inl refl
 
 -- a test that 0 fails, and the text's byte too, is failed by the first byte
-pub first_fails : (p : ℕ → Bool) → p 0 ≡ false → (h : List ℕ → Option ℕ) (text : List ℕ) (at : ℕ) → p (slice_index (drop at text) 0) ≡ false → p (slice_index (bytes_of (left_at h text at)) 0) ≡ false
+pub first_fails : (p : ℕ → Bool) → p 0 ≡ false → (h : List ℕ → Option ℕ) (text : List ℕ) (at : ℕ) → p (slice_index (drop at text) 0) ≡ false
+    → p (slice_index (bytes_of (left_at h text at)) 0) ≡ false
 first_fails p z h text at e = elim (first_of h at (drop at text)) [ inl f ↦ ap p f ∙ e | inr f ↦ ap p f ∙ z ]
 
 pub taken_fails : (p : ℕ → Bool) → p 0 ≡ false → (n : ℕ) (bs : List ℕ) → p (slice_index bs 0) ≡ false → p (slice_index (take n bs) 0) ≡ false
@@ -144,11 +155,16 @@ nothing_known t h text =
     rw e
 
 abbrev known_more : Known → List ℕ → List ℕ → Known
-known_more known bs w = record { characters = known.characters + count_by begins_character bs; solid = known.solid || list_any is_solid bs; bytes = known.bytes ++ w }
+known_more known bs w = record {
+  characters = known.characters + count_by begins_character bs;
+  solid = known.solid || list_any is_solid bs;
+  bytes = known.bytes ++ w;
+}
 
 is_label-append : (known : Known) (u s w : List ℕ) → is_label_behind known (u ++ s) ≡ is_label_behind (known_more known u w) s
 is_label-append known u s w =
-    let a : known.characters + count_by begins_character (u ++ s) ≡ known.characters + count_by begins_character u + count_by begins_character s = omega (arith, count_append begins_character u s) in
+    let a : known.characters + count_by begins_character (u ++ s) ≡ known.characters + count_by begins_character u + count_by begins_character s =
+    omega (arith, count_append begins_character u s) in
     let b : (known.solid || list_any is_solid (u ++ s)) ≡ ((known.solid || list_any is_solid u) || list_any is_solid s) =
     ap (λ t. known.solid || t) (any_append is_solid u s) ∙ or_assoc known.solid (list_any is_solid u) (list_any is_solid s)
     in
@@ -160,8 +176,10 @@ found n bs = (n, bs)
 label_by : (t : Bool) (known : Known) (us cs : List (ℕ × ℕ)) (w : List ℕ) (n m : ℕ)
     → n ≡ length us + m
     → shown t (bytes_of us ++ take m (bytes_of cs)) ≡ w ++ shown t (take m (bytes_of cs))
-    → (if begins 93 (drop n (bytes_of (us ++ cs))) && is_label_behind known (take n (bytes_of (us ++ cs))) then Some (found (slice_index (offsets_of (us ++ cs)) n + 1) (known.bytes ++ shown t (take n (bytes_of (us ++ cs))))) else None)
-    ≡ (if begins 93 (drop m (bytes_of cs)) && is_label_behind (known_more known (bytes_of us) w) (take m (bytes_of cs)) then Some (found (slice_index (offsets_of cs) m + 1) ((known.bytes ++ w) ++ shown t (take m (bytes_of cs)))) else None)
+    → (if begins 93 (drop n (bytes_of (us ++ cs))) && is_label_behind known (take n (bytes_of (us ++ cs)))
+    then Some (found (slice_index (offsets_of (us ++ cs)) n + 1) (known.bytes ++ shown t (take n (bytes_of (us ++ cs))))) else None)
+    ≡ (if begins 93 (drop m (bytes_of cs)) && is_label_behind (known_more known (bytes_of us) w) (take m (bytes_of cs))
+    then Some (found (slice_index (offsets_of cs) m + 1) ((known.bytes ++ w) ++ shown t (take m (bytes_of cs)))) else None)
 label_by t known us cs w n m e s =
     let bytes = map-append (λ (c : ℕ × ℕ). c.1) us cs in
     let offsets = map-append (λ (c : ℕ × ℕ). c.0) us cs in
@@ -169,8 +187,10 @@ label_by t known us cs w n m e s =
     let k = length-map us (λ (c : ℕ × ℕ). c.0) in
     let d : drop n (bytes_of (us ++ cs)) ≡ drop m (bytes_of cs) = ap (drop n) bytes ∙ drop_past (bytes_of us) (bytes_of cs) n m (omega arith) in
     let f : take n (bytes_of (us ++ cs)) ≡ bytes_of us ++ take m (bytes_of cs) = ap (take n) bytes ∙ take_past (bytes_of us) (bytes_of cs) n m (omega arith) in
-    let i : slice_index (offsets_of (us ++ cs)) n ≡ slice_index (offsets_of cs) m = ap (λ xs. slice_index xs n) offsets ∙ index_past (offsets_of us) (offsets_of cs) n m (omega arith) in
-    let test : is_label_behind known (take n (bytes_of (us ++ cs))) ≡ is_label_behind (known_more known (bytes_of us) w) (take m (bytes_of cs)) = ap (is_label_behind known) f ∙ is_label-append known (bytes_of us) (take m (bytes_of cs)) w in
+    let i : slice_index (offsets_of (us ++ cs)) n ≡ slice_index (offsets_of cs) m =
+    ap (λ xs. slice_index xs n) offsets ∙ index_past (offsets_of us) (offsets_of cs) n m (omega arith) in
+    let test : is_label_behind known (take n (bytes_of (us ++ cs))) ≡ is_label_behind (known_more known (bytes_of us) w) (take m (bytes_of cs)) =
+    ap (is_label_behind known) f ∙ is_label-append known (bytes_of us) (take m (bytes_of cs)) w in
     let text : known.bytes ++ shown t (take n (bytes_of (us ++ cs))) ≡ (known.bytes ++ w) ++ shown t (take m (bytes_of cs)) =
     ap (λ xs. known.bytes ++ xs) (ap (shown t) f ∙ s) ∙ sym (append_assoc known.bytes w (shown t (take m (bytes_of cs))))
     in
@@ -182,7 +202,8 @@ pub label_unit : (t : Bool) (known : Known) (us cs : List (ℕ × ℕ)) (w : Lis
     → label_behind t known (us ++ cs) ≡ label_behind t (known_more known (bytes_of us) w) cs
 unfolding label_behind
 label_unit t known us cs w e s =
-    label_by t known us cs w (label_len (bytes_of (us ++ cs))) (label_len (bytes_of cs)) (ap label_len (map-append (λ (c : ℕ × ℕ). c.1) us cs) ∙ e) (s (label_len (bytes_of cs)))
+    label_by t known us cs w (label_len (bytes_of (us ++ cs))) (label_len (bytes_of cs)) (ap label_len (map-append (λ (c : ℕ × ℕ). c.1) us cs) ∙ e)
+    (s (label_len (bytes_of cs)))
 
 -- one byte
 space_cases : (b : ℕ) → is_ascii_white b ≡ false → is_line_end b ≡ false
@@ -225,7 +246,8 @@ shown-byte true p bs h k = elim (cases_Bool (p == 92)) [
 pub white_parts : (b : ℕ) (bs : List ℕ) → list_all is_ascii_white (b ∷ bs) ≡ true → (is_ascii_white b ≡ true) × (list_all is_ascii_white bs ≡ true)
 white_parts b bs h = and_parts _ _ h
 
-pub white_is_ascii : (b : ℕ) → is_ascii_white b ≡ true → (b < 128) × ((b == 92) ≡ false) × (is_bracket b ≡ false) × (begins_character b ≡ true) × (is_solid b ≡ false)
+pub white_is_ascii : (b : ℕ)
+    → is_ascii_white b ≡ true → (b < 128) × ((b == 92) ≡ false) × (is_bracket b ≡ false) × (begins_character b ≡ true) × (is_solid b ≡ false)
 white_is_ascii b h = (grind (arith, nat_tests, h), grind (arith, nat_tests, h), grind (arith, nat_tests, h), grind (arith, nat_tests, h), rw h)
 
 pub upto-run : (u bs : List ℕ) → list_all is_ascii_white u ≡ true → label_len (u ++ bs) ≡ length u + label_len bs
@@ -244,7 +266,8 @@ cell-run (b ∷ u) bs h =
     let p = white_parts b u h in
     cell-other b (u ++ bs) (white_is_ascii b p.0).1 ∙ ap (λ xs. b ∷ xs) (cell-run u bs p.1)
 
-cell_first_by : (t : Bool) (b : ℕ) (bs : List ℕ) → (b == 92) ≡ t → (u : Bool) → begins 124 bs ≡ u → is_ascii_white b ≡ false → is_ascii_white (slice_index (without_pipe_escapes (b ∷ bs)) 0) ≡ false
+cell_first_by : (t : Bool) (b : ℕ) (bs : List ℕ)
+    → (b == 92) ≡ t → (u : Bool) → begins 124 bs ≡ u → is_ascii_white b ≡ false → is_ascii_white (slice_index (without_pipe_escapes (b ∷ bs)) 0) ≡ false
 cell_first_by false b bs h u k e = ap (λ xs. is_ascii_white (slice_index xs 0)) (cell-other b bs h) ∙ e
 cell_first_by true b bs h true k e = ap (λ xs. is_ascii_white (slice_index xs 0)) (cell-dropped b bs h k ∙ pipe_behind bs k)
 cell_first_by true b bs h false k e = ap (λ xs. is_ascii_white (slice_index xs 0)) (cell-kept b bs k) ∙ e
@@ -253,7 +276,8 @@ cell_first : (bs : List ℕ) → is_ascii_white (slice_index bs 0) ≡ false →
 cell_first [] e = ap (λ xs. is_ascii_white (slice_index xs 0)) cell-nil
 cell_first (b ∷ bs) e = cell_first_by _ b bs refl _ refl e
 
-single-run : (u bs : List ℕ) → list_all is_ascii_white u ≡ true → 0 < length u → is_ascii_white (slice_index bs 0) ≡ false → single_spaced (u ++ bs) ≡ 32 ∷ single_spaced bs
+single-run : (u bs : List ℕ)
+    → list_all is_ascii_white u ≡ true → 0 < length u → is_ascii_white (slice_index bs 0) ≡ false → single_spaced (u ++ bs) ≡ 32 ∷ single_spaced bs
 single-run [] bs h l e = absurd (omega arith)
 single-run (b ∷ []) bs h l e = single-last b bs (white_parts b [] h).0 e
 single-run (b ∷ c ∷ u) bs h l e =
@@ -261,7 +285,8 @@ single-run (b ∷ c ∷ u) bs h l e =
     let q = white_parts c u p.1 in
     single-more b (c ∷ (u ++ bs)) p.0 q.0 ∙ single-run (c ∷ u) bs p.1 (omega arith) e
 
-shown-run : (t : Bool) (u bs : List ℕ) → list_all is_ascii_white u ≡ true → 0 < length u → is_ascii_white (slice_index bs 0) ≡ false → shown t (u ++ bs) ≡ 32 ∷ shown t bs
+shown-run : (t : Bool) (u bs : List ℕ)
+    → list_all is_ascii_white u ≡ true → 0 < length u → is_ascii_white (slice_index bs 0) ≡ false → shown t (u ++ bs) ≡ 32 ∷ shown t bs
 shown-run true u bs h l e = ap single_spaced (cell-run u bs h) ∙ single-run u (without_pipe_escapes bs) h l (cell_first bs e)
 shown-run false u bs h l e = single-run u bs h l e
 
@@ -283,7 +308,8 @@ pub unit_reads : (h : List ℕ → Option ℕ) (t : Bool) (text : List ℕ) (at 
     → list_any is_solid (bytes_of us) ≡ unit.solid
     → label_len (bytes_of us ++ bytes_of (left_at h text unit.next)) ≡ length us + label_len (bytes_of (left_at h text unit.next))
     → (unit.kept ≡ unit.resumed) ⊎ (weight (read_of text at unit) < weight (bytes_of us))
-    → ((n : ℕ) → shown t (bytes_of us ++ take n (bytes_of (left_at h text unit.next))) ≡ read_of text at unit ++ shown t (take n (bytes_of (left_at h text unit.next))))
+    → ((n : ℕ)
+    → shown t (bytes_of us ++ take n (bytes_of (left_at h text unit.next))) ≡ read_of text at unit ++ shown t (take n (bytes_of (left_at h text unit.next))))
     → Reads h t text at unit
 unit_reads h t text at unit us joins count something passed changes reads =
     record { run = us; joins = joins; count = count; something = something; passed = passed; changes = changes; reads = reads }
@@ -297,13 +323,16 @@ pub unit_known : (h : List ℕ → Option ℕ) (t : Bool) (text : List ℕ) (at 
     → label_behind t known (left_at h text at) ≡ label_behind t (known_behind text at unit known) (left_at h text unit.next)
 unit_known h t text at unit known r =
     let k : known_more known (bytes_of r.run) (read_of text at unit) ≡ known_behind text at unit known = rw (r.count, r.something) in
-    ap (label_behind t known) r.joins ∙ label_unit t known r.run (left_at h text unit.next) (read_of text at unit) r.passed r.reads ∙ ap (λ x. label_behind t x (left_at h text unit.next)) k
+    ap (label_behind t known) r.joins ∙ label_unit t known r.run (left_at h text unit.next) (read_of text at unit) r.passed r.reads
+    ∙ ap (λ x. label_behind t x (left_at h text unit.next)) k
 
 pub read-kept : (text : List ℕ) (at n c : ℕ) (s : Bool) → read_of text at (kept_unit n c s) ≡ part text at n
 read-kept text at n c s = ap (λ xs. part text at n ++ xs) (part-none text n) ∙ append-nil (part text at n)
 
 -- a byte that is neither white space, bracket nor backslash
-pub byte_reads : (h : List ℕ → Option ℕ) (t : Bool) (text : List ℕ) (at c : ℕ) → at < length text → is_ascii_white (get_or text at 0) ≡ false → is_bracket (get_or text at 0) ≡ false → (get_or text at 0 == 92) ≡ false → c ≡ (if begins_character (get_or text at 0) then 1 else 0) → Reads h t text at (kept_unit (at + 1) c true)
+pub byte_reads : (h : List ℕ → Option ℕ) (t : Bool) (text : List ℕ) (at c : ℕ)
+    → at < length text → is_ascii_white (get_or text at 0) ≡ false → is_bracket (get_or text at 0) ≡ false → (get_or text at 0 == 92) ≡ false
+    → c ≡ (if begins_character (get_or text at 0) then 1 else 0) → Reads h t text at (kept_unit (at + 1) c true)
 byte_reads h t text at c l white bracket plain e =
     let b = get_or text at 0 in
     let X = bytes_of (left_at h text (at + 1)) in
@@ -321,7 +350,8 @@ no_pipe b h = grind (arith, nat_tests, h)
 three : (n : ℕ) → 2 + (1 + n) ≡ 3 + n
 three n = omega arith
 
-pair_shown : (t : Bool) (b : ℕ) (bs : List ℕ) → is_ascii_white b ≡ false → (t ≡ true → (b == 124) ≡ false) → (t ≡ true → (b == 92) ≡ true → begins 124 bs ≡ false) → shown t (92 ∷ b ∷ bs) ≡ 92 ∷ b ∷ shown t bs
+pair_shown : (t : Bool) (b : ℕ) (bs : List ℕ) → is_ascii_white b ≡ false → (t ≡ true → (b == 124) ≡ false)
+    → (t ≡ true → (b == 92) ≡ true → begins 124 bs ≡ false) → shown t (92 ∷ b ∷ bs) ≡ 92 ∷ b ∷ shown t bs
 pair_shown true b bs s f g =
     shown-backslash true (b ∷ bs) (f refl) ∙ ap (λ xs. 92 ∷ xs) (elim (cases_Bool (b == 92)) [
       | inl e ↦ (let z : (b == 92) && begins 124 bs ≡ false = rw e (g refl e) in shown-byte true b bs s z)
@@ -332,13 +362,15 @@ pair_shown false b bs s f g = single-solid 92 (b ∷ bs) refl ∙ ap (λ xs. 92 
 pipe_escape_shown : (bs : List ℕ) → shown true (92 ∷ 92 ∷ 124 ∷ bs) ≡ 92 ∷ 124 ∷ shown true bs
 pipe_escape_shown bs = shown-backslash true (92 ∷ 124 ∷ bs) refl ∙ ap (λ xs. 92 ∷ xs) (shown-pipe bs)
 
-read-space : (text : List ℕ) (at next characters : ℕ) (t : Bool) → (next == at + 1 && slice_index text at == 32) ≡ t → at < length text → read_of text at (space_unit text at next characters) ≡ 32 ∷ []
+read-space : (text : List ℕ) (at next characters : ℕ) (t : Bool)
+    → (next == at + 1 && slice_index text at == 32) ≡ t → at < length text → read_of text at (space_unit text at next characters) ≡ 32 ∷ []
 read-space text at next characters true h l =
     let p = and_parts _ _ h in
     rw h (read-kept text at next characters false ∙ ap (part text at) (eqb-true next (at + 1) p.0) ∙ part-one text at l ∙ ap (λ b. b ∷ []) (eqb-true _ 32 p.1))
 read-space text at next characters false h l = rw h (ap (λ xs. xs ++ (32 ∷ part text next next)) (part-none text at) ∙ ap (λ xs. 32 ∷ xs) (part-none text next))
 
-space_fields : (text : List ℕ) (at next characters : ℕ) (t : Bool) → (next == at + 1 && slice_index text at == 32) ≡ t → let u : Unit = space_unit text at next characters in (u.next ≡ next) × (u.characters ≡ characters) × (u.solid ≡ false)
+space_fields : (text : List ℕ) (at next characters : ℕ) (t : Bool) → (next == at + 1 && slice_index text at == 32) ≡ t
+    → let u : Unit = space_unit text at next characters in (u.next ≡ next) × (u.characters ≡ characters) × (u.solid ≡ false)
 space_fields text at next characters true h = rw h (refl, refl, refl)
 space_fields text at next characters false h = rw h (refl, refl, refl)
 
@@ -346,7 +378,8 @@ eqb-same : (n : ℕ) → (n == n) ≡ true
 eqb-same n = grind (arith, nat_tests)
 
 -- a run that is no single space is heavier than one
-lone_weight : (text : List ℕ) (at next b : ℕ) → (b ≡ get_or text at 0) ⊎ (b ≡ 0) → is_ascii_white b ≡ true → (next == at + 1 && slice_index text at == 32) ≡ false → (slice_index text at ≡ 32 → next ≡ at + 1) → (b == 32) ≡ false
+lone_weight : (text : List ℕ) (at next b : ℕ) → (b ≡ get_or text at 0) ⊎ (b ≡ 0) → is_ascii_white b ≡ true
+    → (next == at + 1 && slice_index text at == 32) ≡ false → (slice_index text at ≡ 32 → next ≡ at + 1) → (b == 32) ≡ false
 lone_weight text at next b (inr z) s k f = absurd (false≢true (rw z at s))
 lone_weight text at next b (inl z) s k f = elim (cases_Bool (b == 32)) [
   | inl e ↦ (
@@ -358,7 +391,9 @@ lone_weight text at next b (inl z) s k f = elim (cases_Bool (b == 32)) [
   | inr e ↦ e
 ]
 
-run_heavier : (text : List ℕ) (at next characters : ℕ) (us : List ℕ) → length us ≡ characters → list_all is_ascii_white us ≡ true → (slice_index us 0 ≡ get_or text at 0) ⊎ (slice_index us 0 ≡ 0) → 0 < characters → (next == at + 1 && slice_index text at == 32) ≡ false → (characters ≡ 1 → slice_index text at ≡ 32 → next ≡ at + 1) → 1 < weight us
+run_heavier : (text : List ℕ) (at next characters : ℕ) (us : List ℕ)
+    → length us ≡ characters → list_all is_ascii_white us ≡ true → (slice_index us 0 ≡ get_or text at 0) ⊎ (slice_index us 0 ≡ 0) → 0 < characters
+    → (next == at + 1 && slice_index text at == 32) ≡ false → (characters ≡ 1 → slice_index text at ≡ 32 → next ≡ at + 1) → 1 < weight us
 run_heavier text at next characters [] l w f some k lone = absurd (omega arith)
 run_heavier text at next characters (b ∷ []) l w f some k lone =
     let s = (white_parts b [] w).0 in
@@ -366,8 +401,10 @@ run_heavier text at next characters (b ∷ []) l w f some k lone =
     omega arith
 run_heavier text at next characters (b ∷ c ∷ us) l w f some k lone = let m = weight-length (b ∷ c ∷ us) in omega arith
 
-run_lighter : (x : Bool) (text : List ℕ) (at next characters : ℕ) (us : List ℕ) → (next == at + 1 && slice_index text at == 32) ≡ x → at < length text → (x ≡ false → 1 < weight us)
-    → ((space_unit text at next characters).kept ≡ (space_unit text at next characters).resumed) ⊎ (weight (read_of text at (space_unit text at next characters)) < weight us)
+run_lighter : (x : Bool) (text : List ℕ) (at next characters : ℕ) (us : List ℕ)
+    → (next == at + 1 && slice_index text at == 32) ≡ x → at < length text → (x ≡ false → 1 < weight us)
+    → ((space_unit text at next characters).kept ≡ (space_unit text at next characters).resumed)
+    ⊎ (weight (read_of text at (space_unit text at next characters)) < weight us)
 run_lighter true text at next characters us k l f = rw k (inl refl)
 run_lighter false text at next characters us k l f =
     let e = ap weight (read-space text at next characters false k l) in
@@ -375,7 +412,8 @@ run_lighter false text at next characters us k l f =
     let more = f refl in
     inr (omega arith)
 
-run_first : (h : List ℕ → Option ℕ) (text : List ℕ) (at next n : ℕ) (r : IsWhiteRun h text at next n) → 0 < n → at < length text → (slice_index (bytes_of r.run) 0 ≡ get_or text at 0) ⊎ (slice_index (bytes_of r.run) 0 ≡ 0)
+run_first : (h : List ℕ → Option ℕ) (text : List ℕ) (at next n : ℕ) (r : IsWhiteRun h text at next n)
+    → 0 < n → at < length text → (slice_index (bytes_of r.run) 0 ≡ get_or text at 0) ⊎ (slice_index (bytes_of r.run) 0 ≡ 0)
 run_first h text at next n r some l =
     let c = r.count in
     let d = ap (λ xs. slice_index xs 0) (drop_more text at 0 l) in
@@ -384,7 +422,9 @@ run_first h text at next n r some l =
       | inr f ↦ inr (ap (λ cs. slice_index (bytes_of cs) 0) (sym r.joins) ∙ f)
     ])
 
-run_reads_by : (x : Bool) (h : List ℕ → Option ℕ) (t : Bool) (text : List ℕ) (at next characters : ℕ) → (next == at + 1 && slice_index text at == 32) ≡ x → at < length text → IsWhiteRun h text at next characters → 0 < characters → (characters ≡ 1 → slice_index text at ≡ 32 → next ≡ at + 1) → is_ascii_white (slice_index text next) ≡ false → Reads h t text at (space_unit text at next characters)
+run_reads_by : (x : Bool) (h : List ℕ → Option ℕ) (t : Bool) (text : List ℕ) (at next characters : ℕ) → (next == at + 1 && slice_index text at == 32) ≡ x
+    → at < length text → IsWhiteRun h text at next characters → 0 < characters → (characters ≡ 1 → slice_index text at ≡ 32 → next ≡ at + 1)
+    → is_ascii_white (slice_index text next) ≡ false → Reads h t text at (space_unit text at next characters)
 run_reads_by x h t text at next characters kind l r some lone e =
     let f = space_fields text at next characters x kind in
     let X = bytes_of (left_at h text next) in
@@ -399,39 +439,48 @@ run_reads_by x h t text at next characters kind l r some lone e =
     (r.joins ∙ ap (λ n. r.run ++ left_at h text n) (sym f.0))
     (c.0 ∙ len ∙ count ∙ sym f.1)
     (c.1 ∙ sym f.2)
-    (ap (λ n. label_len (bytes_of r.run ++ bytes_of (left_at h text n))) f.0 ∙ upto-run (bytes_of r.run) X r.white ∙ ap (λ n. n + label_len X) len ∙ ap (λ n. length r.run + label_len (bytes_of (left_at h text n))) (sym f.0))
-    (run_lighter x text at next characters (bytes_of r.run) kind l (λ no. run_heavier text at next characters (bytes_of r.run) (len ∙ count) r.white (run_first h text at next characters r some l) some (kind ∙ no) lone))
+    (ap (λ n. label_len (bytes_of r.run ++ bytes_of (left_at h text n))) f.0 ∙ upto-run (bytes_of r.run) X r.white ∙ ap (λ n. n + label_len X) len
+    ∙ ap (λ n. length r.run + label_len (bytes_of (left_at h text n))) (sym f.0))
+    (run_lighter x text at next characters (bytes_of r.run) kind l
+    (λ no. run_heavier text at next characters (bytes_of r.run) (len ∙ count) r.white (run_first h text at next characters r some l) some (kind ∙ no) lone))
     (λ n. ap (λ k. shown t (bytes_of r.run ++ take n (bytes_of (left_at h text k)))) f.0
     ∙ shown-run t (bytes_of r.run) (take n X) r.white (omega arith) (taken_fails is_ascii_white refl n X first')
     ∙ ap (λ xs. xs ++ shown t (take n X)) (sym (read-space text at next characters x kind l))
     ∙ ap (λ k. read_of text at (space_unit text at next characters) ++ shown t (take n (bytes_of (left_at h text k)))) (sym f.0))
 
 -- a backslash that stands alone
-lone_reads : (h : List ℕ → Option ℕ) (t : Bool) (text : List ℕ) (at : ℕ) → at < length text → get_or text at 0 ≡ 92 → is_ascii_punctuation (slice_index (drop (at + 1) text) 0) ≡ false → Reads h t text at (kept_unit (at + 1) 1 true)
+lone_reads : (h : List ℕ → Option ℕ) (t : Bool) (text : List ℕ) (at : ℕ) → at < length text → get_or text at 0 ≡ 92
+    → is_ascii_punctuation (slice_index (drop (at + 1) text) 0) ≡ false → Reads h t text at (kept_unit (at + 1) 1 true)
 lone_reads h t text at l e p =
     let X = bytes_of (left_at h text (at + 1)) in
     let f = first_fails is_ascii_punctuation refl h text (at + 1) p in
-    let q : (n : ℕ) → begins 124 (take n X) ≡ false = λ n. begins_from 124 (take n X) (no_pipe (slice_index (take n X) 0) (taken_fails is_ascii_punctuation refl n X f)) in
+    let q : (n : ℕ) → begins 124 (take n X) ≡ false =
+    λ n. begins_from 124 (take n X) (no_pipe (slice_index (take n X) 0) (taken_fails is_ascii_punctuation refl n X f)) in
     unit_reads h t text at (kept_unit (at + 1) 1 true) ((at, 92) ∷ [])
     (left-byte h text at l (rw e) ∙ ap (λ b. (at, b) ∷ left_at h text (at + 1)) e)
     refl
     refl
     (upto-byte is_bracket 92 X f refl)
     (inl refl)
-    (λ n. shown-backslash t (take n X) (q n) ∙ ap (λ xs. xs ++ shown t (take n X)) (sym (read-kept text at (at + 1) 1 true ∙ part-one text at l ∙ ap (λ b. b ∷ []) e)))
+    (λ n. shown-backslash t (take n X) (q n)
+    ∙ ap (λ xs. xs ++ shown t (take n X)) (sym (read-kept text at (at + 1) 1 true ∙ part-one text at l ∙ ap (λ b. b ∷ []) e)))
 
 -- a backslash that escapes a byte
-pair_joins : (h : List ℕ → Option ℕ) (text : List ℕ) (at : ℕ) → at + 1 < length text → get_or text at 0 ≡ 92 → is_ascii_white (get_or text (at + 1) 0) ≡ false → left_at h text at ≡ (at, 92) ∷ (at + 1, get_or text (at + 1) 0) ∷ left_at h text (at + 2)
+pair_joins : (h : List ℕ → Option ℕ) (text : List ℕ) (at : ℕ) → at + 1 < length text → get_or text at 0 ≡ 92 → is_ascii_white (get_or text (at + 1) 0) ≡ false
+    → left_at h text at ≡ (at, 92) ∷ (at + 1, get_or text (at + 1) 0) ∷ left_at h text (at + 2)
 pair_joins h text at l e s =
     let k : at + 1 + 1 ≡ at + 2 = omega arith in
     left-byte h text at (omega arith) (rw e) ∙ ap (λ b. (at, b) ∷ left_at h text (at + 1)) e
-    ∙ ap (λ cs. (at, 92) ∷ cs) (left-byte h text (at + 1) l (solid_ends_none (get_or text (at + 1) 0) (drop (at + 1 + 1) text) s) ∙ ap (λ n. (at + 1, get_or text (at + 1) 0) ∷ left_at h text n) k)
+    ∙ ap (λ cs. (at, 92) ∷ cs) (left-byte h text (at + 1) l (solid_ends_none (get_or text (at + 1) 0) (drop (at + 1 + 1) text) s)
+    ∙ ap (λ n. (at + 1, get_or text (at + 1) 0) ∷ left_at h text n) k)
 
 punctuation_facts : (p : ℕ) → is_ascii_punctuation p ≡ true → (is_ascii_white p ≡ false) × (begins_character p ≡ true) × (begins_escape (92 ∷ p ∷ []) ≡ true)
 punctuation_facts p h = (grind (arith, nat_tests, h), grind (arith, nat_tests, h), h)
 
-pair_reads : (h : List ℕ → Option ℕ) (t : Bool) (text : List ℕ) (at : ℕ) → at + 1 < length text → get_or text at 0 ≡ 92 → is_ascii_punctuation (get_or text (at + 1) 0) ≡ true
-    → (t ≡ true → (get_or text (at + 1) 0 == 124) ≡ false) → (t ≡ true → (get_or text (at + 1) 0 == 92) ≡ true → (slice_index (drop (at + 2) text) 0 == 124) ≡ false)
+pair_reads : (h : List ℕ → Option ℕ) (t : Bool) (text : List ℕ) (at : ℕ)
+    → at + 1 < length text → get_or text at 0 ≡ 92 → is_ascii_punctuation (get_or text (at + 1) 0) ≡ true
+    → (t ≡ true → (get_or text (at + 1) 0 == 124) ≡ false)
+    → (t ≡ true → (get_or text (at + 1) 0 == 92) ≡ true → (slice_index (drop (at + 2) text) 0 == 124) ≡ false)
     → Reads h t text at (kept_unit (at + 2) 2 true)
 pair_reads h t text at l e p no_pipe_here no_pipe_next =
     let b = get_or text (at + 1) 0 in
@@ -456,7 +505,8 @@ unfolding weight
 pipe_escape_lighter = omega arith
 
 -- in a table, a backslash that is dropped before a pipe
-pipe_reads : (h : List ℕ → Option ℕ) (text : List ℕ) (at : ℕ) → at + 1 < length text → get_or text at 0 ≡ 92 → get_or text (at + 1) 0 ≡ 124 → Reads h true text at (dropped_unit (at + 2) 2 at)
+pipe_reads : (h : List ℕ → Option ℕ) (text : List ℕ) (at : ℕ)
+    → at + 1 < length text → get_or text at 0 ≡ 92 → get_or text (at + 1) 0 ≡ 124 → Reads h true text at (dropped_unit (at + 2) 2 at)
 pipe_reads h text at l e p =
     let X = bytes_of (left_at h text (at + 2)) in
     let k : at + 1 + 1 ≡ at + 2 = omega arith in
@@ -472,7 +522,8 @@ pipe_reads h text at l e p =
     (λ n. shown-pipe (take n X) ∙ ap (λ xs. xs ++ shown true (take n X)) (sym w))
 
 -- and one after a backslash that escapes the pipe
-pipe_escape_reads : (h : List ℕ → Option ℕ) (text : List ℕ) (at : ℕ) → at + 2 < length text → get_or text at 0 ≡ 92 → get_or text (at + 1) 0 ≡ 92 → get_or text (at + 2) 0 ≡ 124 → Reads h true text at (dropped_unit (at + 3) 3 (at + 1))
+pipe_escape_reads : (h : List ℕ → Option ℕ) (text : List ℕ) (at : ℕ) → at + 2 < length text → get_or text at 0 ≡ 92 → get_or text (at + 1) 0 ≡ 92
+    → get_or text (at + 2) 0 ≡ 124 → Reads h true text at (dropped_unit (at + 3) 3 (at + 1))
 pipe_escape_reads h text at l e p q =
     let X = bytes_of (left_at h text (at + 3)) in
     let k : at + 2 + 1 ≡ at + 3 = omega arith in
@@ -483,7 +534,8 @@ pipe_escape_reads h text at l e p q =
     in
     unit_reads h true text at (dropped_unit (at + 3) 3 (at + 1)) ((at, 92) ∷ (at + 1, 92) ∷ (at + 2, 124) ∷ [])
     (pair_joins h text at (omega arith) e (rw p) ∙ ap (λ b. (at, 92) ∷ (at + 1, b) ∷ left_at h text (at + 2)) p
-    ∙ ap (λ cs. (at, 92) ∷ (at + 1, 92) ∷ cs) (left-byte h text (at + 2) l (rw q) ∙ ap (λ b. (at + 2, b) ∷ left_at h text (at + 2 + 1)) q ∙ ap (λ n. (at + 2, 124) ∷ left_at h text n) k))
+    ∙ ap (λ cs. (at, 92) ∷ (at + 1, 92) ∷ cs)
+    (left-byte h text (at + 2) l (rw q) ∙ ap (λ b. (at + 2, b) ∷ left_at h text (at + 2 + 1)) q ∙ ap (λ n. (at + 2, 124) ∷ left_at h text n) k))
     refl
     refl
     (upto-escape is_bracket 92 92 (124 ∷ X) refl ∙ ap (λ n. 2 + n) (upto-byte is_bracket 124 X refl refl) ∙ three (label_len X))
@@ -491,7 +543,9 @@ pipe_escape_reads h text at l e p q =
     (λ n. pipe_escape_shown (take n X) ∙ ap (λ xs. xs ++ shown true (take n X)) (sym w))
 
 -- a run of white space
-pub run_reads : (h : List ℕ → Option ℕ) (t : Bool) (text : List ℕ) (at next characters : ℕ) → at < length text → IsWhiteRun h text at next characters → 0 < characters → (characters ≡ 1 → slice_index text at ≡ 32 → next ≡ at + 1) → is_ascii_white (slice_index text next) ≡ false → Reads h t text at (space_unit text at next characters)
+pub run_reads : (h : List ℕ → Option ℕ) (t : Bool) (text : List ℕ) (at next characters : ℕ)
+    → at < length text → IsWhiteRun h text at next characters → 0 < characters → (characters ≡ 1 → slice_index text at ≡ 32 → next ≡ at + 1)
+    → is_ascii_white (slice_index text next) ≡ false → Reads h t text at (space_unit text at next characters)
 run_reads h t text at next characters l r some lone e = run_reads_by _ h t text at next characters refl l r some lone e
 
 le-leb : (a b : ℕ) → a ≤ b → nat_le a b ≡ true
@@ -520,28 +574,41 @@ no_second text at h =
     ap (λ b. b == 124) (sym (ap (λ xs. slice_index xs 0) (drop-drop 1 at text) ∙ get_or-drop (at + 1) text 0 0 ∙ ap (λ n. get_or text n 0) e))
     ∙ not_begins 124 (drop 1 (drop at text)) refl h
 
-no_third : (text : List ℕ) (at : ℕ) → at + 1 < length text → begins_pipe_escape (drop at text) ≡ false → get_or text at 0 ≡ 92 → get_or text (at + 1) 0 ≡ 92 → (slice_index (drop (at + 2) text) 0 == 124) ≡ false
+no_third : (text : List ℕ) (at : ℕ) → at + 1 < length text → begins_pipe_escape (drop at text) ≡ false → get_or text at 0 ≡ 92 → get_or text (at + 1) 0 ≡ 92
+    → (slice_index (drop (at + 2) text) 0 == 124) ≡ false
 no_third text at l h e f =
     let a : begins 92 (drop at text) ≡ true = ap (begins 92) (drop_more text at 0 (omega arith)) ∙ rw e in
     let b : begins 92 (drop 1 (drop at text)) ≡ true = ap (begins 92) (drop-drop 1 at text ∙ drop_more text (at + 1) 0 l) ∙ rw f in
     let c : begins 124 (drop 2 (drop at text)) ≡ false = rw (a, b) at h in
     ap (λ xs. slice_index xs 0 == 124) (sym (drop-drop 2 at text)) ∙ not_begins 124 (drop 2 (drop at text)) refl c
 
-lone_second : (text : List ℕ) (at : ℕ) → get_or text at 0 ≡ 92 → begins_escape (drop at text) ≡ false → is_ascii_punctuation (slice_index (drop (at + 1) text) 0) ≡ false
+lone_second : (text : List ℕ) (at : ℕ)
+    → get_or text at 0 ≡ 92 → begins_escape (drop at text) ≡ false → is_ascii_punctuation (slice_index (drop (at + 1) text) 0) ≡ false
 lone_second text at e h = elim (cases_lt at (length text)) [
   | inl l ↦ (
       let a : begins 92 (drop at text) ≡ true = ap (begins 92) (drop_more text at 0 l) ∙ rw e in
       let b : is_ascii_punctuation (slice_index (drop at text) 1) ≡ false = rw a at h in
-      let g : slice_index (drop (at + 1) text) 0 ≡ slice_index (drop at text) 1 = ap (λ xs. slice_index xs 0) (sym (drop-drop 1 at text)) ∙ get_or-drop 1 (drop at text) 0 0 in
+      let g : slice_index (drop (at + 1) text) 0 ≡ slice_index (drop at text) 1 =
+      ap (λ xs. slice_index xs 0) (sym (drop-drop 1 at text)) ∙ get_or-drop 1 (drop at text) 0 0 in
       ap is_ascii_punctuation g ∙ b)
   | inr l ↦ absurd (let z = get_or_past text at 0 l in omega arith)
 ]
 
 -- units within the text
 pub kept_is_unit : (text : List ℕ) (at n c : ℕ) (s : Bool) → at < n → n ≤ length text → c ≤ n - at → IsUnit text at (kept_unit n c s)
-kept_is_unit text at n c s l w f = record { begins = omega arith; order = omega arith; resumes = omega arith; later = l; within = w; few = f; change = inl refl; same = λ _. refl }
+kept_is_unit text at n c s l w f = record {
+  begins = omega arith;
+  order = omega arith;
+  resumes = omega arith;
+  later = l;
+  within = w;
+  few = f;
+  change = inl refl;
+  same = λ _. refl;
+}
 
-dropped_is_unit : (text : List ℕ) (at n c p : ℕ) → IsUtf8 text → at ≤ p → p < n → n ≤ length text → c ≤ n - at → get_or text p 0 ≡ 92 → IsUnit text at (dropped_unit n c p)
+dropped_is_unit : (text : List ℕ) (at n c p : ℕ)
+    → IsUtf8 text → at ≤ p → p < n → n ≤ length text → c ≤ n - at → get_or text p 0 ≡ 92 → IsUnit text at (dropped_unit n c p)
 dropped_is_unit text at n c p u l m w f e =
     let one = ap weight (part-one text p (omega arith)) in
     let some = weight-length (get_or text p 0 ∷ []) in
@@ -560,7 +627,8 @@ dropped_is_unit text at n c p u l m w f e =
 length-part : (text : List ℕ) (a b : ℕ) → a ≤ b → b ≤ length text → length (part text a b) ≡ b - a
 length-part text a b h k = let d = length-drop a text in length-take-le (b - a) (drop a text) (omega arith)
 
-run_weight : (text : List ℕ) (at next : ℕ) → at < next → next ≤ length text → is_ascii_white (get_or text at 0) ≡ true → (next == at + 1 && slice_index text at == 32) ≡ false → (at + 1 < next) ⊎ (next ≤ at + 1) → 1 < weight (part text at next)
+run_weight : (text : List ℕ) (at next : ℕ) → at < next → next ≤ length text → is_ascii_white (get_or text at 0) ≡ true
+    → (next == at + 1 && slice_index text at == 32) ≡ false → (at + 1 < next) ⊎ (next ≤ at + 1) → 1 < weight (part text at next)
 run_weight text at next l w s k (inl more) =
     let n = length-part text at next (omega arith) w in
     let m = weight-length (part text at next) in
@@ -572,7 +640,8 @@ run_weight text at next l w s k (inr one) =
     let f = ap weight (ap (part text at) e ∙ part-one text at (omega arith)) ∙ weight-other (get_or text at 0) s z in
     omega arith
 
-space_unit_by : (x : Bool) (text : List ℕ) (at next c : ℕ) → (next == at + 1 && slice_index text at == 32) ≡ x → EndsWhiteRun text at next c → is_ascii_white (get_or text at 0) ≡ true → IsUnit text at (space_unit text at next c)
+space_unit_by : (x : Bool) (text : List ℕ) (at next c : ℕ) → (next == at + 1 && slice_index text at == 32) ≡ x → EndsWhiteRun text at next c
+    → is_ascii_white (get_or text at 0) ≡ true → IsUnit text at (space_unit text at next c)
 space_unit_by true text at next c k e s = rw k (kept_is_unit text at next c false e.later e.within e.few)
 space_unit_by false text at next c k e s =
     let later = e.later in
@@ -589,7 +658,8 @@ space_unit_by false text at next c k e s =
       same = λ z. absurd (omega arith);
     })
 
-pub space_is_unit : (text : List ℕ) (at next c : ℕ) → EndsWhiteRun text at next c → is_ascii_white (get_or text at 0) ≡ true → IsUnit text at (space_unit text at next c)
+pub space_is_unit : (text : List ℕ) (at next c : ℕ)
+    → EndsWhiteRun text at next c → is_ascii_white (get_or text at 0) ≡ true → IsUnit text at (space_unit text at next c)
 space_is_unit text at next c e s = space_unit_by _ text at next c refl e s
 
 -- a backslash
@@ -609,16 +679,23 @@ pub record IsBackslash (text : List ℕ) (at : ℕ) (t : Bool) (unit : Unit) : T
   pub reads : (h : List ℕ → Option ℕ) → Reads h t text at unit
 
 backslash_by : (t x y z : Bool) (text : List ℕ) (at : ℕ) → at < length text → get_or text at 0 ≡ 92 → IsUtf8 text
-    → (t && begins_pipe_escape (drop at text)) ≡ x → (t && begins 124 (drop 1 (drop at text))) ≡ y → begins_escape (drop at text) ≡ z → IsBackslash text at t (backslash_unit t at (drop at text))
+    → (t && begins_pipe_escape (drop at text)) ≡ x → (t && begins 124 (drop 1 (drop at text))) ≡ y → begins_escape (drop at text) ≡ z
+    → IsBackslash text at t (backslash_unit t at (drop at text))
 backslash_by true true y z text at l e u hx hy hz =
     let p = and_parts _ _ hx in
     let q = and_parts _ _ p.0 in
     let b = second_byte 92 text at 1 q.1 in
     let c = second_byte 124 text at 2 p.1 in
-    rw hx (record { kind = dropped_is_unit text at (at + 3) 3 (at + 1) u (omega arith) (omega arith) (omega (arith, c.0)) (omega arith) b.1; reads = λ h. pipe_escape_reads h text at c.0 e b.1 c.1 })
+    rw hx (record {
+      kind = dropped_is_unit text at (at + 3) 3 (at + 1) u (omega arith) (omega arith) (omega (arith, c.0)) (omega arith) b.1;
+      reads = λ h. pipe_escape_reads h text at c.0 e b.1 c.1;
+    })
 backslash_by true false true z text at l e u hx hy hz =
     let b = second_byte 124 text at 1 hy in
-    rw (hx, hy) (record { kind = dropped_is_unit text at (at + 2) 2 at u (omega arith) (omega arith) (omega (arith, b.0)) (omega arith) e; reads = λ h. pipe_reads h text at b.0 e b.1 })
+    rw (hx, hy) (record {
+      kind = dropped_is_unit text at (at + 2) 2 at u (omega arith) (omega arith) (omega (arith, b.0)) (omega arith) e;
+      reads = λ h. pipe_reads h text at b.0 e b.1;
+    })
 backslash_by true false false true text at l e u hx hy hz =
     let s = escape_second text at hz in
     rw (hx, hy, hz) (record {
@@ -626,7 +703,10 @@ backslash_by true false false true text at l e u hx hy hz =
       reads = λ h. pair_reads h true text at s.0 e s.1 (λ _. no_second text at hy) (λ _ k. no_third text at s.0 hx e (eqb-true _ 92 k));
     })
 backslash_by true false false false text at l e u hx hy hz =
-    rw (hx, hy, hz) (record { kind = kept_is_unit text at (at + 1) 1 true (omega arith) (omega arith) (omega arith); reads = λ h. lone_reads h true text at l e (lone_second text at e hz) })
+    rw (hx, hy, hz) (record {
+      kind = kept_is_unit text at (at + 1) 1 true (omega arith) (omega arith) (omega arith);
+      reads = λ h. lone_reads h true text at l e (lone_second text at e hz);
+    })
 backslash_by false x y true text at l e u hx hy hz =
     let s = escape_second text at hz in
     rw hz (record {
@@ -634,9 +714,13 @@ backslash_by false x y true text at l e u hx hy hz =
       reads = λ h. pair_reads h false text at s.0 e s.1 (λ k. absurd (false≢true k)) (λ k _. absurd (false≢true k));
     })
 backslash_by false x y false text at l e u hx hy hz =
-    rw hz (record { kind = kept_is_unit text at (at + 1) 1 true (omega arith) (omega arith) (omega arith); reads = λ h. lone_reads h false text at l e (lone_second text at e hz) })
+    rw hz (record {
+      kind = kept_is_unit text at (at + 1) 1 true (omega arith) (omega arith) (omega arith);
+      reads = λ h. lone_reads h false text at l e (lone_second text at e hz);
+    })
 
-pub backslash_is_unit : (t : Bool) (text : List ℕ) (at : ℕ) → at < length text → get_or text at 0 ≡ 92 → IsUtf8 text → IsBackslash text at t (backslash_unit t at (drop at text))
+pub backslash_is_unit : (t : Bool) (text : List ℕ) (at : ℕ)
+    → at < length text → get_or text at 0 ≡ 92 → IsUtf8 text → IsBackslash text at t (backslash_unit t at (drop at text))
 backslash_is_unit t text at l e u = backslash_by t _ _ _ text at l e u refl refl refl
 
 -- where no label continues
@@ -657,8 +741,10 @@ blank_stops h t text at b =
 pub end_stops : (h : List ℕ → Option ℕ) (t : Bool) (text : List ℕ) (at : ℕ) → length text ≤ at → Stops h t text at
 end_stops h t text at l = blank_stops h t text at (ap (λ cs. list_all is_ascii_white (bytes_of cs)) (left-past h text at l))
 
-bracket_left : (h : List ℕ → Option ℕ) (text : List ℕ) (at k : ℕ) → at < length text → get_or text at 0 ≡ k → is_ascii_white k ≡ false → left_at h text at ≡ (at, k) ∷ left_at h text (at + 1)
-bracket_left h text at k l e s = left-byte h text at l (solid_ends_none (get_or text at 0) (drop (at + 1) text) (ap is_ascii_white e ∙ s)) ∙ ap (λ b. (at, b) ∷ left_at h text (at + 1)) e
+bracket_left : (h : List ℕ → Option ℕ) (text : List ℕ) (at k : ℕ)
+    → at < length text → get_or text at 0 ≡ k → is_ascii_white k ≡ false → left_at h text at ≡ (at, k) ∷ left_at h text (at + 1)
+bracket_left h text at k l e s =
+    left-byte h text at l (solid_ends_none (get_or text at 0) (drop (at + 1) text) (ap is_ascii_white e ∙ s)) ∙ ap (λ b. (at, b) ∷ left_at h text (at + 1)) e
 
 open_by : (t : Bool) (known : Known) (at : ℕ) (cs : List (ℕ × ℕ)) → label_behind t known ((at, 91) ∷ cs) ≡ None
 unfolding label_behind
@@ -667,11 +753,13 @@ open_by t known at cs = rw (upto-stop is_bracket 91 (bytes_of cs) refl refl)
 pub open_stops : (h : List ℕ → Option ℕ) (t : Bool) (text : List ℕ) (at : ℕ) → at < length text → get_or text at 0 ≡ 91 → Stops h t text at
 open_stops h t text at l e = λ known. ap (label_behind t known) (bracket_left h text at 91 l e refl) ∙ open_by t known at (left_at h text (at + 1))
 
-close_by : (t : Bool) (known : Known) (at : ℕ) (cs : List (ℕ × ℕ)) → label_behind t known ((at, 93) ∷ cs) ≡ (if is_label_behind known [] then Some (found (at + 1) (known.bytes ++ shown t [])) else None)
+close_by : (t : Bool) (known : Known) (at : ℕ) (cs : List (ℕ × ℕ))
+    → label_behind t known ((at, 93) ∷ cs) ≡ (if is_label_behind known [] then Some (found (at + 1) (known.bytes ++ shown t [])) else None)
 unfolding label_behind
 close_by t known at cs = rw (upto-stop is_bracket 93 (bytes_of cs) refl refl)
 
-pub closes : (h : List ℕ → Option ℕ) (t : Bool) (text : List ℕ) (at : ℕ) (known : Known) → at < length text → get_or text at 0 ≡ 93 → label_behind t known (left_at h text at) ≡ (if is_label_behind known [] then Some (found (at + 1) (known.bytes ++ shown t [])) else None)
+pub closes : (h : List ℕ → Option ℕ) (t : Bool) (text : List ℕ) (at : ℕ) (known : Known) → at < length text → get_or text at 0 ≡ 93
+    → label_behind t known (left_at h text at) ≡ (if is_label_behind known [] then Some (found (at + 1) (known.bytes ++ shown t [])) else None)
 closes h t text at known l e = ap (label_behind t known) (bracket_left h text at 93 l e refl) ∙ close_by t known at (left_at h text (at + 1))
 
 pub shown-nil : (t : Bool) → shown t [] ≡ []
@@ -679,13 +767,16 @@ unfolding single_spaced without_pipe_escapes
 shown-nil true = refl
 shown-nil false = refl
 
-pub closed : (h : List ℕ → Option ℕ) (t : Bool) (text : List ℕ) (at : ℕ) (known : Known) → at < length text → get_or text at 0 ≡ 93 → known.characters ≤ 999 → known.solid ≡ true → label_behind t known (left_at h text at) ≡ Some (at + 1, known.bytes)
+pub closed : (h : List ℕ → Option ℕ) (t : Bool) (text : List ℕ) (at : ℕ) (known : Known) → at < length text → get_or text at 0 ≡ 93 → known.characters ≤ 999
+    → known.solid ≡ true → label_behind t known (left_at h text at) ≡ Some (at + 1, known.bytes)
 closed h t text at known l e few solid =
     let k : known.characters + 0 ≡ known.characters = omega arith in
     let i : is_label_behind known [] ≡ true = rw (k, le-leb known.characters 999 few, solid) in
-    closes h t text at known l e ∙ rw i (ap (λ bs. Some (found (at + 1) (known.bytes ++ bs))) (shown-nil t) ∙ ap (λ bs. Some (found (at + 1) bs)) (append-nil known.bytes))
+    closes h t text at known l e
+    ∙ rw i (ap (λ bs. Some (found (at + 1) (known.bytes ++ bs))) (shown-nil t) ∙ ap (λ bs. Some (found (at + 1) bs)) (append-nil known.bytes))
 
-pub blank_label : (h : List ℕ → Option ℕ) (t : Bool) (text : List ℕ) (at : ℕ) (known : Known) → at < length text → get_or text at 0 ≡ 93 → known.solid ≡ false → label_behind t known (left_at h text at) ≡ None
+pub blank_label : (h : List ℕ → Option ℕ) (t : Bool) (text : List ℕ) (at : ℕ) (known : Known)
+    → at < length text → get_or text at 0 ≡ 93 → known.solid ≡ false → label_behind t known (left_at h text at) ≡ None
 blank_label h t text at known l e solid =
     let i : is_label_behind known [] ≡ false = rw solid (and_false _) in
     closes h t text at known l e ∙ rw i
@@ -708,7 +799,9 @@ all_more (x ∷ xs) b h s = let p = white_parts x xs h in rw p.0 (all_more xs b 
 pub run_none : (h : List ℕ → Option ℕ) (text : List ℕ) (at : ℕ) → IsWhiteRun h text at at 0
 run_none h text at = record { run = []; joins = refl; white = refl; count = refl }
 
-pub run_more : (h : List ℕ → Option ℕ) (text : List ℕ) (at next behind n : ℕ) → IsWhiteRun h text at next n → left_at h text next ≡ (next, get_or text next 0) ∷ left_at h text behind → is_ascii_white (get_or text next 0) ≡ true → IsWhiteRun h text at behind (n + 1)
+pub run_more : (h : List ℕ → Option ℕ) (text : List ℕ) (at next behind n : ℕ)
+    → IsWhiteRun h text at next n → left_at h text next ≡ (next, get_or text next 0) ∷ left_at h text behind → is_ascii_white (get_or text next 0) ≡ true
+    → IsWhiteRun h text at behind (n + 1)
 run_more h text at next behind n r e s =
     let one : List (ℕ × ℕ) = (next, get_or text next 0) ∷ [] in
     let l = length-append r.run one in

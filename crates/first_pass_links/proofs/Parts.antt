@@ -1,5 +1,6 @@
 -- Parts of a text, and how heavy they are.
-use Rattle.std.proofs.Common.{◌≡◌, ◌⊎◌, inl, inr, ℕ, zero, suc, ◌+◌, ◌-◌, ◌<◌, ◌≤◌, ◌==◌, ◌&&◌, not, Bool, true, false, List, [], ◌∷◌, ◌++◌, length, take, drop, get_or, refl, sym, ap, ◌∙◌, arith, append_assoc, if◌then◌else◌}
+use Rattle.std.proofs.Common.{◌≡◌, ◌⊎◌, inl, inr, ℕ, zero, suc, ◌+◌, ◌-◌, ◌<◌, ◌≤◌, ◌==◌, ◌&&◌, not, Bool, true, false, List, [], ◌∷◌, ◌++◌, length, take, drop}
+use Rattle.std.proofs.Common.{get_or, refl, sym, ap, ◌∙◌, arith, append_assoc, if◌then◌else◌}
 use Rattle.std.specs.Str.{IsCharBoundary}
 use Rattle.std.proofs.lemmas.List.{drop_more, drop-drop}
 use Rattle.first_pass_lines.specs.Lines.{is_ascii_white}
@@ -25,7 +26,8 @@ pub part-split : (text : List ℕ) (a b c : ℕ) → a ≤ b → b ≤ c → par
 part-split text a b c h k =
     let e : c - a ≡ (b - a) + (c - b) = omega arith in
     let f : a + (b - a) ≡ b = omega arith in
-    sym (ap (λ n. take n (drop a text)) e ∙ take_add (b - a) (c - b) (drop a text) ∙ ap (λ xs. part text a b ++ take (c - b) xs) (drop-drop (b - a) a text ∙ ap (λ n. drop n text) f))
+    sym (ap (λ n. take n (drop a text)) e ∙ take_add (b - a) (c - b) (drop a text)
+    ∙ ap (λ xs. part text a b ++ take (c - b) xs) (drop-drop (b - a) a text ∙ ap (λ n. drop n text) f))
 
 pub part-one : (text : List ℕ) (at : ℕ) → at < length text → part text at (at + 1) ≡ get_or text at 0 ∷ []
 part-one text at l =
@@ -75,11 +77,13 @@ unfolding weight
 weight-other b h k = rw (h, k)
 
 -- a text that is read, unit by unit
-lighter_weight : (text written : List ℕ) (from : ℕ) → ((from ≡ 0) × (written ≡ [])) ⊎ (weight written < weight (take from text)) → weight written ≤ weight (take from text)
+lighter_weight : (text written : List ℕ) (from : ℕ)
+    → ((from ≡ 0) × (written ≡ [])) ⊎ (weight written < weight (take from text)) → weight written ≤ weight (take from text)
 lighter_weight text written from (inl h) = let e = ap weight h.1 ∙ weight-nil in omega arith
 lighter_weight text written from (inr h) = omega arith
 
-pub unit_kept : (text written : List ℕ) (from at : ℕ) (unit : Unit) → IsRead text written from at → IsUnit text at unit → unit.kept ≡ unit.resumed → written ++ part text from unit.next ≡ (written ++ part text from at) ++ read_of text at unit
+pub unit_kept : (text written : List ℕ) (from at : ℕ) (unit : Unit) → IsRead text written from at → IsUnit text at unit → unit.kept ≡ unit.resumed
+    → written ++ part text from unit.next ≡ (written ++ part text from at) ++ read_of text at unit
 unit_kept text written from at unit r u e =
     let order = r.order in
     let begins = u.begins in
@@ -88,17 +92,20 @@ unit_kept text written from at unit r u e =
     let a : read_of text at unit ≡ part text at unit.next =
     rw s (ap (λ n. part text at n ++ part text unit.resumed unit.next) e ∙ part-split text at unit.resumed unit.next (omega arith) resumes)
     in
-    sym (append_assoc written (part text from at) (read_of text at unit) ∙ ap (λ xs. written ++ (part text from at ++ xs)) a ∙ ap (λ xs. written ++ xs) (part-split text from at unit.next order (omega arith)))
+    sym (append_assoc written (part text from at) (read_of text at unit) ∙ ap (λ xs. written ++ (part text from at ++ xs)) a
+    ∙ ap (λ xs. written ++ xs) (part-split text from at unit.next order (omega arith)))
 
 pub unit_changed : (text written : List ℕ) (from at : ℕ) (unit : Unit) → IsRead text written from at → IsUnit text at unit
-    → ((written ++ part text from unit.kept) ++ (if unit.space then 32 ∷ [] else [])) ++ part text unit.resumed unit.next ≡ (written ++ part text from at) ++ read_of text at unit
+    → ((written ++ part text from unit.kept) ++ (if unit.space then 32 ∷ [] else [])) ++ part text unit.resumed unit.next
+    ≡ (written ++ part text from at) ++ read_of text at unit
 unit_changed text written from at unit r u =
     let order = r.order in
     let begins = u.begins in
     let p = part-split text from at unit.kept order begins in
     ap (λ xs. ((written ++ xs) ++ (if unit.space then 32 ∷ [] else [])) ++ part text unit.resumed unit.next) (sym p) ∙ simp append_assoc
 
-change_facts : (text written : List ℕ) (from at : ℕ) (unit : Unit) → IsRead text written from at → IsUnit text at unit → IsCharBoundary text unit.resumed × (weight (if unit.space then 32 ∷ [] else []) < weight (part text unit.kept unit.resumed))
+change_facts : (text written : List ℕ) (from at : ℕ) (unit : Unit) → IsRead text written from at → IsUnit text at unit
+    → IsCharBoundary text unit.resumed × (weight (if unit.space then 32 ∷ [] else []) < weight (part text unit.kept unit.resumed))
     → IsRead text ((written ++ part text from unit.kept) ++ (if unit.space then 32 ∷ [] else [])) unit.resumed unit.next
 change_facts text written from at unit r u c =
     let order = r.order in

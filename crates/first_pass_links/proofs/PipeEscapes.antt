@@ -32,7 +32,9 @@ pipe_behind (b ∷ bs) h =
     cell-other b bs (rw e) ∙ ap (λ x. x ∷ without_pipe_escapes bs) e
 
 -- plain bytes stay
-plain_drop : (t : Bool) (n b : ℕ) (bs : List ℕ) → (b == 92) ≡ t → suc n ≤ prefix_len is_plain (b ∷ bs) → (n ≤ prefix_len is_plain bs → drop n (without_pipe_escapes bs) ≡ without_pipe_escapes (drop n bs)) → drop (suc n) (without_pipe_escapes (b ∷ bs)) ≡ without_pipe_escapes (drop n bs)
+plain_drop : (t : Bool) (n b : ℕ) (bs : List ℕ)
+    → (b == 92) ≡ t → suc n ≤ prefix_len is_plain (b ∷ bs) → (n ≤ prefix_len is_plain bs → drop n (without_pipe_escapes bs) ≡ without_pipe_escapes (drop n bs))
+    → drop (suc n) (without_pipe_escapes (b ∷ bs)) ≡ without_pipe_escapes (drop n bs)
 plain_drop true n b bs h l f = let z : prefix_len is_plain (b ∷ bs) ≡ 0 = rw h in absurd (omega arith)
 plain_drop false n b bs h l f =
     let z : prefix_len is_plain (b ∷ bs) ≡ 1 + prefix_len is_plain bs = rw h in
@@ -43,7 +45,8 @@ drop-without_pipe_escapes zero bs h = refl
 drop-without_pipe_escapes (suc n) [] h = absurd (omega arith)
 drop-without_pipe_escapes (suc n) (b ∷ bs) h = plain_drop (b == 92) n b bs refl h (drop-without_pipe_escapes n bs)
 
-plain_take : (t : Bool) (n b : ℕ) (bs : List ℕ) → (b == 92) ≡ t → suc n ≤ prefix_len is_plain (b ∷ bs) → (n ≤ prefix_len is_plain bs → take n (without_pipe_escapes bs) ≡ take n bs) → take (suc n) (without_pipe_escapes (b ∷ bs)) ≡ b ∷ take n bs
+plain_take : (t : Bool) (n b : ℕ) (bs : List ℕ) → (b == 92) ≡ t → suc n ≤ prefix_len is_plain (b ∷ bs)
+    → (n ≤ prefix_len is_plain bs → take n (without_pipe_escapes bs) ≡ take n bs) → take (suc n) (without_pipe_escapes (b ∷ bs)) ≡ b ∷ take n bs
 plain_take true n b bs h l f = let z : prefix_len is_plain (b ∷ bs) ≡ 0 = rw h in absurd (omega arith)
 plain_take false n b bs h l f =
     let z : prefix_len is_plain (b ∷ bs) ≡ 1 + prefix_len is_plain bs = rw h in
@@ -55,7 +58,8 @@ take-without_pipe_escapes (suc n) [] h = absurd (omega arith)
 take-without_pipe_escapes (suc n) (b ∷ bs) h = plain_take (b == 92) n b bs refl h (take-without_pipe_escapes n bs)
 
 -- and so does a first byte that is neither backslash nor pipe
-begins_by : (t u : Bool) (k b : ℕ) (bs : List ℕ) → (b == 92) ≡ t → begins 124 bs ≡ u → (92 == k) ≡ false → (124 == k) ≡ false → begins k (without_pipe_escapes (b ∷ bs)) ≡ (b == k)
+begins_by : (t u : Bool) (k b : ℕ) (bs : List ℕ)
+    → (b == 92) ≡ t → begins 124 bs ≡ u → (92 == k) ≡ false → (124 == k) ≡ false → begins k (without_pipe_escapes (b ∷ bs)) ≡ (b == k)
 begins_by false u k b bs h h' q r = ap (begins k) (cell-other b bs h)
 begins_by true true k b bs h h' q r = ap (begins k) (cell-dropped b bs h h' ∙ pipe_behind bs h') ∙ r ∙ sym q ∙ ap (λ x. x == k) (sym (eqb-true b 92 h))
 begins_by true false k b bs h h' q r = ap (begins k) (cell-kept b bs h')
@@ -64,7 +68,8 @@ pub begins-cell : (k : ℕ) (bs : List ℕ) → (92 == k) ≡ false → (124 == 
 begins-cell k [] q r = ap (begins k) cell-nil
 begins-cell k (b ∷ bs) q r = begins_by (b == 92) (begins 124 bs) k b bs refl refl q r
 
-prefix_by : (p : ℕ → Bool) (t u : Bool) (b : ℕ) (bs : List ℕ) → (b == 92) ≡ t → begins 124 bs ≡ u → p 92 ≡ false → p 124 ≡ false → prefix_len p (without_pipe_escapes bs) ≡ prefix_len p bs → prefix_len p (without_pipe_escapes (b ∷ bs)) ≡ prefix_len p (b ∷ bs)
+prefix_by : (p : ℕ → Bool) (t u : Bool) (b : ℕ) (bs : List ℕ) → (b == 92) ≡ t → begins 124 bs ≡ u → p 92 ≡ false → p 124 ≡ false
+    → prefix_len p (without_pipe_escapes bs) ≡ prefix_len p bs → prefix_len p (without_pipe_escapes (b ∷ bs)) ≡ prefix_len p (b ∷ bs)
 prefix_by p false u b bs h h' q r e =
     let f : prefix_len p (b ∷ without_pipe_escapes bs) ≡ prefix_len p (b ∷ bs) = rw e in
     ap (prefix_len p) (cell-other b bs h) ∙ f
@@ -82,17 +87,21 @@ prefix_len-cell p q r [] = ap (prefix_len p) cell-nil
 prefix_len-cell p q r (b ∷ bs) = prefix_by p (b == 92) (begins 124 bs) b bs refl refl q r (prefix_len-cell p q r bs)
 
 -- what stands in front of and after such a run
-behind_run : (p : ℕ → Bool) → p 92 ≡ false → p 124 ≡ false → (bs : List ℕ) → begins 59 (drop (prefix_len p (without_pipe_escapes bs)) (without_pipe_escapes bs)) ≡ begins 59 (drop (prefix_len p bs) bs)
+behind_run : (p : ℕ → Bool) → p 92 ≡ false → p 124 ≡ false → (bs : List ℕ)
+    → begins 59 (drop (prefix_len p (without_pipe_escapes bs)) (without_pipe_escapes bs)) ≡ begins 59 (drop (prefix_len p bs) bs)
 behind_run p q r bs =
     let l = plain_through p q bs in
-    ap (λ n. begins 59 (drop n (without_pipe_escapes bs))) (prefix_len-cell p q r bs) ∙ ap (begins 59) (drop-without_pipe_escapes (prefix_len p bs) bs (omega arith)) ∙ begins-cell 59 (drop (prefix_len p bs) bs) refl refl
+    ap (λ n. begins 59 (drop n (without_pipe_escapes bs))) (prefix_len-cell p q r bs)
+    ∙ ap (begins 59) (drop-without_pipe_escapes (prefix_len p bs) bs (omega arith)) ∙ begins-cell 59 (drop (prefix_len p bs) bs) refl refl
 
-run : (p : ℕ → Bool) → p 92 ≡ false → p 124 ≡ false → (bs : List ℕ) → take (prefix_len p (without_pipe_escapes bs)) (without_pipe_escapes bs) ≡ take (prefix_len p bs) bs
+run : (p : ℕ → Bool)
+    → p 92 ≡ false → p 124 ≡ false → (bs : List ℕ) → take (prefix_len p (without_pipe_escapes bs)) (without_pipe_escapes bs) ≡ take (prefix_len p bs) bs
 run p q r bs =
     let l = plain_through p q bs in
     ap (λ n. take n (without_pipe_escapes bs)) (prefix_len-cell p q r bs) ∙ take-without_pipe_escapes (prefix_len p bs) bs (omega arith)
 
-number_at-cell : (p : ℕ → Bool) → p 92 ≡ false → p 124 ≡ false → (radix most : ℕ) (bs : List ℕ) → number_at p radix most (without_pipe_escapes bs) ≡ number_at p radix most bs
+number_at-cell : (p : ℕ → Bool)
+    → p 92 ≡ false → p 124 ≡ false → (radix most : ℕ) (bs : List ℕ) → number_at p radix most (without_pipe_escapes bs) ≡ number_at p radix most bs
 unfolding number_at
 number_at-cell p q r radix most bs = rw (behind_run p q r bs, run p q r bs, prefix_len-cell p q r bs)
 
@@ -107,8 +116,11 @@ behind_byte k (b ∷ bs) h q = ap (drop 1) (cell-other b bs (rw (eqb-true b k h)
 
 numeric_by : (t u : Bool) (bs : List ℕ) → begins 120 bs ≡ t → begins 88 bs ≡ u → numeric_at (without_pipe_escapes bs) ≡ numeric_at bs
 unfolding numeric_at
-numeric_by true u bs h h' = rw (begins-cell 120 bs refl refl, h) (ap (λ xs. behind 1 (number_at is_ascii_hexdigit 16 6 xs)) (behind_byte 120 bs h refl) ∙ ap (behind 1) (number_at-cell is_ascii_hexdigit refl refl 16 6 (drop 1 bs)))
-numeric_by false true bs h h' = rw (begins-cell 120 bs refl refl, begins-cell 88 bs refl refl, h, h') (ap (λ xs. behind 1 (number_at is_ascii_hexdigit 16 6 xs)) (behind_byte 88 bs h' refl) ∙ ap (behind 1) (number_at-cell is_ascii_hexdigit refl refl 16 6 (drop 1 bs)))
+numeric_by true u bs h h' = rw (begins-cell 120 bs refl refl, h) (ap (λ xs. behind 1 (number_at is_ascii_hexdigit 16 6 xs)) (behind_byte 120 bs h refl)
+    ∙ ap (behind 1) (number_at-cell is_ascii_hexdigit refl refl 16 6 (drop 1 bs)))
+numeric_by false true bs h h' =
+    rw (begins-cell 120 bs refl refl, begins-cell 88 bs refl refl, h, h') (ap (λ xs. behind 1 (number_at is_ascii_hexdigit 16 6 xs)) (behind_byte 88 bs h' refl)
+    ∙ ap (behind 1) (number_at-cell is_ascii_hexdigit refl refl 16 6 (drop 1 bs)))
 numeric_by false false bs h h' = rw (begins-cell 120 bs refl refl, begins-cell 88 bs refl refl, h, h') (number_at-cell is_ascii_digit refl refl 10 7 bs)
 
 entity_by : (t u : Bool) (bs : List ℕ) → begins 38 bs ≡ t → begins 35 (drop 1 bs) ≡ u → entity_at (without_pipe_escapes bs) ≡ entity_at bs
@@ -117,7 +129,8 @@ entity_by false u bs h h' = rw (begins-cell 38 bs refl refl, h)
 entity_by true true bs h h' =
     let d = behind_byte 38 bs h refl in
     let f = behind_byte 35 (drop 1 bs) h' refl in
-    rw (begins-cell 38 bs refl refl, h, d, begins-cell 35 (drop 1 bs) refl refl, h', f) (ap (λ x. behind 1 (behind 1 x)) (numeric_by _ _ (drop 1 (drop 1 bs)) refl refl))
+    rw (begins-cell 38 bs refl refl, h, d, begins-cell 35 (drop 1 bs) refl refl, h', f)
+    (ap (λ x. behind 1 (behind 1 x)) (numeric_by _ _ (drop 1 (drop 1 bs)) refl refl))
 entity_by true false bs h h' =
     let d = behind_byte 38 bs h refl in
     rw (begins-cell 38 bs refl refl, h, d, begins-cell 35 (drop 1 bs) refl refl, h') (ap (behind 1) (name_at-cell (drop 1 bs)))

@@ -1,5 +1,6 @@
 -- What is written of a label weighs less than what it is read from; so it is read otherwise than it stands.
-use Rattle.std.proofs.Common.{◌≡◌, ◌≢◌, ◌⊎◌, inl, inr, ℕ, suc, ◌+◌, ◌<◌, ◌≤◌, ◌==◌, Bool, true, false, List, [], ◌∷◌, ◌++◌, length, take, drop, get_or, slice_index, Option, Some, None, Ok, Err, Result, OnErr, refl, sym, ap, subst, ◌∙◌, arith, append_assoc, length-append}
+use Rattle.std.proofs.Common.{◌≡◌, ◌≢◌, ◌⊎◌, inl, inr, ℕ, suc, ◌+◌, ◌<◌, ◌≤◌, ◌==◌, Bool, true, false, List, [], ◌∷◌, ◌++◌, length, take, drop, get_or}
+use Rattle.std.proofs.Common.{slice_index, Option, Some, None, Ok, Err, Result, OnErr, refl, sym, ap, subst, ◌∙◌, arith, append_assoc, length-append}
 use Rattle.std.specs.Borrow.{Bor}
 use Rattle.std.specs.declared.alloc.AllocError.{AllocError}
 use Rattle.std.proofs.lemmas.Bool.{cases_Bool, eqb-true}
@@ -66,7 +67,8 @@ space_for b xs ys s l = elim (cases_Bool (b == 32)) [
       inl (omega arith))
 ]
 
-single_by : (b : ℕ) (bs : List ℕ) (x y : Bool) → is_ascii_white b ≡ x → is_ascii_white (slice_index bs 0) ≡ y → Lightens (single_spaced bs) bs → Lightens (single_spaced (b ∷ bs)) (b ∷ bs)
+single_by : (b : ℕ) (bs : List ℕ) (x y : Bool)
+    → is_ascii_white b ≡ x → is_ascii_white (slice_index bs 0) ≡ y → Lightens (single_spaced bs) bs → Lightens (single_spaced (b ∷ bs)) (b ∷ bs)
 single_by b bs false y h k l = subst (λ xs. Lightens xs (b ∷ bs)) (sym (single-solid b bs h)) (lightens_more b (single_spaced bs) bs l)
 single_by b bs true true h k l = subst (λ xs. Lightens xs (b ∷ bs)) (sym (single-more b bs h k)) (lightens_without b (single_spaced bs) bs l)
 single_by b bs true false h k l = subst (λ xs. Lightens xs (b ∷ bs)) (sym (single-last b bs h k)) (space_for b (single_spaced bs) bs h l)
@@ -75,7 +77,8 @@ single_lightens : (bs : List ℕ) → Lightens (single_spaced bs) bs
 single_lightens [] = inr (shown-nil false)
 single_lightens (b ∷ bs) = single_by b bs _ _ refl refl (single_lightens bs)
 
-cell_by : (b : ℕ) (bs : List ℕ) (x y : Bool) → (b == 92) ≡ x → begins 124 bs ≡ y → Lightens (without_pipe_escapes bs) bs → Lightens (without_pipe_escapes (b ∷ bs)) (b ∷ bs)
+cell_by : (b : ℕ) (bs : List ℕ) (x y : Bool)
+    → (b == 92) ≡ x → begins 124 bs ≡ y → Lightens (without_pipe_escapes bs) bs → Lightens (without_pipe_escapes (b ∷ bs)) (b ∷ bs)
 cell_by b bs false y h k l = subst (λ xs. Lightens xs (b ∷ bs)) (sym (cell-other b bs h)) (lightens_more b (without_pipe_escapes bs) bs l)
 cell_by b bs true true h k l = subst (λ xs. Lightens xs (b ∷ bs)) (sym (cell-dropped b bs h k)) (lightens_without b (without_pipe_escapes bs) bs l)
 cell_by b bs true false h k l = subst (λ xs. Lightens xs (b ∷ bs)) (sym (cell-kept b bs k)) (lightens_more b (without_pipe_escapes bs) bs l)
@@ -86,10 +89,12 @@ cell_lightens (b ∷ bs) = cell_by b bs _ _ refl refl (cell_lightens bs)
 
 shown_lightens : (t : Bool) (bs : List ℕ) → Lightens (shown t bs) bs
 shown_lightens false bs = single_lightens bs
-shown_lightens true bs = lightens_through (single_spaced (without_pipe_escapes bs)) (without_pipe_escapes bs) bs (single_lightens (without_pipe_escapes bs)) (cell_lightens bs)
+shown_lightens true bs =
+    lightens_through (single_spaced (without_pipe_escapes bs)) (without_pipe_escapes bs) bs (single_lightens (without_pipe_escapes bs)) (cell_lightens bs)
 
 -- white space that is read is a space
-single_weighs_by : (b : ℕ) (bs : List ℕ) (x y : Bool) → is_ascii_white b ≡ x → is_ascii_white (slice_index bs 0) ≡ y → weight (single_spaced bs) ≡ length (single_spaced bs) → weight (single_spaced (b ∷ bs)) ≡ length (single_spaced (b ∷ bs))
+single_weighs_by : (b : ℕ) (bs : List ℕ) (x y : Bool) → is_ascii_white b ≡ x → is_ascii_white (slice_index bs 0) ≡ y
+    → weight (single_spaced bs) ≡ length (single_spaced bs) → weight (single_spaced (b ∷ bs)) ≡ length (single_spaced (b ∷ bs))
 single_weighs_by b bs false y h k l =
     let e = single-solid b bs h in
     let v = weight-more b (single_spaced bs) in
@@ -144,7 +149,8 @@ pub record IsTracked (h : List ℕ → Option ℕ) (t : Bool) (text : List ℕ) 
 pub track_none : (h : List ℕ → Option ℕ) (t : Bool) (text : List ℕ) (same : Type 0) → same → IsTracked h t text 0 same
 track_none h t text same s = record { done = []; read = []; whole = refl; passed = omega arith; reads = λ n. refl; light = omega arith; lighter = inl s }
 
-unit_light : (h : List ℕ → Option ℕ) (t : Bool) (text : List ℕ) (at : ℕ) (unit : Unit) (r : Reads h t text at unit) → weight (read_of text at unit) ≤ weight (bytes_of r.run)
+unit_light : (h : List ℕ → Option ℕ) (t : Bool) (text : List ℕ) (at : ℕ) (unit : Unit) (r : Reads h t text at unit)
+    → weight (read_of text at unit) ≤ weight (bytes_of r.run)
 unit_light h t text at unit r =
     let e : shown t (bytes_of r.run) ≡ read_of text at unit =
     ap (shown t) (sym (append-nil (bytes_of r.run))) ∙ r.reads 0 ∙ ap (λ xs. read_of text at unit ++ xs) (shown-nil t) ∙ append-nil (read_of text at unit)
@@ -153,7 +159,8 @@ unit_light h t text at unit r =
     let z = ap weight e in
     omega arith
 
-pub track_unit : (h : List ℕ → Option ℕ) (t : Bool) (text : List ℕ) (at : ℕ) (unit : Unit) (old new : Type 0) → IsTracked h t text at old → Reads h t text at unit → (unit.kept ≡ unit.resumed → old → new) → IsTracked h t text unit.next new
+pub track_unit : (h : List ℕ → Option ℕ) (t : Bool) (text : List ℕ) (at : ℕ) (unit : Unit) (old new : Type 0)
+    → IsTracked h t text at old → Reads h t text at unit → (unit.kept ≡ unit.resumed → old → new) → IsTracked h t text unit.next new
 track_unit h t text at unit old new k r f =
     let us = bytes_of r.run in
     let X = all_from h text unit.next in
@@ -174,7 +181,8 @@ track_unit h t text at unit old new k r f =
       passed = omega arith;
       reads = λ m.
           let cut : take (length us + m) (all_from h text at) ≡ us ++ take m X = ap (take (length us + m)) joins ∙ take_past us X (length us + m) m refl in
-          ap (shown t) (append_assoc k.done us (take m X)) ∙ ap (λ xs. shown t (k.done ++ xs)) (sym cut) ∙ k.reads (length us + m) ∙ ap (λ xs. k.read ++ shown t xs) cut
+          ap (shown t) (append_assoc k.done us (take m X)) ∙ ap (λ xs. shown t (k.done ++ xs)) (sym cut) ∙ k.reads (length us + m)
+          ∙ ap (λ xs. k.read ++ shown t xs) cut
           ∙ ap (λ xs. k.read ++ xs) (r.reads m) ∙ sym (append_assoc k.read w (shown t (take m X)));
       light = omega arith;
       lighter = elim r.changes [
@@ -183,7 +191,8 @@ track_unit h t text at unit old new k r f =
       ];
     }
 
-tracked_before : (h : List ℕ → Option ℕ) (t : Bool) (text : List ℕ) (at : ℕ) (same : Type 0) (k : IsTracked h t text at same) → before_bracket h text ≡ k.done ++ before_from h text at
+tracked_before : (h : List ℕ → Option ℕ) (t : Bool) (text : List ℕ) (at : ℕ) (same : Type 0) (k : IsTracked h t text at same)
+    → before_bracket h text ≡ k.done ++ before_from h text at
 tracked_before h t text at same k =
     ap (λ n. take n (all_from h text 0)) k.passed ∙ ap (take (length k.done + label_len (all_from h text at))) k.whole
     ∙ take_past k.done (all_from h text at) (length k.done + label_len (all_from h text at)) (label_len (all_from h text at)) refl
@@ -201,8 +210,10 @@ track_written h t text at same k n = λ e.
     elim k.lighter [ inl s ↦ n s | inr less ↦ omega arith ]
 
 -- where the function errs: no bracket stands before, or the line end is part of the label
-stop_by : (o : Option ℕ) (h : List ℕ → Option ℕ) (t : Bool) (text : List ℕ) (at next n : ℕ) (same : Type 0) (k : IsTracked h t text at same) (r : IsWhiteRun h text at next n)
-    → next < length text → ends_line (slice_index text next) (drop (next + 1) text) ≡ true → h (drop (next + 1) text) ≡ o → IsRewritten h t text ⊎ HasNoBracket h text
+stop_by : (o : Option ℕ) (h : List ℕ → Option ℕ) (t : Bool) (text : List ℕ) (at next n : ℕ) (same : Type 0) (k : IsTracked h t text at same)
+    (r : IsWhiteRun h text at next n)
+    → next < length text → ends_line (slice_index text next) (drop (next + 1) text) ≡ true → h (drop (next + 1) text) ≡ o
+    → IsRewritten h t text ⊎ HasNoBracket h text
 stop_by None h t text at next n same k r l e f =
     let R = bytes_of r.run in
     let X : all_from h text at ≡ R = ap bytes_of (r.joins ∙ ap (λ cs. r.run ++ cs) (left-stop h text next l e f) ∙ append-nil r.run) in
@@ -216,17 +227,21 @@ stop_by (Some m) h t text at next n same k r l e f =
     let b = get_or text next 0 in
     let R = bytes_of r.run in
     let Y = all_from h text (next + 1 + m) in
-    let X : all_from h text at ≡ R ++ b ∷ Y = ap bytes_of (r.joins ∙ ap (λ cs. r.run ++ cs) (left-end h text next m l e f)) ∙ map-append (λ (c : ℕ × ℕ). c.1) r.run ((next, b) ∷ left_at h text (next + 1 + m)) in
+    let X : all_from h text at ≡ R ++ b ∷ Y = ap bytes_of (r.joins ∙ ap (λ cs. r.run ++ cs) (left-end h text next m l e f))
+    ∙ map-append (λ (c : ℕ × ℕ). c.1) r.run ((next, b) ∷ left_at h text (next + 1 + m)) in
     let s = line_end_facts b (drop (next + 1) text) e in
     let one : 1 + label_len Y ≡ suc (label_len Y) = omega arith in
-    let len : label_len (R ++ b ∷ Y) ≡ length R + suc (label_len Y) = upto-run R (b ∷ Y) r.white ∙ ap (λ j. length R + j) (upto-byte is_bracket b Y (rw s.2) s.3 ∙ one) in
+    let len : label_len (R ++ b ∷ Y) ≡ length R + suc (label_len Y) =
+    upto-run R (b ∷ Y) r.white ∙ ap (λ j. length R + j) (upto-byte is_bracket b Y (rw s.2) s.3 ∙ one) in
     let B : before_from h text at ≡ R ++ b ∷ take (label_len Y) Y =
     ap (λ xs. take (label_len xs) xs) X ∙ ap (λ j. take j (R ++ b ∷ Y)) len ∙ take_past R (b ∷ Y) (length R + suc (label_len Y)) (suc (label_len Y)) refl
     in
-    let is : before_bracket h text ≡ (k.done ++ R) ++ b ∷ take (label_len Y) Y = tracked_before h t text at same k ∙ ap (λ xs. k.done ++ xs) B ∙ sym (append_assoc k.done R (b ∷ take (label_len Y) Y)) in
+    let is : before_bracket h text ≡ (k.done ++ R) ++ b ∷ take (label_len Y) Y =
+    tracked_before h t text at same k ∙ ap (λ xs. k.done ++ xs) B ∙ sym (append_assoc k.done R (b ∷ take (label_len Y) Y)) in
     inl (λ z. heavy_differs t (k.done ++ R) (take (label_len Y) Y) b s.0 s.1 (ap (shown t) (sym is) ∙ z ∙ is))
 
-pub track_stop : (h : List ℕ → Option ℕ) (t : Bool) (text : List ℕ) (at : ℕ) (same : Type 0) (post : Bor (List ℕ) → Result (Option ℕ) AllocError → Type 0) → IsTracked h t text at same → StopsByError text at post → AnswersWith text h post → CanErr h t text post
+pub track_stop : (h : List ℕ → Option ℕ) (t : Bool) (text : List ℕ) (at : ℕ) (same : Type 0) (post : Bor (List ℕ) → Result (Option ℕ) AllocError → Type 0)
+    → IsTracked h t text at same → StopsByError text at post → AnswersWith text h post → CanErr h t text post
 track_stop h t text at same post k s a = elim (stop_by _ h t text at s.next s.characters same k (s.run h a) s.stops.within s.stops.line_end refl) [
   | inl z ↦ inl z
   | inr z ↦ inr (z, (s.next, s.stops))

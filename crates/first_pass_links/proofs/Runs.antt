@@ -1,5 +1,6 @@
 -- Runs by the grammar, and their length as it is counted.
-use Rattle.std.proofs.Common.{◌≡◌, inl, inr, ℕ, zero, suc, ◌+◌, ◌-◌, ◌<◌, ◌≤◌, ◌==◌, Bool, true, false, List, [], ◌∷◌, ◌++◌, length, take, drop, Option, Some, None, refl, sym, ap, subst, ◌∙◌, arith, append_assoc, length-append, length-drop}
+use Rattle.std.proofs.Common.{◌≡◌, inl, inr, ℕ, zero, suc, ◌+◌, ◌-◌, ◌<◌, ◌≤◌, ◌==◌, Bool, true, false, List, [], ◌∷◌, ◌++◌, length, take, drop, Option, Some}
+use Rattle.std.proofs.Common.{None, refl, sym, ap, subst, ◌∙◌, arith, append_assoc, length-append, length-drop}
 use Rattle.std.specs.Char.{is_ascii_punctuation}
 use Rattle.std.proofs.lemmas.Bool.{cases_Bool, eqb-true, and_parts, le-ltb, lt-ltb}
 use Rattle.std.proofs.lemmas.Bool.Decides.{nat_tests}
@@ -27,7 +28,8 @@ three_parts a b c (Some k) = let e : 1 + (a + (1 + (b + k))) ≡ suc (a + suc b)
 two_parts : (a : ℕ) (o : Option ℕ) → longer 1 (longer a o) ≡ longer (suc a) o
 two_parts a o = longer-longer 1 a o ∙ (let e : 1 + a ≡ suc a = omega arith in ap (λ n. longer n o) e)
 
-counts : (deepest : ℕ) (d : ℕ) (run behind : List ℕ) → IsRun d run behind → (nesting : ℕ) → d + nesting ≡ deepest → run_len deepest nesting 0 (run ++ behind) ≡ longer (length run) (run_len deepest nesting 0 behind)
+counts : (deepest : ℕ) (d : ℕ) (run behind : List ℕ) → IsRun d run behind → (nesting : ℕ) → d + nesting ≡ deepest
+    → run_len deepest nesting 0 (run ++ behind) ≡ longer (length run) (run_len deepest nesting 0 behind)
 counts deepest _ _ _ (nothing d behind) nesting e = sym (longer-none (run_len deepest nesting 0 behind))
 counts deepest _ _ _ (escape d b more behind p r) nesting e =
     run-escape deepest nesting 92 b (more ++ behind) refl p ∙ ap (λ o. longer 1 (longer 1 o)) (counts deepest d more behind r nesting e)
@@ -47,7 +49,8 @@ counts deepest _ _ _ (nested d inside more behind r s) nesting e =
     ap (run_len deepest nesting 0) (ap (λ xs. 40 ∷ xs) (append_assoc inside (41 ∷ more) behind))
     ∙ run-byte deepest nesting 40 (inside ++ 41 ∷ (more ++ behind)) refl refl refl (le-ltb _ _ shallow)
     ∙ ap (longer 1) (counts deepest d inside (41 ∷ (more ++ behind)) r (nesting + 1) (omega arith)
-    ∙ ap (longer (length inside)) (run-byte deepest (nesting + 1) 41 (more ++ behind) refl refl (rw open_none) (le-ltb _ _ (let z : nesting + 1 - 1 ≤ deepest = omega arith in z))
+    ∙ ap (longer (length inside))
+    (run-byte deepest (nesting + 1) 41 (more ++ behind) refl refl (rw open_none) (le-ltb _ _ (let z : nesting + 1 - 1 ≤ deepest = omega arith in z))
     ∙ ap (λ k. longer 1 (run_len deepest k 0 (more ++ behind))) back
     ∙ ap (longer 1) (counts deepest (suc d) more behind s nesting e)))
     ∙ three_parts (length inside) (length more) 0 left
@@ -77,16 +80,19 @@ run_found deepest n bs h =
 -- a run with so many parentheses open before it, which it closes: a run before each `)`, and one after the last
 abbrev Closes : ℕ → ℕ → List ℕ → List ℕ → Type 0
 Closes zero d run behind = IsRun d run behind
-Closes (suc k) d run behind = (inside : List ℕ) × (more : List ℕ) × (run ≡ inside ++ 41 ∷ more) × IsRun d inside (41 ∷ (more ++ behind)) × Closes k (suc d) more behind
+Closes (suc k) d run behind =
+    (inside : List ℕ) × (more : List ℕ) × (run ≡ inside ++ 41 ∷ more) × IsRun d inside (41 ∷ (more ++ behind)) × Closes k (suc d) more behind
 
 closes_escape : (k d b : ℕ) (run behind : List ℕ) → is_ascii_punctuation b ≡ true → Closes k d run behind → Closes k d (92 ∷ b ∷ run) behind
 closes_escape zero d b run behind p c = escape d b run behind p c
 closes_escape (suc k) d b run behind p c = (92 ∷ b ∷ c.0, c.1, ap (λ xs. 92 ∷ b ∷ xs) c.2, escape d b c.0 (41 ∷ (c.1 ++ behind)) p c.3, c.4)
 
-closes_plain : (k d b : ℕ) (run behind : List ℕ) → is_plain b ≡ true → begins_escape (b ∷ (run ++ behind)) ≡ false → Closes k d run behind → Closes k d (b ∷ run) behind
+closes_plain : (k d b : ℕ) (run behind : List ℕ)
+    → is_plain b ≡ true → begins_escape (b ∷ (run ++ behind)) ≡ false → Closes k d run behind → Closes k d (b ∷ run) behind
 closes_plain zero d b run behind p alone c = plain d b run behind p alone c
 closes_plain (suc k) d b run behind p alone c =
-    let e : begins_escape (b ∷ (c.0 ++ 41 ∷ (c.1 ++ behind))) ≡ false = ap (λ xs. begins_escape (b ∷ xs)) (sym (ap (λ xs. xs ++ behind) c.2 ∙ append_assoc c.0 (41 ∷ c.1) behind)) ∙ alone in
+    let e : begins_escape (b ∷ (c.0 ++ 41 ∷ (c.1 ++ behind))) ≡ false =
+    ap (λ xs. begins_escape (b ∷ xs)) (sym (ap (λ xs. xs ++ behind) c.2 ∙ append_assoc c.0 (41 ∷ c.1) behind)) ∙ alone in
     (b ∷ c.0, c.1, ap (λ xs. b ∷ xs) c.2, plain d b c.0 (41 ∷ (c.1 ++ behind)) p e c.3, c.4)
 
 closes_close : (k d : ℕ) (run behind : List ℕ) → Closes k (suc d) run behind → Closes (suc k) d (41 ∷ run) behind
@@ -96,7 +102,8 @@ closes_open : (k d : ℕ) (run behind : List ℕ) → Closes (suc k) d run behin
 closes_open zero d run behind c = subst (λ xs. IsRun (suc d) (40 ∷ xs) behind) (sym c.2) (nested d c.0 c.1 behind c.3 c.4)
 closes_open (suc k) d run behind c =
     let r = c.4 in
-    let e : 41 ∷ (c.1 ++ behind) ≡ 41 ∷ (r.0 ++ 41 ∷ (r.1 ++ behind)) = ap (λ xs. 41 ∷ xs) (ap (λ xs. xs ++ behind) r.2 ∙ append_assoc r.0 (41 ∷ r.1) behind) in (
+    let e : 41 ∷ (c.1 ++ behind) ≡ 41 ∷ (r.0 ++ 41 ∷ (r.1 ++ behind)) =
+    ap (λ xs. 41 ∷ xs) (ap (λ xs. xs ++ behind) r.2 ∙ append_assoc r.0 (41 ∷ r.1) behind) in (
       40 ∷ (c.0 ++ 41 ∷ r.0),
       r.1,
       ap (λ xs. 40 ∷ xs) (c.2 ∙ ap (λ xs. c.0 ++ 41 ∷ xs) r.2 ∙ sym (append_assoc c.0 (41 ∷ r.0) (41 ∷ r.1))),
@@ -130,22 +137,50 @@ none_open (suc k) d n bs e h = let f = unclosed k in cc
 ends_escape : (k d b n : ℕ) (bs : List ℕ) → is_ascii_punctuation b ≡ true → Ends k d bs n → Ends k d (92 ∷ b ∷ bs) (1 + (1 + n))
 ends_escape k d b n bs p e =
     let l = e.count in
-    record { run = 92 ∷ b ∷ e.run; behind = e.behind; parts = ap (λ xs. 92 ∷ b ∷ xs) e.parts; count = omega arith; closes = closes_escape k d b e.run e.behind p e.closes; ends = e.ends }
+    record {
+      run = 92 ∷ b ∷ e.run;
+      behind = e.behind;
+      parts = ap (λ xs. 92 ∷ b ∷ xs) e.parts;
+      count = omega arith;
+      closes = closes_escape k d b e.run e.behind p e.closes;
+      ends = e.ends;
+    }
 
 ends_plain : (k d b n : ℕ) (bs : List ℕ) → is_plain b ≡ true → begins_escape (b ∷ bs) ≡ false → Ends k d bs n → Ends k d (b ∷ bs) (1 + n)
 ends_plain k d b n bs p alone e =
     let l = e.count in
-    record { run = b ∷ e.run; behind = e.behind; parts = ap (λ xs. b ∷ xs) e.parts; count = omega arith; closes = closes_plain k d b e.run e.behind p (ap (λ xs. begins_escape (b ∷ xs)) (sym e.parts) ∙ alone) e.closes; ends = e.ends }
+    record {
+      run = b ∷ e.run;
+      behind = e.behind;
+      parts = ap (λ xs. b ∷ xs) e.parts;
+      count = omega arith;
+      closes = closes_plain k d b e.run e.behind p (ap (λ xs. begins_escape (b ∷ xs)) (sym e.parts) ∙ alone) e.closes;
+      ends = e.ends;
+    }
 
 ends_close : (k d n : ℕ) (bs : List ℕ) → Ends k (suc d) bs n → Ends (suc k) d (41 ∷ bs) (1 + n)
 ends_close k d n bs e =
     let l = e.count in
-    record { run = 41 ∷ e.run; behind = e.behind; parts = ap (λ xs. 41 ∷ xs) e.parts; count = omega arith; closes = closes_close k d e.run e.behind e.closes; ends = e.ends }
+    record {
+      run = 41 ∷ e.run;
+      behind = e.behind;
+      parts = ap (λ xs. 41 ∷ xs) e.parts;
+      count = omega arith;
+      closes = closes_close k d e.run e.behind e.closes;
+      ends = e.ends;
+    }
 
 ends_open : (k d n : ℕ) (bs : List ℕ) → Ends (suc k) d bs n → Ends k (suc d) (40 ∷ bs) (1 + n)
 ends_open k d n bs e =
     let l = e.count in
-    record { run = 40 ∷ e.run; behind = e.behind; parts = ap (λ xs. 40 ∷ xs) e.parts; count = omega arith; closes = closes_open k d e.run e.behind e.closes; ends = e.ends }
+    record {
+      run = 40 ∷ e.run;
+      behind = e.behind;
+      parts = ap (λ xs. 40 ∷ xs) e.parts;
+      count = omega arith;
+      closes = closes_open k d e.run e.behind e.closes;
+      ends = e.ends;
+    }
 
 -- what is counted after each byte
 abbrev Counted : ℕ → List ℕ → Type 0
@@ -167,7 +202,8 @@ counted_open deepest bs i = λ k d n e h. open_by deepest bs i k d n e h
         let z : run_len deepest k 0 (40 ∷ bs) ≡ None = run-deep deepest k 40 bs refl refl refl (lt-ltb _ _ (let z : deepest < k + 1 = omega arith in z)) in cc
     open_by deepest bs i k (suc d) n e h =
         let f : k + 1 ≡ suc k = omega arith in
-        let x = longer_some 1 n (run_len deepest (k + 1) 0 bs) (sym (run-byte deepest k 40 bs refl refl refl (le-ltb _ _ (let z : k + 1 ≤ deepest = omega arith in z))) ∙ h) in
+        let x = longer_some 1 n (run_len deepest (k + 1) 0 bs)
+        (sym (run-byte deepest k 40 bs refl refl refl (le-ltb _ _ (let z : k + 1 ≤ deepest = omega arith in z))) ∙ h) in
         subst (Ends k (suc d) (40 ∷ bs)) x.2 (ends_open k d x.0 bs (i (suc k) d x.0 (omega arith) (ap (λ m. run_len deepest m 0 bs) (sym f) ∙ x.1)))
 
 counted_close : (deepest : ℕ) (bs : List ℕ) → Counted deepest bs → (k d n : ℕ) → d + k ≡ deepest → run_len deepest k 0 (41 ∷ bs) ≡ Some n → Ends k d (41 ∷ bs) n
@@ -176,7 +212,8 @@ counted_close deepest bs i zero d n e h =
     record { run = []; behind = 41 ∷ bs; parts = refl; count = z; closes = nothing d (41 ∷ bs); ends = refl }
 counted_close deepest bs i (suc k) d n e h =
     let f : suc k - 1 ≡ k = omega arith in
-    let x = longer_some 1 n (run_len deepest (suc k - 1) 0 bs) (sym (run-byte deepest (suc k) 41 bs refl refl (some_open k) (le-ltb _ _ (let z : suc k - 1 ≤ deepest = omega arith in z))) ∙ h) in
+    let x = longer_some 1 n (run_len deepest (suc k - 1) 0 bs)
+    (sym (run-byte deepest (suc k) 41 bs refl refl (some_open k) (le-ltb _ _ (let z : suc k - 1 ≤ deepest = omega arith in z))) ∙ h) in
     subst (Ends (suc k) d (41 ∷ bs)) x.2 (ends_close k d x.0 bs (i k (suc d) x.0 (omega arith) (ap (λ m. run_len deepest m 0 bs) (sym f) ∙ x.1)))
 
 counted_plain : (deepest b : ℕ) (bs : List ℕ) → is_plain b ≡ true → begins_escape (b ∷ bs) ≡ false → Counted deepest bs → Counted deepest (b ∷ bs)
@@ -184,13 +221,15 @@ counted_plain deepest b bs p alone i =
     λ k d n e h.
     let f = plain_facts b k p in
     let z = f.2 in
-    let x = longer_some 1 n (run_len deepest (nesting_behind b k) 0 bs) (sym (run-byte deepest k b bs f.0 alone f.1 (le-ltb _ _ (let l : nesting_behind b k ≤ deepest = omega arith in l))) ∙ h) in
+    let x = longer_some 1 n (run_len deepest (nesting_behind b k) 0 bs)
+    (sym (run-byte deepest k b bs f.0 alone f.1 (le-ltb _ _ (let l : nesting_behind b k ≤ deepest = omega arith in l))) ∙ h) in
     subst (Ends k d (b ∷ bs)) x.2 (ends_plain k d b x.0 bs p alone (i k d x.0 e (ap (λ m. run_len deepest m 0 bs) (sym f.2) ∙ x.1)))
 
 plain_from : (b : ℕ) → ends_run b ≡ false → (b == 40) ≡ false → (b == 41) ≡ false → is_plain b ≡ true
 plain_from b x y z = rw (x, y, z) refl
 
-counted_byte : (x y z w : Bool) (deepest b : ℕ) (bs : List ℕ) → ends_run b ≡ x → begins_escape (b ∷ bs) ≡ y → (b == 40) ≡ z → (b == 41) ≡ w → Counted deepest bs → Counted deepest (drop 1 bs) → Counted deepest (b ∷ bs)
+counted_byte : (x y z w : Bool) (deepest b : ℕ) (bs : List ℕ)
+    → ends_run b ≡ x → begins_escape (b ∷ bs) ≡ y → (b == 40) ≡ z → (b == 41) ≡ w → Counted deepest bs → Counted deepest (drop 1 bs) → Counted deepest (b ∷ bs)
 counted_byte true y z w deepest b bs hx hy hz hw i j = λ k d n e h. none_open k d n (b ∷ bs) (rw hx refl) (sym (run-end deepest k b bs hx) ∙ h)
 counted_byte false true z w deepest b bs hx hy hz hw i j =
     let e = eqb-true b 92 (and_parts _ _ hy).0 in

@@ -19,4 +19,5 @@ pub record IsChange (in_table : Bool) (text : List ℕ) (from : ℕ) (change : �
   pub shorter : length (encode_utf8 change.2) < change.1
   pub first : slice_index text change.0 < ascii_end
   pub last : slice_index text (change.0 + change.1 - 1) < ascii_end
-  pub replaced : unescaped in_table (drop from text) ≡ take (change.0 - from) (drop from text) ++ (encode_utf8 change.2 ++ unescaped in_table (drop (change.0 + change.1) text))
+  pub replaced : unescaped in_table (drop from text)
+      ≡ take (change.0 - from) (drop from text) ++ (encode_utf8 change.2 ++ unescaped in_table (drop (change.0 + change.1) text))

@@ -1,5 +1,6 @@
 -- Link labels (CommonMark 4.7, 6.3), of the bytes after a `[`.
-use Rattle.std.specs.Prelude.{◌≡◌, ◌≢◌, ◌⊎◌, ℕ, zero, suc, ◌+◌, ◌==◌, ◌&&◌, ◌||◌, not, Bool, List, [], ◌∷◌, map, take, drop, slice_index, Option, Some, None, Ok, Err, Result, length, true, ◌<◌, IsUtf8, nat_lt, nat_le, if◌then◌else◌}
+use Rattle.std.specs.Prelude.{◌≡◌, ◌≢◌, ◌⊎◌, ℕ, zero, suc, ◌+◌, ◌==◌, ◌&&◌, ◌||◌, not, Bool, List, [], ◌∷◌, map, take, drop, slice_index, Option, Some, None}
+use Rattle.std.specs.Prelude.{Ok, Err, Result, length, true, ◌<◌, IsUtf8, nat_lt, nat_le, if◌then◌else◌}
 use Rattle.std.specs.Option.{option_map_or}
 use Rattle.std.specs.List.{list_any, count_by}
 use Rattle.std.specs.Borrow.{Bor}
@@ -14,12 +15,14 @@ use Rattle.first_pass_links.specs.Destinations.{unescaped_upto}
 -- bytes of prefix the next line has, or none where the label may not continue there (this project)
 abbrev pub AnswersWith : List ℕ → (List ℕ → Option ℕ) → (Bor (List ℕ) → Result (Option ℕ) AllocError → Type 0) → Type 0
 AnswersWith text prefix post =
-    (behind : Bor (List ℕ)) (answer : Option ℕ) (at : ℕ) → IsCharBoundary text at → behind.now ≡ drop at text → post behind (Ok answer) → prefix behind.now ≡ answer
+    (behind : Bor (List ℕ)) (answer : Option ℕ) (at : ℕ) → IsCharBoundary text at → behind.now ≡ drop at text → post behind (Ok answer)
+    → prefix behind.now ≡ answer
 
 -- a prefix that may be returned there is a part of the bytes, and ends between characters (this project)
 abbrev pub AnswersPlaces : List ℕ → (Bor (List ℕ) → Result (Option ℕ) AllocError → Type 0) → Type 0
 AnswersPlaces text post =
-    (behind : Bor (List ℕ)) (n at : ℕ) → IsCharBoundary text at → behind.now ≡ drop at text → post behind (Ok (Some n)) → IsUtf8 behind.now → IsCharBoundary behind.now n
+    (behind : Bor (List ℕ)) (n at : ℕ) → IsCharBoundary text at → behind.now ≡ drop at text → post behind (Ok (Some n)) → IsUtf8 behind.now
+    → IsCharBoundary behind.now n
 
 -- an opening or closing square bracket (CommonMark 4.7)
 abbrev pub is_bracket : ℕ → Bool

@@ -17,9 +17,11 @@ pub data IsRun : ℕ → List ℕ → List ℕ → Type 0 where
   -- a backslash with the ASCII punctuation that it escapes, and then a run
   escape : (deepest b : ℕ) (more behind : List ℕ) → is_ascii_punctuation b ≡ true → IsRun deepest more behind → IsRun deepest (backslash ∷ b ∷ more) behind
   -- a byte that stands by itself, also a backslash that escapes nothing, and then a run
-  plain : (deepest b : ℕ) (more behind : List ℕ) → is_plain b ≡ true → begins_escape (b ∷ (more ++ behind)) ≡ false → IsRun deepest more behind → IsRun deepest (b ∷ more) behind
+  plain : (deepest b : ℕ) (more behind : List ℕ)
+      → is_plain b ≡ true → begins_escape (b ∷ (more ++ behind)) ≡ false → IsRun deepest more behind → IsRun deepest (b ∷ more) behind
   -- a run in parentheses, nested one less deep, and then a run
-  nested : (deepest : ℕ) (inside more behind : List ℕ) → IsRun deepest inside (right_parenthesis ∷ (more ++ behind)) → IsRun (suc deepest) more behind → IsRun (suc deepest) (left_parenthesis ∷ (inside ++ right_parenthesis ∷ more)) behind
+  nested : (deepest : ℕ) (inside more behind : List ℕ) → IsRun deepest inside (right_parenthesis ∷ (more ++ behind)) → IsRun (suc deepest) more behind
+      → IsRun (suc deepest) (left_parenthesis ∷ (inside ++ right_parenthesis ∷ more)) behind
 
 -- a run ends before these bytes: nothing, an ASCII control character, a space, or a `)`, which closes none as the run is balanced (CommonMark 6.3)
 abbrev pub ends_before : List ℕ → Bool

@@ -1,5 +1,6 @@
 -- The units that a label is read by. Contracts of private functions alone cite this.
-use Rattle.std.specs.Prelude.{◌≡◌, ◌⊎◌, ℕ, ◌+◌, ◌-◌, ◌==◌, ◌<◌, ◌≤◌, ◌&&◌, not, Bool, true, false, List, [], ◌∷◌, ◌++◌, length, take, drop, slice_index, Option, Result, if◌then◌else◌}
+use Rattle.std.specs.Prelude.{◌≡◌, ◌⊎◌, ℕ, ◌+◌, ◌-◌, ◌==◌, ◌<◌, ◌≤◌, ◌&&◌, not, Bool, true, false, List, [], ◌∷◌, ◌++◌, length, take, drop, slice_index, Option}
+use Rattle.std.specs.Prelude.{Result, if◌then◌else◌}
 use Rattle.std.specs.List.{list_any, list_all, count_by}
 use Rattle.std.specs.Borrow.{Bor}
 use Rattle.std.specs.Str.{IsCharBoundary}
@@ -58,7 +59,8 @@ pub record IsUnit (text : List ℕ) (at : ℕ) (unit : Unit) : Type 0 where
   pub later : at < unit.next
   pub within : unit.next ≤ length text
   pub few : unit.characters ≤ unit.next - at
-  pub change : (unit.kept ≡ unit.resumed) ⊎ ((slice_index text unit.kept < ascii_end) × IsCharBoundary text unit.resumed × (weight (if unit.space then space ∷ [] else []) < weight (part text unit.kept unit.resumed)))
+  pub change : (unit.kept ≡ unit.resumed) ⊎ ((slice_index text unit.kept < ascii_end) × IsCharBoundary text unit.resumed
+      × (weight (if unit.space then space ∷ [] else []) < weight (part text unit.kept unit.resumed)))
   pub same : unit.kept ≡ unit.resumed → unit.space ≡ false
 
 -- a unit is read: its bytes are the next of the label, and have so many characters; no bracket ends the label among them,
@@ -70,7 +72,8 @@ pub record Reads (prefix : List ℕ → Option ℕ) (in_table : Bool) (text : Li
   pub something : list_any (λ b. not (is_ascii_white b)) (bytes_of run) ≡ unit.solid
   pub passed : label_len (bytes_of run ++ bytes_of (left_at prefix text unit.next)) ≡ length run + label_len (bytes_of (left_at prefix text unit.next))
   pub changes : (unit.kept ≡ unit.resumed) ⊎ (weight (read_of text at unit) < weight (bytes_of run))
-  pub reads : (n : ℕ) → shown in_table (bytes_of run ++ take n (bytes_of (left_at prefix text unit.next))) ≡ read_of text at unit ++ shown in_table (take n (bytes_of (left_at prefix text unit.next)))
+  pub reads : (n : ℕ) → shown in_table (bytes_of run ++ take n (bytes_of (left_at prefix text unit.next)))
+      ≡ read_of text at unit ++ shown in_table (take n (bytes_of (left_at prefix text unit.next)))
 
 -- the text up to an offset is read: what is written of it, and from where on its bytes are kept (this project)
 pub record IsRead (text : List ℕ) (written : List ℕ) (from at : ℕ) : Type 0 where

@@ -34,12 +34,14 @@ closed_length f e [] = refl
 closed_length f e (ix ∷ rest) = length-modify f.nodes ix.0 _
 
 -- the innermost open node, when it is closed
-pub closed_within : (f g : Forest Item) (e : ℕ) (ix : TreeIndex) → IsForest f → slice_get f.spine 0 ≡ Some ix → g ≡ closed_by f e f.spine → ix.0 < length g.nodes
+pub closed_within : (f g : Forest Item) (e : ℕ) (ix : TreeIndex)
+    → IsForest f → slice_get f.spine 0 ≡ Some ix → g ≡ closed_by f e f.spine → ix.0 < length g.nodes
 closed_within f g e ix forest h is =
     subst (λ n. ix.0 < n) (sym (ap (λ (t : Forest Item). length t.nodes) is ∙ closed_length f e f.spine)) (top_within f ix forest h)
 
 -- where an item is the innermost open node, one is open
-item_open : (nodes : List (ℕ × Item)) (spine : List TreeIndex) → is_item (option_and_then (λ (ix : TreeIndex). body_at nodes ix.0) (slice_get spine 0)) ≡ true → IsSome (slice_get spine 0)
+item_open : (nodes : List (ℕ × Item)) (spine : List TreeIndex)
+    → is_item (option_and_then (λ (ix : TreeIndex). body_at nodes ix.0) (slice_get spine 0)) ≡ true → IsSome (slice_get spine 0)
 item_open nodes [] h = cc
 item_open nodes (ix ∷ spine) h = refl
 

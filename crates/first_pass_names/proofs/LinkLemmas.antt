@@ -30,14 +30,17 @@ put_is : (label : CowStr) (x : LinkDef) (es : List (CowStr × LinkDef)) → with
 put_is label x es = λ i. cond (is_some (lookup (λ l. texts_ties (folding_of label) (folding_of l) i) es)) es (insert_entry label_cmp es label x)
 
 -- after an entry that comes before
-put_behind : (found : Bool) (e : CowStr × LinkDef) (es more : List (CowStr × LinkDef)) → map link_entry (cond found (e ∷ es) (e ∷ more)) ≡ link_entry e ∷ map link_entry (cond found es more)
+put_behind : (found : Bool) (e : CowStr × LinkDef) (es more : List (CowStr × LinkDef))
+    → map link_entry (cond found (e ∷ es) (e ∷ more)) ≡ link_entry e ∷ map link_entry (cond found es more)
 put_behind true e es more = refl
 put_behind false e es more = refl
 
 put_cons : (label : CowStr) (x : LinkDef) (e : CowStr × LinkDef) (es : List (CowStr × LinkDef)) → IsInOrder (e ∷ es) → (o : Ordering) → label_cmp label e.0 ≡ o
     → map link_entry (put label x es) ≡ with_link (link_entry (label, x)) (map link_entry es)
-    → map link_entry (cond (is_some (cond (is_eq o) (Some e.1) (lookup (is_at (label_cmp label)) es))) (e ∷ es) (match_ordering o ((label, x) ∷ e ∷ es) ((e.0, x) ∷ es) (e ∷ insert_entry label_cmp es label x)))
-    ≡ match_ordering o (link_entry (label, x) ∷ link_entry e ∷ map link_entry es) (link_entry e ∷ map link_entry es) (link_entry e ∷ with_link (link_entry (label, x)) (map link_entry es))
+    → map link_entry (cond (is_some (cond (is_eq o) (Some e.1) (lookup (is_at (label_cmp label)) es))) (e ∷ es)
+    (match_ordering o ((label, x) ∷ e ∷ es) ((e.0, x) ∷ es) (e ∷ insert_entry label_cmp es label x)))
+    ≡ match_ordering o (link_entry (label, x) ∷ link_entry e ∷ map link_entry es) (link_entry e ∷ map link_entry es)
+    (link_entry e ∷ with_link (link_entry (label, x)) (map link_entry es))
 put_cons label x e es order Less is rest =
     let none = lookup-none (is_at (label_cmp label)) (e ∷ es) (none_below_head (on_total folding_of nat_list_cmp_total) label e es order is) in
     let here : lookup (is_at (label_cmp label)) es ≡ None = sym (ap (λ o. cond (is_eq o) (Some e.1) (lookup (is_at (label_cmp label)) es)) is) ∙ none in
@@ -46,13 +49,15 @@ put_cons label x e es order Equal is rest = refl
 put_cons label x e es order Greater is rest =
     put_behind (is_some (lookup (is_at (label_cmp label)) es)) e es (insert_entry label_cmp es label x) ∙ ap (λ z. link_entry e ∷ z) rest
 
-put_entries : (label : CowStr) (x : LinkDef) (es : List (CowStr × LinkDef)) → IsInOrder es → map link_entry (put label x es) ≡ with_link (link_entry (label, x)) (map link_entry es)
+put_entries : (label : CowStr) (x : LinkDef) (es : List (CowStr × LinkDef))
+    → IsInOrder es → map link_entry (put label x es) ≡ with_link (link_entry (label, x)) (map link_entry es)
 unfolding with_link IsStrictlySortedBy
 put_entries label x [] order = refl
 put_entries label x (e ∷ es) order = put_cons label x e es order (label_cmp label e.0) refl (put_entries label x es order.1)
 
 -- A definition more is told.
-pub link_defined : (old new : Allocations) (label : CowStr) (x : LinkDef) → IsInOrder old.refdefs → new.refdefs ≡ with_first old.refdefs label x → new.footdefs ≡ old.footdefs
+pub link_defined : (old new : Allocations) (label : CowStr) (x : LinkDef)
+    → IsInOrder old.refdefs → new.refdefs ≡ with_first old.refdefs label x → new.footdefs ≡ old.footdefs
     → tables new ≡ told (tables old) (link_entry (label, x) ∷ [])
 unfolding with_links
 link_defined old new label x order links notes =

@@ -50,7 +50,8 @@ footdefs_of a = a.footdefs
 -- of it has a prefix (CommonMark 4.7, 6.3).
 unfoldable pub link_at : List (CowStr × LinkDef) → List ℕ → Option (ℕ × LinkDef)
 link_at links bs =
-    option_and_then (λ (label : ℕ × List ℕ). option_map (λ (link : LinkDef). (label.0, link)) (defined_under (folded label.1) links)) (label_at (λ further. Some 0) false bs)
+    option_and_then (λ (label : ℕ × List ℕ). option_map (λ (link : LinkDef). (label.0, link)) (defined_under (folded label.1) links))
+    (label_at (λ further. Some 0) false bs)
 
 -- the texts, the alignments of tables' columns, and the attributes of headings, that nodes name by an index
 abbrev pub names_of : Allocations → Names

@@ -1,11 +1,13 @@
 -- A block opened, filled with a chain and closed.
-use Rattle.std.proofs.Common.{◌≡◌, ℕ, zero, suc, ◌+◌, ◌<◌, List, [], ◌∷◌, ◌++◌, length, slice_get, Option, Some, None, IsSome, refl, sym, ap, subst, ◌∙◌, arith, append_assoc, length-append}
+use Rattle.std.proofs.Common.{◌≡◌, ℕ, zero, suc, ◌+◌, ◌<◌, List, [], ◌∷◌, ◌++◌, length, slice_get, Option, Some, None, IsSome, refl, sym, ap, subst, ◌∙◌, arith}
+use Rattle.std.proofs.Common.{append_assoc, length-append}
 use Rattle.std.proofs.lemmas.List.{length-map}
 use Rattle.std.specs.Option.{option_map}
 use Rattle.first_pass_items.specs.declared.item.Item.{Item}
 use Rattle.first_pass_items.specs.declared.item.ItemBody.{ItemBody}
 use Rattle.first_pass_tree.specs.declared.tree_index.TreeIndex.{TreeIndex}
-use Rattle.first_pass_tree.specs.Forest.{Forest, IsForest, IsOpenPath, depths, item_at, modify, appended, pushed, popped, added, block_of, at_depth, modified, with_body_at}
+use Rattle.first_pass_tree.specs.Forest.{Forest, IsForest, IsOpenPath, depths, item_at, modify, appended, pushed, popped, added, block_of, at_depth, modified}
+use Rattle.first_pass_tree.specs.Forest.{with_body_at}
 use Rattle.first_pass_tree.proofs.Blocks.{modify-at, forest-eq}
 use Rattle.first_pass_tokens.specs.TreeTokens.{chained, leaves}
 use Rattle.first_pass_tokens.proofs.ChainLemmas.{chained-spine, chained-nodes, chained-current, chained-append, closed-chained}
@@ -35,7 +37,8 @@ just_pushed g a p x ix e h f =
     }
 
 -- a marker before a chain
-pub marked_chain : (p m n : Forest Item) (marker : Option Item) (chain : List Item) → m ≡ with_child p marker → n ≡ chained m chain → n ≡ chained p (marker_items marker ++ chain)
+pub marked_chain : (p m n : Forest Item) (marker : Option Item) (chain : List Item)
+    → m ≡ with_child p marker → n ≡ chained m chain → n ≡ chained p (marker_items marker ++ chain)
 marked_chain p m n None chain e f = f ∙ ap (λ v. chained v chain) e
 marked_chain p m n (Some x) chain e f = f ∙ ap (λ v. chained v chain) e ∙ chained-append p (x ∷ []) chain
 
@@ -53,7 +56,8 @@ get_behind [] more n (suc i) at = absurd (omega arith)
 get_behind (m ∷ ns) more n zero at = absurd (omega arith)
 get_behind (m ∷ ns) more n (suc i) at = get_behind ns more n i (omega arith)
 
-same_current : (g : Forest Item) (x y : Item) (chain : List Item) (ix : TreeIndex) → (chained (pushed (appended g x) ix) chain).current ≡ (chained (pushed (appended g y) ix) chain).current
+same_current : (g : Forest Item) (x y : Item) (chain : List Item) (ix : TreeIndex)
+    → (chained (pushed (appended g x) ix) chain).current ≡ (chained (pushed (appended g y) ix) chain).current
 same_current g x y [] ix = refl
 same_current g x y (z ∷ zs) ix =
     let a = length-append g.nodes ((length g.spine + 1, x) ∷ []) in
@@ -61,7 +65,8 @@ same_current g x y (z ∷ zs) ix =
     let same : length (appended g x).nodes + length zs ≡ length (appended g y).nodes + length zs = omega arith in
     chained-current (pushed (appended g x) ix) z zs ∙ ap (λ (m : ℕ). Some (record { 0 = m })) same ∙ sym (chained-current (pushed (appended g y) ix) z zs)
 
-module _ (g n : Forest Item) (x : Item) (chain : List Item) (ix : TreeIndex) (at : ix.0 ≡ length g.nodes) (filled : n ≡ chained (pushed (appended g x) ix) chain) where
+module _ (g n : Forest Item) (x : Item) (chain : List Item) (ix : TreeIndex) (at : ix.0 ≡ length g.nodes)
+    (filled : n ≡ chained (pushed (appended g x) ix) chain) where
   spine_is : n.spine ≡ ix ∷ g.spine
   spine_is = ap (λ (v : Forest Item). v.spine) filled ∙ chained-spine (pushed (appended g x) ix) chain
 
@@ -81,7 +86,8 @@ module _ (g n : Forest Item) (x : Item) (chain : List Item) (ix : TreeIndex) (at
   -- its item
   pub open_item_of : item_at n ix ≡ Some x
   open_item_of =
-      ap (λ (v : Forest Item). item_at v ix) filled ∙ ap (λ (ns : List (ℕ × Item)). option_map (λ (z : ℕ × Item). z.1) (slice_get ns ix.0)) (opened_nodes g x chain ix)
+      ap (λ (v : Forest Item). item_at v ix) filled
+      ∙ ap (λ (ns : List (ℕ × Item)). option_map (λ (z : ℕ × Item). z.1) (slice_get ns ix.0)) (opened_nodes g x chain ix)
       ∙ ap (option_map (λ (z : ℕ × Item). z.1)) (get_behind g.nodes (at_depth (length g.spine + 2) (leaves chain)) (length g.spine + 1, x) ix.0 at)
 
   -- another kind of block, while it is open

@@ -1,5 +1,6 @@
 -- How far a line continues the open nodes.
-use Rattle.std.proofs.Common.{◌≡◌, ℕ, zero, suc, ◌+◌, ◌-◌, ◌<◌, ◌≤◌, Bool, true, false, List, [], ◌∷◌, length, get_or, drop, reverse, Option, Some, None, MatchOption, refl, sym, ap, ◌∙◌, subst, arith}
+use Rattle.std.proofs.Common.{◌≡◌, ℕ, zero, suc, ◌+◌, ◌-◌, ◌<◌, ◌≤◌, Bool, true, false, List, [], ◌∷◌, length, get_or, drop, reverse, Option, Some, None}
+use Rattle.std.proofs.Common.{MatchOption, refl, sym, ap, ◌∙◌, subst, arith}
 use Rattle.std.specs.Option.{option_map, option_and_then}
 use Rattle.std.specs.Prelude.{slice_get}
 use Rattle.std.proofs.lemmas.List.{drop_more, drop_all, get_or-reverse, length-map, length-reverse}
@@ -31,7 +32,8 @@ unfolding after front
 front_taken [] r q e = ap (λ o. elim o [ None ↦ r | Some x ↦ x ]) e
 front_taken (c ∷ path) r q e = rw e refl
 
-front_short : (c : Option Container) (path : List Container) (r : Rest) → after (with_container c path) r ≡ None → front (with_container c path) r ≡ front path r
+front_short : (c : Option Container) (path : List Container) (r : Rest)
+    → after (with_container c path) r ≡ None → front (with_container c path) r ≡ front path r
 unfolding after front
 front_short None path r e = refl
 front_short (Some c) path r e = rw e refl
@@ -53,40 +55,51 @@ outer-all spine = let z : length spine - length spine ≡ 0 = omega arith in ap 
 abbrev pub path_to : (options : Options) → List (ℕ × Item) → List TreeIndex → ℕ → List Container
 path_to options ns spine m = path_in options ns (outer m spine)
 
-path_to-more : (options : Options) (ns : List (ℕ × Item)) (spine : List TreeIndex) (i : ℕ) (x : TreeIndex) → i < length spine → path_to options ns spine (i + 1) ≡ with_container (container_at options ns (get_or (reverse spine) i x)) (path_to options ns spine i)
+path_to-more : (options : Options) (ns : List (ℕ × Item)) (spine : List TreeIndex) (i : ℕ) (x : TreeIndex)
+    → i < length spine → path_to options ns spine (i + 1) ≡ with_container (container_at options ns (get_or (reverse spine) i x)) (path_to options ns spine i)
 path_to-more options ns spine i x h = ap (path_in options ns) (outer-more spine i x h)
 
 -- one open node more
-pub taken_more : (options : Options) (ns : List (ℕ × Item)) (spine : List TreeIndex) (i : ℕ) (x : TreeIndex) (r q : Rest) → i < length spine → after (path_to options ns spine i) r ≡ Some q
+pub taken_more : (options : Options) (ns : List (ℕ × Item)) (spine : List TreeIndex) (i : ℕ) (x : TreeIndex) (r q : Rest)
+    → i < length spine → after (path_to options ns spine i) r ≡ Some q
     → after (path_to options ns spine (i + 1)) r ≡ prefix_of (container_at options ns (get_or (reverse spine) i x)) q
-taken_more options ns spine i x r q h e = ap (λ c. after c r) (path_to-more options ns spine i x h) ∙ after_step (container_at options ns (get_or (reverse spine) i x)) (path_to options ns spine i) r q e
+taken_more options ns spine i x r q h e = ap (λ c. after c r) (path_to-more options ns spine i x h)
+    ∙ after_step (container_at options ns (get_or (reverse spine) i x)) (path_to options ns spine i) r q e
 
 -- No longer path is taken.
-stops_by : (options : Options) (ns : List (ℕ × Item)) (spine : List TreeIndex) (i : ℕ) (x : TreeIndex) (r : Rest) (d : ℕ) → i + d ≤ length spine → after (path_to options ns spine i) r ≡ None → after (path_to options ns spine (i + d)) r ≡ None
+stops_by : (options : Options) (ns : List (ℕ × Item)) (spine : List TreeIndex) (i : ℕ) (x : TreeIndex) (r : Rest) (d : ℕ)
+    → i + d ≤ length spine → after (path_to options ns spine i) r ≡ None → after (path_to options ns spine (i + d)) r ≡ None
 stops_by options ns spine i x r zero h e = let z : i + 0 ≡ i = omega arith in rw z e
 stops_by options ns spine i x r (suc d) h e =
     let z : i + suc d ≡ (i + d) + 1 = omega arith in
     ap (λ m. after (path_to options ns spine m) r) z ∙ ap (λ c. after c r) (path_to-more options ns spine (i + d) x (omega arith))
-    ∙ after_short (container_at options ns (get_or (reverse spine) (i + d) x)) (path_to options ns spine (i + d)) r (stops_by options ns spine i x r d (omega arith) e)
+    ∙ after_short (container_at options ns (get_or (reverse spine) (i + d) x)) (path_to options ns spine (i + d)) r
+    (stops_by options ns spine i x r d (omega arith) e)
 
-pub stops : (options : Options) (ns : List (ℕ × Item)) (spine : List TreeIndex) (i : ℕ) (x : TreeIndex) (r : Rest) → after (path_to options ns spine (i + 1)) r ≡ None
+pub stops : (options : Options) (ns : List (ℕ × Item)) (spine : List TreeIndex) (i : ℕ) (x : TreeIndex) (r : Rest)
+    → after (path_to options ns spine (i + 1)) r ≡ None
     → (m : ℕ) → i < m → m ≤ length spine → after (path_to options ns spine m) r ≡ None
 stops options ns spine i x r e m low high =
     let z : i + 1 + (m - (i + 1)) ≡ m = omega arith in
     subst (λ k. after (path_to options ns spine k) r ≡ None) z (stops_by options ns spine (i + 1) x r (m - (i + 1)) (omega arith) e)
 
-front_by : (options : Options) (ns : List (ℕ × Item)) (spine : List TreeIndex) (i : ℕ) (x : TreeIndex) (r q : Rest) (d : ℕ) → i + d ≤ length spine → after (path_to options ns spine i) r ≡ Some q
+front_by : (options : Options) (ns : List (ℕ × Item)) (spine : List TreeIndex) (i : ℕ) (x : TreeIndex) (r q : Rest) (d : ℕ)
+    → i + d ≤ length spine → after (path_to options ns spine i) r ≡ Some q
     → ((m : ℕ) → i < m → m ≤ length spine → after (path_to options ns spine m) r ≡ None) → front (path_to options ns spine (i + d)) r ≡ q
-front_by options ns spine i x r q zero h e s = let z : i + 0 ≡ i = omega arith in ap (λ m. front (path_to options ns spine m) r) z ∙ front_taken (path_to options ns spine i) r q e
+front_by options ns spine i x r q zero h e s =
+    let z : i + 0 ≡ i = omega arith in
+    ap (λ m. front (path_to options ns spine m) r) z ∙ front_taken (path_to options ns spine i) r q e
 front_by options ns spine i x r q (suc d) h e s =
     let z : i + suc d ≡ (i + d) + 1 = omega arith in
     let more = path_to-more options ns spine (i + d) x (omega arith) in
     let none = subst (λ c. after c r ≡ None) more (s (i + d + 1) (omega arith) (omega arith)) in
     ap (λ m. front (path_to options ns spine m) r) z ∙ ap (λ c. front c r) more
-    ∙ front_short (container_at options ns (get_or (reverse spine) (i + d) x)) (path_to options ns spine (i + d)) r none ∙ front_by options ns spine i x r q d (omega arith) e s
+    ∙ front_short (container_at options ns (get_or (reverse spine) (i + d) x)) (path_to options ns spine (i + d)) r none
+    ∙ front_by options ns spine i x r q d (omega arith) e s
 
 -- the longest beginning that is taken, and no longer one: the front
-pub front_is : (options : Options) (ns : List (ℕ × Item)) (spine : List TreeIndex) (i : ℕ) (r q : Rest) → i ≤ length spine → after (path_to options ns spine i) r ≡ Some q
+pub front_is : (options : Options) (ns : List (ℕ × Item)) (spine : List TreeIndex) (i : ℕ) (r q : Rest)
+    → i ≤ length spine → after (path_to options ns spine i) r ≡ Some q
     → ((m : ℕ) → i < m → m ≤ length spine → after (path_to options ns spine m) r ≡ None) → front (path_in options ns spine) r ≡ q
 front_is options ns spine i r q h e s =
     let z : i + (length spine - i) ≡ length spine = omega arith in
@@ -94,29 +107,35 @@ front_is options ns spine i r q h e s =
     ∙ front_by options ns spine i (record { 0 = 0 }) r q (length spine - i) (omega arith) e s
 
 -- an open node stands in the tree
-pub open_within : (ns : List (ℕ × Item)) (spine : List TreeIndex) (k : ℕ) (x : TreeIndex) → IsOpenPath (depths ns) spine → k < length spine → (get_or spine k x).0 < length ns
+pub open_within : (ns : List (ℕ × Item)) (spine : List TreeIndex) (k : ℕ) (x : TreeIndex)
+    → IsOpenPath (depths ns) spine → k < length spine → (get_or spine k x).0 < length ns
 open_within ns [] k x o h = absurd (omega arith)
 open_within ns (ix ∷ spine) zero x o h = subst (λ n. ix.0 < n) (length-map ns (λ n. n.0)) o.0.within
 open_within ns (ix ∷ spine) (suc k) x o h = open_within ns spine k x o.1 (omega arith)
 
-pub open_at : (ns : List (ℕ × Item)) (spine : List TreeIndex) (k : ℕ) (x : TreeIndex) → IsOpenPath (depths ns) spine → k < length spine → (get_or (reverse spine) k x).0 < length ns
+pub open_at : (ns : List (ℕ × Item)) (spine : List TreeIndex) (k : ℕ) (x : TreeIndex)
+    → IsOpenPath (depths ns) spine → k < length spine → (get_or (reverse spine) k x).0 < length ns
 open_at ns spine k x o h = subst (λ y. y.0 < length ns) (sym (get_or-reverse spine k x h)) (open_within ns spine (length spine - 1 - k) x o (omega arith))
 
-container_of_node : (options : Options) (n : Option (ℕ × Item)) (item : Item) → option_map (λ n. n.1) n ≡ Some item → option_and_then (container_of options) (option_map (λ n. n.1.body) n) ≡ container_of options item.body
+container_of_node : (options : Options) (n : Option (ℕ × Item)) (item : Item)
+    → option_map (λ n. n.1) n ≡ Some item → option_and_then (container_of options) (option_map (λ n. n.1.body) n) ≡ container_of options item.body
 container_of_node options None item e = cc
 container_of_node options (Some n) item e = ap (λ o. elim o [ None ↦ None | Some x ↦ container_of options x.body ]) e
 
 -- the container that an item of the tree is
-pub container_is : (options : Options) (ns : List (ℕ × Item)) (ix : TreeIndex) (item : Item) → option_map (λ n. n.1) (slice_get ns ix.0) ≡ Some item → container_at options ns ix ≡ container_of options item.body
+pub container_is : (options : Options) (ns : List (ℕ × Item)) (ix : TreeIndex) (item : Item)
+    → option_map (λ n. n.1) (slice_get ns ix.0) ≡ Some item → container_at options ns ix ≡ container_of options item.body
 container_is options ns ix item e = container_of_node options (slice_get ns ix.0) item e
 
 -- where a prefix isn't there
-pub isnt_taken : (o : Option Rest) (b : Bool) (old new : Rest) → b ≡ false → MatchOption o ((b ≡ false) × (new ≡ old)) (λ next. (b ≡ true) × (new ≡ next)) → (o ≡ None) × (new ≡ old)
+pub isnt_taken : (o : Option Rest) (b : Bool) (old new : Rest)
+    → b ≡ false → MatchOption o ((b ≡ false) × (new ≡ old)) (λ next. (b ≡ true) × (new ≡ next)) → (o ≡ None) × (new ≡ old)
 isnt_taken None b old new e m = (refl, m.1)
 isnt_taken (Some r) b old new e (t, m) = let z : false ≡ true = sym e ∙ t in (cc, cc)
 
 -- where it is
-pub is_taken : (o : Option Rest) (b : Bool) (old new : Rest) → b ≡ true → MatchOption o ((b ≡ false) × (new ≡ old)) (λ next. (b ≡ true) × (new ≡ next)) → o ≡ Some new
+pub is_taken : (o : Option Rest) (b : Bool) (old new : Rest)
+    → b ≡ true → MatchOption o ((b ≡ false) × (new ≡ old)) (λ next. (b ≡ true) × (new ≡ next)) → o ≡ Some new
 is_taken None b old new e (t, m) = let z : true ≡ false = sym e ∙ t in cc
 is_taken (Some r) b old new e m = ap Some (sym m.1)
 
@@ -131,12 +150,17 @@ pub in_spine : (spine places : List TreeIndex) (i : ℕ) → places ≡ reverse 
 in_spine spine places i e h = subst (λ n. i < n) (ap length e ∙ length-reverse spine) h
 
 -- an open node, read from the outermost on
-pub place_within : (ns : List (ℕ × Item)) (spine places : List TreeIndex) (i : ℕ) → IsOpenPath (depths ns) spine → places ≡ reverse spine → i < length places → (get_or places i root).0 < length ns
-place_within ns spine places i o e h = subst (λ (xs : List TreeIndex). (get_or xs i root).0 < length ns) (sym e) (open_at ns spine i root o (in_spine spine places i e h))
+pub place_within : (ns : List (ℕ × Item)) (spine places : List TreeIndex) (i : ℕ)
+    → IsOpenPath (depths ns) spine → places ≡ reverse spine → i < length places → (get_or places i root).0 < length ns
+place_within ns spine places i o e h =
+    subst (λ (xs : List TreeIndex). (get_or xs i root).0 < length ns) (sym e) (open_at ns spine i root o (in_spine spine places i e h))
 
 -- what the line takes for the next open node
-pub node_taken : (options : Options) (ns : List (ℕ × Item)) (spine places : List TreeIndex) (i : ℕ) (item : Item) (r q : Rest) → places ≡ reverse spine → i < length places
-    → option_map (λ n. n.1) (slice_get ns (get_or places i root).0) ≡ Some item → after (path_in options ns (outer i spine)) r ≡ Some q → after (path_in options ns (outer (i + 1) spine)) r ≡ prefix_of (container_of options item.body) q
+pub node_taken : (options : Options) (ns : List (ℕ × Item)) (spine places : List TreeIndex) (i : ℕ) (item : Item) (r q : Rest)
+    → places ≡ reverse spine → i < length places
+    → option_map (λ n. n.1) (slice_get ns (get_or places i root).0) ≡ Some item → after (path_in options ns (outer i spine)) r ≡ Some q
+    → after (path_in options ns (outer (i + 1) spine)) r ≡ prefix_of (container_of options item.body) q
 node_taken options ns spine places i item r q e h is so_far =
     taken_more options ns spine i root r q (in_spine spine places i e h) so_far
-    ∙ ap (λ o. prefix_of o q) (container_is options ns (get_or (reverse spine) i root) item (subst (λ (xs : List TreeIndex). option_map (λ n. n.1) (slice_get ns (get_or xs i root).0) ≡ Some item) e is))
+    ∙ ap (λ o. prefix_of o q) (container_is options ns (get_or (reverse spine) i root) item
+    (subst (λ (xs : List TreeIndex). option_map (λ n. n.1) (slice_get ns (get_or xs i root).0) ≡ Some item) e is))

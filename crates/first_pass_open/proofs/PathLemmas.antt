@@ -1,5 +1,6 @@
 -- The containers among the open nodes, as the tree grows and nodes are closed.
-use Rattle.std.proofs.Common.{◌≡◌, ◌⊎◌, inl, inr, ℕ, zero, suc, ◌+◌, ◌<◌, ◌≤◌, nat_le, ◌||◌, Bool, true, false, List, [], ◌∷◌, ◌++◌, length, slice_get, Option, Some, None, refl, ap, subst, ◌∙◌, arith, length-append}
+use Rattle.std.proofs.Common.{◌≡◌, ◌⊎◌, inl, inr, ℕ, zero, suc, ◌+◌, ◌<◌, ◌≤◌, nat_le, ◌||◌, Bool, true, false, List, [], ◌∷◌, ◌++◌, length, slice_get, Option}
+use Rattle.std.proofs.Common.{Some, None, refl, ap, subst, ◌∙◌, arith, length-append}
 use Rattle.std.proofs.lemmas.List.{length-map}
 use Rattle.std.specs.Option.{option_map, option_and_then}
 use Rattle.first_pass_items.specs.declared.item.Item.{Item}
@@ -32,14 +33,17 @@ get_front (n ∷ ns) more zero h = refl
 get_front (n ∷ ns) more (suc i) h = get_front ns more i (omega arith)
 
 -- more nodes after
-pub path_in-append : (options : Options) (ns more : List (ℕ × Item)) (spine : List TreeIndex) → AreIn (length ns) spine → path_in options (ns ++ more) spine ≡ path_in options ns spine
+pub path_in-append : (options : Options) (ns more : List (ℕ × Item)) (spine : List TreeIndex)
+    → AreIn (length ns) spine → path_in options (ns ++ more) spine ≡ path_in options ns spine
 path_in-append options ns more [] a = refl
 path_in-append options ns more (ix ∷ spine) a =
-    ap (λ n. with_container (option_and_then (container_of options) (option_map (λ n. n.1.body) n)) (path_in options (ns ++ more) spine)) (get_front ns more ix.0 a.0)
+    ap (λ n. with_container (option_and_then (container_of options) (option_map (λ n. n.1.body) n)) (path_in options (ns ++ more) spine))
+    (get_front ns more ix.0 a.0)
     ∙ ap (with_container (container_at options ns ix)) (path_in-append options ns more spine a.1)
 
 -- a chain in the innermost open node
-pub path_of-chained : (options : Options) (f : Forest Item) (chain : List Item) → AreIn (length f.nodes) f.spine → path_of options (chained f chain) ≡ path_of options f
+pub path_of-chained : (options : Options) (f : Forest Item) (chain : List Item)
+    → AreIn (length f.nodes) f.spine → path_of options (chained f chain) ≡ path_of options f
 path_of-chained options f chain a =
     ap (λ s. path_in options (chained f chain).nodes s) (chained-spine f chain)
     ∙ ap (λ ns. path_in options ns f.spine) (chained-nodes f chain) ∙ path_in-append options f.nodes (at_depth (length f.spine + 1) (leaves chain)) f.spine a
@@ -95,12 +99,16 @@ get_last (n ∷ ns) x zero h = absurd (omega arith)
 get_last (n ∷ ns) x (suc i) h = get_last ns x i (omega arith)
 
 -- a node just opened
-pub path_of-opened : (options : Options) (g : Forest Item) (x : Item) (ix : TreeIndex) → ix.0 ≡ length g.nodes → AreIn (length g.nodes) g.spine → path_of options (pushed (appended g x) ix) ≡ with_container (container_of options x.body) (path_of options g)
+pub path_of-opened : (options : Options) (g : Forest Item) (x : Item) (ix : TreeIndex) → ix.0 ≡ length g.nodes → AreIn (length g.nodes) g.spine
+    → path_of options (pushed (appended g x) ix) ≡ with_container (container_of options x.body) (path_of options g)
 path_of-opened options g x ix at a =
-    ap (λ n. with_container (option_and_then (container_of options) (option_map (λ n. n.1.body) n)) (path_in options (g.nodes ++ (length g.spine + 1, x) ∷ []) g.spine)) (get_last g.nodes (length g.spine + 1, x) ix.0 at)
+    ap (λ n.
+    with_container (option_and_then (container_of options) (option_map (λ n. n.1.body) n)) (path_in options (g.nodes ++ (length g.spine + 1, x) ∷ []) g.spine))
+    (get_last g.nodes (length g.spine + 1, x) ix.0 at)
     ∙ ap (with_container (container_of options x.body)) (path_in-append options g.nodes ((length g.spine + 1, x) ∷ []) g.spine a)
 
-pub opened_in : (g : Forest Item) (x : Item) (ix : TreeIndex) → ix.0 ≡ length g.nodes → AreIn (length g.nodes) g.spine → AreIn (length (pushed (appended g x) ix).nodes) (ix ∷ g.spine)
+pub opened_in : (g : Forest Item) (x : Item) (ix : TreeIndex)
+    → ix.0 ≡ length g.nodes → AreIn (length g.nodes) g.spine → AreIn (length (pushed (appended g x) ix).nodes) (ix ∷ g.spine)
 opened_in g x ix at a =
     let n : length (g.nodes ++ (length g.spine + 1, x) ∷ []) ≡ length g.nodes + 1 = length-append g.nodes ((length g.spine + 1, x) ∷ []) in
     (omega arith, AreIn-more (length g.nodes) (length (g.nodes ++ (length g.spine + 1, x) ∷ [])) g.spine (omega arith) a)

@@ -1,5 +1,6 @@
 -- Facts on places after a line's indentation.
-use Rattle.std.proofs.Common.{◌≡◌, inl, inr, ◌≤◌, ℕ, ◌+◌, ◌-◌, ◌<◌, zero, suc, nat_lt, Bool, true, false, if◌then◌else◌, List, [], ◌∷◌, length, drop, MatchOption, Option, Some, None, IsUtf8, IsCharBoundary, refl, sym, ap, subst, ◌∙◌, arith}
+use Rattle.std.proofs.Common.{◌≡◌, inl, inr, ◌≤◌, ℕ, ◌+◌, ◌-◌, ◌<◌, zero, suc, nat_lt, Bool, true, false, if◌then◌else◌, List, [], ◌∷◌, length, drop}
+use Rattle.std.proofs.Common.{MatchOption, Option, Some, None, IsUtf8, IsCharBoundary, refl, sym, ap, subst, ◌∙◌, arith}
 use Rattle.std.proofs.lemmas.List.{length-drop}
 use Rattle.std.proofs.lemmas.List.Sums.{prefix_len-le-length}
 use Rattle.std.proofs.lemmas.Bool.{cases_lt}
@@ -17,14 +18,16 @@ use Rattle.first_pass_lines.specs.Rest.{Rest, next_column, after_columns, indent
 use Rattle.first_pass_lines.specs.Places.{Place, line_rest, place_at, offset, line_end, IsPlaceOf}
 use Rattle.first_pass_lines.proofs.LineFacts.{line_len-none}
 use Rattle.first_pass_lines.proofs.Columns.{after-more, after-none, all-more}
-use Rattle.first_pass_lines.proofs.PlaceFacts.{line_is_place, columns_keep, place_line_end, columns_line_end, columns_shorter, quote_keeps, quote_line_end, quote_shorter}
+use Rattle.first_pass_lines.proofs.PlaceFacts.{line_is_place, columns_keep, place_line_end, columns_line_end, columns_shorter, quote_keeps, quote_line_end}
+use Rattle.first_pass_lines.proofs.PlaceFacts.{quote_shorter}
 use Rattle.first_pass_grammar.specs.declared.kind.Container.{Container}
 use Rattle.first_pass_grammar.specs.declared.kind.Container.TheVariants.{BlockQuote, ListItem, FootnoteDefinition}
 use Rattle.first_pass_grammar.specs.Containers.{has_columns, prefix, after, or_shorter, front}
 use Rattle.first_pass_grammar.specs.Kinds.{all_taken, unindented, item_at}
 use Rattle.first_pass_grammar.specs.Skeleton.{task_by, task_behind}
 
-all_by : (k : ℕ) (r : Rest) (o : Option Rest) → next_column r ≡ o → ((s : Rest) → after_columns (indent (after_columns k s)) (after_columns k s) ≡ after_columns (indent s) s)
+all_by : (k : ℕ) (r : Rest) (o : Option Rest)
+    → next_column r ≡ o → ((s : Rest) → after_columns (indent (after_columns k s)) (after_columns k s) ≡ after_columns (indent s) s)
     → after_columns (indent (after_columns (suc k) r)) (after_columns (suc k) r) ≡ after_columns (indent r) r
 all_by k r None e f = ap (λ s. after_columns (indent s) s) (after-none (suc k) r e)
 all_by k r (Some s) e f = ap (λ t. after_columns (indent t) t) (after-more (suc k) k r s refl e) ∙ f s ∙ all-more r s e
@@ -38,13 +41,16 @@ all_after (suc k) r = all_by k r (next_column r) refl (λ s. all_after k s)
 pub all_keep : (text : List ℕ) (line : ℕ) (r : Rest) → IsUtf8 text → IsPlaceOf text (place_at line r) → IsPlaceOf text (place_at line (all_taken r))
 all_keep text line r u i = columns_keep text (indent r) (place_at line r) u i
 
-quote_prefix : (text : List ℕ) (line : ℕ) (r : Rest) (o : Option Rest) (s : Rest) → IsUtf8 text → past_quote r ≡ o → option_map (after_columns 1) o ≡ Some s → IsPlaceOf text (place_at line r)
+quote_prefix : (text : List ℕ) (line : ℕ) (r : Rest) (o : Option Rest) (s : Rest)
+    → IsUtf8 text → past_quote r ≡ o → option_map (after_columns 1) o ≡ Some s → IsPlaceOf text (place_at line r)
     → IsPlaceOf text (place_at line s) × (line_end (place_at line s) ≡ line_end (place_at line r))
 quote_prefix text line r None s u q e i = absurd (none-some s e)
 quote_prefix text line r (Some t) s u q e i =
     let f : after_columns 1 t ≡ s = cc in
-    let j = columns_keep text 1 (place_at line t) u (quote_keeps text line r t u q i) in
-    (subst (λ z. IsPlaceOf text (place_at line z)) f j, ap (λ z. line_end (place_at line z)) (sym f) ∙ columns_line_end 1 (place_at line t) ∙ quote_line_end line r t q)
+    let j = columns_keep text 1 (place_at line t) u (quote_keeps text line r t u q i) in (
+      subst (λ z. IsPlaceOf text (place_at line z)) f j,
+      ap (λ z. line_end (place_at line z)) (sym f) ∙ columns_line_end 1 (place_at line t) ∙ quote_line_end line r t q,
+    )
 
 -- after a prefix
 pub prefix_keeps : (text : List ℕ) (line : ℕ) (c : Container) (r s : Rest) → IsUtf8 text → prefix c r ≡ Some s → IsPlaceOf text (place_at line r)
@@ -54,11 +60,15 @@ prefix_keeps text line (BlockQuote kind) r s u e i =
     let f = quote_prefix text line (after_columns 3 r) (past_quote (after_columns 3 r)) s u refl e (columns_keep text 3 (place_at line r) u i) in
     (f.0, f.1 ∙ columns_line_end 3 (place_at line r))
 prefix_keeps text line (ListItem n) r s u e i =
-    let f : after_columns n r ≡ s = (cond_some (has_columns n r) (after_columns n r) s e).1 in
-    (subst (λ z. IsPlaceOf text (place_at line z)) f (columns_keep text n (place_at line r) u i), ap (λ z. line_end (place_at line z)) (sym f) ∙ columns_line_end n (place_at line r))
+    let f : after_columns n r ≡ s = (cond_some (has_columns n r) (after_columns n r) s e).1 in (
+      subst (λ z. IsPlaceOf text (place_at line z)) f (columns_keep text n (place_at line r) u i),
+      ap (λ z. line_end (place_at line z)) (sym f) ∙ columns_line_end n (place_at line r),
+    )
 prefix_keeps text line (FootnoteDefinition n) r s u e i =
-    let f : after_columns n r ≡ s = (cond_some (has_columns n r) (after_columns n r) s e).1 in
-    (subst (λ z. IsPlaceOf text (place_at line z)) f (columns_keep text n (place_at line r) u i), ap (λ z. line_end (place_at line z)) (sym f) ∙ columns_line_end n (place_at line r))
+    let f : after_columns n r ≡ s = (cond_some (has_columns n r) (after_columns n r) s e).1 in (
+      subst (λ z. IsPlaceOf text (place_at line z)) f (columns_keep text n (place_at line r) u i),
+      ap (λ z. line_end (place_at line z)) (sym f) ∙ columns_line_end n (place_at line r),
+    )
 
 after_by : (text : List ℕ) (line : ℕ) (c : Container) (r s : Rest) (o : Option Rest) → IsUtf8 text → option_and_then (prefix c) o ≡ Some s
     → ((q : Rest) → o ≡ Some q → IsPlaceOf text (place_at line q) × (line_end (place_at line q) ≡ line_end (place_at line r)))
@@ -91,7 +101,9 @@ front_keeps text line (c ∷ path) r u i = front_by text line (c ∷ path) r (fr
 
 -- the text of a line after what it continues
 pub text_place : (text : List ℕ) (s : ℕ) (path : List Container) → IsUtf8 text → IsCharBoundary text s
-    → (let r : Rest = front path (line_rest (drop s text)) in IsPlaceOf text (unindented (place_at s r)) × (line_end (unindented (place_at s r)) ≡ s + line_len (drop s text)))
+    → (
+    let r : Rest = front path (line_rest (drop s text)) in
+    IsPlaceOf text (unindented (place_at s r)) × (line_end (unindented (place_at s r)) ≡ s + line_len (drop s text)))
 text_place text s path u b =
     let f = front_keeps text s path (line_rest (drop s text)) u (line_is_place text s b) in
     let r : Rest = front path (line_rest (drop s text)) in
@@ -99,7 +111,8 @@ text_place text s path u b =
     (all_keep text s r u f.0, columns_line_end (indent r) (place_at s r) ∙ f.1 ∙ ap (λ k. k + line_len (drop s text)) z)
 
 -- what is left of a line after what it continues, read from the text
-pub front_read : (text bytes rest : List ℕ) (start : ℕ) (path : List Container) (line behind : Rest) → bytes ≡ text → rest ≡ drop start bytes → line ≡ line_rest rest → behind ≡ front path line
+pub front_read : (text bytes rest : List ℕ) (start : ℕ) (path : List Container) (line behind : Rest)
+    → bytes ≡ text → rest ≡ drop start bytes → line ≡ line_rest rest → behind ≡ front path line
     → behind ≡ front path (line_rest (drop start text))
 front_read text bytes rest start path line behind a b e f = f ∙ ap (front path) (e ∙ ap line_rest (b ∙ ap (drop start) a))
 
@@ -122,16 +135,19 @@ quote_prefix_shorter r s e =
     omega arith
 
 -- what a marker that was taken says
-pub quote_taken : (o : Option Rest) (found : Option ℕ) (n at : ℕ) (old new : Rest) → found ≡ Some at → MatchOption o ((found ≡ None) × (new ≡ old)) (λ next. (found ≡ Some n) × (new ≡ next)) → (o ≡ Some new) × (at ≡ n)
+pub quote_taken : (o : Option Rest) (found : Option ℕ) (n at : ℕ) (old new : Rest)
+    → found ≡ Some at → MatchOption o ((found ≡ None) × (new ≡ old)) (λ next. (found ≡ Some n) × (new ≡ next)) → (o ≡ Some new) × (at ≡ n)
 quote_taken None found n at old new e m = let z : None ≡ Some at = sym m.0 ∙ e in (cc, cc)
 quote_taken (Some r) found n at old new e m = let z : Some n ≡ Some at = sym m.0 ∙ e in (ap Some (sym m.1), cc)
 
-pub quote_absent : (o : Option Rest) (found : Option ℕ) (n : ℕ) (old new : Rest) → found ≡ None → MatchOption o ((found ≡ None) × (new ≡ old)) (λ next. (found ≡ Some n) × (new ≡ next)) → (o ≡ None) × (new ≡ old)
+pub quote_absent : (o : Option Rest) (found : Option ℕ) (n : ℕ) (old new : Rest)
+    → found ≡ None → MatchOption o ((found ≡ None) × (new ≡ old)) (λ next. (found ≡ Some n) × (new ≡ next)) → (o ≡ None) × (new ≡ old)
 quote_absent None found n old new e m = (refl, m.1)
 quote_absent (Some r) found n old new e m = let z : None ≡ Some n = sym e ∙ m.0 in (cc, cc)
 
 -- how far a text is read after what was taken at a place
-pub read_to : (f : Rest → Rest) (n : ℕ) (p q : Place) (s : Rest) → n ≡ offset (place_at q.line s) → s ≡ f q.rest → q ≡ p → n ≡ offset (place_at p.line (f p.rest))
+pub read_to : (f : Rest → Rest) (n : ℕ) (p q : Place) (s : Rest)
+    → n ≡ offset (place_at q.line s) → s ≡ f q.rest → q ≡ p → n ≡ offset (place_at p.line (f p.rest))
 read_to f n p q s is rest same = is ∙ ap (λ (r : Rest). q.line + r.taken) rest ∙ ap (λ (z : Place). z.line + (f z.rest).taken) same
 
 no_line : (bs : List ℕ) → length bs ≤ 0 → line_len bs ≡ 0
@@ -153,7 +169,8 @@ pub line_start_end : (text : List ℕ) (start : ℕ) → line_end (place_at star
 line_start_end text start = let z : start + 0 ≡ start = omega arith in ap (λ k. k + line_len (drop start text)) z
 
 -- what a list item's marker that was taken says
-item_by : (t : Bool) (r : Rest) (item : (ℕ × ℕ × ℕ) × Rest) → (if t then item_of (indent r) (all_taken r) else None) ≡ Some item → item_of (indent r) (all_taken r) ≡ Some item
+item_by : (t : Bool) (r : Rest) (item : (ℕ × ℕ × ℕ) × Rest)
+    → (if t then item_of (indent r) (all_taken r) else None) ≡ Some item → item_of (indent r) (all_taken r) ≡ Some item
 item_by true r item h = h
 item_by false r item h = cc
 
@@ -165,8 +182,10 @@ item_marked r item h = item-marked (indent r) (all_taken r) item (item_by (nat_l
 pub item_keeps : (text : List ℕ) (line : ℕ) (r : Rest) (item : (ℕ × ℕ × ℕ) × Rest) → IsUtf8 text → item_at r ≡ Some item → IsPlaceOf text (place_at line r)
     → IsPlaceOf text (place_at line item.1) × (line_end (place_at line item.1) ≡ line_end (place_at line r))
 item_keeps text line r item u h i =
-    let m = item_marked r item h in
-    (marked-keeps text line (all_taken r) item.1 u m (all_keep text line r u i), marked-line_end line (all_taken r) item.1 m ∙ columns_line_end (indent r) (place_at line r))
+    let m = item_marked r item h in (
+      marked-keeps text line (all_taken r) item.1 u m (all_keep text line r u i),
+      marked-line_end line (all_taken r) item.1 m ∙ columns_line_end (indent r) (place_at line r),
+    )
 
 marked_shorter : (r s : Rest) → IsMarked r s → length s.left < length r.left
 marked_shorter r s m =
@@ -193,8 +212,11 @@ pub task_keeps : (text : List ℕ) (line : ℕ) (r : Rest) (task : Bool × Rest)
 task_keeps text line r task u h i =
     let m = task-marked r task h in
     let s = marked_shorter (after_columns 3 r) task.1 m in
-    let a = columns_shorter 3 r in
-    (marked-keeps text line (after_columns 3 r) task.1 u m (columns_keep text 3 (place_at line r) u i), marked-line_end line (after_columns 3 r) task.1 m ∙ columns_line_end 3 (place_at line r), omega arith)
+    let a = columns_shorter 3 r in (
+      marked-keeps text line (after_columns 3 r) task.1 u m (columns_keep text 3 (place_at line r) u i),
+      marked-line_end line (after_columns 3 r) task.1 m ∙ columns_line_end 3 (place_at line r),
+      omega arith,
+    )
 
 pub task_shorter : (r : Rest) (task : Bool × Rest) → task_of r ≡ Some task → length task.1.left < length r.left
 task_shorter r task h =
@@ -202,14 +224,18 @@ task_shorter r task h =
     let a = columns_shorter 3 r in
     omega arith
 
-pub task_found : (o : Option (Bool × Rest)) (found : Option Bool) (checked : Bool) (old new : Rest) → found ≡ Some checked → MatchOption o ((found ≡ None) × (new ≡ old)) (λ task. (found ≡ Some task.0) × (new ≡ task.1)) → o ≡ Some (checked, new)
+pub task_found : (o : Option (Bool × Rest)) (found : Option Bool) (checked : Bool) (old new : Rest)
+    → found ≡ Some checked → MatchOption o ((found ≡ None) × (new ≡ old)) (λ task. (found ≡ Some task.0) × (new ≡ task.1)) → o ≡ Some (checked, new)
 task_found None found checked old new e h = (let z : None ≡ Some checked = sym h.0 ∙ e in cc)
 task_found (Some task) found checked old new e h = (let z : Some task.0 ≡ Some checked = sym h.0 ∙ e in let w : task.0 ≡ checked = cc in
     ap (λ k. Some (k, task.1)) w ∙ ap (λ (q : Rest). Some (checked, q)) (sym h.1))
 
 -- after the markers of an item, or after the first where no other is there or the option is off
-behind_by : (text : List ℕ) (line : ℕ) (r : Rest) (o : Option (Bool × Rest)) → ((task : Bool × Rest) → o ≡ Some task → task_of r ≡ Some task) → IsUtf8 text → IsPlaceOf text (place_at line r)
-    → (let q : Rest = (task_by line r o).1 in IsPlaceOf text (place_at line q) × (line_end (place_at line q) ≡ line_end (place_at line r)) × (length q.left ≤ length r.left))
+behind_by : (text : List ℕ) (line : ℕ) (r : Rest) (o : Option (Bool × Rest))
+    → ((task : Bool × Rest) → o ≡ Some task → task_of r ≡ Some task) → IsUtf8 text → IsPlaceOf text (place_at line r)
+    → (
+    let q : Rest = (task_by line r o).1 in
+    IsPlaceOf text (place_at line q) × (line_end (place_at line q) ≡ line_end (place_at line r)) × (length q.left ≤ length r.left))
 behind_by text line r None h u i = (i, refl, omega arith)
 behind_by text line r (Some task) h u i = task_keeps text line r task u (h task refl) i
 
@@ -218,11 +244,15 @@ option_on true o task h = h
 option_on false o task h = cc
 
 pub behind_keeps : (text : List ℕ) (options : Options) (line : ℕ) (r : Rest) → IsUtf8 text → IsPlaceOf text (place_at line r)
-    → (let q : Rest = (task_behind options line r).1 in IsPlaceOf text (place_at line q) × (line_end (place_at line q) ≡ line_end (place_at line r)) × (length q.left ≤ length r.left))
-behind_keeps text options line r u i = behind_by text line r (if has options 16 then task_of r else None) (λ task h. option_on (has options 16) (task_of r) task h) u i
+    → (
+    let q : Rest = (task_behind options line r).1 in
+    IsPlaceOf text (place_at line q) × (line_end (place_at line q) ≡ line_end (place_at line r)) × (length q.left ≤ length r.left))
+behind_keeps text options line r u i =
+    behind_by text line r (if has options 16 then task_of r else None) (λ task h. option_on (has options 16) (task_of r) task h) u i
 
 -- after the markers of an item
-pub markers_keep : (text : List ℕ) (options : Options) (line : ℕ) (r : Rest) (item : (ℕ × ℕ × ℕ) × Rest) (new : Rest) → IsUtf8 text → item_at r ≡ Some item → new ≡ (task_behind options line item.1).1 → IsPlaceOf text (place_at line r)
+pub markers_keep : (text : List ℕ) (options : Options) (line : ℕ) (r : Rest) (item : (ℕ × ℕ × ℕ) × Rest) (new : Rest)
+    → IsUtf8 text → item_at r ≡ Some item → new ≡ (task_behind options line item.1).1 → IsPlaceOf text (place_at line r)
     → IsPlaceOf text (place_at line new) × (line_end (place_at line new) ≡ line_end (place_at line r)) × (length new.left < length r.left)
 markers_keep text options line r item new u is rest i =
     let k = item_keeps text line r item u is i in
@@ -234,11 +264,14 @@ markers_keep text options line r item new u is rest i =
 -- what stands after an item's own marker is the marker of a task
 mark_by : (line : ℕ) (r : Rest) (o : Option (Bool × Rest)) (x : Item) → (task_by line r o).0 ≡ Some x → is_task_marker x.body ≡ true
 mark_by line r None x h = cc
-mark_by line r (Some task) x h = (let e : record { start = offset (place_at line r); «end» = offset (place_at line task.1); body = TaskListMarker task.0 } ≡ x = cc in sym (ap (λ (i : Item). is_task_marker i.body) e))
+mark_by line r (Some task) x h = (
+    let e : record { start = offset (place_at line r); «end» = offset (place_at line task.1); body = TaskListMarker task.0 } ≡ x = cc in
+    sym (ap (λ (i : Item). is_task_marker i.body) e))
 
 pub mark_is_task : (options : Options) (line : ℕ) (r : Rest) (x : Item) → (task_behind options line r).0 ≡ Some x → is_task_marker x.body ≡ true
 mark_is_task options line r x h = mark_by line r (if has options 16 then task_of r else None) x h
 
 -- a line ends where the bytes from a place on say
-pub read_end : (text : List ℕ) (start : ℕ) (r : Rest) → IsPlaceOf text (place_at start r) → start + r.taken + line_len (drop (start + r.taken) text) ≡ line_end (place_at start r)
+pub read_end : (text : List ℕ) (start : ℕ) (r : Rest)
+    → IsPlaceOf text (place_at start r) → start + r.taken + line_len (drop (start + r.taken) text) ≡ line_end (place_at start r)
 read_end text start r i = ap (λ bs. start + r.taken + line_len bs) (sym i.left)

@@ -1,5 +1,6 @@
 -- Lines, one after the other, and what of them is written.
-use Rattle.std.proofs.Common.{◌≡◌, ℕ, ◌+◌, ◌<◌, List, [], ◌++◌, Option, Result, Ok, Err, OnErr, length, take, drop, get_or, refl, sym, ap, ◌∙◌, append_assoc, append-nil, take-append-drop}
+use Rattle.std.proofs.Common.{◌≡◌, ℕ, ◌+◌, ◌<◌, List, [], ◌++◌, Option, Result, Ok, Err, OnErr, length, take, drop, get_or, refl, sym, ap, ◌∙◌, append_assoc}
+use Rattle.std.proofs.Common.{append-nil, take-append-drop}
 use Rattle.std.proofs.lemmas.List.{take_more, flat_map_more}
 use Rattle.std.proofs.lemmas.Grind.{flat_map-append}
 use Rattle.std.proofs.KnownBytes.{Appends-nil, Appends-trans}
@@ -11,13 +12,16 @@ use Rattle.first_pass_printed.specs.Printed.{node_line}
 use Rattle.first_pass_host.specs.Streams.{AppendsFront}
 
 -- with the line of the next node
-pub next_line : (names : Names) (nodes : List (ℕ × Item)) (i : ℕ) (d : ℕ × Item) (done held line : List ℕ) → i < length nodes → done ++ held ≡ flat_map (node_line names) (take i nodes) → line ≡ held ++ node_line names (get_or nodes i d) → done ++ line ≡ flat_map (node_line names) (take (i + 1) nodes)
+pub next_line : (names : Names) (nodes : List (ℕ × Item)) (i : ℕ) (d : ℕ × Item) (done held line : List ℕ)
+    → i < length nodes → done ++ held ≡ flat_map (node_line names) (take i nodes) → line ≡ held ++ node_line names (get_or nodes i d)
+    → done ++ line ≡ flat_map (node_line names) (take (i + 1) nodes)
 next_line names nodes i d done held line within so_far is =
     ap (λ l. done ++ l) is ∙ sym (append_assoc done held (node_line names (get_or nodes i d))) ∙ ap (λ l. l ++ node_line names (get_or nodes i d)) so_far
     ∙ flat_map_more (node_line names) [] (take i nodes) (get_or nodes i d) ∙ ap (flat_map (node_line names)) (sym (take_more nodes i d within))
 
 -- the lines of the first nodes and those of the others
-cut_at : (names : Names) (nodes : List (ℕ × Item)) (i : ℕ) → flat_map (node_line names) nodes ≡ flat_map (node_line names) (take i nodes) ++ flat_map (node_line names) (drop i nodes)
+cut_at : (names : Names) (nodes : List (ℕ × Item)) (i : ℕ)
+    → flat_map (node_line names) nodes ≡ flat_map (node_line names) (take i nodes) ++ flat_map (node_line names) (drop i nodes)
 cut_at names nodes i = ap (flat_map (node_line names)) (sym (take-append-drop i nodes)) ∙ flat_map-append (node_line names) (take i nodes) (drop i nodes)
 
 -- a beginning of lines after those that were written, of which a writer took a beginning, is one of all lines
@@ -33,7 +37,8 @@ front_among all done lines others old mid new is appended front =
     }
 
 -- so for the lines of the first nodes
-pub front_of_lines : (names : Names) (nodes : List (ℕ × Item)) (i : ℕ) (done lines : List ℕ) (old mid new : Option (List ℕ)) → done ++ lines ≡ flat_map (node_line names) (take i nodes)
+pub front_of_lines : (names : Names) (nodes : List (ℕ × Item)) (i : ℕ) (done lines : List ℕ) (old mid new : Option (List ℕ))
+    → done ++ lines ≡ flat_map (node_line names) (take i nodes)
     → Appends old mid done → AppendsFront mid new lines → AppendsFront old new (flat_map (node_line names) nodes)
 front_of_lines names nodes i done lines old mid new so_far =
     let others = flat_map (node_line names) (drop i nodes) in
@@ -43,7 +48,8 @@ front_of_lines names nodes i done lines old mid new so_far =
 pub front_first : (lines others : List ℕ) (old new : Option (List ℕ)) → AppendsFront old new lines → AppendsFront old new (lines ++ others)
 front_first lines others old new = front_among _ [] lines others old old new refl (Appends-nil old)
 
-pub front_behind : (lines others : List ℕ) (old mid new : Option (List ℕ)) → Appends old mid lines → AppendsFront mid new others → AppendsFront old new (lines ++ others)
+pub front_behind : (lines others : List ℕ) (old mid new : Option (List ℕ))
+    → Appends old mid lines → AppendsFront mid new others → AppendsFront old new (lines ++ others)
 front_behind lines others old mid new = front_among _ lines others [] old mid new (append-nil (lines ++ others))
 
 -- nothing, as a beginning

@@ -1,5 +1,6 @@
 -- How the nodes of a tree and the link definitions of a text are printed (this project).
-use Rattle.std.specs.Prelude.{ℕ, zero, suc, ◌==◌, slice_get, Bool, true, false, Option, None, Some, List, [], ◌∷◌, ◌++◌, codes, decimal, encode_utf8, bit_and, if◌then◌else◌}
+use Rattle.std.specs.Prelude.{ℕ, zero, suc, ◌==◌, slice_get, Bool, true, false, Option, None, Some, List, [], ◌∷◌, ◌++◌, codes, decimal, encode_utf8, bit_and}
+use Rattle.std.specs.Prelude.{if◌then◌else◌}
 use Rattle.std.specs.List.{flat_map}
 use Rattle.first_pass_items.specs.declared.item.Item.{Item}
 use Rattle.first_pass_grammar.specs.Names.{Names, text_named, alignments_named}
@@ -13,7 +14,12 @@ use Rattle.first_pass_items.specs.declared.item.BlockQuoteKind.TheVariants.{Note
 use Rattle.first_pass_items.specs.declared.item.MetadataBlockKind.{MetadataBlockKind}
 use Rattle.first_pass_items.specs.declared.item.MetadataBlockKind.TheVariants.{YamlStyle, PlusesStyle}
 use Rattle.first_pass_items.specs.declared.item.ItemBody.{ItemBody}
-use Rattle.first_pass_items.specs.declared.item.ItemBody.TheVariants.{Root, Paragraph, TightParagraph, Rule, Heading, FencedCodeBlock, IndentCodeBlock, HtmlBlock, BlockQuote, FootnoteDefinition, MetadataBlock, DefinitionList, MaybeDefinitionListTitle, DefinitionListTitle, DefinitionListDefinition, Table, TableHead, TableRow, TableCell, Text, SoftBreak, HardBreak, MaybeEmphasis, MaybeMath, MaybeSmartQuote, MaybeCode, MaybeHtml, MaybeLinkOpen, MaybeLinkClose, MaybeImage, Html, SynthesizeText, SynthesizeChar, TaskListMarker, ListItem, List as ListBody}
+use Rattle.first_pass_items.specs.declared.item.ItemBody.TheVariants.{Root, Paragraph, TightParagraph, Rule, Heading, FencedCodeBlock, IndentCodeBlock}
+use Rattle.first_pass_items.specs.declared.item.ItemBody.TheVariants.{HtmlBlock, BlockQuote, FootnoteDefinition, MetadataBlock, DefinitionList}
+use Rattle.first_pass_items.specs.declared.item.ItemBody.TheVariants.{MaybeDefinitionListTitle, DefinitionListTitle, DefinitionListDefinition, Table, TableHead}
+use Rattle.first_pass_items.specs.declared.item.ItemBody.TheVariants.{TableRow, TableCell, Text, SoftBreak, HardBreak, MaybeEmphasis, MaybeMath}
+use Rattle.first_pass_items.specs.declared.item.ItemBody.TheVariants.{MaybeSmartQuote, MaybeCode, MaybeHtml, MaybeLinkOpen, MaybeLinkClose, MaybeImage, Html}
+use Rattle.first_pass_items.specs.declared.item.ItemBody.TheVariants.{SynthesizeText, SynthesizeChar, TaskListMarker, ListItem, List as ListBody}
 pub use Rattle.first_pass_printed.specs.Visible.{enclosed, visible_byte, visible}
 use Rattle.first_pass_printed.specs.HeadingValues.{heading_values}
 use Rattle.std.specs.Option.{option_and_then}

@@ -8,16 +8,27 @@ use Rattle.first_pass_timing.specs.Task.{AskFor}
 use Rattle.first_pass_program.specs.Bench.{Leaves, LeavesText}
 
 -- what a fault leaves of a text that was read to its end
-leaves_read : {A : Type 0} (words : List (String A)) (input clock output : Stream) (task : Task) → AskFor words task → (text : List ℕ) → ReadsWhole input.old input.new text
+leaves_read : {A : Type 0} (words : List (String A)) (input clock output : Stream) (task : Task)
+    → AskFor words task → (text : List ℕ) → ReadsWhole input.old input.new text
     → (fault : BlocksFault) → LeavesText fault task text clock output → Leaves fault words input clock output
 leaves_read words input clock output task asked text whole BadOptions leaves = absurd leaves
-leaves_read words input clock output task asked text whole ReadFailed leaves = inr (record { task = task; asked = asked; text = text; whole = whole; leaves = leaves })
-leaves_read words input clock output task asked text whole OutOfMemory leaves = inr (record { task = task; asked = asked; text = text; whole = whole; leaves = leaves })
+leaves_read words input clock output task asked text whole ReadFailed leaves =
+    inr (record { task = task; asked = asked; text = text; whole = whole; leaves = leaves })
+leaves_read words input clock output task asked text whole OutOfMemory leaves =
+    inr (record { task = task; asked = asked; text = text; whole = whole; leaves = leaves })
 leaves_read words input clock output task asked text whole NotUtf8 leaves = record { task = task; asked = asked; text = text; whole = whole; leaves = leaves }
-leaves_read words input clock output task asked text whole WriteFailed leaves = record { task = task; asked = asked; text = text; whole = whole; leaves = leaves }
+leaves_read words input clock output task asked text whole WriteFailed leaves = record {
+  task = task;
+  asked = asked;
+  text = text;
+  whole = whole;
+  leaves = leaves;
+}
 
 -- so does a result
-pub if_leaves_read : {A V : Type 0} (words : List (String A)) (input clock output : Stream) (task : Task) → AskFor words task → (text : List ℕ) → ReadsWhole input.old input.new text
-    → (result : Result V BlocksFault) → IfErr result (λ fault. LeavesText fault task text clock output) → IfErr result (λ fault. Leaves fault words input clock output)
+pub if_leaves_read : {A V : Type 0} (words : List (String A)) (input clock output : Stream) (task : Task)
+    → AskFor words task → (text : List ℕ) → ReadsWhole input.old input.new text
+    → (result : Result V BlocksFault) → IfErr result (λ fault. LeavesText fault task text clock output)
+    → IfErr result (λ fault. Leaves fault words input clock output)
 if_leaves_read words input clock output task asked text whole (Ok value) leaves = tt
 if_leaves_read words input clock output task asked text whole (Err fault) leaves = leaves_read words input clock output task asked text whole fault leaves

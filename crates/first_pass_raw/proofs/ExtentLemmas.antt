@@ -1,5 +1,6 @@
 -- The raw lines of a leaf block, one after the other.
-use Rattle.std.proofs.Common.{◌≡◌, ℕ, ◌+◌, ◌<◌, ◌≤◌, List, [], ◌∷◌, length, drop, slice_get, Option, Some, None, IsSome, IsUtf8, IsCharBoundary, refl, sym, ap, subst, ◌∙◌, arith}
+use Rattle.std.proofs.Common.{◌≡◌, ℕ, ◌+◌, ◌<◌, ◌≤◌, List, [], ◌∷◌, length, drop, slice_get, Option, Some, None, IsSome, IsUtf8, IsCharBoundary, refl, sym, ap}
+use Rattle.std.proofs.Common.{subst, ◌∙◌, arith}
 use Rattle.first_pass_items.specs.declared.item.Item.{Item}
 use Rattle.first_pass_items.specs.declared.option_set.Options.{Options}
 use Rattle.first_pass_tree.specs.Forest.{Forest, added}
@@ -36,25 +37,33 @@ use Rattle.first_pass_names.proofs.NameLemmas.{extends_both}
 pub record LinesSoFar (range : Ranges) (text : List ℕ) (options : Options) (names : Names) (whole rest : Extent) (old now : Forest Item) : Type 0 where
   pub chain : List Item
   pub tree_is : now ≡ chained old chain
-  pub goes_on : (more : Names) (last : List Item) → Extends more names → AreRawLines range (document text options more) chain rest.places last → AreRawLines range (document text options more) [] whole.places last
+  pub goes_on : (more : Names) (last : List Item) → Extends more names → AreRawLines range (document text options more) chain rest.places last
+      → AreRawLines range (document text options more) [] whole.places last
   pub end_is : whole.«end» ≡ rest.«end»
   pub left_is : whole.left ≡ rest.left
 
 -- before the first line
-pub lines_start : (range : Ranges) (text : List ℕ) (options : Options) (names : Names) (whole : Extent) (old : Forest Item) → LinesSoFar range text options names whole whole old old
+pub lines_start : (range : Ranges) (text : List ℕ) (options : Options) (names : Names) (whole : Extent) (old : Forest Item)
+    → LinesSoFar range text options names whole whole old old
 lines_start range text options names whole old = record { chain = []; tree_is = refl; goes_on = λ more last e lines. lines; end_is = refl; left_is = refl }
 
-lines_behind : (range : Ranges) (text : List ℕ) (options : Options) (names named : Names) (whole rest further : Extent) (p : Place) (chain line : List Item) → rest ≡ with_line p further
-    → ((more : Names) (last : List Item) → Extends more names → AreRawLines range (document text options more) chain rest.places last → AreRawLines range (document text options more) [] whole.places last)
+lines_behind : (range : Ranges) (text : List ℕ) (options : Options) (names named : Names) (whole rest further : Extent) (p : Place) (chain line : List Item)
+    → rest ≡ with_line p further
+    → ((more : Names) (last : List Item) → Extends more names → AreRawLines range (document text options more) chain rest.places last
+    → AreRawLines range (document text options more) [] whole.places last)
     → Extends named names → ((more : Names) → Extends more named → IsRawLine range (document text options more) p.rest.owed (offset p) (line_end p) line)
-    → (more : Names) (last : List Item) → Extends more named → AreRawLines range (document text options more) (add_tokens chain line) further.places last → AreRawLines range (document text options more) [] whole.places last
+    → (more : Names) (last : List Item) → Extends more named → AreRawLines range (document text options more) (add_tokens chain line) further.places last
+    → AreRawLines range (document text options more) [] whole.places last
 unfolding AreRawLines
 lines_behind range text options names named whole rest further p chain line is goes_on e are more last f lines =
-    goes_on more last (extends_both more named names f e) (subst (λ (x : Extent). AreRawLines range (document text options more) chain x.places last) (sym is) (line, are more f, lines))
+    goes_on more last (extends_both more named names f e)
+    (subst (λ (x : Extent). AreRawLines range (document text options more) chain x.places last) (sym is) (line, are more f, lines))
 
 -- after a line
-pub lines_more : (range : Ranges) (text : List ℕ) (options : Options) (names named : Names) (whole rest further : Extent) (p : Place) (old now new : Forest Item) (owed from to : ℕ) → JoinsNone old
-    → LinesSoFar range text options names whole rest old now → rest ≡ with_line p further → Extends named names → AppendsRaw range text named owed from to now new
+pub lines_more : (range : Ranges) (text : List ℕ) (options : Options) (names named : Names) (whole rest further : Extent) (p : Place)
+    (old now new : Forest Item) (owed from to : ℕ) → JoinsNone old
+    → LinesSoFar range text options names whole rest old now → rest ≡ with_line p further → Extends named names
+    → AppendsRaw range text named owed from to now new
     → owed ≡ p.rest.owed → from ≡ offset p → to ≡ line_end p → LinesSoFar range text options named whole further old new
 lines_more range text options names named whole rest further p old now new owed from to apart s is e line owed_is from_is to_is =
     record {
@@ -69,14 +78,16 @@ lines_more range text options names named whole rest further p old now new owed 
     }
 
 lines_last : (range : Ranges) (text : List ℕ) (options : Options) (names : Names) (whole rest : Extent) (chain : List Item) → rest.places ≡ []
-    → ((more : Names) (last : List Item) → Extends more names → AreRawLines range (document text options more) chain rest.places last → AreRawLines range (document text options more) [] whole.places last)
+    → ((more : Names) (last : List Item) → Extends more names → AreRawLines range (document text options more) chain rest.places last
+    → AreRawLines range (document text options more) [] whole.places last)
     → (more : Names) → Extends more names → AreRawLines range (document text options more) [] whole.places chain
 unfolding AreRawLines
 lines_last range text options names whole rest chain none goes_on more e =
     goes_on more chain e (subst (λ ps. AreRawLines range (document text options more) chain ps chain) (sym none) refl)
 
 -- after the last line
-pub lines_end : (range : Ranges) (text : List ℕ) (options : Options) (names : Names) (whole rest : Extent) (old now : Forest Item) (e next : ℕ) → LinesSoFar range text options names whole rest old now → rest ≡ ends_at e (lines_from text next)
+pub lines_end : (range : Ranges) (text : List ℕ) (options : Options) (names : Names) (whole rest : Extent) (old now : Forest Item) (e next : ℕ)
+    → LinesSoFar range text options names whole rest old now → rest ≡ ends_at e (lines_from text next)
     → AppendsLines range (document text options names) whole old now e next
 lines_end range text options names whole rest old now e next s is =
     record {
@@ -88,7 +99,8 @@ lines_end range text options names whole rest old now e next s is =
     }
 
 -- the containers around the block, as its lines are read
-pub lines_path : (range : Ranges) (text : List ℕ) (options : Options) (names : Names) (whole rest : Extent) (old now : Forest Item) → LinesSoFar range text options names whole rest old now → AreIn (length old.nodes) old.spine → path_of options now ≡ path_of options old
+pub lines_path : (range : Ranges) (text : List ℕ) (options : Options) (names : Names) (whole rest : Extent) (old now : Forest Item)
+    → LinesSoFar range text options names whole rest old now → AreIn (length old.nodes) old.spine → path_of options now ≡ path_of options old
 lines_path range text options names whole rest old now s there = ap (path_of options) s.tree_is ∙ path_of-chained options old s.chain there
 
 -- a line of the text from an offset up to where the next one begins
@@ -99,7 +111,8 @@ pub record IsLineAt (text : List ℕ) (at next : ℕ) : Type 0 where
   pub lines : lines_from text at ≡ line_place at (drop at text) ∷ lines_from text next
   pub boundary : IsCharBoundary text next
 
-pub line_read : (text bytes : List ℕ) (at next : ℕ) → IsUtf8 text → IsCharBoundary text at → at < length text → bytes ≡ text → next ≡ at + line_len (drop at bytes) → IsLineAt text at next
+pub line_read : (text bytes : List ℕ) (at next : ℕ)
+    → IsUtf8 text → IsCharBoundary text at → at < length text → bytes ≡ text → next ≡ at + line_len (drop at bytes) → IsLineAt text at next
 line_read text bytes at next u here within e f =
     let is : next ≡ at + line_len (drop at text) = f ∙ ap (λ bs. at + line_len (drop at bs)) e in
     let some = (line_len-within text at within).0 in
@@ -112,8 +125,10 @@ line_read text bytes at next u here within e f =
     }
 
 -- After what a path takes of it the line ends where it ended.
-pub behind_path : (text : List ℕ) (path : List Container) (at next : ℕ) (r : Rest) → IsUtf8 text → IsLineAt text at next → after path (line_rest (drop at text)) ≡ Some r → line_end (place_at at r) ≡ next
-behind_path text path at next r u line e = (after_keeps text at path (line_rest (drop at text)) r u e (line_is_place text at line.here)).1 ∙ line_start_end text at ∙ sym line.next_is
+pub behind_path : (text : List ℕ) (path : List Container) (at next : ℕ) (r : Rest)
+    → IsUtf8 text → IsLineAt text at next → after path (line_rest (drop at text)) ≡ Some r → line_end (place_at at r) ≡ next
+behind_path text path at next r u line e =
+    (after_keeps text at path (line_rest (drop at text)) r u e (line_is_place text at line.here)).1 ∙ line_start_end text at ∙ sym line.next_is
 
 pub within_line : (at from next : ℕ) (r : Rest) → from ≡ at + r.taken → line_end (place_at at r) ≡ next → from ≤ next
 within_line at from next r e f = omega arith
@@ -130,18 +145,22 @@ extent_none : (judge : Place → Verdict) (n : ℕ) → extent judge n [] ≡ en
 unfolding extent
 extent_none judge n = refl
 
-extent_first : (judge : Place → Verdict) (n : ℕ) (line : Place) (lines : List Place) → extent judge n (line ∷ lines) ≡ extent_by (judge line) line lines (extent judge n lines)
+extent_first : (judge : Place → Verdict) (n : ℕ) (line : Place) (lines : List Place)
+    → extent judge n (line ∷ lines) ≡ extent_by (judge line) line lines (extent judge n lines)
 unfolding extent
 extent_first judge n line lines = refl
 
 -- at the end of the text
-extent_at_end : (text : List ℕ) (path : List Container) (judge : Place → Place → Verdict) (at : ℕ) → at ≡ length text → extent_from text path judge at ≡ ends_at at (lines_from text at)
+extent_at_end : (text : List ℕ) (path : List Container) (judge : Place → Place → Verdict) (at : ℕ)
+    → at ≡ length text → extent_from text path judge at ≡ ends_at at (lines_from text at)
 extent_at_end text path judge at past =
     let none = none_left text at (omega arith) in
-    ap (extent (in_containers path judge) (length text)) none ∙ extent_none (in_containers path judge) (length text) ∙ ap (λ n. ends_at n []) (sym past) ∙ ap (ends_at at) (sym none)
+    ap (extent (in_containers path judge) (length text)) none ∙ extent_none (in_containers path judge) (length text) ∙ ap (λ n. ends_at n []) (sym past)
+    ∙ ap (ends_at at) (sym none)
 
 -- at a line
-extent_here : (text : List ℕ) (path : List Container) (judge : Place → Place → Verdict) (at next : ℕ) (o : Option Rest) (v : Verdict) → IsLineAt text at next → after path (line_rest (drop at text)) ≡ o
+extent_here : (text : List ℕ) (path : List Container) (judge : Place → Place → Verdict) (at next : ℕ) (o : Option Rest) (v : Verdict)
+    → IsLineAt text at next → after path (line_rest (drop at text)) ≡ o
     → judged judge (line_place at (drop at text)) (option_map (at_rest (line_place at (drop at text))) o) ≡ v
     → extent_from text path judge at ≡ extent_by v (line_place at (drop at text)) (lines_from text next) (extent_from text path judge next)
 extent_here text path judge at next o v line goes is =
@@ -159,9 +178,11 @@ goes_by (Stops e) f g h = absurd (f e refl)
 
 -- the lines of a block from an offset on are read up to another
 abbrev pub ReadSoFar : Ranges → List ℕ → Options → Names → (Place → Place → Verdict) → ℕ → ℕ → Forest Item → Forest Item → Type 0
-ReadSoFar range text options names judge start at old now = LinesSoFar range text options names (extent_from text (path_of options old) judge start) (extent_from text (path_of options old) judge at) old now
+ReadSoFar range text options names judge start at old now =
+    LinesSoFar range text options names (extent_from text (path_of options old) judge start) (extent_from text (path_of options old) judge at) old now
 
-module _ (range : Ranges) (text : List ℕ) (options : Options) (names : Names) (judge : Place → Place → Verdict) (start at : ℕ) (old now : Forest Item) (s : ReadSoFar range text options names judge start at old now) where
+module _ (range : Ranges) (text : List ℕ) (options : Options) (names : Names) (judge : Place → Place → Verdict) (start at : ℕ) (old now : Forest Item)
+    (s : ReadSoFar range text options names judge start at old now) where
   abbrev whole : Extent
   whole = extent_from text (path_of options old) judge start
 
@@ -177,61 +198,79 @@ module _ (range : Ranges) (text : List ℕ) (options : Options) (names : Names) 
     same_path = lines_path range text options names whole rest old now s there
 
     -- the line doesn't continue the containers
-    pub read_left : (found : Option Rest) → found ≡ None → found ≡ after (path_of options now) (line_rest (drop at text)) → AppendsLines range (document text options names) (extent_from text (path_of options old) judge start) old now at at
+    pub read_left : (found : Option Rest) → found ≡ None → found ≡ after (path_of options now) (line_rest (drop at text))
+        → AppendsLines range (document text options names) (extent_from text (path_of options old) judge start) old now at at
     read_left found none is =
         lines_end range text options names whole rest old now at at s
-        (extent_here text (path_of options old) judge at next None (Judged.Stops at) line (ap (λ path. after path (line_rest (drop at text))) (sym same_path) ∙ sym is ∙ none) refl ∙ ap (ends_at at) (sym line.lines))
+        (extent_here text (path_of options old) judge at next None (Judged.Stops at) line
+        (ap (λ path. after path (line_rest (drop at text))) (sym same_path) ∙ sym is ∙ none) refl ∙ ap (ends_at at) (sym line.lines))
 
-    module _ (r q : Rest) (taken : Some r ≡ after (path_of options now) (line_rest (drop at text))) (answer : Answer) (is : judge (line_place at (drop at text)) (place_at at r) ≡ said answer (place_at at q)) where
-      rest_by : (v : Answer) → answer ≡ v → rest ≡ extent_by (said v (place_at at q)) (line_place at (drop at text)) (lines_from text next) (extent_from text (path_of options old) judge next)
+    module _ (r q : Rest) (taken : Some r ≡ after (path_of options now) (line_rest (drop at text))) (answer : Answer)
+        (is : judge (line_place at (drop at text)) (place_at at r) ≡ said answer (place_at at q)) where
+      rest_by : (v : Answer) → answer ≡ v
+          → rest ≡ extent_by (said v (place_at at q)) (line_place at (drop at text)) (lines_from text next) (extent_from text (path_of options old) judge next)
       rest_by v e =
-          extent_here text (path_of options old) judge at next (Some r) (said v (place_at at q)) line (ap (λ path. after path (line_rest (drop at text))) (sym same_path) ∙ sym taken) (is ∙ ap (λ (a : Answer). said a (place_at at q)) e)
+          extent_here text (path_of options old) judge at next (Some r) (said v (place_at at q)) line
+          (ap (λ path. after path (line_rest (drop at text))) (sym same_path) ∙ sym taken) (is ∙ ap (λ (a : Answer). said a (place_at at q)) e)
 
       -- the line is none of the block's
-      pub read_stops : (e : ℕ) → answer ≡ Stops e → AppendsLines range (document text options names) (extent_from text (path_of options old) judge start) old now e at
+      pub read_stops : (e : ℕ)
+          → answer ≡ Stops e → AppendsLines range (document text options names) (extent_from text (path_of options old) judge start) old now e at
       read_stops e stops = lines_end range text options names whole rest old now e at s (rest_by (Stops e) stops ∙ ap (ends_at e) (sym line.lines))
 
       -- it closes the block
-      pub read_closes : (e : ℕ) → answer ≡ Closes e → AppendsLines range (document text options names) (extent_from text (path_of options old) judge start) old now e next
+      pub read_closes : (e : ℕ)
+          → answer ≡ Closes e → AppendsLines range (document text options names) (extent_from text (path_of options old) judge start) old now e next
       read_closes e closes = lines_end range text options names whole rest old now e next s (rest_by (Closes e) closes)
 
-      module _ (named : Names) (owed from : ℕ) (new : Forest Item) (apart : JoinsNone old) (extends : Extends named names) (appends : AppendsRaw range text named owed from next now new) (owed_is : owed ≡ q.owed) (from_is : from ≡ at + q.taken)
+      module _ (named : Names) (owed from : ℕ) (new : Forest Item) (apart : JoinsNone old) (extends : Extends named names)
+          (appends : AppendsRaw range text named owed from next now new) (owed_is : owed ≡ q.owed) (from_is : from ≡ at + q.taken)
           (next_is : next ≡ line_end (place_at at q)) where
         -- it is one of the block's
         pub read_more : answer ≡ GoesOn → ReadSoFar range text options named judge start next old new
         read_more goes =
-            lines_more range text options names named whole rest (extent_from text (path_of options old) judge next) (place_at at q) old now new owed from next apart s
+            lines_more range text options names named whole rest (extent_from text (path_of options old) judge next)
+            (place_at at q) old now new owed from next apart s
             (rest_by GoesOn goes) extends appends owed_is from_is next_is
 
         -- it is the last
-        pub read_last : answer ≡ IsLast → AppendsLines range (document text options named) (extent_from text (path_of options old) judge start) old new next next
+        pub read_last : answer ≡ IsLast
+            → AppendsLines range (document text options named) (extent_from text (path_of options old) judge start) old new next next
         read_last last =
             let ends : Extent = ends_at next (lines_from text next) in
             lines_end range text options named whole ends old new next next
             (lines_more range text options names named whole rest ends (place_at at q) old now new owed from next apart s
-            (rest_by IsLast last ∙ ap (λ k. with_line (place_at at q) (ends_at k (lines_from text next))) (sym next_is)) extends appends owed_is from_is next_is) refl
+            (rest_by IsLast last ∙ ap (λ k. with_line (place_at at q) (ends_at k (lines_from text next))) (sym next_is)) extends appends owed_is from_is
+            next_is) refl
 
 -- where the line ends that has something at an offset
-pub first_read : (text bytes : List ℕ) (start first : ℕ) → IsUtf8 text → IsCharBoundary text start → bytes ≡ text → first ≡ start + line_len (drop start bytes) → (first ≡ behind_line_at text start) × IsCharBoundary text first
+pub first_read : (text bytes : List ℕ) (start first : ℕ) → IsUtf8 text → IsCharBoundary text start → bytes ≡ text → first ≡ start + line_len (drop start bytes)
+    → (first ≡ behind_line_at text start) × IsCharBoundary text first
 first_read text bytes start first u b e f =
     let is : first ≡ behind_line_at text start = f ∙ ap (λ bs. start + line_len (drop start bs)) e in
     (is, subst (IsCharBoundary text) (line_start_end text start ∙ sym is) (place_end text (line_place start (drop start text)) u (line_is_place text start b)))
 
 -- the containers around a block that was just opened
-pub opened_path : (options : Options) (g opened : Forest Item) (start : ℕ) (body : ItemBody) → opened ≡ opened_block g start body → container_of options body ≡ None → AreIn (length g.nodes) g.spine → path_of options opened ≡ path_of options g
+pub opened_path : (options : Options) (g opened : Forest Item) (start : ℕ) (body : ItemBody)
+    → opened ≡ opened_block g start body → container_of options body ≡ None → AreIn (length g.nodes) g.spine → path_of options opened ≡ path_of options g
 opened_path options g opened start body is leaf there =
-    ap (path_of options) is ∙ path_of-opened options g (begun_item start body) (record { 0 = length g.nodes }) refl there ∙ ap (λ c. with_container c (path_of options g)) leaf
+    ap (path_of options) is ∙ path_of-opened options g (begun_item start body) (record { 0 = length g.nodes }) refl there
+    ∙ ap (λ c. with_container c (path_of options g)) leaf
 
 -- the lines after the first of a block that was just opened
-pub lines_of : (range : Ranges) (text : List ℕ) (options : Options) (names : Names) (g opened filled : Forest Item) (start first e next : ℕ) (body : ItemBody) (judge : Place → Place → Verdict) → AreIn (length g.nodes) g.spine
-    → opened ≡ opened_block g start body → container_of options body ≡ None → first ≡ behind_line_at text start → AppendsLines range (document text options names) (extent_from text (path_of options opened) judge first) opened filled e next
+pub lines_of : (range : Ranges) (text : List ℕ) (options : Options) (names : Names) (g opened filled : Forest Item) (start first e next : ℕ) (body : ItemBody)
+    (judge : Place → Place → Verdict) → AreIn (length g.nodes) g.spine
+    → opened ≡ opened_block g start body → container_of options body ≡ None → first ≡ behind_line_at text start
+    → AppendsLines range (document text options names) (extent_from text (path_of options opened) judge first) opened filled e next
     → AppendsLines range (document text options names) (extent_from text (path_of options g) judge (behind_line_at text start)) opened filled e next
 lines_of range text options names g opened filled start first e next body judge there is leaf first_is lines =
     subst (λ y. AppendsLines range (document text options names) y opened filled e next)
-    (ap (λ path. extent_from text path judge first) (opened_path options g opened start body is leaf there) ∙ ap (extent_from text (path_of options g) judge) first_is) lines
+    (ap (λ path. extent_from text path judge first) (opened_path options g opened start body is leaf there)
+    ∙ ap (extent_from text (path_of options g) judge) first_is) lines
 
 -- a block that was opened, and then filled with its lines
-module _ (range : Ranges) (text : List ℕ) (options : Options) (names : Names) (whole : Extent) (g opened filled : Forest Item) (start : ℕ) (body : ItemBody) (e next : ℕ)
+module _ (range : Ranges) (text : List ℕ) (options : Options) (names : Names) (whole : Extent) (g opened filled : Forest Item) (start : ℕ) (body : ItemBody)
+    (e next : ℕ)
     (is : opened ≡ opened_block g start body) (lines : AppendsLines range (document text options names) whole opened filled e next) where
   filled_is : filled ≡ chained (opened_block g start body) lines.chain
   filled_is = lines.tree_is ∙ ap (λ f. chained f lines.chain) is
@@ -243,4 +282,5 @@ module _ (range : Ranges) (text : List ℕ) (options : Options) (names : Names) 
   -- and closed at its end
   pub block_done : (new : Forest Item) → new ≡ closed_by filled e filled.spine → new ≡ added g (block_with start whole.«end» body lines.chain)
   block_done new new_is =
-      block_closed g filled (begun_item start body) lines.chain (record { 0 = length g.nodes }) refl filled_is new e new_is ∙ ap (λ k. added g (block_with start k body lines.chain)) lines.end_is
+      block_closed g filled (begun_item start body) lines.chain (record { 0 = length g.nodes }) refl filled_is new e new_is
+      ∙ ap (λ k. added g (block_with start k body lines.chain)) lines.end_is

@@ -1,5 +1,7 @@
 -- The closing fence, the info string and the lines of a fenced code block.
-use Rattle.std.proofs.Common.{◌≡◌, inl, inr, ℕ, ◌+◌, ◌-◌, ◌<◌, ◌≤◌, ◌==◌, ◌&&◌, not, Bool, nat_lt, nat_le, true, false, List, length, take, drop, get_or, reverse, Option, Some, None, IsUtf8, IsCharBoundary, if◌then◌else◌, refl, sym, ap, subst, ◌∙◌, arith, length-drop, length-take-le, get_or-drop, drop-drop}
+use Rattle.std.proofs.Common.{◌≡◌, inl, inr, ℕ, ◌+◌, ◌-◌, ◌<◌, ◌≤◌, ◌==◌, ◌&&◌, not, Bool, nat_lt, nat_le, true, false, List, length, take, drop, get_or}
+use Rattle.std.proofs.Common.{reverse, Option, Some, None, IsUtf8, IsCharBoundary, if◌then◌else◌, refl, sym, ap, subst, ◌∙◌, arith, length-drop, length-take-le}
+use Rattle.std.proofs.Common.{get_or-drop, drop-drop}
 use Rattle.std.specs.Option.{option_map}
 use Rattle.std.specs.List.{prefix_len, suffix_len}
 use Rattle.std.proofs.lemmas.Bool.{cases_lt, eqb-true}
@@ -39,8 +41,10 @@ pub indented_place : (text : List ℕ) (start n : ℕ) (r s : Rest) → IsUtf8 t
 indented_place text start n r s u e f i = (ap (λ k. start + k) (f ∙ ap (λ (z : Rest). z.taken) e), all_keep text start r u i)
 
 -- what the search for a closing fence says of what is left after the columns
-pub closing_end : (text bytes rest : List ℕ) (start n at byte count : ℕ) (r s : Rest) (o : Option ℕ) → nat_lt (indent r) 4 ≡ true → IsUtf8 text → s ≡ all_taken r → n ≡ s.taken → IsPlaceOf text (place_at start r)
-    → bytes ≡ text → at ≡ start + n → rest ≡ drop at bytes → o ≡ closing_fence_len byte count rest → closing_fence_end byte count (place_at start r) ≡ option_map (λ k. at + k) o
+pub closing_end : (text bytes rest : List ℕ) (start n at byte count : ℕ) (r s : Rest) (o : Option ℕ)
+    → nat_lt (indent r) 4 ≡ true → IsUtf8 text → s ≡ all_taken r → n ≡ s.taken → IsPlaceOf text (place_at start r)
+    → bytes ≡ text → at ≡ start + n → rest ≡ drop at bytes → o ≡ closing_fence_len byte count rest
+    → closing_fence_end byte count (place_at start r) ≡ option_map (λ k. at + k) o
 closing_end text bytes rest start n at byte count r s o few u e f i g h j k =
     let p = indented_place text start n r s u e f i in
     let same : at ≡ offset (unindented (place_at start r)) = h ∙ p.0 in
@@ -55,7 +59,8 @@ pub record IsInfo (text : List ℕ) (start from next white : ℕ) : Type 0 where
   pub next_is : next ≡ from + line_len (drop from text)
   pub white_is : white ≡ suffix_len is_ascii_white (take (next - from) (drop from text))
 
-pub info_read : (text bytes rest : List ℕ) (start n from next white : ℕ) → bytes ≡ text → rest ≡ drop start bytes → n ≡ prefix_len is_white rest → from ≡ start + n → next ≡ from + line_len (drop from bytes)
+pub info_read : (text bytes rest : List ℕ) (start n from next white : ℕ)
+    → bytes ≡ text → rest ≡ drop start bytes → n ≡ prefix_len is_white rest → from ≡ start + n → next ≡ from + line_len (drop from bytes)
     → white ≡ suffix_len is_ascii_white (take (next - from) (drop from bytes)) → IsInfo text start from next white
 info_read text bytes rest start n from next white e f g h j k =
     record {
@@ -94,7 +99,9 @@ module _ (text : List ℕ) (start from next white : ℕ) (info : IsInfo text sta
       subst (IsCharBoundary text) (line_start_end text from ∙ sym info.next_is) (place_end text (line_place from (drop from text)) u i)
 
   white_within : white ≤ next - from
-  white_within = let f = suffix_len-le-length is_ascii_white (take (next - from) (drop from text)) in let l = info_line.0 in let w = info.white_is in omega arith
+  white_within =
+      let f = suffix_len-le-length is_ascii_white (take (next - from) (drop from text)) in
+      let l = info_line.0 in let w = info.white_is in omega arith
 
   info_stops : 0 < white → IsCharBoundary text (next - white)
   info_stops some =
@@ -107,7 +114,8 @@ module _ (text : List ℕ) (start from next white : ℕ) (info : IsInfo text sta
       let place : length line - suffix_len is_ascii_white line ≡ next - from - white = omega arith in
       let behind : from + (next - from - white) ≡ next - white = omega (arith, l.1) in
       let read : get_or line (length line - suffix_len is_ascii_white line) 0 ≡ get_or text (next - white) 0 =
-      ap (λ k. get_or line k 0) place ∙ get_or-take (next - from) (drop from text) (next - from - white) 0 (omega arith) ∙ get_or-drop from text (next - from - white) 0 ∙ ap (λ k. get_or text k 0) behind in
+      ap (λ k. get_or line k 0) place ∙ get_or-take (next - from) (drop from text) (next - from - white) 0 (omega arith)
+      ∙ get_or-drop from text (next - from - white) 0 ∙ ap (λ k. get_or text k 0) behind in
       let ascii : (k : ℕ) → is_ascii_white k ≡ true → k < 128 = λ k h. grind (arith, nat_tests, h) in
       IsCharBoundary-before_ascii text (next - white) (omega (arith, l.1, l.2)) (ascii _ (ap is_ascii_white (sym read) ∙ passes))
 
@@ -137,7 +145,8 @@ abbrev fence_if : Bool → ℕ × ℕ → Option (ℕ × ℕ)
 fence_if t fence = if t then Some fence else None
 
 -- a code fence is a run of its byte
-fence_by : (t u v w : Bool) (bs : List ℕ) (n c : ℕ) → (if t then fence_if u (run_len 96 bs, 96) else (if v then fence_if w (run_len 126 bs, 126) else None)) ≡ Some (n, c)
+fence_by : (t u v w : Bool) (bs : List ℕ) (n c : ℕ)
+    → (if t then fence_if u (run_len 96 bs, 96) else (if v then fence_if w (run_len 126 bs, 126) else None)) ≡ Some (n, c)
     → (n ≡ run_len c bs) × (c < 128)
 fence_by true true v w bs n c h =
     let e : (run_len 96 bs, 96) ≡ (n, c) = cc in
@@ -153,10 +162,12 @@ fence_by false u false w bs n c h = absurd (none-some (n, c) h)
 
 fence_run : (bs : List ℕ) (n c : ℕ) → code_fence bs ≡ Some (n, c) → (n ≡ run_len c bs) × (c < 128)
 unfolding code_fence
-fence_run bs n c h = fence_by (begins 96 bs) (nat_le 3 (run_len 96 bs) && not (has_backquote (drop (run_len 96 bs) bs))) (begins 126 bs) (nat_le 3 (run_len 126 bs)) bs n c h
+fence_run bs n c h =
+    fence_by (begins 96 bs) (nat_le 3 (run_len 96 bs) && not (has_backquote (drop (run_len 96 bs) bs))) (begins 126 bs) (nat_le 3 (run_len 126 bs)) bs n c h
 
 -- It ends between characters.
-pub fence_end : (text : List ℕ) (start n c : ℕ) → IsUtf8 text → IsCharBoundary text start → code_fence (drop start text) ≡ Some (n, c) → IsCharBoundary text (start + n)
+pub fence_end : (text : List ℕ) (start n c : ℕ)
+    → IsUtf8 text → IsCharBoundary text start → code_fence (drop start text) ≡ Some (n, c) → IsCharBoundary text (start + n)
 fence_end text start n c u b h =
     let f = fence_run (drop start text) n c h in
     let ascii : (k : ℕ) → (k == c) ≡ true → k < 128 = λ k g. let e = eqb-true k c g in let small = f.1 in omega arith in
@@ -164,17 +175,28 @@ fence_end text start n c u b h =
     subst (IsCharBoundary text) e (prefix_keeps (λ k. k == c) ascii text (line_place start (drop start text)) u (line_is_place text start b)).boundary
 
 -- a fenced code block, its info string, its lines and its end
-pub fenced_added : (text : List ℕ) (options : Options) (named names : Names) (g opened filled new : Forest Item) (start columns byte count first e next : ℕ) (info : CowIndex) → AreIn (length g.nodes) g.spine
+pub fenced_added : (text : List ℕ) (options : Options) (named names : Names) (g opened filled new : Forest Item) (start columns byte count first e next : ℕ)
+    (info : CowIndex) → AreIn (length g.nodes) g.spine
     → opened ≡ opened_block g start (FencedCodeBlock info) → first ≡ behind_line_at text start
     → ((more : Names) → Extends more named → NamesInfo more info (info_string (drop (start + count) text))) → Extends names named
-    → AppendsLines range_text (document text options names) (extent_from text (path_of options opened) (fence_judge columns byte count) first) opened filled e next → new ≡ closed_by filled e filled.spine
-    → (let x = fenced_behind text (path_of options g) columns byte count start in AddsRaw (document text options names) (λ d. IsFencedCode d start count x.places x.«end») x.left g new next)
+    → AppendsLines range_text (document text options names)
+    (extent_from text (path_of options opened) (fence_judge columns byte count) first) opened filled e next → new ≡ closed_by filled e filled.spine
+    → (
+    let x = fenced_behind text (path_of options g) columns byte count start in
+    AddsRaw (document text options names) (λ d. IsFencedCode d start count x.places x.«end») x.left g new next)
 fenced_added text options named names g opened filled new start columns byte count first e next info there is first_is names_info extends lines new_is =
     let x : Extent = fenced_behind text (path_of options g) columns byte count start in
-    let all = lines_of range_text text options names g opened filled start first e next (FencedCodeBlock info) (fence_judge columns byte count) there is refl first_is lines in
+    let all = lines_of range_text text options names g opened filled start first e next (FencedCodeBlock info)
+    (fence_judge columns byte count) there is refl first_is lines in
     record {
       items = block_with start x.«end» (FencedCodeBlock info) all.chain;
       tree_is = block_done range_text text options names x g opened filled start (FencedCodeBlock info) e next is all new new_is;
-      are = λ more f. record { chain = all.chain; info = info; names = names_info more (extends_both more names named f extends); lines = all.lines more f; items_are = refl };
+      are = λ more f. record {
+        chain = all.chain;
+        info = info;
+        names = names_info more (extends_both more names named f extends);
+        lines = all.lines more f;
+        items_are = refl;
+      };
       left_is = all.left_is;
     }

@@ -1,5 +1,6 @@
 -- The lines of an HTML block, and its end.
-use Rattle.std.proofs.Common.{◌≡◌, ◌⊎◌, inl, inr, ℕ, zero, suc, ◌+◌, ◌-◌, ◌||◌, Bool, true, false, List, [], ◌∷◌, ◌++◌, length, take, drop, if◌then◌else◌, None, IsSome, slice_get, refl, sym, ap, subst, ◌∙◌, arith, append_assoc}
+use Rattle.std.proofs.Common.{◌≡◌, ◌⊎◌, inl, inr, ℕ, zero, suc, ◌+◌, ◌-◌, ◌||◌, Bool, true, false, List, [], ◌∷◌, ◌++◌, length, take, drop, if◌then◌else◌, None}
+use Rattle.std.proofs.Common.{IsSome, slice_get, refl, sym, ap, subst, ◌∙◌, arith, append_assoc}
 use Rattle.std.specs.Bool.{Decides, MatchBool, one_answer}
 use Rattle.std.specs.List.{slice_range}
 use Rattle.std.specs.Str.Iter.{HasSubslice}
@@ -63,29 +64,36 @@ pub holds-decides : (text bs : List ℕ) → Decides (holds text bs) (HasSubslic
 unfolding holds
 holds-decides text [] = Decides-like (begins_with text []) (stands_first text []) (none_before text) (begun text [])
 holds-decides text (b ∷ bs) =
-    Decides-like (begins_with text (b ∷ bs) || holds text bs) (λ s. elim s [ inl first ↦ stands_first text (b ∷ bs) first | inr behind ↦ stands_behind text b bs behind ]) (stands_either text b bs)
+    Decides-like (begins_with text (b ∷ bs) || holds text bs)
+    (λ s. elim s [ inl first ↦ stands_first text (b ∷ bs) first | inr behind ↦ stands_behind text b bs behind ]) (stands_either text b bs)
     (Decides-or (begins_with text (b ∷ bs)) (holds text bs) (begun text (b ∷ bs)) (holds-decides text bs))
 
 -- what a search in what is left of a line tells
-pub held_is : (text tag : List ℕ) (p : Place) (at next : ℕ) (found : Bool) (piece : List ℕ) → IsPlaceAt text at p → next ≡ line_end p → piece ≡ slice_range text at next → MatchBool found (HasMatch (FindsText tag) piece) (FindsText tag piece None)
+pub held_is : (text tag : List ℕ) (p : Place) (at next : ℕ) (found : Bool) (piece : List ℕ)
+    → IsPlaceAt text at p → next ≡ line_end p → piece ≡ slice_range text at next → MatchBool found (HasMatch (FindsText tag) piece) (FindsText tag piece None)
     → holds tag (line_of p) ≡ found
 held_is text tag p at next found piece i next_is piece_is m =
     let start = i.offset_is in
     let k : next - at ≡ line_len p.rest.left = omega arith in
-    ap (λ n. holds tag (take n p.rest.left)) (sym k) ∙ ap (λ bs. holds tag (take (next - at) bs)) i.left_is ∙ ap (holds tag) (sym piece_is) ∙ one_answer (holds tag piece) found (holds-decides tag piece) (contains_text found tag piece m)
+    ap (λ n. holds tag (take n p.rest.left)) (sym k) ∙ ap (λ bs. holds tag (take (next - at) bs)) i.left_is ∙ ap (holds tag) (sym piece_is)
+    ∙ one_answer (holds tag piece) found (holds-decides tag piece) (contains_text found tag piece m)
 
 some_left : (bs : List ℕ) → ¬ (length bs ≡ 0) → is_empty bs ≡ false
 some_left [] e = absurd (e refl)
 some_left (b ∷ bs) e = refl
 
 -- what a line is to an HTML block of the kinds 1 to 5, of which something is left at a place
-pub tag_here : (text tag : List ℕ) (line p : Place) (at next : ℕ) (found : Bool) (piece : List ℕ) → IsPlaceOf text p → at ≡ offset p → ¬ (at ≡ length text) → next ≡ line_end p → piece ≡ slice_range text at next
-    → MatchBool found (HasMatch (FindsText tag) piece) (FindsText tag piece None) → {v : Bool} → found ≡ v → tag_judge tag line p ≡ (if v then IsLast p else GoesOn p)
+pub tag_here : (text tag : List ℕ) (line p : Place) (at next : ℕ) (found : Bool) (piece : List ℕ)
+    → IsPlaceOf text p → at ≡ offset p → ¬ (at ≡ length text) → next ≡ line_end p → piece ≡ slice_range text at next
+    → MatchBool found (HasMatch (FindsText tag) piece) (FindsText tag piece None) → {v : Bool} → found ≡ v
+    → tag_judge tag line p ≡ (if v then IsLast p else GoesOn p)
 tag_here text tag line p at next found piece i at_is some next_is piece_is m {v} is =
     let l = place_length text p i in
     let left = some_left p.rest.left (λ e. some (omega arith)) in
-    let held = held_is text tag p at next found piece (record { offset_is = sym at_is; left_is = i.left ∙ ap (λ k. drop k text) (sym at_is) }) next_is piece_is m in
-    ap (λ t. if t then Closes (offset p) else (if holds tag (line_of p) then IsLast p else GoesOn p)) left ∙ ap (λ t. if t then IsLast p else GoesOn p) (held ∙ is)
+    let held =
+    held_is text tag p at next found piece (record { offset_is = sym at_is; left_is = i.left ∙ ap (λ k. drop k text) (sym at_is) }) next_is piece_is m in
+    ap (λ t. if t then Closes (offset p) else (if holds tag (line_of p) then IsLast p else GoesOn p)) left
+    ∙ ap (λ t. if t then IsLast p else GoesOn p) (held ∙ is)
 
 -- items that are no texts, so that nothing is joined to one
 abbrev pub ArePlain : List Item → Type 0
@@ -102,11 +110,13 @@ plain_columns names (suc n) at items is = subst ArePlain (sym is.2) (refl, tt)
 
 plain_html : (text : List ℕ) (from to : ℕ) → ArePlain (raw_items range_html text from to)
 unfolding raw_items
-plain_html text from to = cond_both (ends_with_both text from to) (range_html from (to - 2) ++ range_html (to - 1) to) (range_html from to) ArePlain (λ both. (refl, (refl, tt))) (λ none. (refl, tt))
+plain_html text from to = cond_both (ends_with_both text from to) (range_html from (to - 2) ++ range_html (to - 1) to) (range_html from to) ArePlain
+    (λ both. (refl, (refl, tt))) (λ none. (refl, tt))
 
 plain_line : (d : Document) (owed from to : ℕ) (items : List Item) → IsRawLine range_html d owed from to items → ArePlain items
 plain_line d owed from to items (columns, are, is) =
-    subst ArePlain (sym is) (plain_append columns (raw_items range_html d.text from to) (plain_columns d.names owed from columns are) (plain_html d.text from to))
+    subst ArePlain (sym is)
+    (plain_append columns (raw_items range_html d.text from to) (plain_columns d.names owed from columns are) (plain_html d.text from to))
 
 plain_token : (chain : List Item) (x : Item) → is_text x.body ≡ false → add_token chain x ≡ chain ++ x ∷ []
 plain_token [] x plain = refl
@@ -119,19 +129,23 @@ plain_tokens (x ∷ xs) chain h = ap (λ c. add_tokens c xs) (plain_token chain 
 
 plain_apart : (f : Forest Item) (xs : List Item) → JoinsNone f → ArePlain xs → JoinsNone (with_tokens f xs)
 plain_apart f [] apart h = apart
-plain_apart f (x ∷ xs) apart h = subst (λ (g : Forest Item). JoinsNone (with_tokens g xs)) (sym (with_token-plain f x h.0)) (plain_apart (appended f x) xs (joins_none-appended f x h.0) h.1)
+plain_apart f (x ∷ xs) apart h =
+    subst (λ (g : Forest Item). JoinsNone (with_tokens g xs)) (sym (with_token-plain f x h.0)) (plain_apart (appended f x) xs (joins_none-appended f x h.0) h.1)
 
 -- raw lines of HTML after more of them
-html_behind : (d : Document) (before chain : List Item) (ps : List Place) (whole : List Item) → AreRawLines range_html d chain ps whole → AreRawLines range_html d (before ++ chain) ps (before ++ whole)
+html_behind : (d : Document) (before chain : List Item) (ps : List Place) (whole : List Item)
+    → AreRawLines range_html d chain ps whole → AreRawLines range_html d (before ++ chain) ps (before ++ whole)
 unfolding AreRawLines
 html_behind d before chain [] whole is = ap (λ c. before ++ c) is
 html_behind d before chain (p ∷ ps) whole (line, is, further) =
     let plain = plain_line d p.rest.owed (offset p) (line_end p) line is in
-    let same : add_tokens (before ++ chain) line ≡ before ++ add_tokens chain line = plain_tokens line (before ++ chain) plain ∙ append_assoc before chain line ∙ ap (λ c. before ++ c) (sym (plain_tokens line chain plain)) in
+    let same : add_tokens (before ++ chain) line ≡ before ++ add_tokens chain line =
+    plain_tokens line (before ++ chain) plain ∙ append_assoc before chain line ∙ ap (λ c. before ++ c) (sym (plain_tokens line chain plain)) in
     (line, is, subst (λ c. AreRawLines range_html d c ps (before ++ whole)) (sym same) (html_behind d before (add_tokens chain line) ps whole further))
 
 -- The first line of an HTML block, which begins at an offset where so many columns are owed, stands after a tree with the block open.
-module _ (text : List ℕ) (options : Options) (named : Names) (start columns next : ℕ) (g one : Forest Item) (first : AppendsRaw range_html text named columns start next (opened_block g start HtmlBlock) one) (next_is : next ≡ behind_line_at text start) where
+module _ (text : List ℕ) (options : Options) (named : Names) (start columns next : ℕ) (g one : Forest Item)
+    (first : AppendsRaw range_html text named columns start next (opened_block g start HtmlBlock) one) (next_is : next ≡ behind_line_at text start) where
   abbrev opened : Forest Item
   opened = opened_block g start HtmlBlock
 
@@ -140,7 +154,8 @@ module _ (text : List ℕ) (options : Options) (named : Names) (start columns ne
 
   -- what follows is not joined to it
   pub first_apart : JoinsNone one
-  first_apart = subst JoinsNone (sym first.tree_is) (plain_apart opened first.items apart (plain_line (document text options named) columns start next first.items (first.are options named (extends_none named))))
+  first_apart = subst JoinsNone (sym first.tree_is) (plain_apart opened first.items apart
+      (plain_line (document text options named) columns start next first.items (first.are options named (extends_none named))))
 
   module _ (p : Place) (i : IsPlaceAt text start p) where
     pub first_end : next ≡ line_end p
@@ -149,7 +164,8 @@ module _ (text : List ℕ) (options : Options) (named : Names) (start columns ne
     first_read : (further : Extent) → LinesSoFar range_html text options named (with_line (owing columns p) further) further opened one
     first_read further =
         let whole : Extent = with_line (owing columns p) further in
-        lines_more range_html text options named named whole whole further (owing columns p) opened opened one columns start next apart (lines_start range_html text options named whole opened) refl (extends_none named) first refl
+        lines_more range_html text options named named whole whole further (owing columns p) opened opened one columns start next apart
+        (lines_start range_html text options named whole opened) refl (extends_none named) first refl
         (sym i.offset_is) first_end
 
     -- a block that has it alone
@@ -159,7 +175,8 @@ module _ (text : List ℕ) (options : Options) (named : Names) (start columns ne
         lines_end range_html text options named (with_line (owing columns p) further) further opened one next next (first_read further) refl
 
     -- a block that has lines after it, too
-    first_then : (names : Names) (further : Extent) (two : Forest Item) (e stop : ℕ) → Extends names named → AppendsLines range_html (document text options names) further one two e stop
+    first_then : (names : Names) (further : Extent) (two : Forest Item) (e stop : ℕ)
+        → Extends names named → AppendsLines range_html (document text options names) further one two e stop
         → AppendsLines range_html (document text options names) (with_line (owing columns p) further) opened two e stop
     first_then names further two e stop extends lines =
         let s = first_read further in
@@ -174,7 +191,8 @@ module _ (text : List ℕ) (options : Options) (named : Names) (start columns ne
         }
 
     -- the block with its lines, closed
-    whole_added : (names : Names) (e further : Extent) (two new : Forest Item) (stop left : ℕ) → e ≡ with_line p further → AppendsLines range_html (document text options names) (with_line (owing columns p) further) opened two stop left
+    whole_added : (names : Names) (e further : Extent) (two new : Forest Item) (stop left : ℕ)
+        → e ≡ with_line p further → AppendsLines range_html (document text options names) (with_line (owing columns p) further) opened two stop left
         → new ≡ closed_by two stop two.spine → AddsRaw (document text options names) (λ d. IsHtml d start columns e.places e.«end») e.left g new left
     whole_added names e further two new stop left e_is lines new_is =
         subst (λ (x : Extent). AddsRaw (document text options names) (λ d. IsHtml d start columns x.places x.«end») x.left g new left) (sym e_is)
@@ -186,20 +204,25 @@ module _ (text : List ℕ) (options : Options) (named : Names) (start columns ne
         })
 
     -- the lines after the first one begin where it ends
-    behind_first : (path : List Container) (judge : Place → Place → Verdict) → extent_from text path judge (behind_line_at text (offset p)) ≡ extent_from text path judge next
+    behind_first : (path : List Container) (judge : Place → Place → Verdict)
+        → extent_from text path judge (behind_line_at text (offset p)) ≡ extent_from text path judge next
     behind_first path judge = ap (extent_from text path judge) (ap (behind_line_at text) i.offset_is ∙ sym next_is)
 
     -- where the first line holds the text that ends the kind
-    held_extent : (path : List Container) (tag : List ℕ) → holds tag (line_of p) ≡ true → html_to_end text path tag p ≡ with_line p (ends_at next (lines_from text next))
+    held_extent : (path : List Container) (tag : List ℕ)
+        → holds tag (line_of p) ≡ true → html_to_end text path tag p ≡ with_line p (ends_at next (lines_from text next))
     held_extent path tag held =
-        ap (λ t. extent_by (if t then IsLast p else GoesOn p) p (lines_from text (behind_line_at text (offset p))) (extent_from text path (tag_judge tag) (behind_line_at text (offset p)))) held
+        ap (λ t. extent_by (if t then IsLast p else GoesOn p) p (lines_from text (behind_line_at text (offset p)))
+        (extent_from text path (tag_judge tag) (behind_line_at text (offset p)))) held
         ∙ ap (λ k. with_line p (ends_at k (lines_from text (behind_line_at text (offset p))))) (sym first_end)
         ∙ ap (λ k. with_line p (ends_at next (lines_from text k))) (ap (behind_line_at text) i.offset_is ∙ sym next_is)
 
     -- where it doesn't, and where none is sought
-    pub tag_extent : (path : List Container) (tag : List ℕ) → holds tag (line_of p) ≡ false → html_to_end text path tag p ≡ with_line p (extent_from text path (tag_judge tag) next)
+    pub tag_extent : (path : List Container) (tag : List ℕ)
+        → holds tag (line_of p) ≡ false → html_to_end text path tag p ≡ with_line p (extent_from text path (tag_judge tag) next)
     tag_extent path tag held =
-        ap (λ t. extent_by (if t then IsLast p else GoesOn p) p (lines_from text (behind_line_at text (offset p))) (extent_from text path (tag_judge tag) (behind_line_at text (offset p)))) held
+        ap (λ t. extent_by (if t then IsLast p else GoesOn p) p (lines_from text (behind_line_at text (offset p)))
+        (extent_from text path (tag_judge tag) (behind_line_at text (offset p)))) held
         ∙ ap (with_line p) (behind_first path (tag_judge tag))
 
     pub blank_extent : (path : List Container) → html_to_blank text path p ≡ with_line p (extent_from text path blank_judge next)
@@ -208,17 +231,23 @@ module _ (text : List ℕ) (options : Options) (named : Names) (start columns ne
     -- the containers around the block are those around its lines
     path_by : AreIn (length g.nodes) g.spine → AreIn (length opened.nodes) opened.spine → path_of options one ≡ path_of options g
     path_by there in_opened =
-        lines_path range_html text options named (with_line (owing columns p) (ends_at next [])) (ends_at next []) opened one (first_read (ends_at next [])) in_opened ∙ opened_path options g opened start HtmlBlock refl refl there
+        lines_path range_html text options named (with_line (owing columns p) (ends_at next [])) (ends_at next []) opened one
+        (first_read (ends_at next [])) in_opened ∙ opened_path options g opened start HtmlBlock refl refl there
 
     -- the block has one line
     pub html_one : (tag : List ℕ) (new : Forest Item) → holds tag (line_of p) ≡ true → new ≡ closed_by one next one.spine
-        → (let e = html_to_end text (path_of options g) tag p in AddsRaw (document text options named) (λ d. IsHtml d start columns e.places e.«end») e.left g new next)
-    html_one tag new held new_is = whole_added named (html_to_end text (path_of options g) tag p) (ends_at next (lines_from text next)) one new next next (held_extent (path_of options g) tag held) first_alone new_is
+        → (
+        let e = html_to_end text (path_of options g) tag p in
+        AddsRaw (document text options named) (λ d. IsHtml d start columns e.places e.«end») e.left g new next)
+    html_one tag new held new_is = whole_added named (html_to_end text (path_of options g) tag p) (ends_at next (lines_from text next)) one new next next
+        (held_extent (path_of options g) tag held) first_alone new_is
 
     -- it has those after the first, too
-    module _ (names : Names) (judge : Place → Place → Verdict) (two : Forest Item) (e : Extent) (stop left : ℕ) (path : path_of options one ≡ path_of options g) (lines : AppendsLines range_html (document text options names) (extent_from text (path_of options one) judge next) one two stop left)
+    module _ (names : Names) (judge : Place → Place → Verdict) (two : Forest Item) (e : Extent) (stop left : ℕ) (path : path_of options one ≡ path_of options g)
+        (lines : AppendsLines range_html (document text options names) (extent_from text (path_of options one) judge next) one two stop left)
         (e_is : e ≡ with_line p (extent_from text (path_of options g) judge next)) where
-      pub html_more : (new : Forest Item) → Extends names named → new ≡ closed_by two stop two.spine → AddsRaw (document text options names) (λ d. IsHtml d start columns e.places e.«end») e.left g new left
+      pub html_more : (new : Forest Item) → Extends names named → new ≡ closed_by two stop two.spine
+          → AddsRaw (document text options names) (λ d. IsHtml d start columns e.places e.«end») e.left g new left
       html_more new extends new_is =
           let further : Extent = extent_from text (path_of options g) judge next in
           let here = subst (λ path. AppendsLines range_html (document text options names) (extent_from text path judge next) one two stop left) path lines in
@@ -228,12 +257,15 @@ module _ (text : List ℕ) (options : Options) (named : Names) (start columns ne
   pub one_open : IsSome (slice_get one.spine 0)
   one_open =
       let p : Place = first_at text start 0 in
-      block_open range_html text options named (with_line (owing columns p) (ends_at next (lines_from text next))) g opened one start HtmlBlock next next refl (first_alone p (first_is text start 0))
+      block_open range_html text options named (with_line (owing columns p) (ends_at next (lines_from text next))) g opened one start HtmlBlock next next refl
+      (first_alone p (first_is text start 0))
 
-  pub more_open : (names : Names) (further : Extent) (two : Forest Item) (stop left : ℕ) → Extends names named → AppendsLines range_html (document text options names) further one two stop left → IsSome (slice_get two.spine 0)
+  pub more_open : (names : Names) (further : Extent) (two : Forest Item) (stop left : ℕ)
+      → Extends names named → AppendsLines range_html (document text options names) further one two stop left → IsSome (slice_get two.spine 0)
   more_open names further two stop left extends lines =
       let p : Place = first_at text start 0 in
-      block_open range_html text options names (with_line (owing columns p) further) g opened two start HtmlBlock stop left refl (first_then p (first_is text start 0) names further two stop left extends lines)
+      block_open range_html text options names (with_line (owing columns p) further) g opened two start HtmlBlock stop left refl
+      (first_then p (first_is text start 0) names further two stop left extends lines)
 
   pub first_path : AreIn (length g.nodes) g.spine → AreIn (length opened.nodes) opened.spine → path_of options one ≡ path_of options g
   first_path there in_opened = path_by (first_at text start 0) (first_is text start 0) there in_opened

@@ -1,5 +1,7 @@
 -- The lines of indented code, one after the other.
-use Rattle.std.proofs.Common.{◌≡◌, inl, inr, ℕ, suc, ◌+◌, ◌-◌, ◌<◌, ◌≤◌, Bool, true, false, if◌then◌else◌, List, [], ◌∷◌, ◌++◌, length, take, drop, slice_get, slice_index, Option, Some, None, IsSome, IfSome, IsUtf8, IsCharBoundary, refl, sym, ap, subst, ◌∙◌, arith, length-append, append_assoc}
+use Rattle.std.proofs.Common.{◌≡◌, inl, inr, ℕ, suc, ◌+◌, ◌-◌, ◌<◌, ◌≤◌, Bool, true, false, if◌then◌else◌, List, [], ◌∷◌, ◌++◌, length, take, drop, slice_get}
+use Rattle.std.proofs.Common.{slice_index, Option, Some, None, IsSome, IfSome, IsUtf8, IsCharBoundary, refl, sym, ap, subst, ◌∙◌, arith, length-append}
+use Rattle.std.proofs.Common.{append_assoc}
 use Rattle.std.specs.Option.{option_map, option_and_then}
 use Rattle.std.proofs.lemmas.List.{append-nil, length-drop}
 use Rattle.std.proofs.lemmas.Bool.{cases_lt, cases_Bool, lt-ltb, cond-true, cond-false, and_parts, eq-eqb, ne_eqb, false≢true}
@@ -19,7 +21,8 @@ use Rattle.first_pass_lines.proofs.LineFacts.{line_len-some, line_len-within, li
 use Rattle.first_pass_lines.proofs.PlaceFacts.{line_is_place, line_end_boundary, columns_line_end}
 use Rattle.first_pass_tokens.specs.Chains.{text_token, touches, add_token, add_tokens}
 use Rattle.first_pass_tokens.specs.TreeTokens.{with_tokens, chained, leaves, JoinsNone}
-use Rattle.first_pass_tokens.proofs.ChainLemmas.{add_tokens-append, with_tokens-chained, appended-chained, chained-append, chained-spine, chained-nodes, chained-length, has_leaves-chained}
+use Rattle.first_pass_tokens.proofs.ChainLemmas.{add_tokens-append, with_tokens-chained, appended-chained, chained-append, chained-spine, chained-nodes}
+use Rattle.first_pass_tokens.proofs.ChainLemmas.{chained-length, has_leaves-chained}
 use Rattle.first_pass_grammar.specs.declared.kind.Container.{Container}
 use Rattle.first_pass_grammar.specs.Names.{Names, Extends}
 use Rattle.first_pass_grammar.specs.Containers.{at_rest, has_columns, after, taken}
@@ -50,7 +53,13 @@ ends_added : (chain : List Item) (t : Item) → is_text t.body ≡ true → Ends
 ends_added [] t h = record { front = []; last = t; is = refl; text = h; ends = refl }
 ends_added (x ∷ []) t h =
     elim (cases_Bool (touches x t)) [
-      | inl joins ↦ record { front = []; last = record x { «end» = t.«end» }; is = cond-true _ _ _ joins; text = (and_parts _ _ (and_parts _ _ joins).1).0; ends = refl }
+      | inl joins ↦ record {
+        front = [];
+        last = record x { «end» = t.«end» };
+        is = cond-true _ _ _ joins;
+        text = (and_parts _ _ (and_parts _ _ joins).1).0;
+        ends = refl;
+      }
       | inr apart ↦ record { front = x ∷ []; last = t; is = cond-false _ _ _ apart; text = h; ends = refl }
     ]
 ends_added (x ∷ z ∷ zs) t h =
@@ -69,17 +78,23 @@ range_some from to some = cond-true _ _ _ (lt-ltb from to some)
 last_text : (text : List ℕ) (from to : ℕ) → from < to → LastText (raw_items range_text text from to) to
 last_text text from to some =
     elim (cases_Bool (ends_with_both text from to)) [
-      | inl both ↦ record { before = range_text from (to - 2); from = to - 1; is = raw_two range_text text from to both ∙ ap (λ (ys : List Item). range_text from (to - 2) ++ ys) (range_some (to - 1) to (omega arith)) }
+      | inl both ↦ record {
+        before = range_text from (to - 2);
+        from = to - 1;
+        is = raw_two range_text text from to both ∙ ap (λ (ys : List Item). range_text from (to - 2) ++ ys) (range_some (to - 1) to (omega arith));
+      }
       | inr one ↦ record { before = []; from = from; is = raw_one range_text text from to one ∙ range_some from to some }
     ]
 
 -- a chain with such a line after it
-ends_line : (d : Document) (chain : List Item) (owed from to : ℕ) (items : List Item) → from < to → IsRawLine range_text d owed from to items → EndsWithText (add_tokens chain items) to
+ends_line : (d : Document) (chain : List Item) (owed from to : ℕ) (items : List Item)
+    → from < to → IsRawLine range_text d owed from to items → EndsWithText (add_tokens chain items) to
 ends_line d chain owed from to items some (columns, are, is) =
     let l = last_text d.text from to some in
     let t : Item = text_token l.from to false in
     let e : add_tokens chain items ≡ add_token (add_tokens (add_tokens chain columns) l.before) t =
-    ap (add_tokens chain) is ∙ add_tokens-append chain columns (raw_items range_text d.text from to) ∙ ap (add_tokens (add_tokens chain columns)) l.is ∙ add_tokens-append (add_tokens chain columns) l.before (t ∷ []) in
+    ap (add_tokens chain) is ∙ add_tokens-append chain columns (raw_items range_text d.text from to) ∙ ap (add_tokens (add_tokens chain columns)) l.is
+    ∙ add_tokens-append (add_tokens chain columns) l.before (t ∷ []) in
     subst (λ c. EndsWithText c to) (sym e) (ends_added (add_tokens (add_tokens chain columns) l.before) t refl)
 
 -- a chain continues an item, whatever its end is
@@ -96,11 +111,13 @@ stays_token [] x to [] t =
     ]
 stays_token [] x to (z ∷ zs) t = record { to = to; rest = add_token (z ∷ zs) t; is = refl }
 stays_token (f ∷ []) x to rest t = let s = stays_token [] x to rest t in record { to = s.to; rest = s.rest; is = ap (λ (ys : List Item). f ∷ ys) s.is }
-stays_token (f ∷ g ∷ fs) x to rest t = let s = stays_token (g ∷ fs) x to rest t in record { to = s.to; rest = s.rest; is = ap (λ (ys : List Item). f ∷ ys) s.is }
+stays_token (f ∷ g ∷ fs) x to rest t =
+    let s = stays_token (g ∷ fs) x to rest t in record { to = s.to; rest = s.rest; is = ap (λ (ys : List Item). f ∷ ys) s.is }
 
 stays_tokens : (front : List Item) (x : Item) (chain more : List Item) → Stays front x chain → Stays front x (add_tokens chain more)
 stays_tokens front x chain [] s = s
-stays_tokens front x chain (t ∷ ts) s = stays_tokens front x (add_token chain t) ts (subst (λ c. Stays front x (add_token c t)) (sym s.is) (stays_token front x s.to s.rest t))
+stays_tokens front x chain (t ∷ ts) s =
+    stays_tokens front x (add_token chain t) ts (subst (λ c. Stays front x (add_token c t)) (sym s.is) (stays_token front x s.to s.rest t))
 
 -- what tokens after a chain leave of its last item
 last_stays : (chain more : List Item) (to : ℕ) (e : EndsWithText chain to) → Stays e.front e.last (add_tokens chain more)
@@ -121,12 +138,14 @@ module _ (old : Forest Item) (front : List Item) (x : Item) where
       omega arith
 
   -- it gets another end
-  last_ends : (place : TreeIndex) (to : ℕ) → place.0 ≡ length old.nodes + length front → with_end_at (chained old (front ++ x ∷ [])) place to ≡ chained old (front ++ record x { «end» = to } ∷ [])
+  last_ends : (place : TreeIndex) (to : ℕ)
+      → place.0 ≡ length old.nodes + length front → with_end_at (chained old (front ++ x ∷ [])) place to ≡ chained old (front ++ record x { «end» = to } ∷ [])
   last_ends place to at =
       let f : Forest Item = chained old front in
       let l = chained-length old front in
       ap (λ g. with_end_at g place to) (sym (appended-chained old front x))
-      ∙ ap (λ (ns : List (ℕ × Item)). record (appended f x) { nodes = ns }) (modify-at f.nodes [] (length f.spine + 1, x) place.0 (λ y. record y { «end» = to }) (omega arith))
+      ∙ ap (λ (ns : List (ℕ × Item)). record (appended f x) { nodes = ns })
+      (modify-at f.nodes [] (length f.spine + 1, x) place.0 (λ y. record y { «end» = to }) (omega arith))
       ∙ appended-chained old front (record x { «end» = to })
 
 -- the run of nodes that are deeper than one whose depth is the next one's
@@ -140,14 +159,16 @@ run_none ns i same =
       | inr past ↦ run_all ns (slice_index (depths ns) i) (i + 1) past
     ]
 
-module _ (old : Forest Item) (opened : open_place old.spine + 1 ≡ length old.nodes) (front : List Item) (x : Item) (rest : List Item) (place : TreeIndex) (at : place.0 ≡ length old.nodes + length front) where
+module _ (old : Forest Item) (opened : open_place old.spine + 1 ≡ length old.nodes) (front : List Item) (x : Item) (rest : List Item) (place : TreeIndex)
+    (at : place.0 ≡ length old.nodes + length front) where
   chain_length : length (chained old (front ++ x ∷ rest)).nodes ≡ length old.nodes + length front + suc (length rest)
   chain_length =
       let c = chained-length old (front ++ x ∷ rest) in
       let l = length-append front (x ∷ rest) in
       omega arith
 
-  leaf : (k : ℕ) → length old.nodes ≤ k → k < length (chained old (front ++ x ∷ rest)).nodes → slice_index (depths (chained old (front ++ x ∷ rest)).nodes) k ≡ length (chained old (front ++ x ∷ rest)).spine + 1
+  leaf : (k : ℕ) → length old.nodes ≤ k → k < length (chained old (front ++ x ∷ rest)).nodes
+      → slice_index (depths (chained old (front ++ x ∷ rest)).nodes) k ≡ length (chained old (front ++ x ∷ rest)).spine + 1
   leaf k low high =
       let s = ap open_place (chained-spine old (front ++ x ∷ rest)) in
       has_leaves-chained old (front ++ x ∷ rest) opened k (omega arith) high
@@ -167,7 +188,8 @@ module _ (old : Forest Item) (opened : open_place old.spine + 1 ≡ length old.n
   chain_end =
       let l = chain_length in
       let h = last_length old front x in
-      let e = run_none (chained old (front ++ x ∷ rest)).nodes place.0 (λ more. leaf (place.0 + 1) (omega arith) more ∙ sym (leaf place.0 (omega arith) (omega arith))) in
+      let e = run_none (chained old (front ++ x ∷ rest)).nodes place.0
+      (λ more. leaf (place.0 + 1) (omega arith) more ∙ sym (leaf place.0 (omega arith) (omega arith))) in
       omega arith
 
   -- what stays of the chain without what stands after an item
@@ -176,17 +198,20 @@ module _ (old : Forest Item) (opened : open_place old.spine + 1 ≡ length old.n
       let g : Forest Item = chained old (front ++ x ∷ rest) in
       let h : Forest Item = chained old (front ++ x ∷ []) in
       forest-eq (kept_after g place) h
-      (ap (λ n. take n g.nodes) chain_end ∙ ap (λ (f : Forest Item). take (length h.nodes) f.nodes) chain_split ∙ ap (take (length h.nodes)) (chained-nodes h rest) ∙ take-append_seam h.nodes (at_depth (length h.spine + 1) (leaves rest)))
+      (ap (λ n. take n g.nodes) chain_end ∙ ap (λ (f : Forest Item). take (length h.nodes) f.nodes) chain_split
+      ∙ ap (take (length h.nodes)) (chained-nodes h rest) ∙ take-append_seam h.nodes (at_depth (length h.spine + 1) (leaves rest)))
       (chained-spine old (front ++ x ∷ rest) ∙ sym (chained-spine old (front ++ x ∷ [])))
       (ap (λ m. Some (place_in m)) at ∙ sym (last_current old front x))
 
 -- lines of code and one more
-code_append : (d : Document) (chain : List Item) (ps qs : List Place) (mid whole : List Item) → AreRawLines range_text d chain ps mid → AreRawLines range_text d mid qs whole → AreRawLines range_text d chain (ps ++ qs) whole
+code_append : (d : Document) (chain : List Item) (ps qs : List Place) (mid whole : List Item)
+    → AreRawLines range_text d chain ps mid → AreRawLines range_text d mid qs whole → AreRawLines range_text d chain (ps ++ qs) whole
 unfolding AreRawLines
 code_append d chain [] qs mid whole e m = subst (λ c. AreRawLines range_text d c qs whole) e m
 code_append d chain (p ∷ ps) qs mid whole (line, is, further) m = (line, is, code_append d (add_tokens chain line) ps qs mid whole further m)
 
-one_line : (d : Document) (chain : List Item) (q : Place) (line : List Item) → IsRawLine range_text d q.rest.owed (offset q) (line_end q) line → AreRawLines range_text d chain (q ∷ []) (add_tokens chain line)
+one_line : (d : Document) (chain : List Item) (q : Place) (line : List Item)
+    → IsRawLine range_text d q.rest.owed (offset q) (line_end q) line → AreRawLines range_text d chain (q ∷ []) (add_tokens chain line)
 unfolding AreRawLines
 one_line d chain q line is = (line, is, refl)
 
@@ -194,7 +219,8 @@ no_line : (d : Document) (chain : List Item) → AreRawLines range_text d chain 
 unfolding AreRawLines
 no_line d chain = refl
 
-pub more_lines : (d : Document) (chain : List Item) (ps : List Place) (q : Place) (mid line : List Item) → AreRawLines range_text d chain ps mid → IsRawLine range_text d q.rest.owed (offset q) (line_end q) line → AreRawLines range_text d chain (ps ++ q ∷ []) (add_tokens mid line)
+pub more_lines : (d : Document) (chain : List Item) (ps : List Place) (q : Place) (mid line : List Item) → AreRawLines range_text d chain ps mid
+    → IsRawLine range_text d q.rest.owed (offset q) (line_end q) line → AreRawLines range_text d chain (ps ++ q ∷ []) (add_tokens mid line)
 more_lines d chain ps q mid line are is = code_append d chain ps (q ∷ []) mid (add_tokens mid line) are (one_line d mid q line is)
 
 -- a blank line after others, and one that isn't
@@ -225,16 +251,24 @@ last_line_end e [] q = refl
 last_line_end e (p ∷ ps) q = last_line_end (line_end p) ps q
 
 -- the next line, as the code reads it
-place_by : (line : Place) (o : Option Rest) → option_and_then (λ (q : Place). if has_columns 4 q.rest then Some (moved_columns 4 q) else None) (option_map (at_rest line) o) ≡ option_map (at_rest line) (code_rest o)
+place_by : (line : Place) (o : Option Rest)
+    → option_and_then (λ (q : Place). if has_columns 4 q.rest then Some (moved_columns 4 q) else None) (option_map (at_rest line) o)
+    ≡ option_map (at_rest line) (code_rest o)
 place_by line None = refl
-place_by line (Some r) = elim (has_columns 4 r) as (λ t. (if t then Some (moved_columns 4 (at_rest line r)) else None) ≡ option_map (at_rest line) (if t then Some (after_columns 4 r) else None)) [ true ↦ refl | false ↦ refl ]
+place_by line (Some r) = elim (has_columns 4 r)
+    as (λ t. (if t then Some (moved_columns 4 (at_rest line r)) else None) ≡ option_map (at_rest line) (if t then Some (after_columns 4 r) else None)) [
+      | true ↦ refl
+      | false ↦ refl
+    ]
 
-next_place : (text : List ℕ) (path : List Container) (next : ℕ) → next < length text → code_place path (line_place next (drop next text)) ≡ option_map (at_rest (line_place next (drop next text))) (code_rest_at text path next)
+next_place : (text : List ℕ) (path : List Container) (next : ℕ) → next < length text
+    → code_place path (line_place next (drop next text)) ≡ option_map (at_rest (line_place next (drop next text))) (code_rest_at text path next)
 next_place text path next more =
     place_by (line_place next (drop next text)) (after path (line_rest (drop next text)))
     ∙ ap (option_map (at_rest (line_place next (drop next text)))) (sym (cond-false _ _ _ (ne_eqb next (length text) (λ same. omega arith))))
 
-lines_by : (path : List Container) (line : Place) (lines : List Place) → code_lines path (line ∷ lines) ≡ code_by lines (line ∷ lines) (code_place path line) (code_lines path lines)
+lines_by : (path : List Container) (line : Place) (lines : List Place)
+    → code_lines path (line ∷ lines) ≡ code_by lines (line ∷ lines) (code_place path line) (code_lines path lines)
 unfolding code_lines
 lines_by path line lines = refl
 
@@ -243,7 +277,8 @@ unfolding code_lines
 lines_none path = refl
 
 lines_next : (text : List ℕ) (path : List Container) (next : ℕ) → next < length text
-    → code_lines path (lines_from text next) ≡ code_by (lines_from text (behind_line_at text next)) (lines_from text next) (option_map (at_rest (line_place next (drop next text))) (code_rest_at text path next)) (code_lines path (lines_from text (behind_line_at text next)))
+    → code_lines path (lines_from text next) ≡ code_by (lines_from text (behind_line_at text next)) (lines_from text next)
+    (option_map (at_rest (line_place next (drop next text))) (code_rest_at text path next)) (code_lines path (lines_from text (behind_line_at text next)))
 lines_next text path next more =
     let first = lines_at-line text next more in
     let further : List Place = lines_from text (behind_line_at text next) in
@@ -252,11 +287,13 @@ lines_next text path next more =
     ∙ ap (λ o. code_by further (lines_from text next) o (code_lines path further)) (next_place text path next more)
 
 -- no line continues
-pub lines_stop : (text : List ℕ) (path : List Container) (next : ℕ) → code_rest_at text path next ≡ None → code_lines path (lines_from text next) ≡ ([], lines_from text next)
+pub lines_stop : (text : List ℕ) (path : List Container) (next : ℕ)
+    → code_rest_at text path next ≡ None → code_lines path (lines_from text next) ≡ ([], lines_from text next)
 lines_stop text path next none =
     let further : List Place = lines_from text (behind_line_at text next) in
     elim (cases_lt next (length text)) [
-      | inl more ↦ lines_next text path next more ∙ ap (λ o. code_by further (lines_from text next) (option_map (at_rest (line_place next (drop next text))) o) (code_lines path further)) none
+      | inl more ↦ lines_next text path next more
+          ∙ ap (λ o. code_by further (lines_from text next) (option_map (at_rest (line_place next (drop next text))) o) (code_lines path further)) none
       | inr past ↦ (let e = lines_at-end text next past in ap (code_lines path) e ∙ lines_none path ∙ ap (λ (ls : List Place). ([], ls)) (sym e))
     ]
 
@@ -269,24 +306,29 @@ next_within text path next r within some =
     ]
 
 pub lines_more : (text : List ℕ) (path : List Container) (next : ℕ) (r : Rest) → next ≤ length text → code_rest_at text path next ≡ Some r
-    → code_lines path (lines_from text next) ≡ (let further = code_lines path (lines_from text (behind_line_at text next)) in (place_at next r ∷ further.0, further.1))
+    → code_lines path (lines_from text next)
+    ≡ (let further = code_lines path (lines_from text (behind_line_at text next)) in (place_at next r ∷ further.0, further.1))
 lines_more text path next r within some =
     let further : List Place = lines_from text (behind_line_at text next) in
-    lines_next text path next (next_within text path next r within some) ∙ ap (λ o. code_by further (lines_from text next) (option_map (at_rest (line_place next (drop next text))) o) (code_lines path further)) some
+    lines_next text path next (next_within text path next r within some)
+    ∙ ap (λ o. code_by further (lines_from text next) (option_map (at_rest (line_place next (drop next text))) o) (code_lines path further)) some
 
 columns_by : (r : Rest) (o : Option Rest) → code_rest o ≡ Some r → (s : Rest) × (o ≡ Some s) × (after_columns 4 s ≡ r)
 columns_by r None e = absurd (none-some r e)
 columns_by r (Some s) e = (s, refl, (cond_some (has_columns 4 s) (after_columns 4 s) r e).1)
 
 -- It ends where its text does.
-pub next_end : (text : List ℕ) (path : List Container) (next : ℕ) (r : Rest) → IsUtf8 text → IsCharBoundary text next → code_rest_at text path next ≡ Some r → line_end (place_at next r) ≡ behind_line_at text next
+pub next_end : (text : List ℕ) (path : List Container) (next : ℕ) (r : Rest)
+    → IsUtf8 text → IsCharBoundary text next → code_rest_at text path next ≡ Some r → line_end (place_at next r) ≡ behind_line_at text next
 next_end text path next r u b some =
     let more = next_within text path next r b.0 some in
     let c = columns_by r (after path (line_rest (drop next text))) (sym (cond-false _ _ _ (ne_eqb next (length text) (λ same. omega arith))) ∙ some) in
-    ap (λ s. line_end (place_at next s)) (sym c.2) ∙ columns_line_end 4 (place_at next c.0) ∙ (after_keeps text next path (line_rest (drop next text)) c.0 u c.1 (line_is_place text next b)).1 ∙ line_start_end text next
+    ap (λ s. line_end (place_at next s)) (sym c.2) ∙ columns_line_end 4 (place_at next c.0)
+    ∙ (after_keeps text next path (line_rest (drop next text)) c.0 u c.1 (line_is_place text next b)).1 ∙ line_start_end text next
 
 -- the offset at which it ends, as the code reads it
-pub next_read : (text : List ℕ) (path : List Container) (next taken last : ℕ) (r : Rest) → IsUtf8 text → IsCharBoundary text next → code_rest_at text path next ≡ Some r → IsPlaceOf text (place_at next r) → taken ≡ r.taken → last ≡ behind_line_at text (next + taken)
+pub next_read : (text : List ℕ) (path : List Container) (next taken last : ℕ) (r : Rest) → IsUtf8 text → IsCharBoundary text next
+    → code_rest_at text path next ≡ Some r → IsPlaceOf text (place_at next r) → taken ≡ r.taken → last ≡ behind_line_at text (next + taken)
     → (last ≡ behind_line_at text next) × (next < last) × IsCharBoundary text last
 next_read text path next taken last r u b some i t e =
     let more = next_within text path next r b.0 some in
@@ -306,7 +348,8 @@ some_within text start h =
     omega arith
 
 -- the end of the first line
-pub first_boundary : (text : List ℕ) (start next : ℕ) → IsUtf8 text → IsCharBoundary text start → is_blank_line (drop start text) ≡ false → next ≡ behind_line_at text start → IsCharBoundary text next
+pub first_boundary : (text : List ℕ) (start next : ℕ)
+    → IsUtf8 text → IsCharBoundary text start → is_blank_line (drop start text) ≡ false → next ≡ behind_line_at text start → IsCharBoundary text next
 first_boundary text start next u b some e = subst (IsCharBoundary text) (sym e) (line_end_boundary text start u b (some_within text start some))
 
 -- lines put before others that continue indented code
@@ -320,17 +363,20 @@ pub record IsJustOpened (f : Forest Item) : Type 0 where
 
 -- The lines of indented code stand after the nodes of a tree, whatever more is named: its first line's text is at a place, and it ends at an offset and leaves
 -- the lines from another on.
-pub record AppendsIndented (text : List ℕ) (options : Options) (names : Names) (p : Place) (old new : Forest Item) («end» next : ℕ) (blank : Bool) : Type 0 where
+pub record AppendsIndented (text : List ℕ) (options : Options) (names : Names) (p : Place) (old new : Forest Item) («end» next : ℕ)
+    (blank : Bool) : Type 0 where
   pub chain : List Item
   pub tree_is : new ≡ chained old chain
-  pub lines : (more : Names) → Extends more names → AreRawLines range_text (document text options more) [] (without_blanks (p ∷ (code_behind text (path_of options old) (offset p)).0)) chain
+  pub lines : (more : Names) → Extends more names
+      → AreRawLines range_text (document text options more) [] (without_blanks (p ∷ (code_behind text (path_of options old) (offset p)).0)) chain
   pub end_is : «end» ≡ last_end (offset p) (without_blanks (p ∷ (code_behind text (path_of options old) (offset p)).0))
   pub blank_is : blank ≡ last_is_blank (code_behind text (path_of options old) (offset p)).0
   pub left_is : lines_from text next ≡ (code_behind text (path_of options old) (offset p)).1
 
 -- The lines of indented code are read up to where another begins, its first at a place: the chain of those up to the last that isn't blank, which ends with a
 -- text, and the tokens of the blank ones after it.
-pub record IndentedSoFar (text : List ℕ) (options : Options) (names : Names) (p : Place) (old now : Forest Item) (next : ℕ) (kept : Kept) (blank : Bool) : Type 0 where
+pub record IndentedSoFar (text : List ℕ) (options : Options) (names : Names) (p : Place) (old now : Forest Item) (next : ℕ) (kept : Kept)
+    (blank : Bool) : Type 0 where
   pub read : List Place
   pub chain : List Item
   pub more : List Item
@@ -344,7 +390,8 @@ pub record IndentedSoFar (text : List ℕ) (options : Options) (names : Names) (
   pub behind : code_behind text (path_of options old) (offset p) ≡ put_before read (code_lines (path_of options old) (lines_from text next))
 
 -- a raw line from a place on
-line_at : (text : List ℕ) (options : Options) (names : Names) (p : Place) (owed from to : ℕ) (old new : Forest Item) (a : AppendsRaw range_text text names owed from to old new) → p.rest.owed ≡ owed → offset p ≡ from → line_end p ≡ to
+line_at : (text : List ℕ) (options : Options) (names : Names) (p : Place) (owed from to : ℕ) (old new : Forest Item)
+    (a : AppendsRaw range_text text names owed from to old new) → p.rest.owed ≡ owed → offset p ≡ from → line_end p ≡ to
     → (further : Names) → Extends further names → IsRawLine range_text (document text options further) p.rest.owed (offset p) (line_end p) a.items
 line_at text options names p owed from to old new a o f t further e =
     subst (λ k. IsRawLine range_text (document text options further) k (offset p) (line_end p) a.items) (sym o)
@@ -355,12 +402,15 @@ place_line_end : (text : List ℕ) (start : ℕ) (p : Place) → IsPlaceAt text 
 place_line_end text start p at = ap (λ bs. offset p + line_len bs) at.left_is ∙ ap (λ k. k + line_len (drop start text)) at.offset_is
 
 -- its current node, where a chain ends with a text
-current_is : (old now : Forest Item) (chain : List Item) (to : ℕ) (e : EndsWithText chain to) → now ≡ chained old chain → now.current ≡ Some (record { 0 = length old.nodes + length e.front })
+current_is : (old now : Forest Item) (chain : List Item) (to : ℕ) (e : EndsWithText chain to)
+    → now ≡ chained old chain → now.current ≡ Some (record { 0 = length old.nodes + length e.front })
 current_is old now chain to e is = ap (λ (f : Forest Item). f.current) (is ∙ ap (chained old) e.is) ∙ last_current old e.front e.last
 
 -- after the first line
-pub so_far_first : (text : List ℕ) (options : Options) (names : Names) (p : Place) (old now : Forest Item) (start owed next : ℕ) (current : Option TreeIndex) → IsPlaceAt text start p → p.rest.owed ≡ owed → is_blank_line (drop start text) ≡ false → JoinsNone old
-    → next ≡ behind_line_at text start → AppendsRaw range_text text names owed start next old now → current ≡ now.current → IndentedSoFar text options names p old now next (record { last = current; «end» = next }) false
+pub so_far_first : (text : List ℕ) (options : Options) (names : Names) (p : Place) (old now : Forest Item) (start owed next : ℕ) (current : Option TreeIndex)
+    → IsPlaceAt text start p → p.rest.owed ≡ owed → is_blank_line (drop start text) ≡ false → JoinsNone old
+    → next ≡ behind_line_at text start → AppendsRaw range_text text names owed start next old now → current ≡ now.current
+    → IndentedSoFar text options names p old now next (record { last = current; «end» = next }) false
 so_far_first text options names p old now start owed next current at o some apart next_is a c =
     let chain : List Item = add_tokens [] a.items in
     let e : line_end p ≡ next = place_line_end text start p at ∙ sym next_is in
@@ -385,9 +435,12 @@ so_far_first text options names p old now start owed next current at o some apar
       behind = ap (λ k. code_lines (path_of options old) (lines_from text k)) (ap (behind_line_at text) at.offset_is ∙ sym next_is);
     }
 
-module _ (text : List ℕ) (options : Options) (names more_names : Names) (p : Place) (old now new : Forest Item) (next last owed taken : ℕ) (kept : Kept) (blank : Bool) (r : Rest) (u : IsUtf8 text) (b : IsCharBoundary text next) (apart : JoinsNone old)
-    (s : IndentedSoFar text options names p old now next kept blank) (goes : code_rest_at text (path_of options old) next ≡ Some r) (i : IsPlaceOf text (place_at next r)) (e : Extends more_names names)
-    (owed_is : owed ≡ r.owed) (taken_is : taken ≡ r.taken) (a : AppendsRaw range_text text more_names owed (next + taken) last now new) (last_is : last ≡ behind_line_at text (next + taken)) where
+module _ (text : List ℕ) (options : Options) (names more_names : Names) (p : Place) (old now new : Forest Item) (next last owed taken : ℕ) (kept : Kept)
+    (blank : Bool) (r : Rest) (u : IsUtf8 text) (b : IsCharBoundary text next) (apart : JoinsNone old)
+    (s : IndentedSoFar text options names p old now next kept blank) (goes : code_rest_at text (path_of options old) next ≡ Some r)
+    (i : IsPlaceOf text (place_at next r)) (e : Extends more_names names)
+    (owed_is : owed ≡ r.owed) (taken_is : taken ≡ r.taken) (a : AppendsRaw range_text text more_names owed (next + taken) last now new)
+    (last_is : last ≡ behind_line_at text (next + taken)) where
   -- where the text of the next line begins
   abbrev q : Place
   q = place_at next r
@@ -401,15 +454,18 @@ module _ (text : List ℕ) (options : Options) (names more_names : Names) (p : P
   tree : new ≡ chained old (add_tokens (add_tokens s.chain s.more) a.items)
   tree = a.tree_is ∙ ap (λ f. with_tokens f a.items) s.tree_is ∙ with_tokens-chained old (add_tokens s.chain s.more) a.items apart
 
-  lines_too : (further : Names) → Extends further more_names → AreRawLines range_text (document text options further) [] (p ∷ s.read ++ q ∷ []) (add_tokens (add_tokens s.chain s.more) a.items)
+  lines_too : (further : Names) → Extends further more_names
+      → AreRawLines range_text (document text options further) [] (p ∷ s.read ++ q ∷ []) (add_tokens (add_tokens s.chain s.more) a.items)
   lines_too further f =
-      more_lines (document text options further) [] (p ∷ s.read) q (add_tokens s.chain s.more) a.items (s.all further (extends_both further more_names names f e))
+      more_lines (document text options further) [] (p ∷ s.read) q (add_tokens s.chain s.more) a.items
+      (s.all further (extends_both further more_names names f e))
       (line_at text options more_names q owed (next + taken) last now new a (sym owed_is) (ap (λ k. next + k) (sym taken_is)) q_end further f)
 
   behind_too : code_behind text (path_of options old) (offset p) ≡ put_before (s.read ++ q ∷ []) (code_lines (path_of options old) (lines_from text last))
   behind_too =
       let further : List Place × List Place = code_lines (path_of options old) (lines_from text (behind_line_at text next)) in
-      s.behind ∙ ap (put_before s.read) (lines_more text (path_of options old) next r b.0 goes) ∙ ap (λ ps. (ps, further.1)) (sym (append_assoc s.read (q ∷ []) further.0))
+      s.behind ∙ ap (put_before s.read) (lines_more text (path_of options old) next r b.0 goes)
+      ∙ ap (λ ps. (ps, further.1)) (sym (append_assoc s.read (q ∷ []) further.0))
       ∙ ap (λ k. put_before (s.read ++ q ∷ []) (code_lines (path_of options old) (lines_from text k))) (sym last_place)
 
   -- after a blank line, and after one that isn't
@@ -424,7 +480,8 @@ module _ (text : List ℕ) (options : Options) (names more_names : Names) (p : P
         last = s.last;
         place = s.place;
         tree_is = tree ∙ ap (chained old) (sym same);
-        lines = λ further f. subst (λ ps. AreRawLines range_text (document text options further) [] ps s.chain) (sym kept_lines) (s.lines further (extends_both further more_names names f e));
+        lines = λ further f. subst (λ ps. AreRawLines range_text (document text options further) [] ps s.chain) (sym kept_lines)
+            (s.lines further (extends_both further more_names names f e));
         all = λ further f. subst (λ c. AreRawLines range_text (document text options further) [] (p ∷ s.read ++ q ∷ []) c) (sym same) (lines_too further f);
         end_is = s.end_is ∙ ap (last_end (offset p)) (sym kept_lines);
         blank_is = sym h ∙ sym (last_blank s.read q);
@@ -437,7 +494,8 @@ module _ (text : List ℕ) (options : Options) (names more_names : Names) (p : P
       let full : without_blanks (p ∷ s.read ++ q ∷ []) ≡ p ∷ s.read ++ q ∷ [] = some_behind (p ∷ s.read) q h in
       let from : 0 < length r.left = some_bytes r.left h in
       let later : next + taken < last = (let l = line_len-some r.left from in let z = q_end in omega arith) in
-      let text_last = ends_line (document text options more_names) (add_tokens s.chain s.more) owed (next + taken) last a.items later (a.are options more_names (extends_none more_names)) in
+      let text_last = ends_line (document text options more_names) (add_tokens s.chain s.more) owed (next + taken) last a.items later
+      (a.are options more_names (extends_none more_names)) in
       record {
         read = s.read ++ q ∷ [];
         chain = chain;
@@ -452,19 +510,24 @@ module _ (text : List ℕ) (options : Options) (names more_names : Names) (p : P
         behind = behind_too;
       }
 
-  next_by : (t : Bool) (kept_now : Kept) → is_blank_rest r ≡ t → kept_now ≡ (if t then kept else record { last = new.current; «end» = last }) → IndentedSoFar text options more_names p old new last kept_now t
+  next_by : (t : Bool) (kept_now : Kept) → is_blank_rest r ≡ t → kept_now ≡ (if t then kept else record { last = new.current; «end» = last })
+      → IndentedSoFar text options more_names p old new last kept_now t
   next_by true kept_now h k = subst (λ x. IndentedSoFar text options more_names p old new last x true) (sym k) (blank_next h)
   next_by false kept_now h k = subst (λ x. IndentedSoFar text options more_names p old new last x false) (sym k) (some_next h)
 
   -- after the next line
-  pub so_far_next : (blank_now : Bool) (kept_now : Kept) → blank_now ≡ is_blank_rest r → kept_now ≡ (if blank_now then kept else record { last = new.current; «end» = last }) → IndentedSoFar text options more_names p old new last kept_now blank_now
+  pub so_far_next : (blank_now : Bool) (kept_now : Kept)
+      → blank_now ≡ is_blank_rest r → kept_now ≡ (if blank_now then kept else record { last = new.current; «end» = last })
+      → IndentedSoFar text options more_names p old new last kept_now blank_now
   so_far_next blank_now kept_now h k = next_by blank_now kept_now (sym h) k
 
 -- The lines open and close nothing, so that the next line is read in the containers that were open before.
-pub next_rest : (text : List ℕ) (options : Options) (names : Names) (p : Place) (old now : Forest Item) (next : ℕ) (kept : Kept) (blank : Bool) (found : Option Rest) → IndentedSoFar text options names p old now next kept blank → IsForest old
+pub next_rest : (text : List ℕ) (options : Options) (names : Names) (p : Place) (old now : Forest Item) (next : ℕ) (kept : Kept) (blank : Bool)
+    (found : Option Rest) → IndentedSoFar text options names p old now next kept blank → IsForest old
     → found ≡ code_rest_at text (path_of options now) next → found ≡ code_rest_at text (path_of options old) next
 next_rest text options names p old now next kept blank found s f e =
-    let path : path_of options now ≡ path_of options old = ap (path_of options) s.tree_is ∙ path_of-chained options old (add_tokens s.chain s.more) (open_are_in old.nodes old.spine f.opened) in
+    let path : path_of options now ≡ path_of options old =
+    ap (path_of options) s.tree_is ∙ path_of-chained options old (add_tokens s.chain s.more) (open_are_in old.nodes old.spine f.opened) in
     e ∙ ap (λ c. code_rest_at text c next) path
 
 -- a node just opened is the last one
@@ -481,7 +544,8 @@ first_at text start owed = record { line = start; rest = record { left = drop st
 pub first_is : (text : List ℕ) (start owed : ℕ) → IsPlaceAt text start (first_at text start owed)
 first_is text start owed = record { offset_is = omega arith; left_is = refl }
 
-module _ (text : List ℕ) (options : Options) (names : Names) (p : Place) (old now : Forest Item) (next : ℕ) (kept : Kept) (blank : Bool) (opened : open_place old.spine + 1 ≡ length old.nodes) (s : IndentedSoFar text options names p old now next kept blank) where
+module _ (text : List ℕ) (options : Options) (names : Names) (p : Place) (old now : Forest Item) (next : ℕ) (kept : Kept) (blank : Bool)
+    (opened : open_place old.spine + 1 ≡ length old.nodes) (s : IndentedSoFar text options names p old now next kept blank) where
   stays : Stays s.last.front s.last.last (add_tokens s.chain s.more)
   stays = last_stays s.chain s.more kept.«end» s.last
 
@@ -500,12 +564,17 @@ module _ (text : List ℕ) (options : Options) (names : Names) (p : Place) (old 
   cut_is new h =
       let x : Item = record s.last.last { «end» = stays.to } in
       let c : TreeIndex = place_in (length old.nodes + length s.last.front) in
-      let g : new ≡ with_end_at (kept_after now c) c kept.«end» = subst (λ o. IfSome o (λ child. new ≡ with_end_at (kept_after now child) child kept.«end»)) s.place h in
-      g ∙ ap (λ f. with_end_at (kept_after f c) c kept.«end») tree_now ∙ ap (λ f. with_end_at f c kept.«end») (chain_kept old opened s.last.front x stays.rest c refl)
-      ∙ last_ends old s.last.front x c kept.«end» refl ∙ ap (λ to. chained old (s.last.front ++ record s.last.last { «end» = to } ∷ [])) (sym s.last.ends) ∙ ap (chained old) (sym s.last.is)
+      let g : new ≡ with_end_at (kept_after now c) c kept.«end» =
+      subst (λ o. IfSome o (λ child. new ≡ with_end_at (kept_after now child) child kept.«end»)) s.place h in
+      g ∙ ap (λ f. with_end_at (kept_after f c) c kept.«end») tree_now
+      ∙ ap (λ f. with_end_at f c kept.«end») (chain_kept old opened s.last.front x stays.rest c refl)
+      ∙ last_ends old s.last.front x c kept.«end» refl ∙ ap (λ to. chained old (s.last.front ++ record s.last.last { «end» = to } ∷ [])) (sym s.last.ends)
+      ∙ ap (chained old) (sym s.last.is)
 
   -- after the last line
-  pub so_far_stop : (new : Forest Item) → code_rest_at text (path_of options old) next ≡ None → IfSome kept.last (λ child. new ≡ with_end_at (kept_after now child) child kept.«end») → AppendsIndented text options names p old new kept.«end» next blank
+  pub so_far_stop : (new : Forest Item)
+      → code_rest_at text (path_of options old) next ≡ None → IfSome kept.last (λ child. new ≡ with_end_at (kept_after now child) child kept.«end»)
+      → AppendsIndented text options names p old new kept.«end» next blank
   so_far_stop new stops cut =
       let behind : code_behind text (path_of options old) (offset p) ≡ (s.read, lines_from text next) =
       s.behind ∙ ap (put_before s.read) (lines_stop text (path_of options old) next stops) ∙ ap (λ ps. (ps, lines_from text next)) (append-nil s.read) in
@@ -524,9 +593,13 @@ code_item start = begun_item start IndentCodeBlock
 
 -- the block just opened
 pub just_opened : (old now : Forest Item) (start : ℕ) → now ≡ opened_block old start IndentCodeBlock → IsJustOpened now
-just_opened old now start e = record { place = place_in (length old.nodes); pushed = just_pushed old (appended old (code_item start)) now (code_item start) (place_in (length old.nodes)) refl refl e }
+just_opened old now start e = record {
+  place = place_in (length old.nodes);
+  pushed = just_pushed old (appended old (code_item start)) now (code_item start) (place_in (length old.nodes)) refl refl e;
+}
 
-module _ (text : List ℕ) (options : Options) (names : Names) (p : Place) (old opened now : Forest Item) (start «end» next : ℕ) (blank : Bool) (opened_is : opened ≡ opened_block old start IndentCodeBlock) (a : AppendsIndented text options names p opened now «end» next blank) where
+module _ (text : List ℕ) (options : Options) (names : Names) (p : Place) (old opened now : Forest Item) (start «end» next : ℕ) (blank : Bool)
+    (opened_is : opened ≡ opened_block old start IndentCodeBlock) (a : AppendsIndented text options names p opened now «end» next blank) where
   block_filled : now ≡ chained (opened_block old start IndentCodeBlock) a.chain
   block_filled = a.tree_is ∙ ap (λ f. chained f a.chain) opened_is
 
@@ -535,12 +608,15 @@ module _ (text : List ℕ) (options : Options) (names : Names) (p : Place) (old 
   code_open = still_open old now (code_item start) a.chain (place_in (length old.nodes)) refl block_filled
 
   -- it is closed
-  pub code_added : (new : Forest Item) → IsForest old → offset p ≡ start → new ≡ closed_by now «end» now.spine → AddsIndented (document text options names) p old new next blank
+  pub code_added : (new : Forest Item)
+      → IsForest old → offset p ≡ start → new ≡ closed_by now «end» now.spine → AddsIndented (document text options names) p old new next blank
   code_added new f at closed =
-      let path : path_of options opened ≡ path_of options old = ap (path_of options) opened_is ∙ path_of-opened options old (code_item start) (place_in (length old.nodes)) refl (open_are_in old.nodes old.spine f.opened) in
+      let path : path_of options opened ≡ path_of options old = ap (path_of options) opened_is
+      ∙ path_of-opened options old (code_item start) (place_in (length old.nodes)) refl (open_are_in old.nodes old.spine f.opened) in
       let same = ap (λ c. code_behind text c (offset p)) path in
       let further = ap (λ (l : List Place × List Place). l.0) same in
-      let ends : «end» ≡ last_end (offset p) (without_blanks (p ∷ (code_behind text (path_of options old) (offset p)).0)) = a.end_is ∙ ap (λ ps. last_end (offset p) (without_blanks (p ∷ ps))) further in
+      let ends : «end» ≡ last_end (offset p) (without_blanks (p ∷ (code_behind text (path_of options old) (offset p)).0)) =
+      a.end_is ∙ ap (λ ps. last_end (offset p) (without_blanks (p ∷ ps))) further in
       record {
         items = block_with start «end» IndentCodeBlock a.chain;
         tree_is = block_closed old now (code_item start) a.chain (place_in (length old.nodes)) refl block_filled new «end» closed;

@@ -17,7 +17,8 @@ use Rattle.first_pass_names.proofs.NameLemmas.{extends_none, text_last}
 use Rattle.first_pass_raw.specs.RawBlocks.{AppendsColumns, AppendsRaw}
 
 -- the index of a text that was put after those that are named names it, whatever more is named
-pub named_last : (old new more : Names) (cow : CowStr) (ix : CowIndex) (text : List ℕ) → new ≡ with_named old cow → ix.0 ≡ length old.texts → text_of cow ≡ text → Extends more new → NamesText more ix text
+pub named_last : (old new more : Names) (cow : CowStr) (ix : CowIndex) (text : List ℕ)
+    → new ≡ with_named old cow → ix.0 ≡ length old.texts → text_of cow ≡ text → Extends more new → NamesText more ix text
 named_last old new more cow ix text e at is f =
     (cow, text_last old new more ix cow at e f, is)
 
@@ -39,7 +40,8 @@ some_columns names (suc n) at ix h named = (ix, named, refl)
 pub no_columns : (names : Names) (n at : ℕ) (f : Forest Item) → n ≡ 0 → AppendsColumns names n at f f
 no_columns names n at f e = record { items = []; tree_is = refl; are = λ more h. subst (λ k. AreColumns more k at []) (sym e) refl }
 
-pub columns_appended : (old_names names : Names) (cow : CowStr) (ix : CowIndex) (n at : ℕ) (old new : Forest Item) → ¬ (n ≡ 0) → n ≤ 3 → text_of cow ≡ slice_range (32 ∷ 32 ∷ 32 ∷ []) 0 n → names ≡ with_named old_names cow → ix.0 ≡ length old_names.texts
+pub columns_appended : (old_names names : Names) (cow : CowStr) (ix : CowIndex) (n at : ℕ) (old new : Forest Item)
+    → ¬ (n ≡ 0) → n ≤ 3 → text_of cow ≡ slice_range (32 ∷ 32 ∷ 32 ∷ []) 0 n → names ≡ with_named old_names cow → ix.0 ≡ length old_names.texts
     → new ≡ appended old (record { start = at; «end» = at; body = SynthesizeText ix }) → AppendsColumns names n at old new
 columns_appended old_names names cow ix n at old new some small text e place new_is =
     record {
@@ -65,7 +67,8 @@ pub raw_one : (range : Ranges) (text : List ℕ) (from to : ℕ) → ends_with_b
 unfolding raw_items
 raw_one range text from to h = cond-false _ _ _ h
 
-pub raw_two : (range : Ranges) (text : List ℕ) (from to : ℕ) → ends_with_both text from to ≡ true → raw_items range text from to ≡ range from (to - 2) ++ range (to - 1) to
+pub raw_two : (range : Ranges) (text : List ℕ) (from to : ℕ)
+    → ends_with_both text from to ≡ true → raw_items range text from to ≡ range from (to - 2) ++ range (to - 1) to
 unfolding raw_items
 raw_two range text from to h = cond-true _ _ _ h
 
@@ -76,24 +79,30 @@ both_order text from to h = grind (arith, h)
 pub both_bytes : (text bytes : List ℕ) (from to : ℕ) (both : Bool) → bytes ≡ text → both ≡ ends_with_both bytes from to → both ≡ true → from + 1 < to
 both_bytes text bytes from to both same is h = both_order text from to (ap (λ bs. ends_with_both bs from to) (sym same) ∙ sym is ∙ h)
 
-raw_appended : (range : Ranges) (text : List ℕ) (names : Names) (owed from to : ℕ) (old mid new : Forest Item) → AppendsColumns names owed from old mid → new ≡ with_tokens mid (raw_items range text from to) → AppendsRaw range text names owed from to old new
+raw_appended : (range : Ranges) (text : List ℕ) (names : Names) (owed from to : ℕ) (old mid new : Forest Item)
+    → AppendsColumns names owed from old mid → new ≡ with_tokens mid (raw_items range text from to) → AppendsRaw range text names owed from to old new
 raw_appended range text names owed from to old mid new c e =
     record {
       items = c.items ++ raw_items range text from to;
-      tree_is = e ∙ ap (λ f. with_tokens f (raw_items range text from to)) (c.tree_is ∙ columns_plain names owed from c.items old (c.are names (extends_none names))) ∙ sym (with_tokens-append old c.items (raw_items range text from to));
+      tree_is =
+          e ∙ ap (λ f. with_tokens f (raw_items range text from to)) (c.tree_is ∙ columns_plain names owed from c.items old (c.are names (extends_none names)))
+          ∙ sym (with_tokens-append old c.items (raw_items range text from to));
       are = λ options more h. (c.items, c.are more h, refl);
     }
 
 -- a raw line whose end is not `\r\n`, and one whose end is
-pub line_one : (range : Ranges) (text bytes : List ℕ) (names : Names) (owed from to : ℕ) (old mid new : Forest Item) (both : Bool) → AppendsColumns names owed from old mid → bytes ≡ text → both ≡ ends_with_both bytes from to → both ≡ false
+pub line_one : (range : Ranges) (text bytes : List ℕ) (names : Names) (owed from to : ℕ) (old mid new : Forest Item) (both : Bool)
+    → AppendsColumns names owed from old mid → bytes ≡ text → both ≡ ends_with_both bytes from to → both ≡ false
     → new ≡ with_tokens mid (range from to) → AppendsRaw range text names owed from to old new
 line_one range text bytes names owed from to old mid new both c same is h e =
     let t : ends_with_both text from to ≡ false = ap (λ bs. ends_with_both bs from to) (sym same) ∙ sym is ∙ h in
     raw_appended range text names owed from to old mid new c (e ∙ ap (with_tokens mid) (sym (raw_one range text from to t)))
 
-pub line_two : (range : Ranges) (text bytes : List ℕ) (names : Names) (owed from to : ℕ) (old mid line new : Forest Item) (both : Bool) → AppendsColumns names owed from old mid → bytes ≡ text → both ≡ ends_with_both bytes from to → both ≡ true
+pub line_two : (range : Ranges) (text bytes : List ℕ) (names : Names) (owed from to : ℕ) (old mid line new : Forest Item) (both : Bool)
+    → AppendsColumns names owed from old mid → bytes ≡ text → both ≡ ends_with_both bytes from to → both ≡ true
     → line ≡ with_tokens mid (range from (to - 2)) → new ≡ with_tokens line (range (to - 1) to) → AppendsRaw range text names owed from to old new
 line_two range text bytes names owed from to old mid line new both c same is h d e =
     let t : ends_with_both text from to ≡ true = ap (λ bs. ends_with_both bs from to) (sym same) ∙ sym is ∙ h in
     raw_appended range text names owed from to old mid new c
-    (e ∙ ap (λ f. with_tokens f (range (to - 1) to)) d ∙ sym (with_tokens-append mid (range from (to - 2)) (range (to - 1) to)) ∙ ap (with_tokens mid) (sym (raw_two range text from to t)))
+    (e ∙ ap (λ f. with_tokens f (range (to - 1) to)) d ∙ sym (with_tokens-append mid (range from (to - 2)) (range (to - 1) to))
+    ∙ ap (with_tokens mid) (sym (raw_two range text from to t)))

@@ -1,5 +1,7 @@
 -- Raw leaf blocks are in order: each lies between two offsets with what is below it, and its lines are placed in the text one after the other.
-use Rattle.std.proofs.Common.{◌≡◌, ◌⊎◌, inl, inr, ℕ, zero, suc, ◌+◌, ◌-◌, ◌*◌, ◌<◌, ◌≤◌, ◌==◌, ◌&&◌, Bool, true, false, not, List, [], ◌∷◌, ◌++◌, length, drop, get_or, slice_index, nat_lt, nat_le, if◌then◌else◌, Option, Some, None, IsUtf8, IsCharBoundary, refl, sym, ap, subst, ◌∙◌, arith, length-append, length-drop, get_or-drop}
+use Rattle.std.proofs.Common.{◌≡◌, ◌⊎◌, inl, inr, ℕ, zero, suc, ◌+◌, ◌-◌, ◌*◌, ◌<◌, ◌≤◌, ◌==◌, ◌&&◌, Bool, true, false, not, List, [], ◌∷◌, ◌++◌, length, drop}
+use Rattle.std.proofs.Common.{get_or, slice_index, nat_lt, nat_le, if◌then◌else◌, Option, Some, None, IsUtf8, IsCharBoundary, refl, sym, ap, subst, ◌∙◌, arith}
+use Rattle.std.proofs.Common.{length-append, length-drop, get_or-drop}
 use Rattle.std.specs.List.{prefix_len}
 use Rattle.std.specs.Option.{option_map, option_and_then}
 use Rattle.std.proofs.lemmas.Bool.{cond_both, cases_lt, eqb-true, and_parts, or_cases, ltb-true}
@@ -24,8 +26,10 @@ use Rattle.first_pass_grammar.specs.Kinds.{all_taken, unindented, is_blank_rest}
 use Rattle.first_pass_grammar.specs.Names.{Names}
 use Rattle.first_pass_grammar.specs.Leaves.{Document, block_with}
 use Rattle.first_pass_grammar.specs.RawLines.{AreColumns, ends_with_both, Ranges, range_text, range_html, raw_items, IsRawLine, AreRawLines}
-use Rattle.first_pass_grammar.specs.Extents.{Extent as Lines, with_line, ends_at, Verdict, GoesOn, IsLast, Closes, Stops, extent_by, extent, judged, in_containers}
-use Rattle.first_pass_grammar.specs.CodeBlocks.{code_place, code_by, code_lines, unless_blank, without_blanks, last_end, IsIndentedCode, closing_fence_end, fence_verdict, fence_judge, IsFencedCode, metadata_verdict, metadata_judge, metadata_kind, IsMetadata}
+use Rattle.first_pass_grammar.specs.Extents.{Extent as Lines, with_line, ends_at, Verdict, GoesOn, IsLast, Closes, Stops, extent_by, extent, judged}
+use Rattle.first_pass_grammar.specs.Extents.{in_containers}
+use Rattle.first_pass_grammar.specs.CodeBlocks.{code_place, code_by, code_lines, unless_blank, without_blanks, last_end, IsIndentedCode, closing_fence_end}
+use Rattle.first_pass_grammar.specs.CodeBlocks.{fence_verdict, fence_judge, IsFencedCode, metadata_verdict, metadata_judge, metadata_kind, IsMetadata}
 use Rattle.first_pass_grammar.specs.HtmlBlocks.{holds, is_empty, tag_verdict, tag_judge, blank_judge, first_owing, IsHtml}
 use Rattle.first_pass_grammar.specs.Completion.{lines_from}
 use Rattle.first_pass_grammar.specs.Counting.{own_nodes}
@@ -90,12 +94,14 @@ placed_to text from mid to [] more h = omega arith
 placed_to text from mid to (p ∷ ps) more h = (h.0, h.1, placed_to text (line_end p) mid to ps more h.2)
 
 -- columns that are owed have an empty range
-columns_in_order : (text : List ℕ) (names : Names) (owed at : ℕ) (items : List Item) → IsCharBoundary text at → AreColumns names owed at items → AreInOrder text at at items
+columns_in_order : (text : List ℕ) (names : Names) (owed at : ℕ) (items : List Item)
+    → IsCharBoundary text at → AreColumns names owed at items → AreInOrder text at at items
 columns_in_order text names zero at items b is = subst (AreInOrder text at at) (sym is) (omega arith)
 columns_in_order text names (suc n) at items b is = subst (AreInOrder text at at) (sym is.2) (omega arith, omega arith, b, b, omega arith)
 
 -- `\r\n` at the end of a line: between characters before both, and between the two
-both_by : (text : List ℕ) (from to : ℕ) → to ≤ length text → ends_with_both text from to ≡ true → (from + 2 ≤ to) × IsCharBoundary text (to - 2) × IsCharBoundary text (to - 1)
+both_by : (text : List ℕ) (from to : ℕ)
+    → to ≤ length text → ends_with_both text from to ≡ true → (from + 2 ≤ to) × IsCharBoundary text (to - 2) × IsCharBoundary text (to - 1)
 both_by text from to within h =
     let a = and_parts (nat_lt (from + 1) to && (slice_index text (to - 2) == 13)) (slice_index text (to - 1) == 10) h in
     let b = and_parts (nat_lt (from + 1) to) (slice_index text (to - 2) == 13) a.0 in
@@ -130,8 +136,10 @@ record IsRange (range : Ranges) : Type 0 where
 
 text_range : IsRange range_text
 text_range = record {
-  order = λ text from to order b c. cond_both (nat_lt from to) (text_token from to false ∷ []) [] (AreInOrder text from to) (λ some. (omega arith, order, b, c, omega arith)) (λ none. order);
-  few = λ from to. cond_both (nat_lt from to) (text_token from to false ∷ []) [] (λ (xs : List Item). length xs ≤ 1) (λ some. omega arith) (λ none. omega arith);
+  order = λ text from to order b c.
+      cond_both (nat_lt from to) (text_token from to false ∷ []) [] (AreInOrder text from to) (λ some. (omega arith, order, b, c, omega arith)) (λ none. order);
+  few =
+      λ from to. cond_both (nat_lt from to) (text_token from to false ∷ []) [] (λ (xs : List Item). length xs ≤ 1) (λ some. omega arith) (λ none. omega arith);
 }
 
 html_range : IsRange range_html
@@ -139,7 +147,8 @@ html_range = record { order = λ text from to order b c. (omega arith, order, b,
 
 -- A raw line lies from where its text begins to where the line ends, and has at most three items; so does a chain of them.
 module _ (range : Ranges) (r : IsRange range) where
-  raw_in_order : (text : List ℕ) (from to : ℕ) → from ≤ to → IsCharBoundary text from → IsCharBoundary text to → AreInOrder text from to (raw_items range text from to)
+  raw_in_order : (text : List ℕ) (from to : ℕ)
+      → from ≤ to → IsCharBoundary text from → IsCharBoundary text to → AreInOrder text from to (raw_items range text from to)
   unfolding raw_items
   raw_in_order text from to order b c =
       cond_both (ends_with_both text from to) (range from (to - 2) ++ range (to - 1) to) (range from to) (AreInOrder text from to)
@@ -157,23 +166,29 @@ module _ (range : Ranges) (r : IsRange range) where
       let b = r.few (to - 1) to in
       let c = r.few from to in
       let l = length-append (range from (to - 2)) (range (to - 1) to) in
-      cond_both (ends_with_both text from to) (range from (to - 2) ++ range (to - 1) to) (range from to) (λ (xs : List Item). length xs ≤ 2) (λ both. omega arith) (λ none. omega arith)
+      cond_both (ends_with_both text from to) (range from (to - 2) ++ range (to - 1) to) (range from to) (λ (xs : List Item). length xs ≤ 2)
+      (λ both. omega arith) (λ none. omega arith)
 
   module _ (d : Document) where
-    bytes_in_order : (owed from to : ℕ) (items : List Item) → from ≤ to → IsCharBoundary d.text from → IsCharBoundary d.text to → IsRawLine range d owed from to items → AreInOrder d.text from to items
+    bytes_in_order : (owed from to : ℕ) (items : List Item)
+        → from ≤ to → IsCharBoundary d.text from → IsCharBoundary d.text to → IsRawLine range d owed from to items → AreInOrder d.text from to items
     bytes_in_order owed from to items order b c (columns, are, is) =
         subst (AreInOrder d.text from to) (sym is)
-        (order_append d.text from from to columns (raw_items range d.text from to) (columns_in_order d.text d.names owed from columns b are) (raw_in_order d.text from to order b c))
+        (order_append d.text from from to columns (raw_items range d.text from to) (columns_in_order d.text d.names owed from columns b are)
+        (raw_in_order d.text from to order b c))
 
-    line_in_order : (p : Place) (owed : ℕ) (items : List Item) → IsUtf8 d.text → IsPlaceOf d.text p → IsRawLine range d owed (offset p) (line_end p) items → AreInOrder d.text (offset p) (line_end p) items
+    line_in_order : (p : Place) (owed : ℕ) (items : List Item)
+        → IsUtf8 d.text → IsPlaceOf d.text p → IsRawLine range d owed (offset p) (line_end p) items → AreInOrder d.text (offset p) (line_end p) items
     line_in_order p owed items u i line = bytes_in_order owed (offset p) (line_end p) items (omega arith) i.boundary (place_end d.text p u i) line
 
-    lines_in_order : (ps : List Place) (from at to : ℕ) (chain whole : List Item) → IsUtf8 d.text → ArePlaced d.text at ps to → AreInOrder d.text from at chain → AreRawLines range d chain ps whole → AreInOrder d.text from to whole
+    lines_in_order : (ps : List Place) (from at to : ℕ) (chain whole : List Item)
+        → IsUtf8 d.text → ArePlaced d.text at ps to → AreInOrder d.text from at chain → AreRawLines range d chain ps whole → AreInOrder d.text from to whole
     unfolding ArePlaced AreRawLines
     lines_in_order [] from at to chain whole u placed h is = subst (AreInOrder d.text from to) (sym is) (order_to d.text from at to chain h placed)
     lines_in_order (p ∷ ps) from at to chain whole u placed h (line, is, further) =
         lines_in_order ps from (line_end p) to (add_tokens chain line) whole u placed.2
-        (order_adds d.text from (offset p) (line_end p) chain line (order_to d.text from at (offset p) chain h placed.0) (line_in_order p p.rest.owed line u placed.1 is)) further
+        (order_adds d.text from (offset p) (line_end p) chain line (order_to d.text from at (offset p) chain h placed.0)
+        (line_in_order p p.rest.owed line u placed.1 is)) further
 
     line_few : (owed from to : ℕ) (items : List Item) → IsRawLine range d owed from to items → length items ≤ 3
     line_few owed from to items (columns, are, is) =
@@ -201,27 +216,35 @@ bytes_few text from to (p ∷ ps) some placed =
     omega arith
 
 -- So a block of raw lines has at most four items for each byte between two offsets that it lies between.
-few_by : (text : List ℕ) (from to start stop n : ℕ) (ps : List Place) → n ≤ 0 + 3 * length ps → AreFew start ps → ArePlaced text start ps stop → from ≤ start → stop ≤ to → from < to → suc n ≤ 4 * (to - from)
+few_by : (text : List ℕ) (from to start stop n : ℕ) (ps : List Place)
+    → n ≤ 0 + 3 * length ps → AreFew start ps → ArePlaced text start ps stop → from ≤ start → stop ≤ to → from < to → suc n ≤ 4 * (to - from)
 few_by text from to start stop n ps least (inl one) placed behind before apart = omega arith
 few_by text from to start stop n ps least (inr some) placed behind before apart = (let k = bytes_few text start stop ps some placed in omega arith)
 
 -- A raw line is in order, in code and metadata or in HTML.
-pub text_line_in_order : (d : Document) (owed from to : ℕ) (items : List Item) → from ≤ to → IsCharBoundary d.text from → IsCharBoundary d.text to → IsRawLine range_text d owed from to items → AreInOrder d.text from to items
+pub text_line_in_order : (d : Document) (owed from to : ℕ) (items : List Item)
+    → from ≤ to → IsCharBoundary d.text from → IsCharBoundary d.text to → IsRawLine range_text d owed from to items → AreInOrder d.text from to items
 text_line_in_order d owed from to items order b c line = bytes_in_order range_text text_range d owed from to items order b c line
 
-pub html_line_in_order : (d : Document) (owed from to : ℕ) (items : List Item) → from ≤ to → IsCharBoundary d.text from → IsCharBoundary d.text to → IsRawLine range_html d owed from to items → AreInOrder d.text from to items
+pub html_line_in_order : (d : Document) (owed from to : ℕ) (items : List Item)
+    → from ≤ to → IsCharBoundary d.text from → IsCharBoundary d.text to → IsRawLine range_html d owed from to items → AreInOrder d.text from to items
 html_line_in_order d owed from to items order b c line = bytes_in_order range_html html_range d owed from to items order b c line
 
 -- A block of raw lines fits where it begins and ends.
-raw_fits : (range : Ranges) → IsRange range → (d : Document) (from to start stop : ℕ) (body : ItemBody) (ps : List Place) (chain : List Item) (items : List (ℕ × Item)) → IsUtf8 d.text → items ≡ block_with start stop body chain
-    → AreRawLines range d [] ps chain → IsCharBoundary d.text start → IsCharBoundary d.text stop → ArePlaced d.text start ps stop → AreFew start ps → from ≤ start → stop ≤ to → FitsBetween d.text Elsewhere from to items
+raw_fits : (range : Ranges) → IsRange range → (d : Document) (from to start stop : ℕ) (body : ItemBody) (ps : List Place) (chain : List Item)
+    (items : List (ℕ × Item)) → IsUtf8 d.text → items ≡ block_with start stop body chain
+    → AreRawLines range d [] ps chain → IsCharBoundary d.text start → IsCharBoundary d.text stop → ArePlaced d.text start ps stop → AreFew start ps
+    → from ≤ start → stop ≤ to → FitsBetween d.text Elsewhere from to items
 raw_fits range r d from to start stop body ps chain items u is lines b c placed few behind before =
     subst (FitsBetween d.text Elsewhere from to) (sym is)
-    (block_fits d.text Elsewhere from to (record { start = start; «end» = stop; body = body }) chain (record { behind = behind; order = placed_bound d.text start stop ps placed; before = before; starts = b; ends = c })
-    (lines_in_order range r d ps start start stop [] chain u placed (omega arith) lines) (few_by d.text from to start stop (length chain) ps (lines_few range r d ps [] chain lines) few placed behind before))
+    (block_fits d.text Elsewhere from to (record { start = start; «end» = stop; body = body }) chain
+    (record { behind = behind; order = placed_bound d.text start stop ps placed; before = before; starts = b; ends = c })
+    (lines_in_order range r d ps start start stop [] chain u placed (omega arith) lines)
+    (few_by d.text from to start stop (length chain) ps (lines_few range r d ps [] chain lines) few placed behind before))
 
 -- what lines are left without the blank ones at the end
-kept_by : (text : List ℕ) (from to : ℕ) (p : Place) (t : Bool) (qs : List Place) → is_blank_rest p.rest ≡ t → from ≤ offset p → IsPlaceOf text p → IsCharBoundary text from
+kept_by : (text : List ℕ) (from to : ℕ) (p : Place) (t : Bool) (qs : List Place)
+    → is_blank_rest p.rest ≡ t → from ≤ offset p → IsPlaceOf text p → IsCharBoundary text from
     → ArePlaced text (line_end p) qs (last_end (line_end p) qs) → IsCharBoundary text (last_end (line_end p) qs)
     → ArePlaced text from (unless_blank p qs) (last_end from (unless_blank p qs)) × IsCharBoundary text (last_end from (unless_blank p qs))
 unfolding ArePlaced last_end
@@ -238,7 +261,8 @@ kept_placed text from to (p ∷ ps) u b h =
     kept_by text from to p (is_blank_rest p.rest) (without_blanks ps) refl h.0 h.1 b k.0 k.1
 
 -- the last of them is not after the others
-kept_last_by : (text : List ℕ) (from to : ℕ) (p : Place) (t : Bool) (qs : List Place) → is_blank_rest p.rest ≡ t → from ≤ to → last_end (line_end p) qs ≤ to → last_end from (unless_blank p qs) ≤ to
+kept_last_by : (text : List ℕ) (from to : ℕ) (p : Place) (t : Bool) (qs : List Place)
+    → is_blank_rest p.rest ≡ t → from ≤ to → last_end (line_end p) qs ≤ to → last_end from (unless_blank p qs) ≤ to
 unfolding last_end
 kept_last_by text from to p true [] e a b = rw e a
 kept_last_by text from to p false [] e a b = rw e b
@@ -253,7 +277,8 @@ kept_last text from to (p ∷ ps) h =
     kept_last_by text from to p (is_blank_rest p.rest) (without_blanks ps) refl (omega arith) (kept_last text (line_end p) to ps h.2)
 
 -- each of these has a byte, too
-kept_bytes_by : (from : ℕ) (p : Place) (t : Bool) (qs : List Place) → is_blank_rest p.rest ≡ t → from < line_end p → HaveBytes (line_end p) qs → HaveBytes from (unless_blank p qs)
+kept_bytes_by : (from : ℕ) (p : Place) (t : Bool) (qs : List Place)
+    → is_blank_rest p.rest ≡ t → from < line_end p → HaveBytes (line_end p) qs → HaveBytes from (unless_blank p qs)
 unfolding HaveBytes
 kept_bytes_by from p true [] e h some = rw e tt
 kept_bytes_by from p false [] e h some = rw e (h, some)
@@ -279,24 +304,30 @@ kept_few from ps (inl one) = (let k = kept_length ps in inl (omega arith))
 kept_few from ps (inr some) = inr (kept_bytes from ps some)
 
 -- Indented code fits where its lines do.
-pub indented_fits : (d : Document) (p : Place) (further : List Place) (items : List (ℕ × Item)) (limit : ℕ) → IsUtf8 d.text → IsIndentedCode d p further items → ArePlaced d.text (offset p) (p ∷ further) limit → AreFew (offset p) (p ∷ further)
+pub indented_fits : (d : Document) (p : Place) (further : List Place) (items : List (ℕ × Item)) (limit : ℕ)
+    → IsUtf8 d.text → IsIndentedCode d p further items → ArePlaced d.text (offset p) (p ∷ further) limit → AreFew (offset p) (p ∷ further)
     → (from to : ℕ) → from ≤ offset p → last_end (offset p) (without_blanks (p ∷ further)) ≤ to → FitsBetween d.text Elsewhere from to items
 unfolding ArePlaced
 indented_fits d p further items limit u is placed few from to behind before =
     let all : List Place = without_blanks (p ∷ further) in
     let k = kept_placed d.text (offset p) limit (p ∷ further) u placed.1.boundary placed in
-    raw_fits range_text text_range d from to (offset p) (last_end (offset p) all) IndentCodeBlock all is.chain items u is.items_are is.lines placed.1.boundary k.1 k.0 (kept_few (offset p) (p ∷ further) few) behind before
+    raw_fits range_text text_range d from to (offset p) (last_end (offset p) all) IndentCodeBlock all is.chain items u is.items_are is.lines placed.1.boundary
+    k.1 k.0 (kept_few (offset p) (p ∷ further) few) behind before
 
 -- So do a fenced code block, a metadata block and an HTML block.
-pub fenced_fits : (d : Document) (start count : ℕ) (e : Lines) (items : List (ℕ × Item)) → IsUtf8 d.text → IsFencedCode d start count e.places e.«end» items → IsCharBoundary d.text start → IsPlaced d.text start e
+pub fenced_fits : (d : Document) (start count : ℕ) (e : Lines) (items : List (ℕ × Item))
+    → IsUtf8 d.text → IsFencedCode d start count e.places e.«end» items → IsCharBoundary d.text start → IsPlaced d.text start e
     → (from to : ℕ) → from ≤ start → e.«end» ≤ to → FitsBetween d.text Elsewhere from to items
 fenced_fits d start count e items u is b placed from to behind before =
-    raw_fits range_text text_range d from to start e.«end» (FencedCodeBlock is.info) e.places is.chain items u is.items_are is.lines b placed.boundary placed.places placed.few behind before
+    raw_fits range_text text_range d from to start e.«end»
+    (FencedCodeBlock is.info) e.places is.chain items u is.items_are is.lines b placed.boundary placed.places placed.few behind before
 
-pub metadata_fits : (d : Document) (start byte : ℕ) (e : Lines) (items : List (ℕ × Item)) → IsUtf8 d.text → IsMetadata d start byte e.places e.«end» items → IsCharBoundary d.text start → IsPlaced d.text start e
+pub metadata_fits : (d : Document) (start byte : ℕ) (e : Lines) (items : List (ℕ × Item))
+    → IsUtf8 d.text → IsMetadata d start byte e.places e.«end» items → IsCharBoundary d.text start → IsPlaced d.text start e
     → (from to : ℕ) → from ≤ start → e.«end» ≤ to → FitsBetween d.text Elsewhere from to items
 metadata_fits d start byte e items u is b placed from to behind before =
-    raw_fits range_text text_range d from to start e.«end» (MetadataBlock (metadata_kind byte)) e.places is.chain items u is.items_are is.lines b placed.boundary placed.places placed.few behind before
+    raw_fits range_text text_range d from to start e.«end»
+    (MetadataBlock (metadata_kind byte)) e.places is.chain items u is.items_are is.lines b placed.boundary placed.places placed.few behind before
 
 -- where columns are owed counts nothing
 owing_placed : (text : List ℕ) (columns from to : ℕ) (ps : List Place) → ArePlaced text from ps to → ArePlaced text from (first_owing columns ps) to
@@ -310,18 +341,21 @@ owing_few columns from [] few = few
 owing_few columns from (p ∷ ps) (inl one) = inl one
 owing_few columns from (p ∷ ps) (inr some) = inr some
 
-pub html_fits : (d : Document) (start columns : ℕ) (e : Lines) (items : List (ℕ × Item)) → IsUtf8 d.text → IsHtml d start columns e.places e.«end» items → IsCharBoundary d.text start → IsPlaced d.text start e
+pub html_fits : (d : Document) (start columns : ℕ) (e : Lines) (items : List (ℕ × Item))
+    → IsUtf8 d.text → IsHtml d start columns e.places e.«end» items → IsCharBoundary d.text start → IsPlaced d.text start e
     → (from to : ℕ) → from ≤ start → e.«end» ≤ to → FitsBetween d.text Elsewhere from to items
 html_fits d start columns e items u is b placed from to behind before =
     raw_fits range_html html_range d from to start e.«end» HtmlBlock (first_owing columns e.places) is.chain items u is.items_are is.lines b placed.boundary
     (owing_placed d.text columns start e.«end» e.places placed.places) (owing_few columns start e.places placed.few) behind before
 
 -- Up to where the lines begin that it leaves, an HTML block has no more items than these, all of them its own.
-pub html_few : (d : Document) (start columns stop : ℕ) (e : Lines) (items : List (ℕ × Item)) → IsHtml d start columns e.places e.«end» items → ArePlaced d.text start e.places stop → AreFew start e.places
+pub html_few : (d : Document) (start columns stop : ℕ) (e : Lines) (items : List (ℕ × Item))
+    → IsHtml d start columns e.places e.«end» items → ArePlaced d.text start e.places stop → AreFew start e.places
     → (from to : ℕ) → from ≤ start → stop ≤ to → from < to → own_nodes items ≤ 4 * (to - from)
 html_few d start columns stop e items is placed few from to behind before apart =
     let ps : List Place = first_owing columns e.places in
-    let more = few_by d.text from to start stop (length is.chain) ps (lines_few range_html html_range d ps [] is.chain is.lines) (owing_few columns start e.places few)
+    let more =
+    few_by d.text from to start stop (length is.chain) ps (lines_few range_html html_range d ps [] is.chain is.lines) (owing_few columns start e.places few)
     (owing_placed d.text columns start stop e.places placed) behind before apart in
     let size = length-block (record { start = start; «end» = e.«end»; body = HtmlBlock }) is.chain in
     let same = ap length is.items_are in
@@ -338,7 +372,8 @@ end_small : (bs : List ℕ) → at_line_end bs ≡ true → (length bs ≡ 0) �
 end_small [] h = inl refl
 end_small (b ∷ bs) h = inr (eol_small b bs (b == 10) (b == 13) refl refl h)
 
-ends_between : (text : List ℕ) (p : Place) (m : ℕ) → IsPlaceOf text p → m ≤ length p.rest.left → at_line_end (drop m p.rest.left) ≡ true → IsCharBoundary text (offset p + m)
+ends_between : (text : List ℕ) (p : Place) (m : ℕ)
+    → IsPlaceOf text p → m ≤ length p.rest.left → at_line_end (drop m p.rest.left) ≡ true → IsCharBoundary text (offset p + m)
 ends_between text p m i within h =
     let l = place_length text p i in
     let k = length-drop m p.rest.left in
@@ -346,7 +381,8 @@ ends_between text p m i within h =
       | inl none ↦ (let z : offset p + m ≡ length text = omega arith in subst (IsCharBoundary text) (sym z) (IsCharBoundary-end text))
       | inr small ↦ elim (cases_lt (offset p + m) (length text)) [
         | inl inside ↦
-            let same : get_or (drop m p.rest.left) 0 0 ≡ get_or text (offset p + (m + 0)) 0 = get_or-drop m p.rest.left 0 0 ∙ ap (λ bs. get_or bs (m + 0) 0) i.left ∙ get_or-drop (offset p) text (m + 0) 0 in
+            let same : get_or (drop m p.rest.left) 0 0 ≡ get_or text (offset p + (m + 0)) 0 =
+            get_or-drop m p.rest.left 0 0 ∙ ap (λ bs. get_or bs (m + 0) 0) i.left ∙ get_or-drop (offset p) text (m + 0) 0 in
             let z : offset p + (m + 0) ≡ offset p + m = omega arith in
             let here = ap (λ k. get_or text k 0) z in
             IsCharBoundary-before_ascii text (offset p + m) inside (omega arith)
@@ -412,29 +448,35 @@ metadata_ends byte bs n h =
 content_first : (b : ℕ) (bs : List ℕ) → is_content b ≡ true → prefix_len is_content (b ∷ bs) ≡ prefix_len is_content bs + 1
 content_first b bs h = rw h (omega arith)
 
-run_step : (test : ℕ → Bool) → ((b : ℕ) → test b ≡ true → is_content b ≡ true) → (t : Bool) (b : ℕ) (bs : List ℕ) → test b ≡ t → prefix_len test bs ≤ prefix_len is_content bs → prefix_len test (b ∷ bs) ≤ prefix_len is_content (b ∷ bs)
-run_step test content true b bs e h = (let f = content_first b bs (content b e) in let g : prefix_len test (b ∷ bs) ≡ prefix_len test bs + 1 = rw e (omega arith) in omega arith)
+run_step : (test : ℕ → Bool) → ((b : ℕ) → test b ≡ true → is_content b ≡ true) → (t : Bool) (b : ℕ) (bs : List ℕ) → test b ≡ t
+    → prefix_len test bs ≤ prefix_len is_content bs → prefix_len test (b ∷ bs) ≤ prefix_len is_content (b ∷ bs)
+run_step test content true b bs e h =
+    (let f = content_first b bs (content b e) in let g : prefix_len test (b ∷ bs) ≡ prefix_len test bs + 1 = rw e (omega arith) in omega arith)
 run_step test content false b bs e h = (let g : prefix_len test (b ∷ bs) ≡ 0 = rw e in omega arith)
 
 run_first : (test : ℕ → Bool) → ((b : ℕ) → test b ≡ true → is_content b ≡ true) → (bs : List ℕ) → prefix_len test bs ≤ prefix_len is_content bs
 run_first test content [] = omega arith
 run_first test content (b ∷ bs) = run_step test content (test b) b bs refl (run_first test content bs)
 
-run_behind_by : (test : ℕ → Bool) → ((b : ℕ) → test b ≡ true → is_content b ≡ true) → (t : Bool) (k b : ℕ) (bs : List ℕ) → is_content b ≡ t → suc k ≤ prefix_len is_content (b ∷ bs)
-    → (k ≤ prefix_len is_content bs → k + prefix_len test (drop k bs) ≤ prefix_len is_content bs) → suc k + prefix_len test (drop k bs) ≤ prefix_len is_content (b ∷ bs)
+run_behind_by : (test : ℕ → Bool)
+    → ((b : ℕ) → test b ≡ true → is_content b ≡ true) → (t : Bool) (k b : ℕ) (bs : List ℕ) → is_content b ≡ t → suc k ≤ prefix_len is_content (b ∷ bs)
+    → (k ≤ prefix_len is_content bs → k + prefix_len test (drop k bs) ≤ prefix_len is_content bs)
+    → suc k + prefix_len test (drop k bs) ≤ prefix_len is_content (b ∷ bs)
 run_behind_by test content true k b bs e h f =
     let c = content_first b bs e in
     let r = f (omega arith) in
     omega arith
 run_behind_by test content false k b bs e h f = (let c : prefix_len is_content (b ∷ bs) ≡ 0 = rw e in absurd (omega arith))
 
-run_behind : (test : ℕ → Bool) → ((b : ℕ) → test b ≡ true → is_content b ≡ true) → (k : ℕ) (bs : List ℕ) → k ≤ prefix_len is_content bs → k + prefix_len test (drop k bs) ≤ prefix_len is_content bs
+run_behind : (test : ℕ → Bool) → ((b : ℕ) → test b ≡ true → is_content b ≡ true) → (k : ℕ) (bs : List ℕ) → k ≤ prefix_len is_content bs
+    → k + prefix_len test (drop k bs) ≤ prefix_len is_content bs
 run_behind test content zero bs h = (let f = run_first test content bs in omega arith)
 run_behind test content (suc k) [] h = absurd (omega arith)
 run_behind test content (suc k) (b ∷ bs) h = run_behind_by test content (is_content b) k b bs refl h (run_behind test content k bs)
 
 -- The bytes of opening marks are none of a line end.
-fence_plain_by : (t v w x : Bool) (p q r : ℕ × ℕ) → is_content p.1 ≡ true → is_content q.1 ≡ true → (if t then (if v then Some p else None) else (if w then (if x then Some q else None) else None)) ≡ Some r → is_content r.1 ≡ true
+fence_plain_by : (t v w x : Bool) (p q r : ℕ × ℕ) → is_content p.1 ≡ true → is_content q.1 ≡ true
+    → (if t then (if v then Some p else None) else (if w then (if x then Some q else None) else None)) ≡ Some r → is_content r.1 ≡ true
 fence_plain_by true true w x p q r e f h = (let same : p ≡ r = cc in ap (λ (z : ℕ × ℕ). is_content z.1) (sym same) ∙ e)
 fence_plain_by true false w x p q r e f h = cc
 fence_plain_by false v true true p q r e f h = (let same : q ≡ r = cc in ap (λ (z : ℕ × ℕ). is_content z.1) (sym same) ∙ f)
@@ -444,7 +486,8 @@ fence_plain_by false v false x p q r e f h = cc
 pub fence_plain : (bs : List ℕ) (fence : ℕ × ℕ) → code_fence bs ≡ Some fence → is_content fence.1 ≡ true
 unfolding code_fence
 fence_plain bs fence h =
-    fence_plain_by (begins 96 bs) (nat_le 3 (run_len 96 bs) && not (has_backquote (drop (run_len 96 bs) bs))) (begins 126 bs) (nat_le 3 (run_len 126 bs)) (run_len 96 bs, 96) (run_len 126 bs, 126) fence refl refl h
+    fence_plain_by (begins 96 bs) (nat_le 3 (run_len 96 bs) && not (has_backquote (drop (run_len 96 bs) bs))) (begins 126 bs) (nat_le 3 (run_len 126 bs))
+    (run_len 96 bs, 96) (run_len 126 bs, 126) fence refl refl h
 
 content_within : (bs : List ℕ) → prefix_len is_content bs ≤ line_len bs
 content_within bs = omega (arith, line_len-parts bs)
@@ -496,10 +539,13 @@ metadata_within byte bs n plain h =
     omega (arith, f.1)
 
 -- the first of the lines from an offset on, and the others
-pub first_line : (text : List ℕ) (at : ℕ) (line : Place) (lines : List Place) → line ∷ lines ≡ lines_from text at → (at < length text) × (line ≡ line_place at (drop at text)) × (lines ≡ lines_from text (behind_line_at text at))
+pub first_line : (text : List ℕ) (at : ℕ) (line : Place) (lines : List Place)
+    → line ∷ lines ≡ lines_from text at → (at < length text) × (line ≡ line_place at (drop at text)) × (lines ≡ lines_from text (behind_line_at text at))
 first_line text at line lines is =
     elim (cases_lt at (length text)) [
-      | inl within ↦ (let e : line ∷ lines ≡ line_place at (drop at text) ∷ lines_from text (behind_line_at text at) = is ∙ lines_at-line text at within in (within, cc, cc))
+      | inl within ↦ (
+          let e : line ∷ lines ≡ line_place at (drop at text) ∷ lines_from text (behind_line_at text at) = is ∙ lines_at-line text at within in
+          (within, cc, cc))
       | inr past ↦ (let e : line ∷ lines ≡ [] = is ∙ lines_at-end text at past in cc)
     ]
 
@@ -515,7 +561,8 @@ module _ (text : List ℕ) (u : IsUtf8 text) (path : List Container) where
   behind_is_boundary : (at : ℕ) → IsCharBoundary text at → IsCharBoundary text (behind_line_at text at)
   behind_is_boundary at b = subst (IsCharBoundary text) (line_start_end text at) (place_end text (line_place at (drop at text)) u (line_is_place text at b))
 
-  in_by : (at : ℕ) (q : Place) (o : Option Rest) → at < length text → IsCharBoundary text at → after path (line_rest (drop at text)) ≡ o → option_map (at_rest (line_place at (drop at text))) o ≡ Some q → IsIn at q
+  in_by : (at : ℕ) (q : Place) (o : Option Rest) → at < length text → IsCharBoundary text at → after path (line_rest (drop at text)) ≡ o
+      → option_map (at_rest (line_place at (drop at text))) o ≡ Some q → IsIn at q
   in_by at q None w b e h = cc
   in_by at q (Some r) w b e h =
       let same : place_at at r ≡ q = cc in
@@ -528,7 +575,9 @@ module _ (text : List ℕ) (u : IsUtf8 text) (path : List Container) where
   taken_in at line q w b e h = in_by at q (after path (line_rest (drop at text))) w b refl (ap (taken path) (sym e) ∙ h)
 
   columns_in : (n at : ℕ) (q : Place) → IsIn at q → IsIn at (moved_columns n q)
-  columns_in n at q i = (let same = columns_line_end n q in let some = i.some in record { stands = columns_keep text n q u i.stands; here = i.here; same_end = same ∙ i.same_end; some = omega arith })
+  columns_in n at q i = (
+      let same = columns_line_end n q in
+      let some = i.some in record { stands = columns_keep text n q u i.stands; here = i.here; same_end = same ∙ i.same_end; some = omega arith })
 
   in_behind : (at : ℕ) (q : Place) → IsIn at q → at ≤ offset q
   in_behind at q i = (let h = i.here in omega arith)
@@ -540,7 +589,11 @@ module _ (text : List ℕ) (u : IsUtf8 text) (path : List Container) where
 
   extent_placed : (at : ℕ) (q : Place) (e : Lines) → IsIn at q → IsFilled text (behind_line_at text at) e → IsFilled text at (with_line q e)
   unfolding HaveBytes
-  extent_placed at q e i further = record { places = line_placed at e.«end» q e.places i further.places; boundary = further.boundary; bytes = (i.some, subst (λ k. HaveBytes k e.places) (sym i.same_end) further.bytes) }
+  extent_placed at q e i further = record {
+    places = line_placed at e.«end» q e.places i further.places;
+    boundary = further.boundary;
+    bytes = (i.some, subst (λ k. HaveBytes k e.places) (sym i.same_end) further.bytes);
+  }
 
   -- a block that has no more lines
   stops_placed : (at stop : ℕ) (lines : List Place) → at ≤ stop → IsCharBoundary text stop → IsFilled text at (ends_at stop lines)
@@ -555,11 +608,13 @@ module _ (text : List ℕ) (u : IsUtf8 text) (path : List Container) where
   code_in_by true at p q i h = (let e : moved_columns 4 q ≡ p = cc in subst (IsIn at) e (columns_in 4 at q i))
   code_in_by false at p q i h = cc
 
-  code_in : (at : ℕ) (p : Place) (o : Option Place) → ((q : Place) → o ≡ Some q → IsIn at q) → option_and_then (λ (q : Place). if has_columns 4 q.rest then Some (moved_columns 4 q) else None) o ≡ Some p → IsIn at p
+  code_in : (at : ℕ) (p : Place) (o : Option Place) → ((q : Place) → o ≡ Some q → IsIn at q)
+      → option_and_then (λ (q : Place). if has_columns 4 q.rest then Some (moved_columns 4 q) else None) o ≡ Some p → IsIn at p
   code_in at p None i h = cc
   code_in at p (Some q) i h = code_in_by (has_columns 4 q.rest) at p q (i q refl) h
 
-  code_step : (at : ℕ) (line : Place) (lines : List Place) (o : Option Place) (further : List Place × List Place) → line.line ≡ at → ((q : Place) → o ≡ Some q → IsIn at q)
+  code_step : (at : ℕ) (line : Place) (lines : List Place) (o : Option Place) (further : List Place × List Place)
+      → line.line ≡ at → ((q : Place) → o ≡ Some q → IsIn at q)
       → ArePlaced text (behind_line_at text at) further.0 (start_of (length text) further.1)
       → (let all = code_by lines (line ∷ lines) o further in ArePlaced text at all.0 (start_of (length text) all.1))
   unfolding ArePlaced
@@ -567,12 +622,14 @@ module _ (text : List ℕ) (u : IsUtf8 text) (path : List Container) where
   code_step at line lines (Some q) further start i rest = line_placed at (start_of (length text) further.1) q further.0 (i q refl) rest
 
   -- They are placed up to those that it leaves.
-  pub code_placed : (lines : List Place) (at : ℕ) → lines ≡ lines_from text at → IsCharBoundary text at → (let all = code_lines path lines in ArePlaced text at all.0 (start_of (length text) all.1))
+  pub code_placed : (lines : List Place) (at : ℕ)
+      → lines ≡ lines_from text at → IsCharBoundary text at → (let all = code_lines path lines in ArePlaced text at all.0 (start_of (length text) all.1))
   unfolding ArePlaced code_lines
   code_placed [] at is b = b.0
   code_placed (line ∷ lines) at is b =
       let f = first_line text at line lines is in
-      code_step at line lines (code_place path line) (code_lines path lines) (ap (λ (p : Place). p.line) f.1) (λ q h. code_in at q (taken path line) (λ q h. taken_in at line q f.0 b f.1 h) h)
+      code_step at line lines (code_place path line) (code_lines path lines) (ap (λ (p : Place). p.line) f.1)
+      (λ q h. code_in at q (taken path line) (λ q h. taken_in at line q f.0 b f.1 h) h)
       (code_placed lines (behind_line_at text at) f.2 (behind_is_boundary at b))
 
   -- a verdict on the line that begins at an offset stays in it
@@ -585,19 +642,23 @@ module _ (text : List ℕ) (u : IsUtf8 text) (path : List Container) where
   abbrev pub StaysWithin : (Place → Place → Verdict) → Type 0
   StaysWithin judge = (at : ℕ) (line q : Place) → line ≡ line_place at (drop at text) → IsCharBoundary text at → IsIn at q → IsWithin at (judge line q)
 
-  judged_within : (judge : Place → Place → Verdict) → StaysWithin judge → (at : ℕ) (line : Place) (o : Option Place) → line ≡ line_place at (drop at text) → IsCharBoundary text at → ((q : Place) → o ≡ Some q → IsIn at q) → IsWithin at (judged judge line o)
+  judged_within : (judge : Place → Place → Verdict) → StaysWithin judge → (at : ℕ) (line : Place) (o : Option Place) → line ≡ line_place at (drop at text)
+      → IsCharBoundary text at → ((q : Place) → o ≡ Some q → IsIn at q) → IsWithin at (judged judge line o)
   judged_within judge stays at line None is b i = (let start = ap (λ (p : Place). p.line) is in (omega arith, subst (IsCharBoundary text) (sym start) b))
   judged_within judge stays at line (Some q) is b i = stays at line q is b (i q refl)
 
-  verdict_filled : (at : ℕ) (v : Verdict) (line : Place) (lines : List Place) (further : Lines) → IsWithin at v → IsFilled text (behind_line_at text at) further → IsFilled text at (extent_by v line lines further)
+  verdict_filled : (at : ℕ) (v : Verdict) (line : Place) (lines : List Place) (further : Lines)
+      → IsWithin at v → IsFilled text (behind_line_at text at) further → IsFilled text at (extent_by v line lines further)
   verdict_filled at (GoesOn p) line lines further i rest = extent_placed at p further i rest
   verdict_filled at (IsLast p) line lines further i rest =
-      extent_placed at p (ends_at (line_end p) lines) i (let same = i.same_end in stops_placed (behind_line_at text at) (line_end p) lines (omega arith) (place_end text p u i.stands))
+      extent_placed at p (ends_at (line_end p) lines) i
+      (let same = i.same_end in stops_placed (behind_line_at text at) (line_end p) lines (omega arith) (place_end text p u i.stands))
   verdict_filled at (Closes e) line lines further i rest = stops_placed at e lines i.0 i.1
   verdict_filled at (Stops e) line lines further i rest = stops_placed at e (line ∷ lines) i.0 i.1
 
   -- So the lines of a block are placed in the text, each with a byte.
-  extent_filled : (judge : Place → Place → Verdict) → StaysWithin judge → (lines : List Place) (at : ℕ) → lines ≡ lines_from text at → IsCharBoundary text at → IsFilled text at (extent (in_containers path judge) (length text) lines)
+  extent_filled : (judge : Place → Place → Verdict) → StaysWithin judge → (lines : List Place) (at : ℕ) → lines ≡ lines_from text at → IsCharBoundary text at
+      → IsFilled text at (extent (in_containers path judge) (length text) lines)
   unfolding extent
   extent_filled judge stays [] at is b = no_lines_placed at (length text) refl b
   extent_filled judge stays (line ∷ lines) at is b =
@@ -607,11 +668,13 @@ module _ (text : List ℕ) (u : IsUtf8 text) (path : List Container) where
       (extent_filled judge stays lines (behind_line_at text at) f.2 (behind_is_boundary at b))
 
   -- where the lines begin after one
-  left_start : (at : ℕ) (lines : List Place) → IsCharBoundary text at → lines ≡ lines_from text (behind_line_at text at) → start_of (length text) lines ≡ behind_line_at text at
+  left_start : (at : ℕ) (lines : List Place)
+      → IsCharBoundary text at → lines ≡ lines_from text (behind_line_at text at) → start_of (length text) lines ≡ behind_line_at text at
   left_start at lines b is = (let w = (behind_is_boundary at b).0 in ap (start_of (length text)) is ∙ start_of-lines text (behind_line_at text at) w)
 
   -- They are placed before the lines that the block leaves.
-  verdict_left : (at : ℕ) (v : Verdict) (line : Place) (lines : List Place) (further : Lines) → line ≡ line_place at (drop at text) → start_of (length text) lines ≡ behind_line_at text at → IsWithin at v
+  verdict_left : (at : ℕ) (v : Verdict) (line : Place) (lines : List Place) (further : Lines)
+      → line ≡ line_place at (drop at text) → start_of (length text) lines ≡ behind_line_at text at → IsWithin at v
       → ArePlaced text (behind_line_at text at) further.places (start_of (length text) further.left)
       → (let e = extent_by v line lines further in ArePlaced text at e.places (start_of (length text) e.left))
   unfolding ArePlaced
@@ -631,7 +694,8 @@ module _ (text : List ℕ) (u : IsUtf8 text) (path : List Container) where
       (extent_left judge stays lines (behind_line_at text at) f.2 (behind_is_boundary at b))
 
   -- of a fenced code block
-  fence_in_by : (t : Bool) (at e : ℕ) (q : Place) (o : Option ℕ) → ((n : ℕ) → o ≡ Some n → (n ≤ length (all_taken q.rest).left) × (at_line_end (drop n (all_taken q.rest).left) ≡ true)) → IsIn at q
+  fence_in_by : (t : Bool) (at e : ℕ) (q : Place) (o : Option ℕ)
+      → ((n : ℕ) → o ≡ Some n → (n ≤ length (all_taken q.rest).left) × (at_line_end (drop n (all_taken q.rest).left) ≡ true)) → IsIn at q
       → (if t then option_map (λ n. offset (unindented q) + n) o else None) ≡ Some e → (at ≤ e) × IsCharBoundary text e
   fence_in_by false at e q o within i h = cc
   fence_in_by true at e q None within i h = cc
@@ -642,9 +706,11 @@ module _ (text : List ℕ) (u : IsUtf8 text) (path : List Container) where
       (omega arith, subst (IsCharBoundary text) same (ends_between text (unindented q) n (all_keep text q.line q.rest u i.stands) w.0 w.1))
 
   fence_in : (byte count at e : ℕ) (q : Place) → IsIn at q → closing_fence_end byte count q ≡ Some e → (at ≤ e) × IsCharBoundary text e
-  fence_in byte count at e q i h = fence_in_by (nat_lt (indent q.rest) 4) at e q (closing_fence_len byte count (all_taken q.rest).left) (λ n g. fence_ends byte count (all_taken q.rest).left n g) i h
+  fence_in byte count at e q i h = fence_in_by (nat_lt (indent q.rest) 4) at e q (closing_fence_len byte count (all_taken q.rest).left)
+      (λ n g. fence_ends byte count (all_taken q.rest).left n g) i h
 
-  fence_verdict_within : (columns at : ℕ) (q : Place) (o : Option ℕ) → IsIn at q → ((e : ℕ) → o ≡ Some e → (at ≤ e) × IsCharBoundary text e) → IsWithin at (fence_verdict columns q o)
+  fence_verdict_within : (columns at : ℕ) (q : Place) (o : Option ℕ)
+      → IsIn at q → ((e : ℕ) → o ≡ Some e → (at ≤ e) × IsCharBoundary text e) → IsWithin at (fence_verdict columns q o)
   fence_verdict_within columns at q None i c = columns_in columns at q i
   fence_verdict_within columns at q (Some e) i c = c e refl
 
@@ -663,7 +729,8 @@ module _ (text : List ℕ) (u : IsUtf8 text) (path : List Container) where
       (omega arith, subst (IsCharBoundary text) z (ends_between text line n (subst (IsPlaceOf text) (sym is) (line_is_place text at b)) w.0 w.1))
 
   metadata_stays : (byte : ℕ) → StaysWithin (metadata_judge byte)
-  metadata_stays byte at line q is b i = metadata_verdict_within at line q (closing_metadata_len byte line.rest.left) is b i (λ n h. metadata_ends byte line.rest.left n h)
+  metadata_stays byte at line q is b i =
+      metadata_verdict_within at line q (closing_metadata_len byte line.rest.left) is b i (λ n h. metadata_ends byte line.rest.left n h)
 
   -- of an HTML block
   tag_stays : (tag : List ℕ) → StaysWithin (tag_judge tag)
@@ -674,7 +741,8 @@ module _ (text : List ℕ) (u : IsUtf8 text) (path : List Container) where
   blank_stays : StaysWithin blank_judge
   blank_stays at line q is b i =
       let start = ap (λ (p : Place). p.line) is in
-      cond_both (at_line_end q.rest.left) (Stops line.line) (if is_blank_rest q.rest then Stops (offset q) else GoesOn q) (IsWithin at) (λ here. (omega arith, subst (IsCharBoundary text) (sym start) b))
+      cond_both (at_line_end q.rest.left) (Stops line.line) (if is_blank_rest q.rest then Stops (offset q) else GoesOn q) (IsWithin at)
+      (λ here. (omega arith, subst (IsCharBoundary text) (sym start) b))
       (λ other. cond_both (is_blank_rest q.rest) (Stops (offset q)) (GoesOn q) (IsWithin at) (λ blank. (in_behind at q i, i.stands.boundary)) (λ more. i))
 
   -- a first line before them, which has a byte where another line follows
@@ -684,11 +752,13 @@ module _ (text : List ℕ) (u : IsUtf8 text) (path : List Container) where
       let some = line_len-some p.rest.left (omega arith) in
       omega arith
 
-  only_placed : (p : Place) (stop : ℕ) (lines : List Place) → IsPlaceOf text p → line_end p ≤ stop → IsCharBoundary text stop → IsPlaced text (offset p) (with_line p (ends_at stop lines))
+  only_placed : (p : Place) (stop : ℕ) (lines : List Place)
+      → IsPlaceOf text p → line_end p ≤ stop → IsCharBoundary text stop → IsPlaced text (offset p) (with_line p (ends_at stop lines))
   unfolding ArePlaced
   only_placed p stop lines i order b = record { places = (omega arith, i, order); boundary = b; few = inl (omega arith) }
 
-  first_placed : (judge : Place → Place → Verdict) → StaysWithin judge → (lines : List Place) (p : Place) → IsPlaceOf text p → lines ≡ lines_from text (line_end p) → IsPlaced text (offset p) (with_line p (extent (in_containers path judge) (length text) lines))
+  first_placed : (judge : Place → Place → Verdict) → StaysWithin judge → (lines : List Place) (p : Place) → IsPlaceOf text p
+      → lines ≡ lines_from text (line_end p) → IsPlaced text (offset p) (with_line p (extent (in_containers path judge) (length text) lines))
   unfolding ArePlaced HaveBytes extent
   first_placed judge stays [] p i is = (let b = place_end text p u i in let w = b.0 in only_placed p (length text) [] i w (IsCharBoundary-end text))
   first_placed judge stays (line ∷ lines) p i is =
@@ -705,16 +775,26 @@ module _ (text : List ℕ) (u : IsUtf8 text) (path : List Container) where
   later_bytes start at (p ∷ ps) order some = (let a = some.0 in omega arith, some.1)
 
   later_placed : (start at : ℕ) (e : Lines) → start ≤ at → IsFilled text at e → IsPlaced text start e
-  later_placed start at e order filled = record { places = placed_from text start at e.«end» e.places order filled.places; boundary = filled.boundary; few = inr (later_bytes start at e.places order filled.bytes) }
+  later_placed start at e order filled = record {
+    places = placed_from text start at e.«end» e.places order filled.places;
+    boundary = filled.boundary;
+    few = inr (later_bytes start at e.places order filled.bytes);
+  }
 
   -- The lines of each raw leaf block are placed in the text, from where it begins.
-  pub indented_behind_placed : (p : Place) → IsPlaceOf text p → (let all = code_behind text path (offset p) in ArePlaced text (offset p) (p ∷ all.0) (start_of (length text) all.1))
+  pub indented_behind_placed : (p : Place)
+      → IsPlaceOf text p → (let all = code_behind text path (offset p) in ArePlaced text (offset p) (p ∷ all.0) (start_of (length text) all.1))
   unfolding ArePlaced
   indented_behind_placed p i =
-      let b = behind_is_boundary (offset p) i.boundary in
-      (omega arith, i, subst (λ k. let all = code_behind text path (offset p) in ArePlaced text k all.0 (start_of (length text) all.1)) (place_line p i) (code_placed (lines_from text (behind_line_at text (offset p))) (behind_line_at text (offset p)) refl b))
+      let b = behind_is_boundary (offset p) i.boundary in (
+        omega arith,
+        i,
+        subst (λ k. let all = code_behind text path (offset p) in ArePlaced text k all.0 (start_of (length text) all.1)) (place_line p i)
+            (code_placed (lines_from text (behind_line_at text (offset p))) (behind_line_at text (offset p)) refl b),
+      )
 
-  code_bytes_by : (at : ℕ) (lines : List Place) (line : Place) (o : Option Place) (further : List Place × List Place) → ((q : Place) → o ≡ Some q → IsIn at q) → HaveBytes (behind_line_at text at) further.0
+  code_bytes_by : (at : ℕ) (lines : List Place) (line : Place) (o : Option Place) (further : List Place × List Place)
+      → ((q : Place) → o ≡ Some q → IsIn at q) → HaveBytes (behind_line_at text at) further.0
       → HaveBytes at (code_by lines (line ∷ lines) o further).0
   unfolding HaveBytes
   code_bytes_by at lines line None further i rest = tt
@@ -725,19 +805,24 @@ module _ (text : List ℕ) (u : IsUtf8 text) (path : List Container) where
   code_bytes [] at is b = tt
   code_bytes (line ∷ lines) at is b =
       let f = first_line text at line lines is in
-      code_bytes_by at lines line (code_place path line) (code_lines path lines) (λ q h. code_in at q (taken path line) (λ q h. taken_in at line q f.0 b f.1 h) h) (code_bytes lines (behind_line_at text at) f.2 (behind_is_boundary at b))
+      code_bytes_by at lines line
+      (code_place path line) (code_lines path lines) (λ q h. code_in at q (taken path line) (λ q h. taken_in at line q f.0 b f.1 h) h)
+      (code_bytes lines (behind_line_at text at) f.2 (behind_is_boundary at b))
 
   indented_few : (lines : List Place) (p : Place) → IsPlaceOf text p → lines ≡ lines_from text (line_end p) → AreFew (offset p) (p ∷ (code_lines path lines).0)
   unfolding HaveBytes code_lines
   indented_few [] p i is = inl (omega arith)
-  indented_few (line ∷ lines) p i is = inr (first_some p i (first_line text (line_end p) line lines is).0, code_bytes (line ∷ lines) (line_end p) is (place_end text p u i))
+  indented_few (line ∷ lines) p i is =
+      inr (first_some p i (first_line text (line_end p) line lines is).0, code_bytes (line ∷ lines) (line_end p) is (place_end text p u i))
 
   pub indented_behind_few : (p : Place) → IsPlaceOf text p → AreFew (offset p) (p ∷ (code_behind text path (offset p)).0)
   indented_behind_few p i = indented_few (lines_from text (behind_line_at text (offset p))) p i (ap (lines_from text) (place_line p i))
 
-  behind_placed : (judge : Place → Place → Verdict) → StaysWithin judge → (start : ℕ) → IsCharBoundary text start → IsPlaced text start (extent (in_containers path judge) (length text) (lines_from text (behind_line_at text start)))
+  behind_placed : (judge : Place → Place → Verdict) → StaysWithin judge → (start : ℕ) → IsCharBoundary text start
+      → IsPlaced text start (extent (in_containers path judge) (length text) (lines_from text (behind_line_at text start)))
   behind_placed judge stays start b =
-      later_placed start (behind_line_at text start) _ (omega arith) (extent_filled judge stays (lines_from text (behind_line_at text start)) (behind_line_at text start) refl (behind_is_boundary start b))
+      later_placed start (behind_line_at text start) _ (omega arith)
+      (extent_filled judge stays (lines_from text (behind_line_at text start)) (behind_line_at text start) refl (behind_is_boundary start b))
 
   pub fenced_behind_placed : (columns byte count start : ℕ) → IsCharBoundary text start → IsPlaced text start (fenced_behind text path columns byte count start)
   fenced_behind_placed columns byte count start b = behind_placed (fence_judge columns byte count) (fence_stays columns byte count) start b
@@ -748,8 +833,10 @@ module _ (text : List ℕ) (u : IsUtf8 text) (path : List Container) where
   pub to_end_placed : (tag : List ℕ) (p : Place) → IsPlaceOf text p → IsPlaced text (offset p) (html_to_end text path tag p)
   to_end_placed tag p i =
       let lines : List Place = lines_from text (behind_line_at text (offset p)) in
-      cond_both (holds tag (line_of p)) (IsLast p) (GoesOn p) (λ (v : Verdict). IsPlaced text (offset p) (extent_by v p lines (extent (in_containers path (tag_judge tag)) (length text) lines)))
-      (λ held. only_placed p (line_end p) lines i (omega arith) (place_end text p u i)) (λ other. first_placed (tag_judge tag) (tag_stays tag) lines p i (ap (lines_from text) (place_line p i)))
+      cond_both (holds tag (line_of p)) (IsLast p) (GoesOn p)
+      (λ (v : Verdict). IsPlaced text (offset p) (extent_by v p lines (extent (in_containers path (tag_judge tag)) (length text) lines)))
+      (λ held. only_placed p (line_end p) lines i (omega arith) (place_end text p u i))
+      (λ other. first_placed (tag_judge tag) (tag_stays tag) lines p i (ap (lines_from text) (place_line p i)))
 
   pub to_blank_placed : (p : Place) → IsPlaceOf text p → IsPlaced text (offset p) (html_to_blank text path p)
   to_blank_placed p i = first_placed blank_judge blank_stays (lines_from text (behind_line_at text (offset p))) p i (ap (lines_from text) (place_line p i))
@@ -782,18 +869,21 @@ module _ (text : List ℕ) (u : IsUtf8 text) (path : List Container) where
   abbrev pub StaysBefore : (Place → Place → Verdict) → Type 0
   StaysBefore judge = (at : ℕ) (line q : Place) → line ≡ line_place at (drop at text) → IsIn at q → IsBefore at (judge line q)
 
-  judged_before : (judge : Place → Place → Verdict) → StaysBefore judge → (at : ℕ) (line : Place) (o : Option Place) → line ≡ line_place at (drop at text) → ((q : Place) → o ≡ Some q → IsIn at q) → IsBefore at (judged judge line o)
+  judged_before : (judge : Place → Place → Verdict) → StaysBefore judge → (at : ℕ) (line : Place) (o : Option Place) → line ≡ line_place at (drop at text)
+      → ((q : Place) → o ≡ Some q → IsIn at q) → IsBefore at (judged judge line o)
   judged_before judge stays at line None is i = (let start = ap (λ (p : Place). p.line) is in omega arith)
   judged_before judge stays at line (Some q) is i = stays at line q is (i q refl)
 
-  verdict_before : (at : ℕ) (v : Verdict) (line : Place) (lines : List Place) (further : Lines) → line ≡ line_place at (drop at text) → start_of (length text) lines ≡ behind_line_at text at → IsBefore at v → EndsBefore text further
+  verdict_before : (at : ℕ) (v : Verdict) (line : Place) (lines : List Place) (further : Lines)
+      → line ≡ line_place at (drop at text) → start_of (length text) lines ≡ behind_line_at text at → IsBefore at v → EndsBefore text further
       → EndsBefore text (extent_by v line lines further)
   verdict_before at (GoesOn p) line lines further is left h rest = rest
   verdict_before at (IsLast p) line lines further is left h rest = omega arith
   verdict_before at (Closes e) line lines further is left h rest = omega arith
   verdict_before at (Stops e) line lines further is left h rest = (let start = ap (λ (p : Place). p.line) is in omega arith)
 
-  extent_before : (judge : Place → Place → Verdict) → StaysBefore judge → (lines : List Place) (at : ℕ) → lines ≡ lines_from text at → IsCharBoundary text at → EndsBefore text (extent (in_containers path judge) (length text) lines)
+  extent_before : (judge : Place → Place → Verdict) → StaysBefore judge → (lines : List Place) (at : ℕ) → lines ≡ lines_from text at → IsCharBoundary text at
+      → EndsBefore text (extent (in_containers path judge) (length text) lines)
   unfolding extent
   extent_before judge stays [] at is b = omega arith
   extent_before judge stays (line ∷ lines) at is b =
@@ -809,9 +899,11 @@ module _ (text : List ℕ) (u : IsUtf8 text) (path : List Container) where
   fence_stays_before : (columns byte count : ℕ) → is_content byte ≡ true → StaysBefore (fence_judge columns byte count)
   fence_stays_before columns byte count plain at line q is i =
       fence_before columns at q (closing_fence_end byte count q)
-      (λ e h. fence_before_by (nat_lt (indent q.rest) 4) at e q (closing_fence_len byte count (all_taken q.rest).left) (λ n g. fence_within byte count (all_taken q.rest).left n plain g) i h)
+      (λ e h. fence_before_by (nat_lt (indent q.rest) 4) at e q (closing_fence_len byte count (all_taken q.rest).left)
+      (λ n g. fence_within byte count (all_taken q.rest).left n plain g) i h)
 
-  metadata_before : (at : ℕ) (line q : Place) (o : Option ℕ) → ((n : ℕ) → o ≡ Some n → line.line + n ≤ behind_line_at text at) → IsBefore at (metadata_verdict line q o)
+  metadata_before : (at : ℕ) (line q : Place) (o : Option ℕ)
+      → ((n : ℕ) → o ≡ Some n → line.line + n ≤ behind_line_at text at) → IsBefore at (metadata_verdict line q o)
   metadata_before at line q None c = tt
   metadata_before at line q (Some n) c = c n refl
 
@@ -828,10 +920,13 @@ module _ (text : List ℕ) (u : IsUtf8 text) (path : List Container) where
       (λ some. cond_both (holds tag (line_of q)) (IsLast q) (GoesOn q) (IsBefore at) (λ held. omega arith) (λ other. tt))
 
   -- So do the raw leaf blocks, but for an HTML block that ends after the prefix of a blank line.
-  behind_before : (judge : Place → Place → Verdict) → StaysBefore judge → (start : ℕ) → IsCharBoundary text start → EndsBefore text (extent (in_containers path judge) (length text) (lines_from text (behind_line_at text start)))
-  behind_before judge stays start b = extent_before judge stays (lines_from text (behind_line_at text start)) (behind_line_at text start) refl (behind_is_boundary start b)
+  behind_before : (judge : Place → Place → Verdict) → StaysBefore judge → (start : ℕ) → IsCharBoundary text start
+      → EndsBefore text (extent (in_containers path judge) (length text) (lines_from text (behind_line_at text start)))
+  behind_before judge stays start b =
+      extent_before judge stays (lines_from text (behind_line_at text start)) (behind_line_at text start) refl (behind_is_boundary start b)
 
-  pub fenced_behind_before : (columns byte count start : ℕ) → is_content byte ≡ true → IsCharBoundary text start → EndsBefore text (fenced_behind text path columns byte count start)
+  pub fenced_behind_before : (columns byte count start : ℕ)
+      → is_content byte ≡ true → IsCharBoundary text start → EndsBefore text (fenced_behind text path columns byte count start)
   fenced_behind_before columns byte count start plain b = behind_before (fence_judge columns byte count) (fence_stays_before columns byte count plain) start b
 
   pub metadata_behind_before : (byte start : ℕ) → is_content byte ≡ true → IsCharBoundary text start → EndsBefore text (metadata_behind text path byte start)
@@ -842,5 +937,6 @@ module _ (text : List ℕ) (u : IsUtf8 text) (path : List Container) where
       let lines : List Place = lines_from text (behind_line_at text (offset p)) in
       let left = left_start (offset p) lines i.boundary refl in
       let ends = place_line p i in
-      cond_both (holds tag (line_of p)) (IsLast p) (GoesOn p) (λ (v : Verdict). EndsBefore text (extent_by v p lines (extent (in_containers path (tag_judge tag)) (length text) lines)))
+      cond_both (holds tag (line_of p)) (IsLast p) (GoesOn p)
+      (λ (v : Verdict). EndsBefore text (extent_by v p lines (extent (in_containers path (tag_judge tag)) (length text) lines)))
       (λ held. omega arith) (λ other. behind_before (tag_judge tag) (tag_stays_before tag) (offset p) i.boundary)

@@ -66,7 +66,8 @@ code_behind text path start = code_lines path (lines_from text (behind_line_at t
 pub record AddsIndented (d : Document) (p : Place) (old new : Forest Item) (next : ℕ) (blank : Bool) : Type 0 where
   pub items : List (ℕ × Item)
   pub tree_is : new ≡ added old items
-  pub is : (more : Names) → Extends more d.names → IsIndentedCode (document d.text d.options more) p (code_behind d.text (path_of d.options old) (offset p)).0 items
+  pub is : (more : Names)
+      → Extends more d.names → IsIndentedCode (document d.text d.options more) p (code_behind d.text (path_of d.options old) (offset p)).0 items
   pub blank_is : blank ≡ last_is_blank (code_behind d.text (path_of d.options old) (offset p)).0
   pub left_is : lines_from d.text next ≡ (code_behind d.text (path_of d.options old) (offset p)).1
 

@@ -1,5 +1,6 @@
 -- Facts on closing lines, and on the spaces and tabs that bytes begin with.
-use Rattle.std.proofs.Common.{◌≡◌, ℕ, ◌+◌, ◌<◌, ◌≤◌, Bool, true, false, ◌==◌, ◌||◌, List, [], ◌∷◌, ◌++◌, length, take, drop, get_or, refl, sym, ap, ◌∙◌, arith, append_assoc, inl, inr, if◌then◌else◌}
+use Rattle.std.proofs.Common.{◌≡◌, ℕ, ◌+◌, ◌<◌, ◌≤◌, Bool, true, false, ◌==◌, ◌||◌, List, [], ◌∷◌, ◌++◌, length, take, drop, get_or, refl, sym, ap, ◌∙◌, arith}
+use Rattle.std.proofs.Common.{append_assoc, inl, inr, if◌then◌else◌}
 use Rattle.std.specs.List.{list_any, list_all}
 use Rattle.std.proofs.lemmas.Bool.{cases_lt, and_parts}
 use Rattle.std.proofs.lemmas.Bool.Decides.{nat_tests}
@@ -10,7 +11,8 @@ use Rattle.first_pass_lines.specs.Lines.{is_blank}
 use Rattle.first_pass_scan.specs.LeafLines.{blank_columns, closes_metadata, any_line_closes, IsIndent, IsLongestIndent}
 
 -- a line closes, or one after it does
-pub any_line-first : (c start : ℕ) (text : List ℕ) (more : List Place) (t : Bool) → lines_at start (drop start text) ≡ line_place start (drop start text) ∷ more → t ≡ closes_metadata c (drop start text) → any_line_closes c start (drop start text) ≡ (t || list_any (λ line. closes_metadata c line.rest.left) more)
+pub any_line-first : (c start : ℕ) (text : List ℕ) (more : List Place) (t : Bool) → lines_at start (drop start text) ≡ line_place start (drop start text) ∷ more
+    → t ≡ closes_metadata c (drop start text) → any_line_closes c start (drop start text) ≡ (t || list_any (λ line. closes_metadata c line.rest.left) more)
 any_line-first c start text more t h e =
     ap (list_any (λ line. closes_metadata c line.rest.left)) h ∙ ap (λ u. u || list_any (λ line. closes_metadata c line.rest.left) more) (sym e)
 
@@ -30,7 +32,8 @@ list_all-push : (p : ℕ → Bool) (xs : List ℕ) (x : ℕ) → list_all p xs �
 list_all-push p [] x h e = rw e
 list_all-push p (y ∷ ys) x h e = grind (arith, list_all-push p ys x, h, e)
 
-pub columns_of-blank : (b column : ℕ) (more : List ℕ) → 0 < blank_columns b column → columns_of (b ∷ more) column ≡ blank_columns b column + columns_of more (if b == 9 then 0 else column + 1)
+pub columns_of-blank : (b column : ℕ) (more : List ℕ)
+    → 0 < blank_columns b column → columns_of (b ∷ more) column ≡ blank_columns b column + columns_of more (if b == 9 then 0 else column + 1)
 columns_of-blank b column more h = grind (arith, nat_tests, h)
 
 blank_if : (b column : ℕ) → 0 < blank_columns b column → is_blank b ≡ true
@@ -40,7 +43,8 @@ blank_then : (b column : ℕ) → is_blank b ≡ true → 0 < blank_columns b co
 blank_then b column h = grind (arith, nat_tests, h)
 
 -- one byte more
-pub front-more : (bs : List ℕ) (n columns column b k : ℕ) → n < length bs → b ≡ get_or bs n 0 → 0 < blank_columns b column → k ≡ (if b == 9 then 0 else column + 1) → IsFront bs n columns column → IsFront bs (n + 1) (columns + blank_columns b column) k
+pub front-more : (bs : List ℕ) (n columns column b k : ℕ) → n < length bs → b ≡ get_or bs n 0 → 0 < blank_columns b column
+    → k ≡ (if b == 9 then 0 else column + 1) → IsFront bs n columns column → IsFront bs (n + 1) (columns + blank_columns b column) k
 front-more bs n columns column b k l e w s f =
     let t : take (n + 1) bs ≡ take n bs ++ b ∷ [] = take_more bs n 0 l ∙ ap (λ x. take n bs ++ x ∷ []) (sym e) in
     record {
@@ -61,10 +65,12 @@ list_all-append p (y ∷ more) x ys h = list_all-append p more x ys ((and_parts 
 longer : (bs : List ℕ) (n m : ℕ) → n < m → m ≤ length bs → take m bs ≡ take n bs ++ get_or bs n 0 ∷ drop (n + 1) (take m bs)
 longer bs n m h l =
     let w = length-take-le m bs l in
-    let d : drop n (take m bs) ≡ get_or bs n 0 ∷ drop (n + 1) (take m bs) = drop_more (take m bs) n 0 (omega arith) ∙ ap (λ x. x ∷ drop (n + 1) (take m bs)) (get_or-take m bs n 0 h) in
+    let d : drop n (take m bs) ≡ get_or bs n 0 ∷ drop (n + 1) (take m bs) =
+    drop_more (take m bs) n 0 (omega arith) ∙ ap (λ x. x ∷ drop (n + 1) (take m bs)) (get_or-take m bs n 0 h) in
     sym (take-append-drop n (take m bs)) ∙ ap (λ x. x ++ drop n (take m bs)) (take-take n m bs (omega arith)) ∙ ap (λ x. take n bs ++ x) d
 
-no_longer : (bs : List ℕ) (max n columns column m k : ℕ) → IsFront bs n columns column → IsIndent bs max m k → n < m → (n < length bs → (w : ℕ) → w ≡ blank_columns (get_or bs n 0) column → 0 < w → max < columns + w) → ⊥
+no_longer : (bs : List ℕ) (max n columns column m k : ℕ) → IsFront bs n columns column → IsIndent bs max m k → n < m
+    → (n < length bs → (w : ℕ) → w ≡ blank_columns (get_or bs n 0) column → 0 < w → max < columns + w) → ⊥
 no_longer bs max n columns column m k f i h stop =
     let b : ℕ = get_or bs n 0 in
     let more : List ℕ = drop (n + 1) (take m bs) in
@@ -87,7 +93,8 @@ front-indent bs max n columns column f few =
     }
 
 -- no more are spaces and tabs, or the next has too many columns
-pub front-longest : (bs : List ℕ) (max n columns column : ℕ) → IsFront bs n columns column → columns ≤ max → (n < length bs → (w : ℕ) → w ≡ blank_columns (get_or bs n 0) column → 0 < w → max < columns + w) → IsLongestIndent bs max n columns
+pub front-longest : (bs : List ℕ) (max n columns column : ℕ) → IsFront bs n columns column → columns ≤ max
+    → (n < length bs → (w : ℕ) → w ≡ blank_columns (get_or bs n 0) column → 0 < w → max < columns + w) → IsLongestIndent bs max n columns
 front-longest bs max n columns column f few stop =
     record {
       fits = front-indent bs max n columns column f few;

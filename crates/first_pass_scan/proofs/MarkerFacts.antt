@@ -12,7 +12,8 @@ use Rattle.first_pass_scan.specs.Markers.{content_indent}
 use Rattle.first_pass_lines.proofs.PlaceFacts.{all_columns_up_to}
 
 -- each byte of a front of digits is one
-pub digits-at : (bs : List ℕ) (n : ℕ) → n ≡ prefix_len is_ascii_digit bs → n ≤ length bs → (i : ℕ) → i < length (take n bs) → (48 ≤ get_or (take n bs) i 0) × (get_or (take n bs) i 0 ≤ 57)
+pub digits-at : (bs : List ℕ) (n : ℕ)
+    → n ≡ prefix_len is_ascii_digit bs → n ≤ length bs → (i : ℕ) → i < length (take n bs) → (48 ≤ get_or (take n bs) i 0) × (get_or (take n bs) i 0 ≤ 57)
 digits-at bs n e l i h =
     let w : i < n = omega (arith, length-take-le n bs l) in
     let r = get_or-take n bs i 0 w in
@@ -20,11 +21,13 @@ digits-at bs n e l i h =
     let q : is_ascii_digit (get_or (take n bs) i 0) ≡ true = ap is_ascii_digit r ∙ p in
     (grind (arith, nat_tests, q), grind (arith, nat_tests, q))
 
-few_columns : (t u : Bool) (n k : ℕ) (r s : Rest) → t ≡ false → u ≡ false → let content : ℕ × Rest = if t then (n, r) else (if u then (n, r) else (n + k, s)) in (n + k ≡ content.0) × (s ≡ content.1)
+few_columns : (t u : Bool) (n k : ℕ) (r s : Rest)
+    → t ≡ false → u ≡ false → let content : ℕ × Rest = if t then (n, r) else (if u then (n, r) else (n + k, s)) in (n + k ≡ content.0) × (s ≡ content.1)
 few_columns t u n k r s h h' = rw (h, h') (refl, refl)
 
 -- the content of an item after fewer than four columns
-pub content_indent-few : (n k : ℕ) (r s : Rest) → is_some (blank_len r.left) ≡ false → s ≡ after_columns 4 r → k ≡ min 4 (indent r) → (k ≡ 4 → ⊥) → (n + k ≡ (content_indent n r).0) × (s ≡ (content_indent n r).1)
+pub content_indent-few : (n k : ℕ) (r s : Rest) → is_some (blank_len r.left) ≡ false → s ≡ after_columns 4 r → k ≡ min 4 (indent r) → (k ≡ 4 → ⊥)
+    → (n + k ≡ (content_indent n r).0) × (s ≡ (content_indent n r).1)
 unfolding content_indent
 content_indent-few n k r s h e m few =
     let small : indent r < 4 = omega arith in

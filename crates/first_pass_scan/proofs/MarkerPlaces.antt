@@ -1,5 +1,7 @@
 -- Facts on what markers take of a line: bytes of its content, the last of them ASCII, and columns.
-use Rattle.std.proofs.Common.{◌≡◌, inl, inr, ℕ, zero, suc, ◌+◌, ◌-◌, ◌<◌, ◌≤◌, nat_le, Bool, true, false, ◌==◌, ◌&&◌, ◌||◌, not, List, [], ◌∷◌, length, map, take, drop, get_or, slice_index, Option, Some, None, is_some, IsUtf8, refl, sym, ap, subst, ◌∙◌, arith, length-drop, get_or-drop, if◌then◌else◌}
+use Rattle.std.proofs.Common.{◌≡◌, inl, inr, ℕ, zero, suc, ◌+◌, ◌-◌, ◌<◌, ◌≤◌, nat_le, Bool, true, false, ◌==◌, ◌&&◌, ◌||◌, not, List, [], ◌∷◌, length, map}
+use Rattle.std.proofs.Common.{take, drop, get_or, slice_index, Option, Some, None, is_some, IsUtf8, refl, sym, ap, subst, ◌∙◌, arith, length-drop, get_or-drop}
+use Rattle.std.proofs.Common.{if◌then◌else◌}
 use Rattle.std.specs.Option.{option_map}
 use Rattle.std.specs.List.{prefix_len, list_all}
 use Rattle.std.specs.Char.{is_ascii_digit, to_ascii_lowercase}
@@ -16,7 +18,9 @@ use Rattle.first_pass_lines.specs.Lines.{is_content, is_white, is_ascii_white, b
 use Rattle.first_pass_lines.specs.Rest.{Rest, past_byte, past_bytes, past_quote, past_quote_byte, after_columns, indent}
 use Rattle.first_pass_lines.specs.Places.{place_at, line_rest, line_end, content_end, moved_bytes, IsPlaceOf}
 use Rattle.first_pass_scan.specs.LeafLines.{hrule_len}
-use Rattle.first_pass_scan.specs.Markers.{is_bullet, number_from, bullet_marker, delimited, ordered_marker, list_marker, content_indent, behind_marker, behind_colon, item_by, item_of, definition_of, is_checked, task_box, task_of, tag_of, has_tag, tag_kind, tag_line_of, tag_line, past_tag}
+use Rattle.first_pass_scan.specs.Markers.{is_bullet, number_from, bullet_marker, delimited, ordered_marker, list_marker, content_indent, behind_marker}
+use Rattle.first_pass_scan.specs.Markers.{behind_colon, item_by, item_of, definition_of, is_checked, task_box, task_of, tag_of, has_tag, tag_kind, tag_line_of}
+use Rattle.first_pass_scan.specs.Markers.{tag_line, past_tag}
 use Rattle.first_pass_lines.proofs.PlaceFacts.{ascii_keeps, columns_keep, bytes_line_end, bytes_content_end, columns_line_end, columns_content_end}
 use Rattle.first_pass_lines.proofs.LineFacts.{line_len-blank}
 
@@ -54,11 +58,13 @@ marked-keeps text line r s u m i =
 
 pub marked-line_end : (line : ℕ) (r s : Rest) → IsMarked r s → line_end (place_at line s) ≡ line_end (place_at line r)
 marked-line_end line r s m =
-    ap (λ (q : Rest). line_end (place_at line q)) m.same ∙ columns_line_end m.further (place_at line (after_columns m.first (past_bytes m.width r))) ∙ columns_line_end m.first (place_at line (past_bytes m.width r)) ∙ bytes_line_end m.width (place_at line r) m.within
+    ap (λ (q : Rest). line_end (place_at line q)) m.same ∙ columns_line_end m.further (place_at line (after_columns m.first (past_bytes m.width r)))
+    ∙ columns_line_end m.first (place_at line (past_bytes m.width r)) ∙ bytes_line_end m.width (place_at line r) m.within
 
 pub marked-content_end : (line : ℕ) (r s : Rest) → IsMarked r s → content_end (place_at line s) ≡ content_end (place_at line r)
 marked-content_end line r s m =
-    ap (λ (q : Rest). content_end (place_at line q)) m.same ∙ columns_content_end m.further (place_at line (after_columns m.first (past_bytes m.width r))) ∙ columns_content_end m.first (place_at line (past_bytes m.width r)) ∙ bytes_content_end m.width (place_at line r) m.within
+    ap (λ (q : Rest). content_end (place_at line q)) m.same ∙ columns_content_end m.further (place_at line (after_columns m.first (past_bytes m.width r)))
+    ∙ columns_content_end m.first (place_at line (past_bytes m.width r)) ∙ bytes_content_end m.width (place_at line r) m.within
 
 -- so many bytes are content of the line, and the last of them is ASCII
 pub record IsFrontOf (bs : List ℕ) (n : ℕ) : Type 0 where
@@ -112,14 +118,16 @@ bullet_front (b ∷ bs) m h =
 digit_content : (b : ℕ) → is_ascii_digit b ≡ true → is_content b ≡ true
 digit_content b h = grind (arith, nat_tests, h)
 
-each_content : (bs : List ℕ) (n k d : ℕ) → n ≡ prefix_len is_ascii_digit bs → get_or bs n 0 ≡ d → is_content d ≡ true → k < n + 1 → is_content (get_or bs k 0) ≡ true
+each_content : (bs : List ℕ) (n k d : ℕ)
+    → n ≡ prefix_len is_ascii_digit bs → get_or bs n 0 ≡ d → is_content d ≡ true → k < n + 1 → is_content (get_or bs k 0) ≡ true
 each_content bs n k d e at c h =
     elim (cases_lt k n) as (λ _. is_content (get_or bs k 0) ≡ true) [
       | inl less ↦ digit_content (get_or bs k 0) (prefix_len_passes is_ascii_digit bs k 0 (omega arith))
       | inr more ↦ let same : k ≡ n = omega arith in ap (λ j. is_content (get_or bs j 0)) same ∙ ap is_content at ∙ c
     ]
 
-delimited_front : (bs : List ℕ) (n number : ℕ) (rest : List ℕ) (m : ℕ × ℕ × ℕ) → rest ≡ drop n bs → n ≡ prefix_len is_ascii_digit bs → delimited n number rest ≡ Some m → IsFrontOf bs m.0
+delimited_front : (bs : List ℕ) (n number : ℕ) (rest : List ℕ) (m : ℕ × ℕ × ℕ)
+    → rest ≡ drop n bs → n ≡ prefix_len is_ascii_digit bs → delimited n number rest ≡ Some m → IsFrontOf bs m.0
 delimited_front bs n number [] m e same h = absurd (none-some m h)
 delimited_front bs n number (d ∷ ds) m e same h =
     let p = cond_some ((d == 46) || (d == 41)) (n + 1, d, number) m h in
@@ -150,7 +158,8 @@ marker_front : (bs : List ℕ) (m : ℕ × ℕ × ℕ) → list_marker bs ≡ So
 unfolding list_marker
 marker_front bs m h = either_front (is_some (bullet_marker bs)) bs m h
 
-content_by : (t u : Bool) (n : ℕ) (s : Rest) → let c : ℕ × Rest = if t then (n, s) else (if u then (n, s) else (n + indent s, after_columns (indent s) s)) in (k : ℕ) × (c.1 ≡ after_columns k s)
+content_by : (t u : Bool) (n : ℕ) (s : Rest)
+    → let c : ℕ × Rest = if t then (n, s) else (if u then (n, s) else (n + indent s, after_columns (indent s) s)) in (k : ℕ) × (c.1 ≡ after_columns k s)
 content_by true u n s = (0, refl)
 content_by false true n s = (0, refl)
 content_by false false n s = (indent s, refl)
@@ -166,7 +175,8 @@ behind_columns n q content h =
     let k = content_columns (n + 1) (after_columns 1 q) in
     (k.0, sym (ap (λ (x : ℕ × Rest). x.1) p.1) ∙ k.1)
 
-item_marked : (outer : ℕ) (r : Rest) (o : Option (ℕ × ℕ × ℕ)) (item : (ℕ × ℕ × ℕ) × Rest) → list_marker r.left ≡ o → r.owed ≡ 0 → item_by outer r o ≡ Some item → IsMarked r item.1
+item_marked : (outer : ℕ) (r : Rest) (o : Option (ℕ × ℕ × ℕ)) (item : (ℕ × ℕ × ℕ) × Rest)
+    → list_marker r.left ≡ o → r.owed ≡ 0 → item_by outer r o ≡ Some item → IsMarked r item.1
 item_marked outer r None item e o h = absurd (none-some item h)
 item_marked outer r (Some m) item e o h =
     let parts = mapped _ (behind_marker (outer + m.0) (past_bytes m.0 r)) item h in
@@ -180,7 +190,8 @@ item-marked outer r item h =
     item_marked outer r (list_marker r.left) item refl (eqb-true r.owed 0 ((and_parts _ _ p.0).0)) p.1
 
 -- the marker of a definition
-colon_by : (t : Bool) (n : ℕ) (q : Rest) → let c : ℕ × Rest = if t then content_indent (n + 1) (after_columns 1 q) else (n, q) in (j : ℕ) × (k : ℕ) × (c.1 ≡ after_columns k (after_columns j q))
+colon_by : (t : Bool) (n : ℕ) (q : Rest)
+    → let c : ℕ × Rest = if t then content_indent (n + 1) (after_columns 1 q) else (n, q) in (j : ℕ) × (k : ℕ) × (c.1 ≡ after_columns k (after_columns j q))
 colon_by true n q = let k = content_columns (n + 1) (after_columns 1 q) in (1, k.0, k.1)
 colon_by false n q = (0, 0, refl)
 
@@ -197,7 +208,8 @@ definition-marked outer r definition h =
 mark_content : (b : ℕ) → (is_white b || is_checked b) ≡ true → is_content b ≡ true
 mark_content b h = grind (arith, nat_tests, h)
 
-three_content : (bs : List ℕ) → is_content (get_or bs 0 0) ≡ true → is_content (get_or bs 1 0) ≡ true → is_content (get_or bs 2 0) ≡ true → (k : ℕ) → k < 3 → is_content (get_or bs k 0) ≡ true
+three_content : (bs : List ℕ) → is_content (get_or bs 0 0) ≡ true → is_content (get_or bs 1 0) ≡ true → is_content (get_or bs 2 0) ≡ true → (k : ℕ) → k < 3
+    → is_content (get_or bs k 0) ≡ true
 three_content bs a b c zero h = a
 three_content bs a b c (suc zero) h = b
 three_content bs a b c (suc (suc zero)) h = c
@@ -207,8 +219,10 @@ box_front : (bs : List ℕ) (checked : Bool) → task_box bs ≡ Some checked �
 unfolding task_box
 box_front bs checked h =
     let mark : ℕ = slice_index bs 1 in
-    let p = cond_some ((slice_index bs 0 == 91) && (is_white mark || is_checked mark) && (slice_index bs 2 == 93) && is_ascii_white (slice_index bs 3)) (is_checked mark) checked h in
-    let three = and_parts ((slice_index bs 0 == 91) && (is_white mark || is_checked mark) && (slice_index bs 2 == 93)) (is_ascii_white (slice_index bs 3)) p.0 in
+    let p = cond_some ((slice_index bs 0 == 91) && (is_white mark || is_checked mark) && (slice_index bs 2 == 93) && is_ascii_white (slice_index bs 3))
+    (is_checked mark) checked h in
+    let three =
+    and_parts ((slice_index bs 0 == 91) && (is_white mark || is_checked mark) && (slice_index bs 2 == 93)) (is_ascii_white (slice_index bs 3)) p.0 in
     let two = and_parts ((slice_index bs 0 == 91) && (is_white mark || is_checked mark)) (slice_index bs 2 == 93) three.0 in
     let one = and_parts (slice_index bs 0 == 91) (is_white mark || is_checked mark) two.0 in
     let front : slice_index bs 0 ≡ 91 = eqb-true (slice_index bs 0) 91 one.0 in
@@ -254,7 +268,8 @@ tag_front kind bs h =
     let all : list_all is_content (map to_ascii_lowercase (take n bs)) ≡ true = ap (list_all is_content) same ∙ tag_content kind in
     content_front bs n l (λ k g. sym (ap is_content (get_or-take n bs k 0 g)) ∙ all_content (take n bs) k all (omega (arith, length-take-le n bs l)))
 
-kind_by : (t : Bool) (kind found : BlockQuoteKind) (o : Option BlockQuoteKind) (bs : List ℕ) → has_tag kind bs ≡ t → (if t then Some kind else o) ≡ Some found → (o ≡ Some found → has_tag found bs ≡ true) → has_tag found bs ≡ true
+kind_by : (t : Bool) (kind found : BlockQuoteKind) (o : Option BlockQuoteKind) (bs : List ℕ)
+    → has_tag kind bs ≡ t → (if t then Some kind else o) ≡ Some found → (o ≡ Some found → has_tag found bs ≡ true) → has_tag found bs ≡ true
 kind_by true kind found o bs e h f = let same : kind ≡ found = same_Some kind found h in subst (λ (k : BlockQuoteKind). has_tag k bs ≡ true) same e
 kind_by false kind found o bs e h f = f h
 

@@ -1,5 +1,6 @@
 -- With a plain byte no line end, marker, break, heading or fence begins, and with an inert byte no column and no container.
-use Rattle.std.proofs.Common.{◌≡◌, inl, inr, ℕ, zero, suc, ◌&&◌, if◌then◌else◌, ◌+◌, ◌==◌, ◌||◌, not, Bool, true, false, true≢false, List, [], ◌∷◌, Option, None, refl, sym, ap, ◌∙◌, arith}
+use Rattle.std.proofs.Common.{◌≡◌, inl, inr, ℕ, zero, suc, ◌&&◌, if◌then◌else◌, ◌+◌, ◌==◌, ◌||◌, not, Bool, true, false, true≢false, List, [], ◌∷◌, Option}
+use Rattle.std.proofs.Common.{None, refl, sym, ap, ◌∙◌, arith}
 use Rattle.std.proofs.lemmas.Bool.{cases_eq, ne_eqb}
 use Rattle.std.proofs.lemmas.Bool.Decides.{nat_tests}
 use Rattle.std.specs.Char.{is_ascii_digit}
@@ -52,7 +53,8 @@ pub plain_atx : (bs : List ℕ) → begins_plain bs ≡ true → atx_level bs �
 unfolding atx_level is_plain
 plain_atx [] h = absurd (true≢false (sym h))
 plain_atx (b ∷ bs) h =
-    rw (isnt is_plain b 35 h refl) (rw (isnt is_plain b 10 h refl) (rw (isnt is_plain b 13 h refl) (rw (isnt is_plain b 32 h refl) (rw (isnt is_plain b 9 h refl) refl))))
+    rw (isnt is_plain b 35 h refl)
+    (rw (isnt is_plain b 10 h refl) (rw (isnt is_plain b 13 h refl) (rw (isnt is_plain b 32 h refl) (rw (isnt is_plain b 9 h refl) refl))))
 
 pub plain_fence : (bs : List ℕ) → begins_plain bs ≡ true → code_fence bs ≡ None
 unfolding code_fence is_plain

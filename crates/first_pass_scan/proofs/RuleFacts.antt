@@ -1,5 +1,6 @@
 -- Facts on thematic breaks: where one can't begin, as none begins before.
-use Rattle.std.proofs.Common.{◌≡◌, ℕ, zero, suc, ◌+◌, ◌-◌, ◌<◌, ◌≤◌, Bool, true, false, ◌==◌, nat_le, List, [], ◌∷◌, length, get_or, take, drop, count_by, Option, Some, None, refl, sym, ap, ◌∙◌, true≢false, arith, drop-drop, if◌then◌else◌}
+use Rattle.std.proofs.Common.{◌≡◌, ℕ, zero, suc, ◌+◌, ◌-◌, ◌<◌, ◌≤◌, Bool, true, false, ◌==◌, nat_le, List, [], ◌∷◌, length, get_or, take, drop, count_by}
+use Rattle.std.proofs.Common.{Option, Some, None, refl, sym, ap, ◌∙◌, true≢false, arith, drop-drop, if◌then◌else◌}
 use Rattle.std.specs.Option.{option_map}
 use Rattle.std.specs.List.{prefix_len}
 use Rattle.std.proofs.lemmas.Bool.Decides.{nat_tests}
@@ -9,7 +10,8 @@ use Rattle.first_pass_lines.specs.Plain.{is_plain, begins_plain}
 use Rattle.first_pass_lines.specs.Lines.{eol_len}
 use Rattle.first_pass_scan.specs.LeafLines.{is_rule_byte, in_rule, rule_len, hrule_len, HasNoRule}
 
-shorter : (x y m n : ℕ) (o : Option ℕ) → x ≤ y → (if nat_le 3 y then option_map (λ k. n + k) o else None) ≡ None → (if nat_le 3 x then option_map (λ k. m + k) o else None) ≡ None
+shorter : (x y m n : ℕ) (o : Option ℕ)
+    → x ≤ y → (if nat_le 3 y then option_map (λ k. n + k) o else None) ≡ None → (if nat_le 3 x then option_map (λ k. m + k) o else None) ≡ None
 shorter x y m n None h e = grind (arith, nat_tests)
 shorter x y m n (Some k) h e = grind (arith, nat_tests, e)
 
@@ -17,14 +19,17 @@ rule-shorter : (c b : ℕ) (bs : List ℕ) → in_rule c b ≡ true → rule_len
 rule-shorter c b bs h e =
     let m : ℕ = prefix_len (in_rule c) bs in
     let p : prefix_len (in_rule c) (b ∷ bs) ≡ suc m = rw h (omega arith) in
-    let more : count_by (λ x. x == c) (take m bs) ≤ count_by (λ x. x == c) (b ∷ take m bs) = omega (arith, sum_by-cons (λ x. if x == c then 1 else 0) b (take m bs)) in
-    let g : rule_len c (b ∷ bs) ≡ (if nat_le 3 (count_by (λ x. x == c) (b ∷ take m bs)) then option_map (λ k. suc m + k) (eol_len (drop m bs)) else None) = rw p refl in
+    let more : count_by (λ x. x == c) (take m bs) ≤ count_by (λ x. x == c) (b ∷ take m bs) =
+    omega (arith, sum_by-cons (λ x. if x == c then 1 else 0) b (take m bs)) in
+    let g : rule_len c (b ∷ bs) ≡ (if nat_le 3 (count_by (λ x. x == c) (b ∷ take m bs)) then option_map (λ k. suc m + k) (eol_len (drop m bs)) else None) =
+    rw p refl in
     shorter _ _ m (suc m) (eol_len (drop m bs)) more (sym g ∙ e)
 
 same_byte : (c b : ℕ) → in_rule c b ≡ true → is_rule_byte b ≡ true → b ≡ c
 same_byte c b h e = grind (arith, nat_tests, h, e)
 
-here_by : (t : Bool) (c b : ℕ) (bs : List ℕ) → is_rule_byte b ≡ t → in_rule c b ≡ true → (is_rule_byte c ≡ true → rule_len c (b ∷ bs) ≡ None) → (if t then rule_len b (b ∷ bs) else None) ≡ None
+here_by : (t : Bool) (c b : ℕ) (bs : List ℕ)
+    → is_rule_byte b ≡ t → in_rule c b ≡ true → (is_rule_byte c ≡ true → rule_len c (b ∷ bs) ≡ None) → (if t then rule_len b (b ∷ bs) else None) ≡ None
 here_by false c b bs e h f = refl
 here_by true c b bs e h f =
     let same : b ≡ c = same_byte c b h e in
@@ -34,7 +39,10 @@ here : (c b : ℕ) (bs : List ℕ) → in_rule c b ≡ true → (is_rule_byte c 
 unfolding hrule_len
 here c b bs h f = here_by (is_rule_byte b) c b bs refl h f
 
-none_by : (c b : ℕ) (bs : List ℕ) (k : ℕ) (t : Bool) → in_rule c b ≡ t → (is_rule_byte c ≡ true → rule_len c (b ∷ bs) ≡ None) → k < prefix_len (in_rule c) (b ∷ bs) → ((j : ℕ) → (is_rule_byte c ≡ true → rule_len c bs ≡ None) → j < prefix_len (in_rule c) bs → hrule_len (drop j bs) ≡ None) → hrule_len (drop k (b ∷ bs)) ≡ None
+none_by : (c b : ℕ) (bs : List ℕ) (k : ℕ) (t : Bool)
+    → in_rule c b ≡ t → (is_rule_byte c ≡ true → rule_len c (b ∷ bs) ≡ None) → k < prefix_len (in_rule c) (b ∷ bs)
+    → ((j : ℕ) → (is_rule_byte c ≡ true → rule_len c bs ≡ None) → j < prefix_len (in_rule c) bs → hrule_len (drop j bs) ≡ None)
+    → hrule_len (drop k (b ∷ bs)) ≡ None
 none_by c b bs k false h f l more = let p : prefix_len (in_rule c) (b ∷ bs) ≡ 0 = rw h in absurd (omega arith)
 none_by c b bs zero true h f l more = here c b bs h f
 none_by c b bs (suc k) true h f l more =
@@ -52,7 +60,9 @@ no_rule b bs h e = rw e at h
 -- where no thematic break begins, none begins before another byte than its first, spaces and tabs
 pub none_begins : (bs : List ℕ) (c n : ℕ) → hrule_len bs ≡ None → 0 < length bs → c ≡ get_or bs 0 0 → n ≡ prefix_len (in_rule c) bs → HasNoRule bs 0 n
 none_begins [] c n h l e m = absurd (omega arith)
-none_begins (b ∷ bs) c n h l e m = record { none = λ k low high. none_in c (b ∷ bs) k (λ r. ap (λ x. rule_len x (b ∷ bs)) e ∙ no_rule b bs h (ap is_rule_byte (sym e) ∙ r)) (omega arith) }
+none_begins (b ∷ bs) c n h l e m = record {
+  none = λ k low high. none_in c (b ∷ bs) k (λ r. ap (λ x. rule_len x (b ∷ bs)) e ∙ no_rule b bs h (ap is_rule_byte (sym e) ∙ r)) (omega arith);
+}
 
 -- the same in the bytes that these are the rest of
 pub none_further : (bs : List ℕ) (s n : ℕ) → HasNoRule (drop s bs) 0 n → HasNoRule bs s (s + n)

@@ -1,5 +1,6 @@
 -- Lines that open or close a leaf block: thematic breaks, setext heading underlines, code fences and metadata; and how far the first columns of a line go.
-use Rattle.std.specs.Prelude.{◌≡◌, ◌<◌, ◌≤◌, ℕ, ◌+◌, ◌-◌, ◌%◌, ◌==◌, ◌&&◌, ◌||◌, not, nat_eq, Bool, true, nat_le, List, [], ◌∷◌, length, take, drop, Option, Some, None, is_some, count_by, if◌then◌else◌}
+use Rattle.std.specs.Prelude.{◌≡◌, ◌<◌, ◌≤◌, ℕ, ◌+◌, ◌-◌, ◌%◌, ◌==◌, ◌&&◌, ◌||◌, not, nat_eq, Bool, true, nat_le, List, [], ◌∷◌, length, take, drop, Option}
+use Rattle.std.specs.Prelude.{Some, None, is_some, count_by, if◌then◌else◌}
 use Rattle.std.specs.Option.{option_map}
 use Rattle.std.specs.List.{prefix_len, take_while, list_any, list_all, starts_with}
 use Rattle.first_pass_items.specs.Bytes.{tab, space, asterisk, plus_sign, hyphen, full_stop, equals_sign, underscore, backquote, tilde}

@@ -1,10 +1,12 @@
 -- The markers with which containers open: list items, definitions, block quotes, and the marks of tasks and quotes.
-use Rattle.std.specs.Prelude.{ℕ, ◌+◌, ◌-◌, ◌*◌, ◌==◌, ◌&&◌, ◌||◌, not, Bool, nat_le, List, [], ◌∷◌, length, take, drop, Option, Some, None, is_some, slice_index, codes, if◌then◌else◌}
+use Rattle.std.specs.Prelude.{ℕ, ◌+◌, ◌-◌, ◌*◌, ◌==◌, ◌&&◌, ◌||◌, not, Bool, nat_le, List, [], ◌∷◌, length, take, drop, Option, Some, None, is_some}
+use Rattle.std.specs.Prelude.{slice_index, codes, if◌then◌else◌}
 use Rattle.std.specs.Option.{option_map}
 use Rattle.std.specs.List.{prefix_len}
 use Rattle.std.specs.Char.{is_ascii_digit}
 use Rattle.std.specs.Str.{str_eq_ignore_ascii_case}
-use Rattle.first_pass_items.specs.Bytes.{right_parenthesis, asterisk, plus_sign, hyphen, full_stop, digit_zero, colon, capital_x, left_bracket, right_bracket, small_x}
+use Rattle.first_pass_items.specs.Bytes.{right_parenthesis, asterisk, plus_sign, hyphen, full_stop, digit_zero, colon, capital_x, left_bracket, right_bracket}
+use Rattle.first_pass_items.specs.Bytes.{small_x}
 use Rattle.first_pass_items.specs.declared.item.BlockQuoteKind.{BlockQuoteKind}
 use Rattle.first_pass_items.specs.declared.item.BlockQuoteKind.TheVariants.{Note, Tip, Important, Warning, Caution}
 use Rattle.first_pass_lines.specs.Lines.{begins, blank_len, is_blank_line, at_line_end, is_white, is_ascii_white}

@@ -1,5 +1,6 @@
 -- Facts on where a delimiter row can begin, and on how many alignments it gives.
-use Rattle.std.proofs.Common.{◌≡◌, subst, ℕ, zero, suc, ◌+◌, ◌-◌, ◌<◌, ◌≤◌, ◌==◌, ◌&&◌, ◌||◌, ◌⊎◌, Bool, true, false, nat_le, nat_lt, List, [], ◌∷◌, length, map, take, drop, Option, Some, None, refl, sym, ap, ◌∙◌, arith, inl, inr, if◌then◌else◌}
+use Rattle.std.proofs.Common.{◌≡◌, subst, ℕ, zero, suc, ◌+◌, ◌-◌, ◌<◌, ◌≤◌, ◌==◌, ◌&&◌, ◌||◌, ◌⊎◌, Bool, true, false, nat_le, nat_lt, List, [], ◌∷◌, length}
+use Rattle.std.proofs.Common.{map, take, drop, Option, Some, None, refl, sym, ap, ◌∙◌, arith, inl, inr, if◌then◌else◌}
 use Rattle.std.specs.Option.{option_map, option_map_or}
 use Rattle.std.specs.List.{prefix_len, suffix_len, take_while, position_or_len, list_any, slice_split}
 use Rattle.std.proofs.lemmas.Bool.{cases_lt}
@@ -11,7 +12,8 @@ use Rattle.first_pass_lines.specs.Lines.{is_blank, is_content, begins, line_len}
 use Rattle.first_pass_scan.specs.LeafLines.{run_len}
 use Rattle.first_pass_lines.specs.Rest.{Rest, indent, after_columns, columns_of}
 use Rattle.first_pass_lines.proofs.PlaceFacts.{all_columns, all_columns_up_to}
-use Rattle.first_pass_table_scan.specs.TableHead.{is_pipe, ends, stripped, without_first, without_last, is_hyphens, alignment_by, delimiter_cell, each_of, delimiter_cells, delimiter_row, table_head, delimiter_row_of}
+use Rattle.first_pass_table_scan.specs.TableHead.{is_pipe, ends, stripped, without_first, without_last, is_hyphens, alignment_by, delimiter_cell, each_of}
+use Rattle.first_pass_table_scan.specs.TableHead.{delimiter_cells, delimiter_row, table_head, delimiter_row_of}
 use Rattle.first_pass_table_scan.proofs.TableFacts.{cells-refused, cells-more, cells-last}
 
 -- a byte stands first in these bytes, or they are none
@@ -41,7 +43,9 @@ unfolding stripped
 fronted-stripped b bs h f =
     elim f as (λ _. Fronted b (stripped bs)) [
       | inl e ↦ subst (λ cs. Fronted b (stripped cs)) (sym e) (inl refl)
-      | inr more ↦ subst (λ cs. Fronted b (stripped cs)) (sym more.1) (subst (λ k. Fronted b (let s : List ℕ = drop k (b ∷ more.0) in take (length s - suffix_len is_blank s) s)) (sym (strip_fronted b more.0 h)) (take_front b (length (b ∷ more.0) - suffix_len is_blank (b ∷ more.0)) more.0))
+      | inr more ↦ subst (λ cs. Fronted b (stripped cs)) (sym more.1)
+          (subst (λ k. Fronted b (let s : List ℕ = drop k (b ∷ more.0) in take (length s - suffix_len is_blank s) s)) (sym (strip_fronted b more.0 h))
+          (take_front b (length (b ∷ more.0) - suffix_len is_blank (b ∷ more.0)) more.0))
     ]
 
 begins-other : (b c : ℕ) (bs : List ℕ) → (b == c) ≡ false → Fronted b bs → begins c bs ≡ false
@@ -68,7 +72,8 @@ no_hyphens : (b : ℕ) (bs : List ℕ) → (b == hyphen) ≡ false → Fronted b
 no_hyphens b bs h f =
     elim f as (λ _. is_hyphens bs ≡ false) [
       | inl e ↦ ap is_hyphens e
-      | inr more ↦ ap is_hyphens more.1 ∙ ap (λ n. nat_le 1 (length (b ∷ more.0)) && (n == length (b ∷ more.0))) (no_run b more.0 h) ∙ none_of_some (length more.0)
+      | inr more ↦
+          ap is_hyphens more.1 ∙ ap (λ n. nat_le 1 (length (b ∷ more.0)) && (n == length (b ∷ more.0))) (no_run b more.0 h) ∙ none_of_some (length more.0)
     ]
 
 -- no alignment begins with such a byte
@@ -93,7 +98,8 @@ if_none true o h = h
 if_none false o h = refl
 
 -- and no delimiter row
-row_refused : (b : ℕ) (bs : List ℕ) → is_blank b ≡ false → (b == pipe) ≡ false → (b == hyphen) ≡ false → (b == colon) ≡ false → Fronted b bs → delimiter_row bs ≡ None
+row_refused : (b : ℕ) (bs : List ℕ)
+    → is_blank b ≡ false → (b == pipe) ≡ false → (b == hyphen) ≡ false → (b == colon) ≡ false → Fronted b bs → delimiter_row bs ≡ None
 unfolding delimiter_row
 row_refused b bs blank p h k f =
     let row : List ℕ = stripped (take_while is_content bs) in
@@ -101,7 +107,8 @@ row_refused b bs blank p h k f =
     let inner : List ℕ = without_first pipe row in
     let same : inner ≡ row = without_first-other b pipe row p front in
     let inner_front : Fronted b inner = subst (Fronted b) (sym same) front in
-    if_none (nat_le (columns_of bs 0) 3 && list_any is_pipe row) (delimiter_cells (without_last pipe inner)) (cells-refused-at b (without_last pipe inner) blank h k (last_or_not b inner (ends pipe inner) inner_front))
+    if_none (nat_le (columns_of bs 0) 3 && list_any is_pipe row) (delimiter_cells (without_last pipe inner))
+    (cells-refused-at b (without_last pipe inner) blank h k (last_or_not b inner (ends pipe inner) inner_front))
 
 either_no : (s t : Bool) → (s || t) ≡ false → (s ≡ false) × (t ≡ false)
 either_no false false h = (refl, refl)
@@ -112,7 +119,8 @@ neither : (s t : Bool) → s ≡ false → t ≡ false → (s || t) ≡ false
 neither s t e f = ap (λ u. u || t) e ∙ f
 
 -- a delimiter row that no space or tab stands before begins with a pipe, a hyphen or a colon
-pub row-refused : (bs : List ℕ) → begins 32 bs ≡ false → begins 9 bs ≡ false → (begins pipe bs || begins hyphen bs || begins colon bs) ≡ false → delimiter_row bs ≡ None
+pub row-refused : (bs : List ℕ)
+    → begins 32 bs ≡ false → begins 9 bs ≡ false → (begins pipe bs || begins hyphen bs || begins colon bs) ≡ false → delimiter_row bs ≡ None
 row-refused [] space tab h = row_refused 0 [] refl refl refl refl (inl refl)
 row-refused (b ∷ bs) space tab h =
     let some = either_no ((b == pipe) || (b == hyphen)) (b == colon) h in
@@ -128,7 +136,8 @@ row_of-few r s e h =
     let same : after_columns (indent r) r ≡ s = sym (all_columns_up_to 4 r low) ∙ sym e in
     ap (λ t. if t then delimiter_row (after_columns (indent r) r).left else None) few ∙ ap (λ q. delimiter_row q.left) same
 
-pub row_of-refused : (r s : Rest) → s ≡ after_columns 4 r → nat_le 4 (indent r) ≡ false → (begins pipe s.left || begins hyphen s.left || begins colon s.left) ≡ false → None ≡ delimiter_row_of r
+pub row_of-refused : (r s : Rest) → s ≡ after_columns 4 r → nat_le 4 (indent r) ≡ false
+    → (begins pipe s.left || begins hyphen s.left || begins colon s.left) ≡ false → None ≡ delimiter_row_of r
 row_of-refused r s e h look =
     let low : indent r ≤ 4 = grind (arith, nat_tests, h) in
     let same : after_columns (indent r) r ≡ s = sym (all_columns_up_to 4 r low) ∙ sym e in
@@ -173,7 +182,8 @@ unfolding delimiter_row_of
 row_of-some r xs h = row-some (after_columns (indent r) r).left xs (if_some (nat_lt (indent r) 4) (delimiter_row (after_columns (indent r) r).left) xs h)
 
 -- the row of a head that was read, by its alignments
-head-cases : (n : ℕ) (o : Option (List Alignment)) (size : ℕ) (xs : List Alignment) → ◌≡◌ {A = ℕ × List Alignment} (size, xs) (option_map_or (λ columns. (n, columns)) o (0, [])) → ((xs ≡ []) × (o ≡ None)) ⊎ (o ≡ Some xs)
+head-cases : (n : ℕ) (o : Option (List Alignment)) (size : ℕ) (xs : List Alignment)
+    → ◌≡◌ {A = ℕ × List Alignment} (size, xs) (option_map_or (λ columns. (n, columns)) o (0, [])) → ((xs ≡ []) × (o ≡ None)) ⊎ (o ≡ Some xs)
 head-cases n None size xs h = inl (ap (λ q. q.1) h, refl)
 head-cases n (Some ys) size xs h = inr (ap (λ q. Some q.1) (sym h))
 

@@ -1,5 +1,6 @@
 -- Facts on the pipes of a header row, and on its columns.
-use Rattle.std.proofs.Common.{◌≡◌, ℕ, suc, ◌+◌, ◌-◌, ◌<◌, ◌≤◌, ◌⊎◌, Bool, true, false, List, [], ◌∷◌, length, take, drop, Option, Some, None, refl, sym, ap, ◌∙◌, arith, inl, inr, if◌then◌else◌, ◌==◌, ◌&&◌, not, get_or}
+use Rattle.std.proofs.Common.{◌≡◌, ℕ, suc, ◌+◌, ◌-◌, ◌<◌, ◌≤◌, ◌⊎◌, Bool, true, false, List, [], ◌∷◌, length, take, drop, Option, Some, None, refl, sym, ap}
+use Rattle.std.proofs.Common.{◌∙◌, arith, inl, inr, if◌then◌else◌, ◌==◌, ◌&&◌, not, get_or}
 use Rattle.std.specs.Option.{option_map_or}
 use Rattle.std.specs.List.{prefix_len, take_while, position_or_len}
 use Rattle.std.proofs.lemmas.List.{drop_more, drop_all, take-take}
@@ -17,19 +18,25 @@ end_behind at found b bs = option_map_or (λ last. at + last + 1) (last_pipe_beh
 at_byte : (row : List ℕ) (i x : ℕ) → i < length row → get_or row i 0 ≡ x → drop i row ≡ x ∷ drop (i + 1) row
 at_byte row i x l e = drop_more row i 0 l ∙ ap (λ y. y ∷ drop (i + 1) row) e
 
-pub pipes-at : (row : List ℕ) (i b x : ℕ) → i < length row → get_or row i 0 ≡ x → pipes_behind b (drop i row) ≡ (if is_pipe x && not (b == backslash) then 1 else 0) + pipes_behind x (drop (i + 1) row)
+pub pipes-at : (row : List ℕ) (i b x : ℕ) → i < length row → get_or row i 0 ≡ x
+    → pipes_behind b (drop i row) ≡ (if is_pipe x && not (b == backslash) then 1 else 0) + pipes_behind x (drop (i + 1) row)
 pipes-at row i b x l e = ap (pipes_behind b) (at_byte row i x l e)
 
-ending-cases : (at found : ℕ) (t : Bool) (o : Option ℕ) → option_map_or (λ last. at + last + 1) (option_map_or (λ k. Some (k + 1)) o (if t then Some 0 else None)) found ≡ option_map_or (λ last. at + 1 + last + 1) o (if t then at + 1 else found)
+ending-cases : (at found : ℕ) (t : Bool) (o : Option ℕ)
+    → option_map_or (λ last. at + last + 1) (option_map_or (λ k. Some (k + 1)) o (if t then Some 0 else None)) found
+    ≡ option_map_or (λ last. at + 1 + last + 1) o (if t then at + 1 else found)
 ending-cases at found true None = omega arith
 ending-cases at found false None = refl
 ending-cases at found t (Some k) = omega arith
 
-pub ending-at : (row : List ℕ) (i found b x : ℕ) → i < length row → get_or row i 0 ≡ x → end_behind i found b (drop i row) ≡ end_behind (i + 1) (if is_pipe x && not (b == backslash) then i + 1 else found) x (drop (i + 1) row)
-ending-at row i found b x l e = ap (end_behind i found b) (at_byte row i x l e) ∙ ending-cases i found (is_pipe x && not (b == backslash)) (last_pipe_behind x (drop (i + 1) row))
+pub ending-at : (row : List ℕ) (i found b x : ℕ) → i < length row → get_or row i 0 ≡ x
+    → end_behind i found b (drop i row) ≡ end_behind (i + 1) (if is_pipe x && not (b == backslash) then i + 1 else found) x (drop (i + 1) row)
+ending-at row i found b x l e =
+    ap (end_behind i found b) (at_byte row i x l e) ∙ ending-cases i found (is_pipe x && not (b == backslash)) (last_pipe_behind x (drop (i + 1) row))
 
 -- the last pipe is this one or one after it
-last-cases : (t : Bool) (o : Option ℕ) (n : ℕ) → option_map_or (λ k. Some (k + 1)) o (if t then Some 0 else None) ≡ Some n → ((o ≡ None) × (t ≡ true) × (n ≡ 0)) ⊎ ((k : ℕ) × (o ≡ Some k) × (n ≡ k + 1))
+last-cases : (t : Bool) (o : Option ℕ) (n : ℕ)
+    → option_map_or (λ k. Some (k + 1)) o (if t then Some 0 else None) ≡ Some n → ((o ≡ None) × (t ≡ true) × (n ≡ 0)) ⊎ ((k : ℕ) × (o ≡ Some k) × (n ≡ k + 1))
 last-cases true None n h = inl (refl, refl, cc)
 last-cases false None n h = absurd cc
 last-cases t (Some k) n h = inr (k, refl, cc)
@@ -79,7 +86,10 @@ pipes-to-last b (c ∷ cs) n h =
     let t : Bool = is_pipe c && not (b == backslash) in
     elim (last-cases t (last_pipe_behind c cs) n h) as (λ _. pipes_behind b (take (n + 1) (c ∷ cs)) ≡ pipes_behind b (c ∷ cs)) [
       | inl here ↦ ap (λ k. pipes_behind b (take (k + 1) (c ∷ cs))) here.2 ∙ ap (λ k. (if t then 1 else 0) + k) (sym (pipes-none c cs here.0))
-      | inr more ↦ (let at = more.2 in let e : n + 1 ≡ suc (more.0 + 1) = omega arith in ap (λ k. pipes_behind b (take k (c ∷ cs))) e ∙ ap (λ k. (if t then 1 else 0) + k) (pipes-to-last c cs more.0 more.1))
+      | inr more ↦ (
+          let at = more.2 in
+          let e : n + 1 ≡ suc (more.0 + 1) = omega arith in
+          ap (λ k. pipes_behind b (take k (c ∷ cs))) e ∙ ap (λ k. (if t then 1 else 0) + k) (pipes-to-last c cs more.0 more.1))
     ]
 
 -- bytes without a pipe have no last one
@@ -88,23 +98,35 @@ last-none b [] h = refl
 last-none b (c ∷ cs) h = grind (arith, last-none c cs)
 
 -- a row with a byte more that is an open pipe, or isn't
-pub step-open : (row : List ℕ) (i b x pipes found more end : ℕ) → i < length row → x ≡ get_or row i 0 → more ≡ pipes + 1 → end ≡ i + 1 → (is_pipe (get_or row i 0) && not (b == backslash)) ≡ true → pipes + pipes_behind b (drop i row) ≡ pipes_behind 0 row → end_behind i found b (drop i row) ≡ end_behind 0 0 0 row → (more + pipes_behind x (drop (i + 1) row) ≡ pipes_behind 0 row) × (end_behind (i + 1) end x (drop (i + 1) row) ≡ end_behind 0 0 0 row)
+pub step-open : (row : List ℕ) (i b x pipes found more end : ℕ)
+    → i < length row → x ≡ get_or row i 0 → more ≡ pipes + 1 → end ≡ i + 1 → (is_pipe (get_or row i 0) && not (b == backslash)) ≡ true
+    → pipes + pipes_behind b (drop i row) ≡ pipes_behind 0 row → end_behind i found b (drop i row) ≡ end_behind 0 0 0 row
+    → (more + pipes_behind x (drop (i + 1) row) ≡ pipes_behind 0 row) × (end_behind (i + 1) end x (drop (i + 1) row) ≡ end_behind 0 0 0 row)
 step-open row i b x pipes found more end l xe me ee t p q =
     let y : ℕ = get_or row i 0 in
     let left : List ℕ = drop (i + 1) row in
     let one = one_if (is_pipe y && not (b == backslash)) t in
     let counted = pipes-at row i b y l refl in
-    let same : pipes_behind x left ≡ pipes_behind y left = ap (λ u. pipes_behind u left) xe in
-    (omega arith, ap (λ u. end_behind (i + 1) u x left) ee ∙ ap (λ u. end_behind (i + 1) (i + 1) u left) xe ∙ sym (ap (λ u. end_behind (i + 1) (if u then i + 1 else found) y left) t) ∙ sym (ending-at row i found b y l refl) ∙ q)
+    let same : pipes_behind x left ≡ pipes_behind y left = ap (λ u. pipes_behind u left) xe in (
+      omega arith,
+      ap (λ u. end_behind (i + 1) u x left) ee ∙ ap (λ u. end_behind (i + 1) (i + 1) u left) xe
+          ∙ sym (ap (λ u. end_behind (i + 1) (if u then i + 1 else found) y left) t) ∙ sym (ending-at row i found b y l refl) ∙ q,
+    )
 
-pub step-other : (row : List ℕ) (i b x pipes found more end : ℕ) → i < length row → x ≡ get_or row i 0 → more ≡ pipes → end ≡ found → (is_pipe (get_or row i 0) && not (b == backslash)) ≡ false → pipes + pipes_behind b (drop i row) ≡ pipes_behind 0 row → end_behind i found b (drop i row) ≡ end_behind 0 0 0 row → (more + pipes_behind x (drop (i + 1) row) ≡ pipes_behind 0 row) × (end_behind (i + 1) end x (drop (i + 1) row) ≡ end_behind 0 0 0 row)
+pub step-other : (row : List ℕ) (i b x pipes found more end : ℕ)
+    → i < length row → x ≡ get_or row i 0 → more ≡ pipes → end ≡ found → (is_pipe (get_or row i 0) && not (b == backslash)) ≡ false
+    → pipes + pipes_behind b (drop i row) ≡ pipes_behind 0 row → end_behind i found b (drop i row) ≡ end_behind 0 0 0 row
+    → (more + pipes_behind x (drop (i + 1) row) ≡ pipes_behind 0 row) × (end_behind (i + 1) end x (drop (i + 1) row) ≡ end_behind 0 0 0 row)
 step-other row i b x pipes found more end l xe me ee t p q =
     let y : ℕ = get_or row i 0 in
     let left : List ℕ = drop (i + 1) row in
     let none = none_if (is_pipe y && not (b == backslash)) t in
     let counted = pipes-at row i b y l refl in
-    let same : pipes_behind x left ≡ pipes_behind y left = ap (λ u. pipes_behind u left) xe in
-    (omega arith, ap (λ u. end_behind (i + 1) u x left) ee ∙ ap (λ u. end_behind (i + 1) found u left) xe ∙ sym (ap (λ u. end_behind (i + 1) (if u then i + 1 else found) y left) t) ∙ sym (ending-at row i found b y l refl) ∙ q)
+    let same : pipes_behind x left ≡ pipes_behind y left = ap (λ u. pipes_behind u left) xe in (
+      omega arith,
+      ap (λ u. end_behind (i + 1) u x left) ee ∙ ap (λ u. end_behind (i + 1) found u left) xe
+          ∙ sym (ap (λ u. end_behind (i + 1) (if u then i + 1 else found) y left) t) ∙ sym (ending-at row i found b y l refl) ∙ q,
+    )
 
 pub pipes-first : (row : List ℕ) (i b : ℕ) → i < length row → (is_pipe (get_or row i 0) && not (b == backslash)) ≡ true → 1 ≤ pipes_behind b (drop i row)
 pipes-first row i b l t =
@@ -123,7 +145,8 @@ from_start : (o : Option ℕ) → option_map_or (λ last. 0 + last + 1) o 0 ≡ 
 from_start None = refl
 from_start (Some k) = omega arith
 
-pub ending-end : (row : List ℕ) (i b found : ℕ) → length row ≤ i → end_behind i found b (drop i row) ≡ end_behind 0 0 0 row → found ≡ option_map_or (λ last. last + 1) (last_pipe_behind 0 row) 0
+pub ending-end : (row : List ℕ) (i b found : ℕ)
+    → length row ≤ i → end_behind i found b (drop i row) ≡ end_behind 0 0 0 row → found ≡ option_map_or (λ last. last + 1) (last_pipe_behind 0 row) 0
 ending-end row i b found l h = sym (ap (end_behind i found b) (drop_all i row l)) ∙ h ∙ from_start (last_pipe_behind 0 row)
 
 -- what the offset after the last pipe says of it
@@ -154,7 +177,8 @@ last-in-line bs n h =
     omega arith
 
 -- the pipes of a line are those up to its last one
-pub pipes-of-line : (bs : List ℕ) (n : ℕ) → last_pipe_behind 0 (take_while is_content bs) ≡ Some n → pipes_of (take (n + 1) bs) ≡ pipes_of (take_while is_content bs)
+pub pipes-of-line : (bs : List ℕ) (n : ℕ)
+    → last_pipe_behind 0 (take_while is_content bs) ≡ Some n → pipes_of (take (n + 1) bs) ≡ pipes_of (take_while is_content bs)
 pipes-of-line bs n h =
     let within = last-in-line bs n h in
     let few : n + 1 ≤ prefix_len is_content bs = omega arith in
@@ -176,7 +200,8 @@ columns-few pipes true false = omega arith
 columns-few pipes false true = omega arith
 columns-few pipes false false = omega arith
 
-few_or_none : (bs : List ℕ) (o : Option ℕ) → ((n : ℕ) → o ≡ Some n → header_columns bs n ≤ prefix_len is_content bs + 1) → option_map_or (header_columns bs) o 0 ≤ prefix_len is_content bs + 1
+few_or_none : (bs : List ℕ) (o : Option ℕ)
+    → ((n : ℕ) → o ≡ Some n → header_columns bs n ≤ prefix_len is_content bs + 1) → option_map_or (header_columns bs) o 0 ≤ prefix_len is_content bs + 1
 few_or_none bs None f = omega arith
 few_or_none bs (Some n) f = f n refl
 
@@ -191,7 +216,8 @@ columns_within bs =
     omega arith)
 
 -- what the pipes of a line say of its columns
-pub head-by-pipes : (bs : List ℕ) (n : ℕ) → last_pipe_behind 0 (take_while is_content bs) ≡ Some n → head_columns bs ≡ columns_by_pipes (pipes_of (take_while is_content bs)) bs n
+pub head-by-pipes : (bs : List ℕ) (n : ℕ)
+    → last_pipe_behind 0 (take_while is_content bs) ≡ Some n → head_columns bs ≡ columns_by_pipes (pipes_of (take_while is_content bs)) bs n
 head-by-pipes bs n h = head-some bs n h ∙ ap (λ k. columns_by_pipes k bs n) (pipes-of-line bs n h)
 
 no_last : (bs : List ℕ) (o : Option ℕ) → last_pipe_behind 0 bs ≡ o → pipes_of bs ≡ 0 → o ≡ None
@@ -205,20 +231,24 @@ head-without-pipes bs h = head-none bs (no_last (take_while is_content bs) (last
 pub head-unmarked : (bs row : List ℕ) (n : ℕ) → row ≡ take_while is_content bs → n ≡ position_or_len is_pipe row → n ≡ length row → 0 ≡ head_columns bs
 head-unmarked bs row n e at all = sym (head-none bs (ap (last_pipe_behind 0) (sym e) ∙ last-none 0 row (sym all ∙ at)))
 
-pub head-escaped : (bs row : List ℕ) (end : ℕ) → row ≡ take_while is_content bs → end ≡ option_map_or (λ last. last + 1) (last_pipe_behind 0 row) 0 → end ≡ 0 → 0 ≡ head_columns bs
+pub head-escaped : (bs row : List ℕ) (end : ℕ)
+    → row ≡ take_while is_content bs → end ≡ option_map_or (λ last. last + 1) (last_pipe_behind 0 row) 0 → end ≡ 0 → 0 ≡ head_columns bs
 head-escaped bs row end e at none = sym (head-none bs (ap (last_pipe_behind 0) (sym e) ∙ end-none (last_pipe_behind 0 row) end at none))
 
 -- the last pipe of such a line, by the offset after it
-pub last-found : (bs row : List ℕ) (end : ℕ) → row ≡ take_while is_content bs → end ≡ option_map_or (λ last. last + 1) (last_pipe_behind 0 row) 0 → ¬ (end ≡ 0) → last_pipe_behind 0 (take_while is_content bs) ≡ Some (end - 1)
+pub last-found : (bs row : List ℕ) (end : ℕ) → row ≡ take_while is_content bs → end ≡ option_map_or (λ last. last + 1) (last_pipe_behind 0 row) 0 → ¬ (end ≡ 0)
+    → last_pipe_behind 0 (take_while is_content bs) ≡ Some (end - 1)
 last-found bs row end e at some = ap (last_pipe_behind 0) (sym e) ∙ end-some (last_pipe_behind 0 row) end at some
 
-pub counted-some : (bs row : List ℕ) (pipes last : ℕ) → row ≡ take_while is_content bs → pipes ≡ pipes_of row → last_pipe_behind 0 (take_while is_content bs) ≡ Some last → 1 ≤ pipes
+pub counted-some : (bs row : List ℕ) (pipes last : ℕ)
+    → row ≡ take_while is_content bs → pipes ≡ pipes_of row → last_pipe_behind 0 (take_while is_content bs) ≡ Some last → 1 ≤ pipes
 counted-some bs row pipes last e p h =
     let some = pipes-some 0 (take_while is_content bs) last h in
     let same : pipes_of row ≡ pipes_of (take_while is_content bs) = ap (pipes_behind 0) e in
     omega arith
 
-pub counted-to-last : (bs row : List ℕ) (pipes last : ℕ) → row ≡ take_while is_content bs → pipes ≡ pipes_of row → last_pipe_behind 0 (take_while is_content bs) ≡ Some last → pipes ≡ pipes_of (take (last - 0 + 1) bs)
+pub counted-to-last : (bs row : List ℕ) (pipes last : ℕ) → row ≡ take_while is_content bs → pipes ≡ pipes_of row
+    → last_pipe_behind 0 (take_while is_content bs) ≡ Some last → pipes ≡ pipes_of (take (last - 0 + 1) bs)
 counted-to-last bs row pipes last e p h =
     let here : last + 1 ≡ last - 0 + 1 = omega arith in
     p ∙ ap (pipes_behind 0) e ∙ sym (pipes-of-line bs last h) ∙ ap (λ k. pipes_of (take k bs)) here

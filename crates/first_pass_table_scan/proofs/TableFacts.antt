@@ -1,5 +1,6 @@
 -- Facts on the cells of a delimiter row, and on the pipes of a header row.
-use Rattle.std.proofs.Common.{◌≡◌, ℕ, ◌+◌, ◌<◌, ◌≤◌, Bool, List, [], ◌∷◌, ◌++◌, length, map, take, drop, Option, Some, None, refl, sym, ap, ◌∙◌, append_assoc, arith, inl, inr}
+use Rattle.std.proofs.Common.{◌≡◌, ℕ, ◌+◌, ◌<◌, ◌≤◌, Bool, List, [], ◌∷◌, ◌++◌, length, map, take, drop, Option, Some, None, refl, sym, ap, ◌∙◌, append_assoc}
+use Rattle.std.proofs.Common.{arith, inl, inr}
 use Rattle.std.specs.Option.{option_map}
 use Rattle.std.specs.List.{position_or_len, slice_split}
 use Rattle.std.proofs.lemmas.Bool.{cases_lt, false_from_ne_true}
@@ -31,17 +32,23 @@ split_last bs n e l =
     let all : take n bs ≡ bs = take_all n bs (omega arith) in
     slice_split_none is_pipe bs (λ k d h. fails_before_first is_pipe bs k d (omega arith)) ∙ ap (λ x. x ∷ []) (sym all)
 
-pub cells-more : (bs : List ℕ) (n : ℕ) (o : Option Alignment) → n ≡ position_or_len is_pipe bs → n < length bs → o ≡ delimiter_cell (take n bs) → delimiter_cells bs ≡ each_of (o ∷ map delimiter_cell (slice_split is_pipe (drop (n + 1) bs)))
+pub cells-more : (bs : List ℕ) (n : ℕ) (o : Option Alignment) → n ≡ position_or_len is_pipe bs → n < length bs → o ≡ delimiter_cell (take n bs)
+    → delimiter_cells bs ≡ each_of (o ∷ map delimiter_cell (slice_split is_pipe (drop (n + 1) bs)))
 unfolding delimiter_cells
-cells-more bs n o e l h = ap (λ parts. each_of (map delimiter_cell parts)) (split_more bs n e l) ∙ ap (λ p. each_of (p ∷ map delimiter_cell (slice_split is_pipe (drop (n + 1) bs)))) (sym h)
+cells-more bs n o e l h = ap (λ parts. each_of (map delimiter_cell parts)) (split_more bs n e l)
+    ∙ ap (λ p. each_of (p ∷ map delimiter_cell (slice_split is_pipe (drop (n + 1) bs)))) (sym h)
 
-pub cells-last : (bs : List ℕ) (n : ℕ) (o : Option Alignment) → n ≡ position_or_len is_pipe bs → n ≡ length bs → o ≡ delimiter_cell (take n bs) → delimiter_cells bs ≡ each_of (o ∷ [])
+pub cells-last : (bs : List ℕ) (n : ℕ) (o : Option Alignment)
+    → n ≡ position_or_len is_pipe bs → n ≡ length bs → o ≡ delimiter_cell (take n bs) → delimiter_cells bs ≡ each_of (o ∷ [])
 unfolding delimiter_cells
 cells-last bs n o e l h = ap (λ parts. each_of (map delimiter_cell parts)) (split_last bs n e l) ∙ ap (λ p. each_of (p ∷ [])) (sym h)
 
 -- a cell that gives no alignment
 pub cells-refused : (bs : List ℕ) (n : ℕ) → n ≡ position_or_len is_pipe bs → n ≤ length bs → None ≡ delimiter_cell (take n bs) → delimiter_cells bs ≡ None
-cells-refused bs n e l h = elim (cases_lt n (length bs)) as (λ _. delimiter_cells bs ≡ None) [ inl more ↦ cells-more bs n None e more h | inr all ↦ cells-last bs n None e (omega arith) h ]
+cells-refused bs n e l h = elim (cases_lt n (length bs)) as (λ _. delimiter_cells bs ≡ None) [
+  | inl more ↦ cells-more bs n None e more h
+  | inr all ↦ cells-last bs n None e (omega arith) h
+]
 
 -- the alignments that were found, before those of the rest
 abbrev pub found_before : List Alignment → Option (List Alignment) → Option (List Alignment)
@@ -55,11 +62,13 @@ found-push : (xs : List Alignment) (x : Alignment) (o : Option (List Alignment))
 found-push xs x None = refl
 found-push xs x (Some ys) = ap Some (append_assoc xs (x ∷ []) ys)
 
-pub found-more : (bs : List ℕ) (n : ℕ) (xs : List Alignment) (x : Alignment) → n ≡ position_or_len is_pipe bs → n < length bs → Some x ≡ delimiter_cell (take n bs) → found_before (xs ++ x ∷ []) (delimiter_cells (drop (n + 1) bs)) ≡ found_before xs (delimiter_cells bs)
+pub found-more : (bs : List ℕ) (n : ℕ) (xs : List Alignment) (x : Alignment) → n ≡ position_or_len is_pipe bs → n < length bs
+    → Some x ≡ delimiter_cell (take n bs) → found_before (xs ++ x ∷ []) (delimiter_cells (drop (n + 1) bs)) ≡ found_before xs (delimiter_cells bs)
 unfolding delimiter_cells
 found-more bs n xs x e l h = found-push xs x (delimiter_cells (drop (n + 1) bs)) ∙ sym (ap (found_before xs) (cells-more bs n (Some x) e l h))
 
-pub found-last : (bs : List ℕ) (n : ℕ) (xs : List Alignment) (x : Alignment) → n ≡ position_or_len is_pipe bs → n ≡ length bs → Some x ≡ delimiter_cell (take n bs) → Some (xs ++ x ∷ []) ≡ found_before xs (delimiter_cells bs)
+pub found-last : (bs : List ℕ) (n : ℕ) (xs : List Alignment) (x : Alignment)
+    → n ≡ position_or_len is_pipe bs → n ≡ length bs → Some x ≡ delimiter_cell (take n bs) → Some (xs ++ x ∷ []) ≡ found_before xs (delimiter_cells bs)
 found-last bs n xs x e l h = sym (ap (found_before xs) (cells-last bs n (Some x) e l h))
 
 -- no more pipes than bytes

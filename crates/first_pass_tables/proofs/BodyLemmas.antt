@@ -1,5 +1,7 @@
 -- The rows of a table's body, one after the other.
-use Rattle.std.proofs.Common.{◌≡◌, inl, inr, ℕ, ◌+◌, ◌-◌, ◌<◌, ◌≤◌, ◌==◌, ◌&&◌, Bool, true, false, nat_lt, nat_le, List, [], ◌∷◌, ◌++◌, append_assoc, append-nil, length, drop, Option, Some, None, is_some, Less, Equal, Greater, IsUtf8, IsCharBoundary, refl, sym, ap, subst, ◌∙◌, arith, if◌then◌else◌}
+use Rattle.std.proofs.Common.{◌≡◌, inl, inr, ℕ, ◌+◌, ◌-◌, ◌<◌, ◌≤◌, ◌==◌, ◌&&◌, Bool, true, false, nat_lt, nat_le, List, [], ◌∷◌, ◌++◌, append_assoc}
+use Rattle.std.proofs.Common.{append-nil, length, drop, Option, Some, None, is_some, Less, Equal, Greater, IsUtf8, IsCharBoundary, refl, sym, ap, subst, ◌∙◌}
+use Rattle.std.proofs.Common.{arith, if◌then◌else◌}
 use Rattle.std.specs.Ordering.{is_lt, nat_cmp, ord_min}
 use Rattle.std.proofs.lemmas.Bool.{cases_lt}
 use Rattle.std.proofs.lemmas.Option.{none-some}
@@ -20,7 +22,8 @@ use Rattle.first_pass_grammar.specs.declared.kind.Container.{Container}
 use Rattle.first_pass_grammar.specs.Names.{Names, Extends}
 use Rattle.first_pass_grammar.specs.Leaves.{Document, document}
 use Rattle.first_pass_grammar.specs.Completion.{lines_from}
-use Rattle.first_pass_grammar.specs.Tables.{AreCells, filled, row_block, row_text, Taken, taking, FoundRow, HasCells, TableSoFar, table_so_far, AreRows, most_filled}
+use Rattle.first_pass_grammar.specs.Tables.{AreCells, filled, row_block, row_text, Taken, taking, FoundRow, HasCells, TableSoFar, table_so_far, AreRows}
+use Rattle.first_pass_grammar.specs.Tables.{most_filled}
 use Rattle.first_pass_grammar.proofs.CountedRows.{is_row, with_row, CountedRows, counted, are_rows}
 use Rattle.first_pass_grammar.proofs.MoreNames.{extends_both}
 use Rattle.first_pass_grammar.proofs.RowEnds.{row_ends_at_place}
@@ -44,10 +47,13 @@ row_line d path n start cells stop utf8 boundary h are =
     ∙ line_start_end d.text n
 
 -- more nodes after an open node's own open and close nothing
-pub same_path : (options : Options) (f g : Forest Item) (more : List (ℕ × Item)) → g.nodes ≡ f.nodes ++ more → g.spine ≡ f.spine → AreIn (length f.nodes) f.spine → path_of options g ≡ path_of options f
-same_path options f g more nodes spine there = ap (path_in options g.nodes) spine ∙ ap (λ ns. path_in options ns f.spine) nodes ∙ path_in-append options f.nodes more f.spine there
+pub same_path : (options : Options) (f g : Forest Item) (more : List (ℕ × Item))
+    → g.nodes ≡ f.nodes ++ more → g.spine ≡ f.spine → AreIn (length f.nodes) f.spine → path_of options g ≡ path_of options f
+same_path options f g more nodes spine there =
+    ap (path_in options g.nodes) spine ∙ ap (λ ns. path_in options ns f.spine) nodes ∙ path_in-append options f.nodes more f.spine there
 
-pub same_table : (f g : Forest Item) (more : List (ℕ × Item)) → g.nodes ≡ f.nodes ++ more → g.spine ≡ f.spine → AreIn (length f.nodes) f.spine → in_table f.nodes f.spine ≡ true → in_table g.nodes g.spine ≡ true
+pub same_table : (f g : Forest Item) (more : List (ℕ × Item))
+    → g.nodes ≡ f.nodes ++ more → g.spine ≡ f.spine → AreIn (length f.nodes) f.spine → in_table f.nodes f.spine ≡ true → in_table g.nodes g.spine ≡ true
 same_table f g more nodes spine there h = ap (in_table g.nodes) spine ∙ ap (λ ns. in_table ns f.spine) nodes ∙ in_table-append f.nodes more f.spine there ∙ h
 
 some_by : {A : Type 0} (o : Option A) → (o ≡ None → ⊥) → is_some o ≡ true
@@ -130,11 +136,13 @@ module _ (d : Document) (before : Names) (columns start : ℕ) (old now new : Op
   path_is : path_of d.options now.tree ≡ path_of d.options old.tree
   path_is = same_path d.options old.tree now.tree (at_depth (length old.tree.spine + 1) s.body) s.nodes s.spine there
 
-  begins : (begin : ℕ) → row_text (path_of d.options now.tree) (line_place at (drop at d.text)) ≡ Some begin → row_text (path_of d.options old.tree) (line_place at (drop at d.text)) ≡ Some begin
+  begins : (begin : ℕ) → row_text (path_of d.options now.tree) (line_place at (drop at d.text)) ≡ Some begin
+      → row_text (path_of d.options old.tree) (line_place at (drop at d.text)) ≡ Some begin
   begins begin h = subst (λ path. row_text path (line_place at (drop at d.text)) ≡ Some begin) path_is h
 
   -- after a row
-  more_by : (next begin : ℕ) (ix : TreeIndex) → row_text (path_of d.options now.tree) (line_place at (drop at d.text)) ≡ Some begin → ReadsRow d columns begin now new (Some (next, ix))
+  more_by : (next begin : ℕ) (ix : TreeIndex)
+      → row_text (path_of d.options now.tree) (line_place at (drop at d.text)) ≡ Some begin → ReadsRow d columns begin now new (Some (next, ix))
       → BodySoFar d columns start old new next × (at < next)
   more_by next begin ix h r =
       let a = r.adds in
@@ -244,7 +252,8 @@ rows_closed d before columns head_start body_start some next old headed_table bo
     let path : path_of d.options headed ≡ path_of d.options old = same_path d.options old headed (at_depth (length old.spine + 1) row) nodes spine there in
     let budget : most_filled - some ≡ most_filled - filled columns head.cells = left ∙ ap (λ n. most_filled - n) head.missing_is in
     let all : bodied.nodes ≡ old.nodes ++ at_depth (length old.spine + 1) (row ++ body.body) =
-    body.nodes ∙ ap (λ (s : List TreeIndex). headed.nodes ++ at_depth (length s + 1) body.body) spine ∙ ap (λ ns. ns ++ at_depth (length old.spine + 1) body.body) nodes
+    body.nodes ∙ ap (λ (s : List TreeIndex). headed.nodes ++ at_depth (length s + 1) body.body) spine
+    ∙ ap (λ ns. ns ++ at_depth (length old.spine + 1) body.body) nodes
     ∙ append_assoc old.nodes (at_depth (length old.spine + 1) row) (at_depth (length old.spine + 1) body.body)
     ∙ ap (λ ns. old.nodes ++ ns) (sym (at_depth-append (length old.spine + 1) row body.body)) in
     record {
@@ -257,7 +266,8 @@ rows_closed d before columns head_start body_start some next old headed_table bo
           (taking body.body (lines_from d.text next))) budget
           (subst (λ path. AreRows d path (table_so_far columns (most_filled - some) after) (lines_from d.text body_start)
           (taking body.body (lines_from d.text next))) path body.are_rows);
-      tree_is = new_is ∙ ap (closed_by bodied next) (body.spine ∙ spine) ∙ closed_as bodied (with_below old (row ++ body.body)) next ix pushed.rest old.spine all pushed.innermost;
+      tree_is = new_is ∙ ap (closed_by bodied next) (body.spine ∙ spine)
+          ∙ closed_as bodied (with_below old (row ++ body.body)) next ix pushed.rest old.spine all pushed.innermost;
       later = body.later;
       boundary = body.boundary;
     }

@@ -1,5 +1,6 @@
 -- What stands after the current node dropped: the tree as it was.
-use Rattle.std.proofs.Common.{◌≡◌, ℕ, ◌+◌, ◌-◌, List, ◌∷◌, ◌++◌, length, get_or, take, drop, Some, None, true, false, nat_lt, IfSome, Option, refl, sym, ◌∙◌, ap, subst, arith}
+use Rattle.std.proofs.Common.{◌≡◌, ℕ, ◌+◌, ◌-◌, List, ◌∷◌, ◌++◌, length, get_or, take, drop, Some, None, true, false, nat_lt, IfSome, Option, refl, sym, ◌∙◌}
+use Rattle.std.proofs.Common.{ap, subst, arith}
 use Rattle.std.proofs.lemmas.List.{length-append, map-append, length-map, get_or-drop, length-drop, get_or_append_left, get_or_at}
 use Rattle.std.proofs.lemmas.List.Sums.{prefix_len_is}
 use Rattle.std.proofs.lemmas.Bool.Decides.{nat_tests}
@@ -35,8 +36,10 @@ kept_back {T} f g c x more h q e s =
     let d = length f.spine + 1 in
     let l = subst (λ (o : Option TreeIndex). IfSome o (λ c. IsLastAt (depths f.nodes) d c.0)) q h.at_current in
     let m : depths g.nodes ≡ depths f.nodes ++ d ∷ depths more = ap (λ (ns : List (ℕ × T)). depths ns) e ∙ map-append (λ n. n.0) f.nodes ((d, x) ∷ more) in
-    let r : end_of (depths g.nodes) c.0 ≡ length f.nodes = ap (λ ds. end_of ds c.0) m ∙ end_before (depths f.nodes) (depths more) d c.0 l ∙ length-map f.nodes (λ n. n.0) in
-    let t : take (end_of (depths g.nodes) c.0) g.nodes ≡ f.nodes = ap (λ n. take n g.nodes) r ∙ ap (take (length f.nodes)) e ∙ take-append_seam f.nodes ((d, x) ∷ more) in
+    let r : end_of (depths g.nodes) c.0 ≡ length f.nodes =
+    ap (λ ds. end_of ds c.0) m ∙ end_before (depths f.nodes) (depths more) d c.0 l ∙ length-map f.nodes (λ n. n.0) in
+    let t : take (end_of (depths g.nodes) c.0) g.nodes ≡ f.nodes =
+    ap (λ n. take n g.nodes) r ∙ ap (take (length f.nodes)) e ∙ take-append_seam f.nodes ((d, x) ∷ more) in
     ap (λ (ns : List (ℕ × T)). record g { nodes = ns; current = Some c }) t
     ∙ ap (λ (v : List TreeIndex). record f { nodes = f.nodes; spine = v; current = Some c }) s
     ∙ ap (λ (o : Option TreeIndex). record f { current = o }) (sym q)

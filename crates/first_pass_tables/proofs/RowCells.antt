@@ -1,5 +1,6 @@
 -- The cells of a row, read one after the other.
-use Rattle.std.proofs.Common.{◌≡◌, ℕ, ◌+◌, ◌≤◌, ◌<◌, ◌==◌, ◌&&◌, ◌||◌, Bool, true, false, List, [], ◌∷◌, ◌++◌, length, drop, slice_index, Option, Some, None, is_some, inl, inr, refl, sym, ap, subst, ◌∙◌, arith, append_assoc, if◌then◌else◌}
+use Rattle.std.proofs.Common.{◌≡◌, ℕ, ◌+◌, ◌≤◌, ◌<◌, ◌==◌, ◌&&◌, ◌||◌, Bool, true, false, List, [], ◌∷◌, ◌++◌, length, drop, slice_index, Option, Some, None}
+use Rattle.std.proofs.Common.{is_some, inl, inr, refl, sym, ap, subst, ◌∙◌, arith, append_assoc, if◌then◌else◌}
 use Rattle.std.specs.List.{prefix_len}
 use Rattle.std.proofs.lemmas.Bool.{cases_lt, lt-leb}
 use Rattle.std.proofs.lemmas.List.{append-nil, length-append, at_drop_all, at_drop_more}
@@ -31,13 +32,15 @@ side_one : (block : List (ℕ × Item)) → side_by_side (block ∷ []) ≡ bloc
 side_one block = append-nil block
 
 -- what the scanners find of a cell: where its content begins, and whether a line ends there
-pub content_found : (text bytes rest : List ℕ) (at cell white : ℕ) → bytes ≡ text → cell ≡ cell_start bytes at → rest ≡ drop cell bytes → white ≡ prefix_len is_white rest
+pub content_found : (text bytes rest : List ℕ) (at cell white : ℕ)
+    → bytes ≡ text → cell ≡ cell_start bytes at → rest ≡ drop cell bytes → white ≡ prefix_len is_white rest
     → cell + white ≡ cell_text text at
 content_found text bytes rest at cell white same begins rest_is white_is =
     let here : cell ≡ cell_start text at = begins ∙ ap (λ (bs : List ℕ). cell_start bs at) same in
     ap (λ (k : ℕ). cell + k) (white_is ∙ ap (prefix_len is_white) (rest_is ∙ ap (drop cell) same)) ∙ ap (λ (k : ℕ). k + prefix_len is_white (drop k text)) here
 
-pub end_found : (text bytes rest : List ℕ) (at : ℕ) (found : Option ℕ) → bytes ≡ text → rest ≡ drop at bytes → found ≡ eol_len rest → eol_len (drop at text) ≡ found
+pub end_found : (text bytes rest : List ℕ) (at : ℕ) (found : Option ℕ)
+    → bytes ≡ text → rest ≡ drop at bytes → found ≡ eol_len rest → eol_len (drop at text) ≡ found
 end_found text bytes rest at found same rest_is found_is = ap eol_len (ap (drop at) (sym same) ∙ sym rest_is) ∙ sym found_is
 
 -- no cell is read yet
@@ -136,7 +139,8 @@ cell_read d before start at count cell text stop old tree new grown far cell_is 
         count_is = omega (arith, length-append far.cells (block ∷ []));
         go_on = one_more d before start at stop far.cells adds.tokens grown far.go_on here is;
         nodes = more-added old tree new (side_by_side far.cells) block far.nodes far.spine tree_is
-            ∙ ap (λ (items : List (ℕ × Item)). old.nodes ++ at_depth (length old.spine + 1) items) (ap (λ (items : List (ℕ × Item)). side_by_side far.cells ++ items) (sym (side_one block)) ∙ sym (side_more far.cells (block ∷ [])));
+            ∙ ap (λ (items : List (ℕ × Item)). old.nodes ++ at_depth (length old.spine + 1) items)
+            (ap (λ (items : List (ℕ × Item)). side_by_side far.cells ++ items) (sym (side_one block)) ∙ sym (side_more far.cells (block ∷ [])));
         spine = ap (λ (f : Forest Item). f.spine) adds.tree_is ∙ far.spine;
         none = λ h. absurd (none-some _ (sym h ∙ ap (λ (f : Forest Item). f.current) adds.tree_is));
         later = omega arith;

@@ -1,5 +1,6 @@
 -- A row opened, filled with its cells and with empty ones, and closed, or dropped again.
-use Rattle.std.proofs.Common.{◌≡◌, ℕ, ◌+◌, ◌-◌, ◌&&◌, ◌||◌, not, Bool, true, nat_lt, nat_le, zero, suc, List, [], ◌∷◌, ◌++◌, length, take, replicate, Option, Some, None, is_some, IsSome, MatchOption, slice_get, refl, sym, ap, subst, ◌∙◌, append_assoc}
+use Rattle.std.proofs.Common.{◌≡◌, ℕ, ◌+◌, ◌-◌, ◌&&◌, ◌||◌, not, Bool, true, nat_lt, nat_le, zero, suc, List, [], ◌∷◌, ◌++◌, length, take, replicate, Option}
+use Rattle.std.proofs.Common.{Some, None, is_some, IsSome, MatchOption, slice_get, refl, sym, ap, subst, ◌∙◌, append_assoc}
 use Rattle.std.proofs.lemmas.List.{length-append}
 use Rattle.std.specs.Option.{option_map}
 use Rattle.first_pass_items.specs.declared.item.Item.{Item}
@@ -111,7 +112,8 @@ row_behind d columns start body old opened read back answer (Some ix) opened_is 
 -- the row is read
 pub row_read : (d : Document) (columns start stop : ℕ) (old new : OpenTable) (cells : List (List (ℕ × Item)))
     (current : Option TreeIndex) (answer : Option (ℕ × TreeIndex)) → AreCells d (spot start old.braces) cells (spot stop new.braces)
-    → keeps_row (is_some old.tree.current) columns (most_filled - old.filled_in) cells ≡ true → new.tree ≡ added old.tree (row_block TableRow columns start cells stop)
+    → keeps_row (is_some old.tree.current) columns (most_filled - old.filled_in) cells ≡ true
+    → new.tree ≡ added old.tree (row_block TableRow columns start cells stop)
     → new.filled_in ≡ old.filled_in + filled columns cells → current ≡ new.tree.current → answer ≡ option_map (λ (row : TreeIndex). (stop, row)) current
     → ReadsRow d columns start old new answer
 row_read d columns start stop old new cells current answer are kept new_is after_is current_is answer_is =

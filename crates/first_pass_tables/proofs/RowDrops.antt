@@ -1,5 +1,6 @@
 -- What stands after the last child of the innermost open node, dropped; and a row with the cells that are kept.
-use Rattle.std.proofs.Common.{◌≡◌, Bool, true, false, ℕ, ◌+◌, ◌<◌, List, [], ◌∷◌, ◌++◌, length, take, Option, Some, None, IfSome, slice_get, refl, sym, ap, subst, ◌∙◌, arith}
+use Rattle.std.proofs.Common.{◌≡◌, Bool, true, false, ℕ, ◌+◌, ◌<◌, List, [], ◌∷◌, ◌++◌, length, take, Option, Some, None, IfSome, slice_get, refl, sym, ap}
+use Rattle.std.proofs.Common.{subst, ◌∙◌, arith}
 use Rattle.std.proofs.lemmas.List.{length-append, length-map, append-nil}
 use Rattle.std.proofs.Math.Seq.{take-append_seam}
 use Rattle.first_pass_items.specs.declared.item.Item.{Item}
@@ -114,7 +115,8 @@ first_kept d before columns start at count stop excess old tree over new grown f
       spine = same.1 ∙ far.spine;
     }
 
-none_by : (n : ℕ) (f g : Forest Item) (cells : List (List (ℕ × Item))) → length cells ≡ 0 → g.nodes ≡ f.nodes ++ at_depth n (side_by_side cells) → g.nodes ≡ f.nodes
+none_by : (n : ℕ) (f g : Forest Item) (cells : List (List (ℕ × Item)))
+    → length cells ≡ 0 → g.nodes ≡ f.nodes ++ at_depth n (side_by_side cells) → g.nodes ≡ f.nodes
 none_by n f g [] empty nodes = nodes ∙ append-nil f.nodes
 none_by n f g (cell ∷ cells) empty nodes = absurd (omega arith)
 

@@ -1,5 +1,6 @@
 -- Where the text of a row begins, and what stays as it is while rows are added.
-use Rattle.std.proofs.Common.{◌≡◌, ◌⊎◌, inl, inr, ℕ, ◌+◌, ◌<◌, ◌&&◌, not, Bool, true, false, true≢false, List, [], ◌∷◌, ◌++◌, length, drop, slice_get, Option, Some, None, IsUtf8, IsCharBoundary, refl, sym, ap, subst, ◌∙◌, if◌then◌else◌}
+use Rattle.std.proofs.Common.{◌≡◌, ◌⊎◌, inl, inr, ℕ, ◌+◌, ◌<◌, ◌&&◌, not, Bool, true, false, true≢false, List, [], ◌∷◌, ◌++◌, length, drop, slice_get, Option}
+use Rattle.std.proofs.Common.{Some, None, IsUtf8, IsCharBoundary, refl, sym, ap, subst, ◌∙◌, if◌then◌else◌}
 use Rattle.std.specs.Option.{option_map, option_and_then}
 use Rattle.std.proofs.lemmas.Bool.{cases_lt}
 use Rattle.std.proofs.lemmas.Option.{none-some}
@@ -30,8 +31,10 @@ row_by : (t : Bool) (v start : ℕ) → (if t then None else Some v) ≡ Some st
 row_by true v start e = cc
 row_by false v start e = (refl, cc)
 
-begins_by : (text : List ℕ) (path : List Container) (n start : ℕ) (o : Option Rest) → IsUtf8 text → IsCharBoundary text n → after path (line_rest (drop n text)) ≡ o
-    → option_and_then (λ (p : Place). if interrupts_with false (unindented p).rest.left then None else Some (offset (unindented p))) (option_map (place_at n) o) ≡ Some start
+begins_by : (text : List ℕ) (path : List Container) (n start : ℕ) (o : Option Rest)
+    → IsUtf8 text → IsCharBoundary text n → after path (line_rest (drop n text)) ≡ o
+    → option_and_then (λ (p : Place). if interrupts_with false (unindented p).rest.left then None else Some (offset (unindented p))) (option_map (place_at n) o)
+    ≡ Some start
     → BeginsRow text path n start
 begins_by text path n start None utf8 boundary e h = absurd (none-some start h)
 begins_by text path n start (Some r) utf8 boundary e h =
@@ -45,7 +48,8 @@ begins_by text path n start (Some r) utf8 boundary e h =
       goes = s.0;
     }
 
-pub begins_row : (text : List ℕ) (path : List Container) (n start : ℕ) → IsUtf8 text → IsCharBoundary text n → row_text path (line_place n (drop n text)) ≡ Some start → BeginsRow text path n start
+pub begins_row : (text : List ℕ) (path : List Container) (n start : ℕ)
+    → IsUtf8 text → IsCharBoundary text n → row_text path (line_place n (drop n text)) ≡ Some start → BeginsRow text path n start
 begins_row text path n start utf8 boundary h = begins_by text path n start (after path (line_rest (drop n text))) utf8 boundary refl h
 
 -- an open table stays one, whatever is added after its nodes
@@ -56,15 +60,18 @@ in_table-append ns more (ix ∷ spine) a =
     ∙ ap (λ t. in_table_by t (option_map (λ n. n.1.body) (slice_get ns ix.0))) (in_table-append ns more spine a.1)
 
 -- the place of the text in a line that continues the path
-pub text_stands : (text : List ℕ) (n at : ℕ) (r s : Rest) → IsUtf8 text → IsPlaceOf text (place_at n r) → at ≡ offset (place_at n s) → s ≡ after_columns (indent r) r
+pub text_stands : (text : List ℕ) (n at : ℕ) (r s : Rest)
+    → IsUtf8 text → IsPlaceOf text (place_at n r) → at ≡ offset (place_at n s) → s ≡ after_columns (indent r) r
     → IsPlaceOf text (unindented (place_at n r)) × (at ≡ offset (unindented (place_at n r)))
 text_stands text n at r s utf8 i is taken = (all_keep text n r utf8 i, is ∙ ap (λ (r : Rest). n + r.taken) taken)
 
-pub text_bounds : (text : List ℕ) (n at : ℕ) (r s : Rest) → IsUtf8 text → IsPlaceOf text (place_at n r) → at ≡ offset (place_at n s) → s ≡ after_columns (indent r) r → IsCharBoundary text at
+pub text_bounds : (text : List ℕ) (n at : ℕ) (r s : Rest)
+    → IsUtf8 text → IsPlaceOf text (place_at n r) → at ≡ offset (place_at n s) → s ≡ after_columns (indent r) r → IsCharBoundary text at
 text_bounds text n at r s utf8 i is taken = let t = text_stands text n at r s utf8 i is taken in subst (IsCharBoundary text) (sym t.1) t.0.boundary
 
 -- what the text of a line says that continues the path
-text_says : (text read : List ℕ) (n at : ℕ) (r : Rest) (t stops : Bool) → IsPlaceOf text (unindented (place_at n r)) → at ≡ offset (unindented (place_at n r)) → read ≡ drop at text → t ≡ true
+text_says : (text read : List ℕ) (n at : ℕ) (r : Rest) (t stops : Bool)
+    → IsPlaceOf text (unindented (place_at n r)) → at ≡ offset (unindented (place_at n r)) → read ≡ drop at text → t ≡ true
     → stops ≡ interrupts_with (true && not t) read → interrupts_with false (unindented (place_at n r)).rest.left ≡ stops
 text_says text read n at r t stops i at_is read_is opened e =
     ap (interrupts_with false) (i.left ∙ ap (λ k. drop k text) (sym at_is) ∙ sym read_is) ∙ ap (λ z. interrupts_with (not z) read) (sym opened) ∙ sym e
@@ -72,14 +79,17 @@ text_says text read n at r t stops i at_is read_is opened e =
 row_at : (path : List Container) (line : Place) (o : Option Rest) (r : Rest) → o ≡ after path line.rest → o ≡ Some r
     → row_text path line ≡ (if interrupts_with false (unindented (at_rest line r)).rest.left then None else Some (offset (unindented (at_rest line r))))
 row_at path line o r e f =
-    ap (λ (o : Option Rest). option_and_then (λ (p : Place). if interrupts_with false (unindented p).rest.left then None else Some (offset (unindented p))) (option_map (at_rest line) o)) (sym e ∙ f)
+    ap (λ (o : Option Rest). option_and_then (λ (p : Place). if interrupts_with false (unindented p).rest.left then None else Some (offset (unindented p)))
+    (option_map (at_rest line) o)) (sym e ∙ f)
 
 pub row_none : (path : List Container) (line : Place) (o : Option Rest) → o ≡ after path line.rest → o ≡ None → None ≡ row_text path line
 row_none path line o e f =
-    sym (ap (λ (o : Option Rest). option_and_then (λ (p : Place). if interrupts_with false (unindented p).rest.left then None else Some (offset (unindented p))) (option_map (at_rest line) o)) (sym e ∙ f))
+    sym (ap (λ (o : Option Rest). option_and_then (λ (p : Place). if interrupts_with false (unindented p).rest.left then None else Some (offset (unindented p)))
+    (option_map (at_rest line) o)) (sym e ∙ f))
 
 module _ (text read : List ℕ) (path : List Container) (n at : ℕ) (o : Option Rest) (r : Rest) (t stops : Bool)
-    (e : o ≡ after path (line_rest (drop n text))) (f : o ≡ Some r) (i : IsPlaceOf text (unindented (place_at n r))) (at_is : at ≡ offset (unindented (place_at n r))) (read_is : read ≡ drop at text)
+    (e : o ≡ after path (line_rest (drop n text))) (f : o ≡ Some r) (i : IsPlaceOf text (unindented (place_at n r)))
+    (at_is : at ≡ offset (unindented (place_at n r))) (read_is : read ≡ drop at text)
     (opened : t ≡ true) (says : stops ≡ interrupts_with (true && not t) read) where
   value_is : row_text path (line_place n (drop n text)) ≡ (if stops then None else Some at)
   value_is =
@@ -98,12 +108,14 @@ none_left : all_taken (line_rest []) ≡ line_rest []
 none_left = after-none (indent (line_rest [])) (line_rest []) refl
 
 begin_by : (n start : ℕ) (o : Option Rest) → (o ≡ None) ⊎ (o ≡ Some (line_rest []))
-    → option_and_then (λ (p : Place). if interrupts_with false (unindented p).rest.left then None else Some (offset (unindented p))) (option_map (place_at n) o) ≡ Some start → ⊥
+    → option_and_then (λ (p : Place). if interrupts_with false (unindented p).rest.left then None else Some (offset (unindented p))) (option_map (place_at n) o)
+    ≡ Some start → ⊥
 begin_by n start None h e = cc
 begin_by n start (Some r) (inl none) e = cc
 begin_by n start (Some r) (inr some) e =
     let same : r ≡ line_rest [] = cc in
-    let over : interrupts_with false (all_taken r).left ≡ true = ap (λ z. interrupts_with false (all_taken z).left) same ∙ ap (λ (z : Rest). interrupts_with false z.left) none_left in
+    let over : interrupts_with false (all_taken r).left ≡ true =
+    ap (λ z. interrupts_with false (all_taken z).left) same ∙ ap (λ (z : Rest). interrupts_with false z.left) none_left in
     let stops = row_by (interrupts_with false (all_taken r).left) (offset (unindented (place_at n r))) start e in
     true≢false (sym over ∙ stops.0)
 
@@ -111,5 +123,6 @@ pub row_within : (text : List ℕ) (path : List Container) (n start : ℕ) → r
 row_within text path n start h =
     elim (cases_lt n (length text)) [
       | inl more ↦ more
-      | inr past ↦ absurd (begin_by n start (after path (line_rest [])) (after-end path) (subst (λ bs. row_text path (line_place n bs) ≡ Some start) (ends_past text n past) h))
+      | inr past ↦ absurd (begin_by n start (after path (line_rest [])) (after-end path)
+          (subst (λ bs. row_text path (line_place n bs) ≡ Some start) (ends_past text n past) h))
     ]

@@ -1,5 +1,6 @@
 -- A paragraph or a table that was added stands for its text.
-use Rattle.std.proofs.Common.{◌≡◌, ℕ, ◌+◌, ◌-◌, ◌≤◌, true, List, [], ◌∷◌, ◌++◌, length, drop, Option, Some, None, MatchOption, IsUtf8, IsCharBoundary, refl, sym, ap, subst, ◌∙◌, arith, inl, inr}
+use Rattle.std.proofs.Common.{◌≡◌, ℕ, ◌+◌, ◌-◌, ◌≤◌, true, List, [], ◌∷◌, ◌++◌, length, drop, Option, Some, None, MatchOption, IsUtf8, IsCharBoundary, refl}
+use Rattle.std.proofs.Common.{sym, ap, subst, ◌∙◌, arith, inl, inr}
 use Rattle.std.specs.Option.{option_map}
 use Rattle.std.proofs.lemmas.Bool.{cases_lt}
 use Rattle.first_pass_items.specs.declared.item.Alignment.{Alignment}
@@ -39,16 +40,19 @@ use Rattle.first_pass_tables.specs.TextsAdded.{AddsText}
 use Rattle.first_pass_tables.proofs.TableFits.{table_fits}
 
 -- what a text is whose first line heads a table, or none
-text_by : (d : Document) (path : List Container) (p : Place) (marker : Option Item) (lines : List Place) (t : Taken) (o : Option (List Alignment)) → headed_table (context d.options path) p.rest.left ≡ o
+text_by : (d : Document) (path : List Container) (p : Place) (marker : Option Item) (lines : List Place) (t : Taken) (o : Option (List Alignment))
+    → headed_table (context d.options path) p.rest.left ≡ o
     → MatchOption o (IsPlainText d path (offset p) marker lines t) (λ alignments. IsTable d path p alignments lines t) → IsText d path p marker lines t
 unfolding IsText
-text_by d path p marker lines t o e h = subst (λ o. MatchOption o (IsPlainText d path (offset p) marker lines t) (λ alignments. IsTable d path p alignments lines t)) (sym e) h
+text_by d path p marker lines t o e h =
+    subst (λ o. MatchOption o (IsPlainText d path (offset p) marker lines t) (λ alignments. IsTable d path p alignments lines t)) (sym e) h
 
 -- where a line ends that has a place
 there_ends : (text : List ℕ) (p : Place) (start : ℕ) → IsPlaceOf text p → offset p ≡ start → line_end_at text start ≡ line_end p
 there_ends text p start i at = ap (line_end_at text) (sym at) ∙ ap (λ bs. offset p + line_len bs) (sym i.left)
 
-headed_at : (context : Context) (text : List ℕ) (p : Place) (start : ℕ) (o : Option (List Alignment)) → IsPlaceOf text p → offset p ≡ start → headed_table context (drop start text) ≡ o → headed_table context p.rest.left ≡ o
+headed_at : (context : Context) (text : List ℕ) (p : Place) (start : ℕ) (o : Option (List Alignment))
+    → IsPlaceOf text p → offset p ≡ start → headed_table context (drop start text) ≡ o → headed_table context p.rest.left ≡ o
 headed_at context text p start o i at h = ap (headed_table context) (i.left ∙ ap (λ n. drop n text) at) ∙ h
 
 -- a paragraph, or a heading that is underlined, that was added
@@ -72,11 +76,14 @@ plain_text_added text options names start marker old new next none a =
     }
 
 -- an open table is a table
-pub opened_table : (old : Forest Item) (start : ℕ) (ix : AlignmentIndex) → let f : Forest Item = opened_block old start (Table ix) in in_table f.nodes f.spine ≡ true
+pub opened_table : (old : Forest Item) (start : ℕ) (ix : AlignmentIndex)
+    → let f : Forest Item = opened_block old start (Table ix) in in_table f.nodes f.spine ≡ true
 opened_table old start ix =
-    ap (λ n. in_table_by (in_table (old.nodes ++ (length old.spine + 1, begun_item start (Table ix)) ∷ []) old.spine) (option_map (λ n. n.1.body) n)) (get_last old.nodes (length old.spine + 1, begun_item start (Table ix)) (length old.nodes) refl)
+    ap (λ n. in_table_by (in_table (old.nodes ++ (length old.spine + 1, begun_item start (Table ix)) ∷ []) old.spine) (option_map (λ n. n.1.body) n))
+    (get_last old.nodes (length old.spine + 1, begun_item start (Table ix)) (length old.nodes) refl)
 
-pub opened_alone : (old opened : Forest Item) (start : ℕ) (ix : AlignmentIndex) → opened ≡ opened_block old start (Table ix) → (place : TreeIndex) × IsJustPushed opened place
+pub opened_alone : (old opened : Forest Item) (start : ℕ) (ix : AlignmentIndex)
+    → opened ≡ opened_block old start (Table ix) → (place : TreeIndex) × IsJustPushed opened place
 opened_alone old opened start ix is =
     let x : Item = begun_item start (Table ix) in
     (record { 0 = length old.nodes }, just_pushed old (appended old x) opened x (record { 0 = length old.nodes }) refl refl is)
@@ -94,7 +101,8 @@ pub line_bounds : (text : List ℕ) (start : ℕ) → IsUtf8 text → IsCharBoun
 line_bounds text start utf8 boundary =
     subst (IsCharBoundary text) (line_start_end text start) (place_end text (line_place start (drop start text)) utf8 (line_is_place text start boundary))
 
-pub body_at : (text bytes : List ℕ) (start mid body : ℕ) → bytes ≡ text → mid ≡ start + line_len (drop start bytes) → body ≡ mid + line_len (drop mid bytes) → body ≡ line_end_at text (line_end_at text start)
+pub body_at : (text bytes : List ℕ) (start mid body : ℕ)
+    → bytes ≡ text → mid ≡ start + line_len (drop start bytes) → body ≡ mid + line_len (drop mid bytes) → body ≡ line_end_at text (line_end_at text start)
 body_at text bytes start mid body same mid_is body_is =
     body_is ∙ ap (λ bs. mid + line_len (drop mid bs)) same ∙ ap (line_end_at text) (mid_is ∙ ap (λ bs. start + line_len (drop start bs)) same)
 
@@ -110,9 +118,11 @@ module _ (text : List ℕ) (options : Options) (names : Names) (start body next 
       let place : TreeIndex = record { 0 = length old.nodes } in
       let opened : Forest Item = opened_block old start (Table ix) in
       let kids : List (ℕ × Item) = row_block TableHead (length alignments) start r.cells r.head_end ++ r.body in
-      r.tree_is ∙ block-built old (appended old x) opened (with_below opened kids) (popped (with_below opened kids) place old.spine) x (λ y. record y { «end» = next }) kids place refl refl refl refl refl refl refl
+      r.tree_is ∙ block-built old (appended old x) opened (with_below opened kids) (popped (with_below opened kids) place old.spine) x
+      (λ y. record y { «end» = next }) kids place refl refl refl refl refl refl refl
 
-  table_is : AreIn (length old.nodes) old.spine → ((more : Names) → Extends more names → NamesAlignments more ix alignments) → body ≡ line_end_at text (line_end_at text start)
+  table_is : AreIn (length old.nodes) old.spine → ((more : Names) → Extends more names → NamesAlignments more ix alignments)
+      → body ≡ line_end_at text (line_end_at text start)
       → (more : Names) → Extends more names → (p : Place) → IsPlaceOf text p → offset p ≡ start
       → IsTable (document text options more) (path_of options old) p alignments (lines_from text (line_end p)) (taking table_items (lines_from text next))
   table_is there named body_is more e p i at =
@@ -137,16 +147,22 @@ module _ (text : List ℕ) (options : Options) (names : Names) (start body next 
             (subst (λ c. AreRows d c table (lines_from text body) (taking r.body left)) path
             (rows_more text options names more (path_of options (opened_block old start (Table ix))) table (lines_from text body) (taking r.body left) e
             r.are_rows));
-        items_are = ap (λ k. block_of (record { start = start; «end» = k; body = Table ix }) (row_block TableHead columns start r.cells r.head_end ++ r.body)) (sym ends)
-            ∙ ap (λ k. block_of (record { start = k; «end» = start_of (length text) left; body = Table ix }) (row_block TableHead columns k r.cells r.head_end ++ r.body)) (sym at);
+        items_are = ap (λ k. block_of (record { start = start; «end» = k; body = Table ix }) (row_block TableHead columns start r.cells r.head_end ++ r.body))
+            (sym ends)
+            ∙ ap (λ k.
+            block_of (record { start = k; «end» = start_of (length text) left; body = Table ix }) (row_block TableHead columns k r.cells r.head_end ++ r.body))
+            (sym at);
       }
 
-  pub table_text : AreIn (length old.nodes) old.spine → ((more : Names) → Extends more names → NamesAlignments more ix alignments) → body ≡ line_end_at text (line_end_at text start)
-      → headed_table (context_of options old) (drop start text) ≡ Some alignments → (marker : Option Item) → AddsText (document text options names) start marker old new next
+  pub table_text : AreIn (length old.nodes) old.spine → ((more : Names) → Extends more names → NamesAlignments more ix alignments)
+      → body ≡ line_end_at text (line_end_at text start)
+      → headed_table (context_of options old) (drop start text) ≡ Some alignments → (marker : Option Item)
+      → AddsText (document text options names) start marker old new next
   table_text there named body_is headed marker = record {
     items = table_items;
     is_text = λ more e p i at.
-        text_by (document text options more) (path_of options old) p marker (lines_from text (line_end p)) (taking table_items (lines_from text next)) (Some alignments)
+        text_by (document text options more) (path_of options old) p marker (lines_from text (line_end p)) (taking table_items (lines_from text next))
+        (Some alignments)
         (headed_at (context options (path_of options old)) text p start (Some alignments) i at headed) (table_is there named body_is more e p i at);
     tree_is = table_tree;
     later = let low = r.later in omega arith;
@@ -154,8 +170,10 @@ module _ (text : List ℕ) (options : Options) (names : Names) (start body next 
   }
 
   -- its nodes lie in order
-  pub table_between : AreIn (length old.nodes) old.spine → ((more : Names) → Extends more names → NamesAlignments more ix alignments) → body ≡ line_end_at text (line_end_at text start)
-      → headed_table (context_of options old) (drop start text) ≡ Some alignments → Extends names names → IsUtf8 text → IsCharBoundary text start → (from : ℕ) → from ≤ start → AddsBetween text from next old new
+  pub table_between : AreIn (length old.nodes) old.spine → ((more : Names) → Extends more names → NamesAlignments more ix alignments)
+      → body ≡ line_end_at text (line_end_at text start)
+      → headed_table (context_of options old) (drop start text) ≡ Some alignments → Extends names names → IsUtf8 text → IsCharBoundary text start → (from : ℕ)
+      → from ≤ start → AddsBetween text from next old new
   table_between there named body_is headed e utf8 begins from low =
       let p : Place = line_place start (drop start text) in
       let at : offset p ≡ start = omega arith in
@@ -168,5 +186,7 @@ module _ (text : List ℕ) (options : Options) (names : Names) (start body next 
         items = table_items;
         tree_is = table_tree;
         fits = table_fits (document text options names) (path_of options old) p alignments next table_items (within_top old) from utf8 i h r.boundary
-            (subst (λ k. IsTable (document text options names) (path_of options old) p alignments (lines_from text k) (taking table_items (lines_from text next))) line table) (omega arith);
+            (subst
+            (λ k. IsTable (document text options names) (path_of options old) p alignments (lines_from text k) (taking table_items (lines_from text next))) line
+            table) (omega arith);
       }

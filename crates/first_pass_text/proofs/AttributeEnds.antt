@@ -1,5 +1,7 @@
 -- The attribute block that the text of a heading ends with.
-use Rattle.std.proofs.Common.{◌≡◌, inl, inr, ℕ, ◌+◌, ◌-◌, ◌≤◌, ◌<◌, ◌==◌, ◌&&◌, nat_lt, Bool, true, false, List, [], ◌∷◌, ◌++◌, length, take, drop, get_or, slice_index, Option, Some, None, is_some, IsSomeAnd, min, IsUtf8, IsCharBoundary, refl, sym, ap, subst, ◌∙◌, arith, length-append, length-drop, length-take, length-take-le, get_or-drop, if◌then◌else◌}
+use Rattle.std.proofs.Common.{◌≡◌, inl, inr, ℕ, ◌+◌, ◌-◌, ◌≤◌, ◌<◌, ◌==◌, ◌&&◌, nat_lt, Bool, true, false, List, [], ◌∷◌, ◌++◌, length, take, drop, get_or}
+use Rattle.std.proofs.Common.{slice_index, Option, Some, None, is_some, IsSomeAnd, min, IsUtf8, IsCharBoundary, refl, sym, ap, subst, ◌∙◌, arith, length-append}
+use Rattle.std.proofs.Common.{length-drop, length-take, length-take-le, get_or-drop, if◌then◌else◌}
 use Rattle.std.specs.List.{slice_range, suffix_len}
 use Rattle.std.specs.Option.{option_map, option_map_or}
 use Rattle.std.proofs.lemmas.Bool.{cond_both, cases_lt}
@@ -14,7 +16,8 @@ use Rattle.first_pass_attributes.specs.AttributeBlocks.{Braces, attribute_block,
 use Rattle.first_pass_attributes.specs.Attributes.{Attributes, attributes_of, attributes_in}
 use Rattle.first_pass_attributes.specs.declared.attrs.HeadingAttributes.{HeadingAttributes}
 use Rattle.first_pass_attributes.proofs.BlockFacts.{block-found}
-use Rattle.first_pass_grammar.specs.Headings.{heading_braces, heading_attributes_of, before_attributes, text_before_attributes, chain_end, chain_bytes, kept_before}
+use Rattle.first_pass_grammar.specs.Headings.{heading_braces, heading_attributes_of, before_attributes, text_before_attributes, chain_end, chain_bytes}
+use Rattle.first_pass_grammar.specs.Headings.{kept_before}
 use Rattle.first_pass_items.specs.declared.item.Item.{Item}
 use Rattle.first_pass_lines.specs.Lines.{is_white}
 use Rattle.first_pass_open.proofs.PathLemmas.{get_last}
@@ -80,7 +83,8 @@ block_within bs block e =
     let whole : length bs ≡ length (is.front ++ left_brace ∷ (is.inside ++ right_brace ∷ is.behind)) = ap length is.parts in
     (omega (arith, is.opens, is.closes), omega (arith, is.opens, is.closes))
 
-pub braces_within : (options : Options) (bs : List ℕ) (block : Braces) → heading_braces options bs ≡ Some block → (block.opening + 1 ≤ block.closing) × (block.closing < length bs)
+pub braces_within : (options : Options) (bs : List ℕ) (block : Braces)
+    → heading_braces options bs ≡ Some block → (block.opening + 1 ≤ block.closing) × (block.closing < length bs)
 unfolding heading_braces
 braces_within options bs block e = block_within bs block (some_if (has options heading_attributes) (attribute_block bs) block e)
 
@@ -92,7 +96,8 @@ length_by bs (Some block) e = let in_text = block_within bs block e in sym (leng
 
 pub length_before : (options : Options) (bs : List ℕ) → has options heading_attributes ≡ true → length_before_block bs ≡ length (before_attributes options bs)
 length_before options bs h =
-    length_by bs (attribute_block bs) refl ∙ sym (ap (λ (o : Option Braces). length (option_map_or (λ (block : Braces). take block.opening bs) o bs)) (these_braces options bs h))
+    length_by bs (attribute_block bs) refl
+    ∙ sym (ap (λ (o : Option Braces). length (option_map_or (λ (block : Braces). take block.opening bs) o bs)) (these_braces options bs h))
 
 -- where the content of a heading's text ends, of a text that is held by another name
 pub content_before : (options : Options) (text bytes : List ℕ) (start to n : ℕ) → has options heading_attributes ≡ true → bytes ≡ text
@@ -105,18 +110,21 @@ none_inside : (o : Option Braces) → None ≡ option_map enclosed o → o ≡ N
 none_inside None e = refl
 none_inside (Some block) e = cc
 
-some_inside : (r : ℕ × ℕ) (o : Option Braces) → Some r ≡ option_map enclosed o → (block : Braces) × (o ≡ Some block) × (block.opening + 1 ≡ r.0) × (block.closing ≡ r.1)
+some_inside : (r : ℕ × ℕ) (o : Option Braces)
+    → Some r ≡ option_map enclosed o → (block : Braces) × (o ≡ Some block) × (block.opening + 1 ≡ r.0) × (block.closing ≡ r.1)
 some_inside r None e = absurd cc
 some_inside r (Some block) e = let same : r ≡ enclosed block = cc in (block, refl, sym (ap (λ (p : ℕ × ℕ). p.0) same), sym (ap (λ (p : ℕ × ℕ). p.1) same))
 
 pub given_not : (options : Options) (bs : List ℕ) → has options heading_attributes ≡ true → None ≡ inside_block bs → heading_attributes_of options bs ≡ None
 given_not options bs h e = given_none options bs (these_braces options bs h ∙ none_inside (attribute_block bs) e)
 
-is_given : (o : Option HeadingAttributes) (given : Attributes) → IsSomeAnd o (λ (h : HeadingAttributes). attributes_in h ≡ given) → option_map attributes_in o ≡ Some given
+is_given : (o : Option HeadingAttributes) (given : Attributes)
+    → IsSomeAnd o (λ (h : HeadingAttributes). attributes_in h ≡ given) → option_map attributes_in o ≡ Some given
 is_given None given h = absurd h
 is_given (Some a) given h = ap Some h
 
-pub given_some : (options : Options) (text : List ℕ) (start to : ℕ) (bs block : List ℕ) (r : ℕ × ℕ) (found : Option HeadingAttributes) → has options heading_attributes ≡ true
+pub given_some : (options : Options) (text : List ℕ) (start to : ℕ) (bs block : List ℕ) (r : ℕ × ℕ) (found : Option HeadingAttributes)
+    → has options heading_attributes ≡ true
     → bs ≡ slice_range text start to → to ≤ length text → Some r ≡ inside_block bs → block ≡ slice_range text (start + r.0) (start + r.1)
     → IsSomeAnd found (λ (h : HeadingAttributes). attributes_in h ≡ attributes_of block)
     → option_map attributes_in found ≡ heading_attributes_of options bs
@@ -128,10 +136,12 @@ given_some options text start to bs block r found h bs_is within e block_is is =
     ap (λ n. slice_range bs n braces.closing) opens ∙ ap (slice_range bs r.0) closes ∙ ap (λ xs. slice_range xs r.0 r.1) bs_is
     ∙ between_both text start to r.0 r.1 (omega (arith, inside.0, inside.1)) ∙ sym block_is in
     is_given found (attributes_of block) is
-    ∙ sym (ap (option_map (λ (b : Braces). attributes_of (slice_range bs (b.opening + 1) b.closing))) (these_braces options bs h ∙ found_is) ∙ ap (λ xs. Some (attributes_of xs)) same)
+    ∙ sym (ap (option_map (λ (b : Braces). attributes_of (slice_range bs (b.opening + 1) b.closing))) (these_braces options bs h ∙ found_is)
+    ∙ ap (λ xs. Some (attributes_of xs)) same)
 
 -- after the opening brace is a place between two characters
-pub brace_boundary : (text bs : List ℕ) (start to opening at : ℕ) → IsUtf8 text → bs ≡ slice_range text start to → to ≤ length text → opening + 1 < length bs → slice_index bs opening ≡ left_brace
+pub brace_boundary : (text bs : List ℕ) (start to opening at : ℕ)
+    → IsUtf8 text → bs ≡ slice_range text start to → to ≤ length text → opening + 1 < length bs → slice_index bs opening ≡ left_brace
     → at ≡ opening + 1 → IsCharBoundary text (start + at)
 brace_boundary text bs start to opening at utf8 bs_is within less opens at_is =
     let long : length bs ≡ to - start = ap length bs_is ∙ length_between text start to within in
@@ -164,10 +174,12 @@ pub none_given : (options : Options) (bs : List ℕ) (found : Option HeadingAttr
 none_given options bs found e none = none_by options bs found (heading_braces options bs) refl e none
 
 -- where the content ends before a block
-pub length_some : (options : Options) (bs : List ℕ) (block : Braces) → heading_braces options bs ≡ Some block → length (before_attributes options bs) ≡ block.opening
+pub length_some : (options : Options) (bs : List ℕ) (block : Braces)
+    → heading_braces options bs ≡ Some block → length (before_attributes options bs) ≡ block.opening
 length_some options bs block h =
     let inside = braces_within options bs block h in
-    ap (λ (o : Option Braces). length (option_map_or (λ (b : Braces). take b.opening bs) o bs)) h ∙ length-take-le block.opening bs (omega (arith, inside.0, inside.1))
+    ap (λ (o : Option Braces). length (option_map_or (λ (b : Braces). take b.opening bs) o bs)) h
+    ∙ length-take-le block.opening bs (omega (arith, inside.0, inside.1))
 
 before_by : (options : Options) (bs : List ℕ) (o : Option Braces) → heading_braces options bs ≡ o → length (before_attributes options bs) ≤ length bs
 before_by options bs None h = let same = ap length (before_none options bs h) in omega arith
@@ -201,7 +213,8 @@ cut_place false start opening content_end white bs content e f g =
     omega arith
 
 pub cut_by : (text : List ℕ) (options : Options) (start : ℕ) (broken : Bool) (chain : List Item) (block : Braces) (content_end white : ℕ) (content : List ℕ)
-    → heading_braces options (chain_bytes text start chain) ≡ Some block → content_end ≡ start + length (before_attributes options (chain_bytes text start chain))
+    → heading_braces options (chain_bytes text start chain) ≡ Some block
+    → content_end ≡ start + length (before_attributes options (chain_bytes text start chain))
     → content ≡ slice_range text start content_end → white ≡ (if broken then 0 else suffix_len is_white content)
     → cut_chain text options start broken chain ≡ cut (content_end - white) chain
 cut_by text options start broken chain block content_end white content h e f g =
@@ -211,11 +224,13 @@ cut_by text options start broken chain block content_end white content h e f g =
     let most = length-take (chain_end start chain - start) (drop start text) in
     let size : content_end - start ≡ block.opening = omega arith in
     let content_is : content ≡ take block.opening bs =
-    f ∙ ap (λ n. take n (drop start text)) size ∙ sym (take-take block.opening (chain_end start chain - start) (drop start text) (omega (arith, inside.0, inside.1))) in
+    f ∙ ap (λ n. take n (drop start text)) size
+    ∙ sym (take-take block.opening (chain_end start chain - start) (drop start text) (omega (arith, inside.0, inside.1))) in
     ap (λ (o : Option Braces). option_map_or (λ (b : Braces). cut (start + kept_before broken b.opening bs) chain) o chain) h
     ∙ ap (λ n. cut n chain) (cut_place broken start block.opening content_end white bs content ends content_is g)
 
-pub cut_none : (text : List ℕ) (options : Options) (start : ℕ) (broken : Bool) (chain : List Item) → heading_braces options (chain_bytes text start chain) ≡ None
+pub cut_none : (text : List ℕ) (options : Options) (start : ℕ) (broken : Bool) (chain : List Item)
+    → heading_braces options (chain_bytes text start chain) ≡ None
     → cut_chain text options start broken chain ≡ chain
 cut_none text options start broken chain h =
     ap (λ (o : Option Braces). option_map_or (λ (b : Braces). cut (start + kept_before broken b.opening (chain_bytes text start chain)) chain) o chain) h
@@ -224,25 +239,30 @@ cut_none text options start broken chain h =
 IsCurrent : Forest Item → Item → Type 0
 IsCurrent f x = (ix : TreeIndex) × (f.current ≡ Some ix) × (item_at f ix ≡ Some x)
 
-current_end : (f : Forest Item) (y : Item) (xs : List Item) (start : ℕ) → IsCurrent f y → (z : Item) × IsCurrent (chained f xs) z × (z.«end» ≡ chain_end start (y ∷ xs))
+current_end : (f : Forest Item) (y : Item) (xs : List Item) (start : ℕ)
+    → IsCurrent f y → (z : Item) × IsCurrent (chained f xs) z × (z.«end» ≡ chain_end start (y ∷ xs))
 unfolding IsCurrent
 current_end f y [] start h = (y, h, refl)
 current_end f y (x ∷ xs) start h =
-    current_end (appended f x) x xs start (record { 0 = length f.nodes }, refl, ap (option_map (λ (n : ℕ × Item). n.1)) (get_last f.nodes (length f.spine + 1, x) (length f.nodes) refl))
+    current_end (appended f x) x xs start
+    (record { 0 = length f.nodes }, refl, ap (option_map (λ (n : ℕ × Item). n.1)) (get_last f.nodes (length f.spine + 1, x) (length f.nodes) refl))
 
 pub end_none : (f t : Forest Item) (chain : List Item) (start : ℕ) → f.current ≡ None → t ≡ chained f chain → t.current ≡ None → start ≡ chain_end start chain
 unfolding IsCurrent
 end_none f t [] start bare is none = refl
 end_none f t (x ∷ xs) start bare is none =
-    let (z, (ix, at, item), e) = current_end (appended f x) x xs start (record { 0 = length f.nodes }, refl, ap (option_map (λ (n : ℕ × Item). n.1)) (get_last f.nodes (length f.spine + 1, x) (length f.nodes) refl)) in
+    let (z, (ix, at, item), e) = current_end (appended f x) x xs start
+    (record { 0 = length f.nodes }, refl, ap (option_map (λ (n : ℕ × Item). n.1)) (get_last f.nodes (length f.spine + 1, x) (length f.nodes) refl)) in
     absurd (none-some ix (sym none ∙ ap (λ (g : Forest Item). g.current) is ∙ at))
 
-pub end_some : (f t : Forest Item) (chain : List Item) (start : ℕ) (ix : TreeIndex) (x : Item) → f.current ≡ None → t ≡ chained f chain → t.current ≡ Some ix → item_at t ix ≡ Some x
+pub end_some : (f t : Forest Item) (chain : List Item) (start : ℕ) (ix : TreeIndex) (x : Item)
+    → f.current ≡ None → t ≡ chained f chain → t.current ≡ Some ix → item_at t ix ≡ Some x
     → x.«end» ≡ chain_end start chain
 unfolding IsCurrent
 end_some f t [] start ix x bare is some item = absurd (none-some ix (sym bare ∙ sym (ap (λ (g : Forest Item). g.current) is) ∙ some))
 end_some f t (y ∷ ys) start ix x bare is some item =
-    let (z, (at, current, last), e) = current_end (appended f y) y ys start (record { 0 = length f.nodes }, refl, ap (option_map (λ (n : ℕ × Item). n.1)) (get_last f.nodes (length f.spine + 1, y) (length f.nodes) refl)) in
+    let (z, (at, current, last), e) = current_end (appended f y) y ys start
+    (record { 0 = length f.nodes }, refl, ap (option_map (λ (n : ℕ × Item). n.1)) (get_last f.nodes (length f.spine + 1, y) (length f.nodes) refl)) in
     let place : ix ≡ at = same_Some ix at (sym some ∙ ap (λ (g : Forest Item). g.current) is ∙ current) in
     let same : x ≡ z = same_Some x z (sym item ∙ ap (item_at t) place ∙ ap (λ (g : Forest Item). item_at g at) is ∙ last) in
     ap (λ (w : Item). w.«end») same ∙ e
@@ -256,7 +276,8 @@ pub opens_with : (options : Options) (bs : List ℕ) (block : Braces) → headin
 unfolding heading_braces
 opens_with options bs block e =
     let is = block-found bs block (some_if (has options heading_attributes) (attribute_block bs) block e) in
-    ap (λ n. get_or bs n 0) is.opens ∙ ap (λ xs. get_or xs (length is.front) 0) is.parts ∙ behind_front is.front left_brace (is.inside ++ right_brace ∷ is.behind)
+    ap (λ n. get_or bs n 0) is.opens ∙ ap (λ xs. get_or xs (length is.front) 0) is.parts
+    ∙ behind_front is.front left_brace (is.inside ++ right_brace ∷ is.behind)
 
 -- the text that a heading's line is read from, and the bytes before its block
 read_by : (options : Options) (text bs : List ℕ) (start content_end read_to : ℕ) (found : Option HeadingAttributes) (t : Bool) → is_some found ≡ t
@@ -273,7 +294,8 @@ read_by options text bs start content_end read_to found false none given ends re
 pub text_read : (options : Options) (text bs : List ℕ) (start content_end read_to : ℕ) (found : Option HeadingAttributes)
     → option_map attributes_in found ≡ heading_attributes_of options bs → content_end ≡ start + length (before_attributes options bs)
     → read_to ≡ (if is_some found then content_end else length text) → take read_to text ≡ text_before_attributes options text start bs
-text_read options text bs start content_end read_to found given ends read = read_by options text bs start content_end read_to found (is_some found) refl given ends read
+text_read options text bs start content_end read_to found given ends read =
+    read_by options text bs start content_end read_to found (is_some found) refl given ends read
 
 content_by : (options : Options) (line : List ℕ) (size : ℕ) (o : Option Braces) → heading_braces options (take size line) ≡ o → size ≤ length line
     → take (length (before_attributes options (take size line))) line ≡ before_attributes options (take size line)
@@ -305,7 +327,8 @@ fewer_by false false false n m k cs ns h = omega arith
 cut_fewer : (e d : ℕ) (nodes : List (ℕ × Item)) → length (cut_tokens e d nodes) ≤ length nodes
 cut_fewer e d [] = omega arith
 cut_fewer e d (n ∷ ns) =
-    fewer_by (nat_lt d n.0) (nat_lt n.1.start e) (is_escaped n.1.body && (n.1.start == e)) n (n.0, cut_item e n.1) (n.0, record { start = e - 1; «end» = e; body = Text false })
+    fewer_by (nat_lt d n.0) (nat_lt n.1.start e) (is_escaped n.1.body && (n.1.start == e)) n (n.0, cut_item e n.1)
+    (n.0, record { start = e - 1; «end» = e; body = Text false })
     (cut_tokens e d ns) ns (cut_fewer e d ns)
 
 -- a tree whose innermost open node's children are cut has no more nodes than before

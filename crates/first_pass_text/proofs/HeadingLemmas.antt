@@ -1,5 +1,6 @@
 -- The text of a heading.
-use Rattle.std.proofs.Common.{◌≡◌, ℕ, ◌+◌, ◌-◌, ◌≤◌, ◌==◌, Bool, true, false, List, [], ◌∷◌, length, take, drop, slice_get, Option, Some, is_some, refl, sym, ap, subst, ◌∙◌, arith, if◌then◌else◌}
+use Rattle.std.proofs.Common.{◌≡◌, ℕ, ◌+◌, ◌-◌, ◌≤◌, ◌==◌, Bool, true, false, List, [], ◌∷◌, length, take, drop, slice_get, Option, Some, is_some, refl, sym}
+use Rattle.std.proofs.Common.{ap, subst, ◌∙◌, arith, if◌then◌else◌}
 use Rattle.std.proofs.lemmas.Bool.Decides.{nat_tests}
 use Rattle.std.specs.List.{prefix_len, slice_range}
 use Rattle.std.proofs.lemmas.List.{drop-drop}
@@ -62,7 +63,8 @@ module _ (texts : List CowStr) (s : Source) (kept : ℕ) (old read last : Forest
   heading_open = ap (λ (f : Forest Item). slice_get f.spine 0) read_is ∙ ap (λ s. slice_get s 0) (chained-spine old whole ∙ pushed.innermost)
 
   -- nothing of the text is kept
-  pub heading_empty : (new : Forest Item) → new ≡ childless last ix → kept ≡ 0 → (content : List ℕ) → kept ≡ kept_len content → AppendsHeading texts s content old new
+  pub heading_empty : (new : Forest Item)
+      → new ≡ childless last ix → kept ≡ 0 → (content : List ℕ) → kept ≡ kept_len content → AppendsHeading texts s content old new
   unfolding whole
   heading_empty new new_is none content kept_is = record {
     tokens = line.tokens;
@@ -74,7 +76,8 @@ module _ (texts : List CowStr) (s : Source) (kept : ℕ) (old read last : Forest
   }
 
   -- some of it is kept
-  pub heading_cut : (new : Forest Item) → new ≡ cut_siblings last (s.start + kept) → (kept ≡ 0 → ⊥) → (content : List ℕ) → kept ≡ kept_len content → AppendsHeading texts s content old new
+  pub heading_cut : (new : Forest Item)
+      → new ≡ cut_siblings last (s.start + kept) → (kept ≡ 0 → ⊥) → (content : List ℕ) → kept ≡ kept_len content → AppendsHeading texts s content old new
   unfolding whole
   heading_cut new new_is some content kept_is = record {
     tokens = line.tokens;
@@ -95,25 +98,32 @@ pub line_between : (text : List ℕ) (start to : ℕ) → to ≡ start + line_le
 line_between text start to e = let size : to - start ≡ line_len (drop start text) = omega arith in ap (λ n. take n (drop start text)) size
 
 -- The chain of an ATX heading's line that was read, and the attributes that were found.
-pub heading_read : (text : List ℕ) (options : Options) (before names : Names) (start content_end read_to : ℕ) (found : Option HeadingAttributes) (index : Option HeadingIndex) (kept : ℕ) (front : List ℕ) (old new : Forest Item)
-    → content_end ≡ start + length (before_attributes options (heading_line text start)) → option_map attributes_in found ≡ heading_attributes_of options (heading_line text start)
+pub heading_read : (text : List ℕ) (options : Options) (before names : Names) (start content_end read_to : ℕ) (found : Option HeadingAttributes)
+    (index : Option HeadingIndex) (kept : ℕ) (front : List ℕ) (old new : Forest Item)
+    → content_end ≡ start + length (before_attributes options (heading_line text start))
+    → option_map attributes_in found ≡ heading_attributes_of options (heading_line text start)
     → read_to ≡ (if is_some found then content_end else length text) → front ≡ take read_to text → kept ≡ kept_len (slice_range text start content_end)
-    → ((content : List ℕ) → kept ≡ kept_len content → AppendsHeading names.texts (record { options = options; whole = text; text = front; start = start; row = false; braces = no_braces }) content old new)
+    → ((content : List ℕ) → kept ≡ kept_len content
+    → AppendsHeading names.texts (record { options = options; whole = text; text = front; start = start; row = false; braces = no_braces }) content old new)
     → Extends names before → ((more : Names) → Extends more before → NamesAttributes more index (option_map attributes_in found))
     → (chain : List Item) × (new ≡ chained old chain)
-    × ((more : Names) → Extends more names → (next : ℕ) → next ≡ start + line_len (drop start text) → IsHeading (document text options more) start index chain next)
+    × ((more : Names) → Extends more names → (next : ℕ) → next ≡ start + line_len (drop start text)
+    → IsHeading (document text options more) start index chain next)
 heading_read text options before names start content_end read_to found index kept front old new ends given read front_is kept_is appends grown named =
     let line : List ℕ = heading_line text start in
     let content = content_read options text start (line_len (drop start text)) content_end (line_len-fits (drop start text)) ends in
     let a = appends (before_attributes options line) (kept_is ∙ ap kept_len content) in
-    let text_is : front ≡ text_before_attributes options text start line = front_is ∙ text_read options text line start content_end read_to found given ends read in (
+    let text_is : front ≡ text_before_attributes options text start line =
+    front_is ∙ text_read options text line start content_end read_to found given ends read in (
       heading_chain (kept_len (before_attributes options line)) start (close_break a.answer.1 (add_tokens [] a.tokens)),
       a.tree_is,
       λ more e next next_is. record {
         tokens = a.tokens;
         answer = a.answer;
         after = a.after;
-        line = subst (λ t. IsLine more.texts (record { options = options; whole = text; text = t; start = start; row = false; braces = no_braces }) a.tokens a.answer a.after) text_is
+        line = subst (λ t.
+            IsLine more.texts (record { options = options; whole = text; text = t; start = start; row = false; braces = no_braces }) a.tokens a.answer a.after)
+            text_is
             (line_more (e.more_texts, e.texts) a.line);
         chain_is = refl;
         named = subst (NamesAttributes more index) given (named more (extends_both more names before e grown));
@@ -122,7 +132,8 @@ heading_read text options before names start content_end read_to found index kep
     )
 
 -- bytes that pass a test, all of which are content
-prefix_by : (t : Bool) (p : ℕ → Bool) (b : ℕ) (bs : List ℕ) → p b ≡ t → (p b ≡ true → is_content b ≡ true) → prefix_len p bs ≤ prefix_len is_content bs → prefix_len p (b ∷ bs) ≤ prefix_len is_content (b ∷ bs)
+prefix_by : (t : Bool) (p : ℕ → Bool) (b : ℕ) (bs : List ℕ)
+    → p b ≡ t → (p b ≡ true → is_content b ≡ true) → prefix_len p bs ≤ prefix_len is_content bs → prefix_len p (b ∷ bs) ≤ prefix_len is_content (b ∷ bs)
 prefix_by true p b bs h f r = let k = f h in rw (h, k) (omega arith)
 prefix_by false p b bs h f r = rw h (omega arith)
 
@@ -145,10 +156,12 @@ line_skip text s k h =
     omega arith
 
 -- A heading's text ends where its line ends.
-pub heading_line_end : (text : List ℕ) (start : ℕ) (level : HeadingLevel) → start ≤ length text → atx_level (drop start text) ≡ Some level → line_end_at text (heading_text_at text start (level_number level)) ≡ line_end_at text start
+pub heading_line_end : (text : List ℕ) (start : ℕ) (level : HeadingLevel) → start ≤ length text → atx_level (drop start text) ≡ Some level
+    → line_end_at text (heading_text_at text start (level_number level)) ≡ line_end_at text start
 heading_line_end text start level within h =
     let signs = atx_level-signs (drop start text) level h in
     let n : ℕ = level_number level in
     let same : n ≡ prefix_len is_number_sign (drop start text) = signs.0 in
     let first : n ≤ prefix_len is_content (drop start text) = (let i = prefix_in is_number_sign sign_content (drop start text) in omega arith) in
-    line_skip text (start + n) (prefix_len is_white (drop (start + n) text)) (prefix_in is_white white_content (drop (start + n) text)) ∙ line_skip text start n first
+    line_skip text (start + n) (prefix_len is_white (drop (start + n) text)) (prefix_in is_white white_content (drop (start + n) text))
+    ∙ line_skip text start n first

@@ -1,5 +1,6 @@
 -- How many bytes of an ATX heading's text are kept, as they are counted from its end.
-use Rattle.std.proofs.Common.{◌≡◌, inl, inr, ℕ, zero, suc, ◌+◌, ◌-◌, ◌<◌, ◌≤◌, ◌==◌, ◌&&◌, ◌||◌, Bool, true, false, List, length, take, get_or, nat_lt, refl, sym, ap, ◌∙◌, arith, length-take-le, if◌then◌else◌}
+use Rattle.std.proofs.Common.{◌≡◌, inl, inr, ℕ, zero, suc, ◌+◌, ◌-◌, ◌<◌, ◌≤◌, ◌==◌, ◌&&◌, ◌||◌, Bool, true, false, List, length, take, get_or, nat_lt, refl}
+use Rattle.std.proofs.Common.{sym, ap, ◌∙◌, arith, length-take-le, if◌then◌else◌}
 use Rattle.std.specs.List.{suffix_len}
 use Rattle.std.proofs.lemmas.Bool.{cases_Bool, cases_lt, true≢false}
 use Rattle.std.proofs.lemmas.Bool.Decides.{nat_tests}

@@ -1,5 +1,7 @@
 -- Thematic breaks and ATX headings are in order.
-use Rattle.std.proofs.Common.{◌≡◌, ◌⊎◌, inl, inr, ℕ, suc, ◌+◌, ◌-◌, ◌<◌, ◌≤◌, ◌==◌, ◌||◌, Bool, true, false, List, [], ◌∷◌, length, take, drop, get_or, slice_index, nat_lt, Option, Some, None, IsUtf8, IsCharBoundary, refl, sym, ap, subst, ◌∙◌, arith, length-drop, length-take-le, get_or-drop, drop-drop, if◌then◌else◌}
+use Rattle.std.proofs.Common.{◌≡◌, ◌⊎◌, inl, inr, ℕ, suc, ◌+◌, ◌-◌, ◌<◌, ◌≤◌, ◌==◌, ◌||◌, Bool, true, false, List, [], ◌∷◌, length, take, drop, get_or}
+use Rattle.std.proofs.Common.{slice_index, nat_lt, Option, Some, None, IsUtf8, IsCharBoundary, refl, sym, ap, subst, ◌∙◌, arith, length-drop, length-take-le}
+use Rattle.std.proofs.Common.{get_or-drop, drop-drop, if◌then◌else◌}
 use Rattle.std.specs.List.{prefix_len, suffix_len}
 use Rattle.std.proofs.lemmas.Bool.{cond_both, cases_lt, eqb-true, eq-eqb, or_cases, ltb-true, false≢true}
 use Rattle.std.proofs.lemmas.Bool.Decides.{nat_tests}
@@ -24,7 +26,8 @@ use Rattle.first_pass_tokens.proofs.LineLemmas.{ends_line as line_ends}
 use Rattle.first_pass_tokens.proofs.OrderLemmas.{order_bound, order_from, order_to, order_adds, line_in_order, closed_line_in_order, suffix_first}
 use Rattle.first_pass_tokens.proofs.Escapes.{EscapesStand, cut_escaped, escapes_adds, escapes_closed, line_escapes}
 use Rattle.first_pass_grammar.specs.Headings.{heading_braces, before_attributes, text_before_attributes}
-use Rattle.first_pass_grammar.specs.Leaves.{Document, document, is_put_aside, kept_len, heading_chain, heading_text_at, heading_block, line_bytes, rule_block, IsHeading, content_at}
+use Rattle.first_pass_grammar.specs.Leaves.{Document, document, is_put_aside, kept_len, heading_chain, heading_text_at, heading_block, line_bytes, rule_block}
+use Rattle.first_pass_grammar.specs.Leaves.{IsHeading, content_at}
 use Rattle.first_pass_grammar.specs.Names.{Names}
 use Rattle.first_pass_grammar.proofs.MoreNames.{extends_none}
 use Rattle.first_pass_attributes.specs.AttributeBlocks.{Braces}
@@ -70,13 +73,18 @@ kept_by text t o n e within g =
       | inr none ↦ inl (omega arith)
     ])
     (λ c.
-    let all : suffix_len is_put_aside (take (length text) text) ≡ suffix_len is_put_aside text = ap (suffix_len is_put_aside) (take_all (length text) text (omega arith)) in
+    let all : suffix_len is_put_aside (take (length text) text) ≡ suffix_len is_put_aside text =
+    ap (suffix_len is_put_aside) (take_all (length text) text (omega arith)) in
     elim (cases_lt 0 (suffix_len is_put_aside text)) [
       | inl some ↦
           let fits = suffix_len-le-length is_put_aside text in
           elim (run_first is_put_aside text (length text) (omega arith)) [
             | inl none ↦ absurd (omega arith)
-            | inr first ↦ inr (inl (omega arith, ap (λ k. is_put_aside (get_or text k 0)) (let same : t ≡ length text - suffix_len is_put_aside (take (length text) text) = omega arith in same) ∙ first))
+            | inr first ↦ inr (inl (
+              omega arith,
+              ap (λ k. is_put_aside (get_or text k 0)) (let same : t ≡ length text - suffix_len is_put_aside (take (length text) text) = omega arith in same)
+                  ∙ first,
+            ))
           ]
       | inr none ↦ inr (inr (omega arith, omega arith))
     ])
@@ -88,7 +96,8 @@ kept_at text =
     subst (KeptAt text) (sym (kept_counted text)) (kept_by text t o (suffix_len (λ b. b == 32) (take o text)) refl (omega arith) refl)
 
 -- a line ends with a line end, or with the text
-last_step : (t : Bool) (b : ℕ) (bs : List ℕ) → ends_line b bs ≡ t → (0 < length bs → (is_line_end (slice_index bs (line_len bs - 1)) ≡ true) ⊎ (line_len bs ≡ length bs))
+last_step : (t : Bool) (b : ℕ) (bs : List ℕ)
+    → ends_line b bs ≡ t → (0 < length bs → (is_line_end (slice_index bs (line_len bs - 1)) ≡ true) ⊎ (line_len bs ≡ length bs))
     → (is_line_end (slice_index (b ∷ bs) (line_len (b ∷ bs) - 1)) ≡ true) ⊎ (line_len (b ∷ bs) ≡ length (b ∷ bs))
 last_step true b bs h f =
     let e : line_len (b ∷ bs) ≡ 1 = line_len-step b bs ∙ rw h in
@@ -158,7 +167,8 @@ line_content text start within =
                   | inl line ↦
                       let last : get_or (take (line_len bs) bs) (length (take (line_len bs) bs) - 1) 0 ≡ slice_index bs (line_len bs - 1) =
                       ap (λ k. get_or (take (line_len bs) bs) (k - 1) 0) size ∙ get_or-take (line_len bs) bs (line_len bs - 1) 0 (omega arith) in
-                      absurd (false≢true (sym (run_none is_put_aside (take (line_len bs) bs) (omega arith) none) ∙ ap is_put_aside last ∙ line_aside (slice_index bs (line_len bs - 1)) line))
+                      absurd (false≢true (sym (run_none is_put_aside (take (line_len bs) bs) (omega arith) none) ∙ ap is_put_aside last
+                      ∙ line_aside (slice_index bs (line_len bs - 1)) line))
                   | inr ended ↦ (let past = get_or_past text (start + length (take (line_len bs) bs)) 0 (omega arith) in inr (omega arith))
                 ]
             | inr none_there ↦ inl (omega arith)
@@ -166,7 +176,8 @@ line_content text start within =
     }
 
 -- what stands before an attribute block
-block_content : (text : List ℕ) (start size opening : ℕ) → size ≤ length (drop start text) → opening ≤ size → start ≤ length text → IsContent (take (start + opening) text) start (take opening (take size (drop start text)))
+block_content : (text : List ℕ) (start size opening : ℕ) → size ≤ length (drop start text) → opening ≤ size → start ≤ length text
+    → IsContent (take (start + opening) text) start (take opening (take size (drop start text)))
 block_content text start size opening fits less within =
     let bs : List ℕ = drop start text in
     let len = length-drop start text in
@@ -178,7 +189,8 @@ block_content text start size opening fits less within =
       bytes = λ i under.
           get_or-take opening (take size bs) i 0 (omega arith) ∙ get_or-take size bs i 0 (omega arith) ∙ get_or-drop start text i 0
           ∙ sym (get_or-take (start + opening) text (start + i) 0 (omega arith));
-      ended = λ none. (let past = get_or_past (take (start + opening) text) (start + length (take opening (take size bs))) 0 (omega arith) in inr (omega arith));
+      ended =
+          λ none. (let past = get_or_past (take (start + opening) text) (start + length (take opening (take size bs))) 0 (omega arith) in inr (omega arith));
     }
 
 chain_kept : (text : List ℕ) (start next kept : ℕ) (chain : List Item) → AreInOrder text start next chain
@@ -194,7 +206,8 @@ chain_kept text start next kept chain h (inr some) =
 
 kept_few : (kept start : ℕ) (chain : List Item) → length (heading_chain kept start chain) ≤ length chain
 unfolding heading_chain
-kept_few kept start chain = cond_both (kept == 0) [] (cut (start + kept) chain) (λ (ys : List Item). length ys ≤ length chain) (λ b. omega arith) (λ b. cut_few (start + kept) chain)
+kept_few kept start chain =
+    cond_both (kept == 0) [] (cut (start + kept) chain) (λ (ys : List Item). length ys ≤ length chain) (λ b. omega arith) (λ b. cut_few (start + kept) chain)
 
 kept_less : (content : List ℕ) (n : ℕ) → KeptAt content n → n ≤ length content
 unfolding KeptAt
@@ -203,7 +216,8 @@ kept_less content n (inr (inl aside)) = (let inside = aside.0 in omega arith)
 kept_less content n (inr (inr whole)) = (let all = whole.0 in omega arith)
 
 -- the escaped texts of a whole line, its last backslash among them
-line_stands : {texts : List CowStr} {after : MathBraces} (s : Source) (tokens : List Item) (answer : ℕ × Option Item) → IsUtf8 s.text → IsCharBoundary s.text s.start → IsLine texts s tokens answer after
+line_stands : {texts : List CowStr} {after : MathBraces} (s : Source) (tokens : List Item) (answer : ℕ × Option Item)
+    → IsUtf8 s.text → IsCharBoundary s.text s.start → IsLine texts s tokens answer after
     → EscapesStand s.text s.start (close_break answer.1 (add_tokens [] tokens))
 line_stands s tokens answer utf8 boundary line =
     let stop : ℕ = text_end s line.content_end in
@@ -213,7 +227,8 @@ line_stands s tokens answer utf8 boundary line =
 
 -- The chain of a heading's line without its closing sequence is in order up to an offset that is not before the line's end, and has at most as many tokens as
 -- there are bytes up to there.
-line_fits : {texts : List CowStr} {after : MathBraces} (s : Source) (tokens : List Item) (answer : ℕ × Option Item) (content : List ℕ) (next : ℕ) → IsUtf8 s.text → IsCharBoundary s.text s.start → IsLine texts s tokens answer after → IsContent s.text s.start content
+line_fits : {texts : List CowStr} {after : MathBraces} (s : Source) (tokens : List Item) (answer : ℕ × Option Item) (content : List ℕ) (next : ℕ)
+    → IsUtf8 s.text → IsCharBoundary s.text s.start → IsLine texts s tokens answer after → IsContent s.text s.start content
     → answer.0 ≤ next → s.start + length content ≤ next
     → (let chain : List Item = heading_chain (kept_len content) s.start (close_break answer.1 (add_tokens [] tokens)) in
     AreInOrder s.text s.start next chain × (length chain + s.start ≤ next))
@@ -229,32 +244,41 @@ line_fits s tokens answer content next utf8 boundary line is ends reach =
             | inl none ↦ inl none
             | inr some ↦
                 let at = small_boundary s.text (s.start + n) some.0 some.1 in
-                inr (omega arith, at, cut_escaped s.text s.start next (s.start + n) whole order (line_stands s tokens answer utf8 boundary line) at (omega arith))
+                inr
+                (omega arith, at, cut_escaped s.text s.start next (s.start + n) whole order (line_stands s tokens answer utf8 boundary line) at (omega arith))
           ]),
       omega arith,
     )
 
 -- The chain of a heading is in order in the text, up to where its line ends.
-heading_by : (d : Document) (start : ℕ) (index : Option HeadingIndex) (chain : List Item) (end_of_line : ℕ) (o : Option Braces) → heading_braces d.options (line_bytes d start) ≡ o
-    → IsUtf8 d.text → IsCharBoundary d.text start → IsHeading d start index chain end_of_line → AreInOrder d.text start end_of_line chain × (length chain + start ≤ end_of_line)
+heading_by : (d : Document) (start : ℕ) (index : Option HeadingIndex) (chain : List Item) (end_of_line : ℕ) (o : Option Braces)
+    → heading_braces d.options (line_bytes d start) ≡ o
+    → IsUtf8 d.text → IsCharBoundary d.text start → IsHeading d start index chain end_of_line
+    → AreInOrder d.text start end_of_line chain × (length chain + start ≤ end_of_line)
 heading_by d start index chain end_of_line None none utf8 boundary h =
     let text_is : text_before_attributes d.options d.text start (line_bytes d start) ≡ d.text =
     ap (λ (o : Option Braces). option_map_or (λ (block : Braces). take (start + block.opening) d.text) o d.text) none in
-    let line = subst (λ t. IsLine d.names.texts (record { options = d.options; whole = d.text; text = t; start = start; row = false; braces = no_braces }) h.tokens h.answer h.after) text_is h.line in
+    let line = subst (λ t.
+    IsLine d.names.texts (record { options = d.options; whole = d.text; text = t; start = start; row = false; braces = no_braces }) h.tokens h.answer h.after)
+    text_is h.line in
     let ended = line_ends boundary.0 line in
     let place : h.answer.0 ≡ start + line_len (drop start d.text) = ended.place in
     let ends = h.end_is in
     let size = length-take-le (line_len (drop start d.text)) (drop start d.text) (line_len-fits (drop start d.text)) in
     let same : chain ≡ heading_chain (kept_len (line_bytes d start)) start (close_break h.answer.1 (add_tokens [] h.tokens)) =
-    h.chain_is ∙ ap (λ xs. heading_chain (kept_len xs) start (close_break h.answer.1 (add_tokens [] h.tokens))) (before_none d.options (line_bytes d start) none) in
-    let fits = line_fits (content_at d (spot start no_braces)) h.tokens h.answer (line_bytes d start) end_of_line utf8 boundary line (line_content d.text start boundary.0) (omega arith) (omega arith) in
+    h.chain_is
+    ∙ ap (λ xs. heading_chain (kept_len xs) start (close_break h.answer.1 (add_tokens [] h.tokens))) (before_none d.options (line_bytes d start) none) in
+    let fits = line_fits (content_at d (spot start no_braces)) h.tokens h.answer (line_bytes d start) end_of_line utf8 boundary line
+    (line_content d.text start boundary.0) (omega arith) (omega arith) in
     (subst (AreInOrder d.text start end_of_line) (sym same) fits.0, subst (λ (xs : List Item). length xs + start ≤ end_of_line) (sym same) fits.1)
 heading_by d start index chain end_of_line (Some block) some utf8 boundary h =
     let bs : List ℕ = line_bytes d start in
     let front : List ℕ = take (start + block.opening) d.text in
     let text_is : text_before_attributes d.options d.text start bs ≡ front =
     ap (λ (o : Option Braces). option_map_or (λ (b : Braces). take (start + b.opening) d.text) o d.text) some in
-    let line = subst (λ t. IsLine d.names.texts (record { options = d.options; whole = d.text; text = t; start = start; row = false; braces = no_braces }) h.tokens h.answer h.after) text_is h.line in
+    let line = subst (λ t.
+    IsLine d.names.texts (record { options = d.options; whole = d.text; text = t; start = start; row = false; braces = no_braces }) h.tokens h.answer h.after)
+    text_is h.line in
     let inside = braces_within d.options bs block some in
     let fits = line_len-fits (drop start d.text) in
     let size = length-take-le (line_len (drop start d.text)) (drop start d.text) fits in
@@ -262,18 +286,21 @@ heading_by d start index chain end_of_line (Some block) some utf8 boundary h =
     let within = boundary.0 in
     let less : block.opening < line_len (drop start d.text) = omega (arith, inside.0, inside.1) in
     let there : slice_index d.text (start + block.opening) ≡ left_brace =
-    sym (get_or-take (line_len (drop start d.text)) (drop start d.text) block.opening 0 less ∙ get_or-drop start d.text block.opening 0) ∙ opens_with d.options bs block some in
+    sym (get_or-take (line_len (drop start d.text)) (drop start d.text) block.opening 0 less ∙ get_or-drop start d.text block.opening 0)
+    ∙ opens_with d.options bs block some in
     let stop = IsCharBoundary-before_ascii d.text (start + block.opening) (omega arith) (omega (arith, there)) in
     let first = place_in_front d.text (start + block.opening) utf8 stop start (omega arith) boundary in
     let ended = line_ends first.0 line in
     let ends = h.end_is in
     let whole = front_len d.text (start + block.opening) utf8 stop in
     let inner : length (take block.opening bs) ≡ block.opening = length-take-le block.opening bs (omega arith) in
-    let content : before_attributes d.options bs ≡ take block.opening bs = ap (λ (o : Option Braces). option_map_or (λ (b : Braces). take b.opening bs) o bs) some in
+    let content : before_attributes d.options bs ≡ take block.opening bs =
+    ap (λ (o : Option Braces). option_map_or (λ (b : Braces). take b.opening bs) o bs) some in
     let same : chain ≡ heading_chain (kept_len (take block.opening bs)) start (close_break h.answer.1 (add_tokens [] h.tokens)) =
     h.chain_is ∙ ap (λ xs. heading_chain (kept_len xs) start (close_break h.answer.1 (add_tokens [] h.tokens))) content in
     let last : h.answer.0 ≤ length front = ended.within in
-    let all = line_fits (record { options = d.options; whole = d.text; text = front; start = start; row = false; braces = no_braces }) h.tokens h.answer (take block.opening bs) (start + block.opening) (front_utf8 d.text (start + block.opening) utf8 stop) first line
+    let all = line_fits (record { options = d.options; whole = d.text; text = front; start = start; row = false; braces = no_braces }) h.tokens h.answer
+    (take block.opening bs) (start + block.opening) (front_utf8 d.text (start + block.opening) utf8 stop) first line
     (block_content d.text start (line_len (drop start d.text)) block.opening fits (omega arith) within) (omega arith) (omega arith) in
     let order = order_in_text d.text (start + block.opening) utf8 stop start (start + block.opening) _ all.0 in
     let few = all.1 in (
@@ -283,38 +310,47 @@ heading_by d start index chain end_of_line (Some block) some utf8 boundary h =
 
 heading_in_order : (d : Document) (start : ℕ) (index : Option HeadingIndex) (chain : List Item) (end_of_line : ℕ) → IsUtf8 d.text → IsCharBoundary d.text start
     → IsHeading d start index chain end_of_line → AreInOrder d.text start end_of_line chain × (length chain + start ≤ end_of_line)
-heading_in_order d start index chain end_of_line utf8 boundary h = heading_by d start index chain end_of_line (heading_braces d.options (line_bytes d start)) refl utf8 boundary h
+heading_in_order d start index chain end_of_line utf8 boundary h =
+    heading_by d start index chain end_of_line (heading_braces d.options (line_bytes d start)) refl utf8 boundary h
 
 -- A thematic break fits in its line.
-pub rule_fits : (text : List ℕ) (from ix size : ℕ) (old new : Forest Item) → new ≡ added old (rule_block ix size) → from ≤ ix → IsCharBoundary text ix → IsCharBoundary text (ix + size) → AddsBetween text from (ix + size) old new
+pub rule_fits : (text : List ℕ) (from ix size : ℕ) (old new : Forest Item)
+    → new ≡ added old (rule_block ix size) → from ≤ ix → IsCharBoundary text ix → IsCharBoundary text (ix + size) → AddsBetween text from (ix + size) old new
 rule_fits text from ix size old new tree_is behind starts ends = record {
   items = rule_block ix size;
   tree_is = tree_is;
-  fits = block_fits text (within_top old) from (ix + size) (record { start = ix; «end» = ix + size; body = Rule }) [] (record { behind = behind; order = omega arith; before = omega arith; starts = starts; ends = ends }) (omega arith) (λ some. omega arith);
+  fits = block_fits text (within_top old) from (ix + size) (record { start = ix; «end» = ix + size; body = Rule }) []
+      (record { behind = behind; order = omega arith; before = omega arith; starts = starts; ends = ends }) (omega arith) (λ some. omega arith);
 }
 
 -- The text of an ATX heading begins between characters.
-pub heading_text_boundary : (text : List ℕ) (start : ℕ) (level : HeadingLevel) → IsUtf8 text → IsCharBoundary text start → atx_level (drop start text) ≡ Some level → IsCharBoundary text (heading_text_at text start (level_number level))
+pub heading_text_boundary : (text : List ℕ) (start : ℕ) (level : HeadingLevel)
+    → IsUtf8 text → IsCharBoundary text start → atx_level (drop start text) ≡ Some level → IsCharBoundary text (heading_text_at text start (level_number level))
 heading_text_boundary text start level u b h =
     let n : ℕ = level_number level in
     let p : Place = line_place start (drop start text) in
     let signs : n ≡ prefix_len is_number_sign (drop start text) = (atx_level-signs (drop start text) level h).0 in
-    let behind : IsPlaceOf text (moved_bytes n p) = subst (λ k. IsPlaceOf text (moved_bytes k p)) (sym signs) (signs_keep text p u (line_is_place text start b)) in
+    let behind : IsPlaceOf text (moved_bytes n p) =
+    subst (λ k. IsPlaceOf text (moved_bytes k p)) (sym signs) (signs_keep text p u (line_is_place text start b)) in
     let at = (white_keeps text (moved_bytes n p) u behind).boundary in
     let rest = ap (prefix_len is_white) (drop-drop n start text) in
     let same : offset (moved_bytes (prefix_len is_white (drop n (drop start text))) (moved_bytes n p)) ≡ heading_text_at text start n = omega arith in
     subst (IsCharBoundary text) same at
 
 pub line_stops : (text : List ℕ) (start : ℕ) → IsUtf8 text → IsCharBoundary text start → IsCharBoundary text (line_end_at text start)
-line_stops text start u b = subst (IsCharBoundary text) (line_start_end text start) (place_end text (line_place start (drop start text)) u (line_is_place text start b))
+line_stops text start u b =
+    subst (IsCharBoundary text) (line_start_end text start) (place_end text (line_place start (drop start text)) u (line_is_place text start b))
 
 -- An ATX heading fits in its line.
-pub heading_fits : (text : List ℕ) (options : Options) (names : Names) (start : ℕ) (level : HeadingLevel) (old new : Forest Item) (next : ℕ) → IsUtf8 text → IsCharBoundary text start
-    → atx_level (drop start text) ≡ Some level → AddsHeading (document text options names) start level old new next → (from : ℕ) → from ≤ start → AddsBetween text from next old new
+pub heading_fits : (text : List ℕ) (options : Options) (names : Names) (start : ℕ) (level : HeadingLevel) (old new : Forest Item) (next : ℕ)
+    → IsUtf8 text → IsCharBoundary text start
+    → atx_level (drop start text) ≡ Some level → AddsHeading (document text options names) start level old new next → (from : ℕ) → from ≤ start
+    → AddsBetween text from next old new
 heading_fits text options names start level old new next u b is h from behind =
     let text_at : ℕ = heading_text_at text start (level_number level) in
     let ends : IsCharBoundary text next = subst (IsCharBoundary text) (sym h.end_is) (line_stops text start u b) in
-    let fits = heading_in_order (document text options names) text_at h.index h.chain next u (heading_text_boundary text start level u b is) (h.line names (extends_none names)) in
+    let fits = heading_in_order (document text options names) text_at h.index h.chain next u (heading_text_boundary text start level u b is)
+    (h.line names (extends_none names)) in
     let span = order_bound text text_at next h.chain fits.0 in
     let few = fits.1 in
     record {

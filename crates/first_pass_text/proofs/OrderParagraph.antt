@@ -1,5 +1,6 @@
 -- The tokens of a paragraph, or of a heading that is underlined, are in order.
-use Rattle.std.proofs.Common.{◌≡◌, inl, inr, ℕ, ◌≤◌, true, false, List, [], ◌∷◌, length, drop, Option, Some, None, IfSome, IsUtf8, IsCharBoundary, refl, sym, ap, subst, ◌∙◌, arith, length-drop}
+use Rattle.std.proofs.Common.{◌≡◌, inl, inr, ℕ, ◌≤◌, true, false, List, [], ◌∷◌, length, drop, Option, Some, None, IfSome, IsUtf8, IsCharBoundary, refl, sym}
+use Rattle.std.proofs.Common.{ap, subst, ◌∙◌, arith, length-drop}
 use Rattle.std.proofs.lemmas.Bool.{cases_lt, false≢true}
 use Rattle.first_pass_items.specs.declared.item.Item.{Item}
 use Rattle.first_pass_tree.specs.Forest.{is_escaped}
@@ -44,7 +45,8 @@ break_unescaped (Text escaped) h = absurd (false≢true h)
 break_unescaped _ h = refl
 
 -- a chain with the break after it
-chain_break : (text : List ℕ) (from at start next : ℕ) (break : Option Item) (chain : List Item) → ChainStands text from at chain → at ≤ next → IfSome break (StandsBehind text at next)
+chain_break : (text : List ℕ) (from at start next : ℕ) (break : Option Item) (chain : List Item)
+    → ChainStands text from at chain → at ≤ next → IfSome break (StandsBehind text at next)
     → IfSome break (IsBreak start next) → ChainStands text from next (add_break break chain)
 chain_break text from at start next None chain h later behind is = (order_to text from at next chain h.0 later, h.1, h.2)
 chain_break text from at start next (Some x) chain h later behind is = (
@@ -54,7 +56,8 @@ chain_break text from at start next (Some x) chain h later behind is = (
 )
 
 -- the first of the lines from an offset on, and the others
-first_line : (text : List ℕ) (n : ℕ) (line : Place) (lines : List Place) → line ∷ lines ≡ lines_from text n → (line ≡ line_place n (drop n text)) × (lines ≡ lines_from text (line_end_at text n))
+first_line : (text : List ℕ) (n : ℕ) (line : Place) (lines : List Place)
+    → line ∷ lines ≡ lines_from text n → (line ≡ line_place n (drop n text)) × (lines ≡ lines_from text (line_end_at text n))
 first_line text n line lines is =
     elim (cases_lt n (length text)) [
       | inl within ↦ let e : line ∷ lines ≡ line_place n (drop n text) ∷ lines_from text (line_end_at text n) = is ∙ lines_at-line text n within in (cc, cc)
@@ -73,7 +76,8 @@ record OneLine (d : Document) (from ix : ℕ) (chain tokens : List Item) (answer
   broken : IfSome answer.1 (IsBreak ix answer.0)
 
 one_line : (d : Document) (from ix : ℕ) (b after : MathBraces) (chain tokens : List Item) (answer : ℕ × Option Item)
-    → IsUtf8 d.text → IsCharBoundary d.text ix → ChainStands d.text from ix chain → IsLine d.names.texts (content_at d (spot ix b)) tokens answer after → OneLine d from ix chain tokens answer
+    → IsUtf8 d.text → IsCharBoundary d.text ix → ChainStands d.text from ix chain → IsLine d.names.texts (content_at d (spot ix b)) tokens answer after
+    → OneLine d from ix chain tokens answer
 one_line d from ix b after chain tokens answer utf8 boundary h line =
     let stop : ℕ = text_end (content_at d (spot ix b)) line.content_end in
     let l : LineInOrder (content_at d (spot ix b)) stop tokens answer = line_in_order utf8 boundary boundary.0 line in
@@ -103,7 +107,8 @@ pub record TextInOrder (d : Document) (start : ℕ) (t : TextLines) : Type 0 whe
   pub left_within : left_at ≤ length d.text
 
 -- the last line of a text, and the lines after it
-text_stops : (d : Document) (from ix : ℕ) (chain tokens : List Item) (answer : ℕ × Option Item) (left : List Place) (t : TextLines) → OneLine d from ix chain tokens answer
+text_stops : (d : Document) (from ix : ℕ) (chain tokens : List Item) (answer : ℕ × Option Item) (left : List Place) (t : TextLines)
+    → OneLine d from ix chain tokens answer
     → left ≡ lines_from d.text answer.0 → t ≡ text_lines (add_tokens chain tokens) answer.1 left → TextInOrder d from t
 text_stops d from ix chain tokens answer left t l behind e =
     let there : start_of (length d.text) left ≡ answer.0 = ap (start_of (length d.text)) behind ∙ start_of-lines d.text answer.0 l.within in
@@ -121,7 +126,8 @@ text_stops d from ix chain tokens answer left t l behind e =
     })
 
 module _ (d : Document) (path : List Container) (utf8 : IsUtf8 d.text) (from : ℕ) where
-  lines_in_order : (lines : List Place) (ix : ℕ) (b : MathBraces) (chain : List Item) (t : TextLines) → lines ≡ lines_from d.text (line_end_at d.text ix) → IsCharBoundary d.text ix → ChainStands d.text from ix chain
+  lines_in_order : (lines : List Place) (ix : ℕ) (b : MathBraces) (chain : List Item) (t : TextLines)
+      → lines ≡ lines_from d.text (line_end_at d.text ix) → IsCharBoundary d.text ix → ChainStands d.text from ix chain
       → AreTextLines d path (spot ix b) chain lines t → TextInOrder d from t
   unfolding AreTextLines
   lines_in_order [] ix b chain t is boundary h (tokens, answer, after, line, e) =
@@ -135,7 +141,8 @@ module _ (d : Document) (path : List Container) (utf8 : IsUtf8 d.text) (from : �
       let n : ℕ = answer.0 in
       let first = first_line d.text n line lines (is ∙ ap (lines_from d.text) (sym l.place)) in
       let at : ℕ = offset (unindented (place_at n (front path (line_rest (drop n d.text))))) in
-      let at_is : offset (unindented (at_rest line (front path line.rest))) ≡ at = ap (λ (p : Place). offset (unindented (at_rest p (front path p.rest)))) first.0 in
+      let at_is : offset (unindented (at_rest line (front path line.rest))) ≡ at =
+      ap (λ (p : Place). offset (unindented (at_rest p (front path p.rest)))) first.0 in
       let place : IsPlaceOf d.text (unindented (place_at n (front path (line_rest (drop n d.text))))) = (text_place d.text n path utf8 l.ends).0 in
       let chain_next : List Item = add_break answer.1 (add_tokens chain tokens) in
       let next = chain_break d.text from l.stop ix n answer.1 (add_tokens chain tokens) l.stands l.before l.break_fits l.broken in
@@ -164,8 +171,10 @@ first_later text m within =
     ]
 
 -- the first of the lines left begins before the second does
-pub text_later : (text : List ℕ) (left : List Place) (m : ℕ) → left ≡ lines_from text m → m ≤ length text → start_of (length text) left ≤ start_of (length text) (drop 1 left)
-text_later text left m is within = subst (λ (ls : List Place). start_of (length text) ls ≤ start_of (length text) (drop 1 ls)) (sym is) (first_later text m within)
+pub text_later : (text : List ℕ) (left : List Place) (m : ℕ)
+    → left ≡ lines_from text m → m ≤ length text → start_of (length text) left ≤ start_of (length text) (drop 1 left)
+text_later text left m is within =
+    subst (λ (ls : List Place). start_of (length text) ls ≤ start_of (length text) (drop 1 ls)) (sym is) (first_later text m within)
 
 -- The chain of the lines of a text is in order from where the text begins.
 pub text_is_in_order : (d : Document) (path : List Container) (start : ℕ) (t : TextLines) → IsUtf8 d.text → IsCharBoundary d.text start

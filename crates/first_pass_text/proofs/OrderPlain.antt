@@ -1,5 +1,7 @@
 -- The block of a paragraph, or of a heading that is underlined, lies between two offsets in order.
-use Rattle.std.proofs.Common.{◌≡◌, inl, inr, ℕ, ◌+◌, ◌-◌, ◌*◌, ◌<◌, ◌≤◌, suc, ◌&&◌, Bool, true, false, if◌then◌else◌, List, [], ◌∷◌, ◌++◌, length, drop, Option, Some, None, IsUtf8, IsCharBoundary, refl, sym, ap, subst, ◌∙◌, arith, MatchOption, get_or, slice_index, take, ◌==◌, length-take-le, get_or-drop}
+use Rattle.std.proofs.Common.{◌≡◌, inl, inr, ℕ, ◌+◌, ◌-◌, ◌*◌, ◌<◌, ◌≤◌, suc, ◌&&◌, Bool, true, false, if◌then◌else◌, List, [], ◌∷◌, ◌++◌, length, drop, Option}
+use Rattle.std.proofs.Common.{Some, None, IsUtf8, IsCharBoundary, refl, sym, ap, subst, ◌∙◌, arith, MatchOption, get_or, slice_index, take, ◌==◌}
+use Rattle.std.proofs.Common.{length-take-le, get_or-drop}
 use Rattle.std.proofs.lemmas.List.{append-nil, get_or-take, take_all}
 use Rattle.std.proofs.lemmas.Bool.{cases_lt, false≢true, cond-true, cond-false, cond_both, lt-ltb, le-ltb, and_left}
 use Rattle.first_pass_items.specs.declared.item.Item.{Item}
@@ -14,7 +16,8 @@ use Rattle.first_pass_grammar.specs.Leaves.{Document, document, marker_items, Te
 use Rattle.first_pass_grammar.specs.Completion.{lines_from}
 use Rattle.first_pass_grammar.specs.Counting.{own_nodes}
 use Rattle.first_pass_grammar.proofs.OwnNodes.{own_at_most}
-use Rattle.first_pass_grammar.specs.Order.{is_task_marker, Extent, Empty, Node, extent_of, extents, laid, Within, Elsewhere, InItem, InText, in_item, Fits, FitsBetween, IsBetween}
+use Rattle.first_pass_grammar.specs.Order.{is_task_marker, Extent, Empty, Node, extent_of, extents, laid, Within, Elsewhere, InItem, InText, in_item, Fits}
+use Rattle.first_pass_grammar.specs.Order.{FitsBetween, IsBetween}
 use Rattle.first_pass_grammar.specs.OpenOrder.{is_in_item, within_top}
 use Rattle.first_pass_text.specs.Appends.{AddsPlainText}
 use Rattle.first_pass_grammar.proofs.Orders.{length-block, row_of, row_of-laid, row_of-fits}
@@ -68,17 +71,21 @@ StandsIn w None = Unit {0}
 StandsIn w (Some m) = in_item w ≡ true
 
 -- what stands below a paragraph
-kids_fit : (text : List ℕ) (w : Within) (from start next : ℕ) (marker : Option Item) (chain : List Item) → AreInOrder text start next chain → StandsBefore text from start marker → StandsIn w marker
+kids_fit : (text : List ℕ) (w : Within) (from start next : ℕ) (marker : Option Item) (chain : List Item)
+    → AreInOrder text start next chain → StandsBefore text from start marker → StandsIn w marker
     → (from ≤ start) × Fits text (if in_item w && true then InText from else Elsewhere) start next (row_of (marker_items marker ++ chain))
 unfolding Fits row_of
-kids_fit text w from start next None chain h stands inside = (stands, row_of-fits text (if in_item w && true then InText from else Elsewhere) start next chain h)
+kids_fit text w from start next None chain h stands inside =
+    (stands, row_of-fits text (if in_item w && true then InText from else Elsewhere) start next chain h)
 kids_fit text w from start next (Some m) chain h stands inside =
     let b : IsBetween text from start (extent_of m) = stands.1 in (
       omega (arith, b.behind, b.order, b.before),
-      subst (λ t. Fits text (if t && true then InText from else Elsewhere) start next (row_of (m ∷ chain))) (sym inside) (inr (stands, b.order, row_of-fits text Elsewhere start next chain h)),
+      subst (λ t. Fits text (if t && true then InText from else Elsewhere) start next (row_of (m ∷ chain))) (sym inside)
+          (inr (stands, b.order, row_of-fits text Elsewhere start next chain h)),
     )
 
-block_laid : (start next : ℕ) (body : ItemBody) (chain : List Item) → extents (block_with start next body chain) ≡ laid 0 (Node (extent_of (text_node start next body)) (row_of chain) Empty)
+block_laid : (start next : ℕ) (body : ItemBody) (chain : List Item)
+    → extents (block_with start next body chain) ≡ laid 0 (Node (extent_of (text_node start next body)) (row_of chain) Empty)
 unfolding laid
 block_laid start next body chain =
     ap (λ (row : List (ℕ × Extent)). (0, extent_of (text_node start next body)) ∷ row) (row_of-laid 1 chain ∙ sym (append-nil (laid 1 (row_of chain))))
@@ -87,8 +94,10 @@ block_laid start next body chain =
 abbrev text_extent : ℕ → ℕ → Extent
 text_extent start next = record { start = start; «end» = next; text_block = true; marker = false; item = false }
 
-block_between : (text : List ℕ) (w : Within) (from start next : ℕ) (body : ItemBody) (marker : Option Item) (chain : List Item) → extent_of (text_node start next body) ≡ text_extent start next
-    → IsCharBoundary text start → IsCharBoundary text next → AreInOrder text start next chain → HaveBytes chain → StandsBefore text from start marker → StandsIn w marker
+block_between : (text : List ℕ) (w : Within) (from start next : ℕ) (body : ItemBody) (marker : Option Item) (chain : List Item)
+    → extent_of (text_node start next body) ≡ text_extent start next
+    → IsCharBoundary text start → IsCharBoundary text next → AreInOrder text start next chain → HaveBytes chain → StandsBefore text from start marker
+    → StandsIn w marker
     → FitsBetween text w from next (block_with start next body (marker_items marker ++ chain))
 unfolding Fits
 block_between text w from start next body marker chain extent starts ends h bytes stands inside =
@@ -126,7 +135,8 @@ record ChildrenStand (text : List ℕ) (w : Within) (from start to : ℕ) (kids 
   stands : StandsBefore text from start lead
   inside : StandsIn w lead
 
-children_between : (text : List ℕ) (w : Within) (from start to next : ℕ) (body : ItemBody) (kids : List Item) → extent_of (text_node start next body) ≡ text_extent start next
+children_between : (text : List ℕ) (w : Within) (from start to next : ℕ) (body : ItemBody) (kids : List Item)
+    → extent_of (text_node start next body) ≡ text_extent start next
     → IsCharBoundary text start → IsCharBoundary text next → to ≤ next → ChildrenStand text w from start to kids
     → FitsBetween text w from next (block_with start next body kids)
 children_between text w from start to next body kids extent starts ends less c =
@@ -176,7 +186,8 @@ kept_byte false bs opening within is =
     ]
 
 -- A heading's content ends between two characters before its attribute block.
-pub kept_place : (text : List ℕ) (options : Options) (start last : ℕ) (broken : Bool) (block : Braces) → last ≤ length text → heading_braces options (slice_range text start last) ≡ Some block
+pub kept_place : (text : List ℕ) (options : Options) (start last : ℕ) (broken : Bool) (block : Braces)
+    → last ≤ length text → heading_braces options (slice_range text start last) ≡ Some block
     → let e : ℕ = start + kept_before broken block.opening (slice_range text start last) in (start ≤ e) × (e < last) × IsCharBoundary text e
 kept_place text options start last broken block within e =
     let bs : List ℕ = slice_range text start last in
@@ -189,7 +200,8 @@ kept_place text options start last broken block within e =
     (omega arith, omega arith, IsCharBoundary-before_ascii text (start + k) (omega arith) (omega (arith, kept.1)))
 
 -- where a chain with a marker before it ends
-pub marked_end : (text : List ℕ) (from start stop : ℕ) (marker : Option Item) (chain : List Item) → StandsBefore text from start marker → start ≤ stop → chain_end start chain ≤ stop
+pub marked_end : (text : List ℕ) (from start stop : ℕ) (marker : Option Item) (chain : List Item)
+    → StandsBefore text from start marker → start ≤ stop → chain_end start chain ≤ stop
     → chain_end start (marker_items marker ++ chain) ≤ stop
 marked_end text from start stop None chain stands low e = e
 marked_end text from start stop (Some m) [] stands low e = let b : IsBetween text from start (extent_of m) = stands.1 in omega (arith, b.before)
@@ -208,7 +220,8 @@ module _ (d : Document) (w : Within) (from start : ℕ) (l : TextLines) (h : Tex
   next_start = start_of (length d.text) l.left
 
   -- the children of a paragraph
-  text_stand : (marker : Option Item) → StandsBefore d.text from start marker → StandsIn w marker → ChildrenStand d.text w from start next_start (text_children marker l)
+  text_stand : (marker : Option Item)
+      → StandsBefore d.text from start marker → StandsIn w marker → ChildrenStand d.text w from start next_start (text_children marker l)
   text_stand marker stands inside = record {
     lead = marker;
     chain = close_break l.break l.chain;
@@ -259,7 +272,8 @@ module _ (d : Document) (w : Within) (from start : ℕ) (l : TextLines) (h : Tex
   heading_stand marker (Some block) some starts stands inside =
       let last : ℕ = chain_end start (marker_items marker ++ l.chain) in
       let bound = order_bound d.text start h.stop l.chain h.order in
-      let high : last ≤ h.stop = marked_end d.text from start h.stop marker l.chain stands bound (chain_end_place d.text start h.stop l.chain h.order starts).1 in
+      let high : last ≤ h.stop =
+      marked_end d.text from start h.stop marker l.chain stands bound (chain_end_place d.text start h.stop l.chain h.order starts).1 in
       let left : next_start ≡ h.left_at = ap (start_of (length d.text)) h.left_is ∙ start_of-lines d.text h.left_at h.left_within in
       let within : last ≤ length d.text = omega (arith, h.before, h.left_within) in
       let p = kept_place d.text d.options start last (by_backslash l.break) block within some in
@@ -267,32 +281,39 @@ module _ (d : Document) (w : Within) (from start : ℕ) (l : TextLines) (h : Tex
       (cut_stand (start + kept_before (by_backslash l.break) block.opening (heading_bytes d start marker l)) marker stands inside p.0 (omega (arith, p.1)) p.2)
 
 -- A paragraph, or a heading that is underlined, lies between an offset that its marker or its text stands after, and the line after it.
-ended_between : (d : Document) (w : Within) (from start : ℕ) (marker : Option Item) (l : TextLines) (items : List (ℕ × Item)) (next : ℕ) (o : Option (ℕ × HeadingLevel))
+ended_between : (d : Document) (w : Within) (from start : ℕ) (marker : Option Item) (l : TextLines) (items : List (ℕ × Item)) (next : ℕ)
+    (o : Option (ℕ × HeadingLevel))
     → IsCharBoundary d.text start → IsCharBoundary d.text next → start_of (length d.text) l.left ≤ start_of (length d.text) (drop 1 l.left)
     → ChildrenStand d.text w from start (start_of (length d.text) l.left) (text_children marker l)
     → ChildrenStand d.text w from start (start_of (length d.text) l.left) (heading_children d start marker l)
-    → MatchOption o (taking items (lines_from d.text next) ≡ plain_text d start marker l) (λ underline. IsUnderlined d start marker l underline.1 (taking items (lines_from d.text next)))
+    → MatchOption o (taking items (lines_from d.text next) ≡ plain_text d start marker l)
+    (λ underline. IsUnderlined d start marker l underline.1 (taking items (lines_from d.text next)))
     → FitsBetween d.text w from next items
 ended_between d w from start marker l items next None starts ends later paragraph heading e =
     let left : lines_from d.text next ≡ l.left = ap (λ (z : Taken). z.left) e in
     let stop : start_of (length d.text) l.left ≡ next = ap (start_of (length d.text)) (sym left) ∙ start_of-lines d.text next ends.0 in
-    let is : items ≡ block_with start next ParagraphBody (text_children marker l) = ap (λ (z : Taken). z.items) e ∙ ap (λ k. block_with start k ParagraphBody (text_children marker l)) stop in
+    let is : items ≡ block_with start next ParagraphBody (text_children marker l) =
+    ap (λ (z : Taken). z.items) e ∙ ap (λ k. block_with start k ParagraphBody (text_children marker l)) stop in
     subst (FitsBetween d.text w from next) (sym is)
-    (children_between d.text w from start (start_of (length d.text) l.left) next ParagraphBody (text_children marker l) refl starts ends (omega arith) paragraph)
+    (children_between d.text w from start (start_of (length d.text) l.left) next ParagraphBody (text_children marker l) refl starts ends
+    (omega arith) paragraph)
 ended_between d w from start marker l items next (Some underline) starts ends later paragraph heading (index, named, e) =
     let left : lines_from d.text next ≡ drop 1 l.left = ap (λ (z : Taken). z.left) e in
     let stop : start_of (length d.text) (drop 1 l.left) ≡ next = ap (start_of (length d.text)) (sym left) ∙ start_of-lines d.text next ends.0 in
     let body : ItemBody = HeadingBody underline.1 index in
-    let is : items ≡ block_with start next body (heading_children d start marker l) = ap (λ (z : Taken). z.items) e ∙ ap (λ k. block_with start k body (heading_children d start marker l)) stop in
+    let is : items ≡ block_with start next body (heading_children d start marker l) =
+    ap (λ (z : Taken). z.items) e ∙ ap (λ k. block_with start k body (heading_children d start marker l)) stop in
     subst (FitsBetween d.text w from next) (sym is)
-    (children_between d.text w from start (start_of (length d.text) l.left) next body (heading_children d start marker l) refl starts ends (omega arith) heading)
+    (children_between d.text w from start (start_of (length d.text) l.left) next body (heading_children d start marker l) refl starts ends
+    (omega arith) heading)
 
 -- the text stands after the offset that its marker stands after
 low_start : (text : List ℕ) (from start : ℕ) (marker : Option Item) → StandsBefore text from start marker → from ≤ start
 low_start text from start None stands = stands
 low_start text from start (Some m) stands = let b : IsBetween text from start (extent_of m) = stands.1 in omega (arith, b.behind, b.order, b.before)
 
-pub plain_fits : (text : List ℕ) (options : Options) (names : Names) (start : ℕ) (marker : Option Item) (old new : Forest Item) (next : ℕ) → AddsPlainText (document text options names) start marker old new next
+pub plain_fits : (text : List ℕ) (options : Options) (names : Names) (start : ℕ) (marker : Option Item) (old new : Forest Item) (next : ℕ)
+    → AddsPlainText (document text options names) start marker old new next
     → IsUtf8 text → IsCharBoundary text start → IsInItem old marker → (from : ℕ) → StandsBefore text from start marker → AddsBetween text from next old new
 plain_fits text options names start marker old new next adds utf8 boundary inside from stands =
     let d : Document = document text options names in
@@ -304,7 +325,8 @@ plain_fits text options names start marker old new next adds utf8 boundary insid
     record {
       items = adds.items;
       tree_is = adds.tree_is;
-      fits = ended_between d w from start marker l adds.items next (underline_first (path_of options old) l.left) boundary adds.boundary (text_later text l.left h.left_at h.left_is h.left_within)
+      fits = ended_between d w from start marker l adds.items next (underline_first (path_of options old) l.left) boundary adds.boundary
+          (text_later text l.left h.left_at h.left_is h.left_within)
           (text_stand d w from start l h low marker stands within)
           (heading_stand d w from start l h low marker (heading_braces options (heading_bytes d start marker l)) refl boundary stands within)
           ended;

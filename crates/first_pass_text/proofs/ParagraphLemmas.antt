@@ -1,5 +1,6 @@
 -- The lines of a text, one after the other.
-use Rattle.std.proofs.Common.{◌≡◌, ◌⊎◌, inl, inr, ℕ, zero, suc, ◌+◌, ◌<◌, ◌≤◌, ◌==◌, ◌&&◌, Bool, true, false, List, [], ◌∷◌, ◌++◌, length, drop, ◌^◌, if◌then◌else◌, Option, Some, None, is_some, IfSome, IsUtf8, IsCharBoundary, refl, sym, ap, subst, ◌∙◌, arith, ◌||◌}
+use Rattle.std.proofs.Common.{◌≡◌, ◌⊎◌, inl, inr, ℕ, zero, suc, ◌+◌, ◌<◌, ◌≤◌, ◌==◌, ◌&&◌, Bool, true, false, List, [], ◌∷◌, ◌++◌, length, drop, ◌^◌}
+use Rattle.std.proofs.Common.{if◌then◌else◌, Option, Some, None, is_some, IfSome, IsUtf8, IsCharBoundary, refl, sym, ap, subst, ◌∙◌, arith, ◌||◌}
 use Rattle.std.proofs.lemmas.Bool.{cases_lt, false≢true, cond-false, cond_both, and_left, and_right}
 use Rattle.std.proofs.lemmas.Str.{IsCharBoundary-end}
 use Rattle.first_pass_items.specs.declared.item.Item.{Item}
@@ -66,16 +67,19 @@ underline-end : (path : List Container) → underline_of path (line_rest []) ≡
 unfolding underline_of setext_underline
 underline-end path =
     let none : underline_left (front path (line_rest [])) ≡ None = ap underline_left (front-end path) in
-    cond_both (is_some (after path (line_rest []))) (underline_left (front path (line_rest []))) None (λ (o : Option (ℕ × HeadingLevel)). o ≡ None) (λ e. none) (λ e. refl)
+    cond_both (is_some (after path (line_rest []))) (underline_left (front path (line_rest []))) None (λ (o : Option (ℕ × HeadingLevel)). o ≡ None)
+    (λ e. none) (λ e. refl)
 
 second_none : (t u : Bool) → (t || u) ≡ false → u ≡ false
 second_none true u h = cc
 second_none false u h = h
 
 text_within : (c : Context) (text : List ℕ) (n : ℕ) → ends_text c (line_rest (drop n text)) ≡ false → n < length text
-text_within c text n h = goes_within c text n (second_none (is_some (underline_of c.path (line_rest (drop n text)))) (ends_paragraph c (line_rest (drop n text))) h)
+text_within c text n h =
+    goes_within c text n (second_none (is_some (underline_of c.path (line_rest (drop n text)))) (ends_paragraph c (line_rest (drop n text))) h)
 
-pub underline_within : (path : List Container) (text : List ℕ) (n : ℕ) (underline : ℕ × HeadingLevel) → underline_of path (line_rest (drop n text)) ≡ Some underline → n < length text
+pub underline_within : (path : List Container) (text : List ℕ) (n : ℕ) (underline : ℕ × HeadingLevel)
+    → underline_of path (line_rest (drop n text)) ≡ Some underline → n < length text
 underline_within path text n underline h =
     elim (cases_lt n (length text)) [
       | inl more ↦ more
@@ -87,11 +91,13 @@ pub underline_there : (path : List Container) (text : List ℕ) (n : ℕ) → un
 underline_there path text n =
     elim (cases_lt n (length text)) [
       | inl within ↦ ap (underline_first path) (lines_at-line text n within)
-      | inr past ↦ ap (underline_first path) (lines_at-end text n past) ∙ sym (ap (λ bs. underline_of path (line_rest bs)) (ends_past text n past) ∙ underline-end path)
+      | inr past ↦
+          ap (underline_first path) (lines_at-end text n past) ∙ sym (ap (λ bs. underline_of path (line_rest bs)) (ends_past text n past) ∙ underline-end path)
     ]
 
 -- The text of a line ends where the line ends.
-pub line_end-text : (path : List Container) (text : List ℕ) (n : ℕ) → IsUtf8 text → IsCharBoundary text n → line_end_at text (offset (unindented (place_at n (front path (line_rest (drop n text)))))) ≡ line_end_at text n
+pub line_end-text : (path : List Container) (text : List ℕ) (n : ℕ)
+    → IsUtf8 text → IsCharBoundary text n → line_end_at text (offset (unindented (place_at n (front path (line_rest (drop n text)))))) ≡ line_end_at text n
 line_end-text path text n u b =
     let p = text_place text n path u b in
     let f = ap line_len p.0.left in
@@ -99,21 +105,28 @@ line_end-text path text n u b =
     omega arith
 
 -- one more line of a text
-lines_more : (path : List Container) (d : Document) (ix : Spot) (n : ℕ) (after : MathBraces) (chain tokens : List Item) (line_break : Option Item) (t : TextLines) → IsLine d.names.texts (content_at d ix) tokens (n, line_break) after → n ≡ line_end_at d.text ix.at
+lines_more : (path : List Container) (d : Document) (ix : Spot) (n : ℕ) (after : MathBraces) (chain tokens : List Item) (line_break : Option Item)
+    (t : TextLines) → IsLine d.names.texts (content_at d ix) tokens (n, line_break) after → n ≡ line_end_at d.text ix.at
     → ends_text (around d path) (line_rest (drop n d.text)) ≡ false → IsUtf8 d.text → IsCharBoundary d.text n
-    → (let at : ℕ = offset (unindented (place_at n (front path (line_rest (drop n d.text))))) in AreTextLines d path (spot at after) (add_break line_break (add_tokens chain tokens)) (lines_from d.text (line_end_at d.text at)) t)
+    → (
+    let at : ℕ = offset (unindented (place_at n (front path (line_rest (drop n d.text))))) in
+    AreTextLines d path (spot at after) (add_break line_break (add_tokens chain tokens)) (lines_from d.text (line_end_at d.text at)) t)
     → AreTextLines d path ix chain (lines_from d.text (line_end_at d.text ix.at)) t
 unfolding AreTextLines front
 lines_more path d ix n after chain tokens line_break t line place goes u b more =
     let within = text_within (around d path) d.text n goes in
     let first : lines_from d.text n ≡ line_place n (drop n d.text) ∷ lines_from d.text (line_end_at d.text n) = lines_at-line d.text n within in
-    let rest : AreTextLines d path (spot (offset (unindented (place_at n (front path (line_rest (drop n d.text)))))) after) (add_break line_break (add_tokens chain tokens)) (lines_from d.text (line_end_at d.text n)) t =
-    subst (λ e. AreTextLines d path (spot (offset (unindented (place_at n (front path (line_rest (drop n d.text)))))) after) (add_break line_break (add_tokens chain tokens)) (lines_from d.text e) t) (line_end-text path d.text n u b) more in
-    let all : AreTextLines d path ix chain (line_place n (drop n d.text) ∷ lines_from d.text (line_end_at d.text n)) t = (tokens, (n, line_break), after, line, inr (goes, rest)) in
+    let rest : AreTextLines d path (spot (offset (unindented (place_at n (front path (line_rest (drop n d.text)))))) after)
+    (add_break line_break (add_tokens chain tokens)) (lines_from d.text (line_end_at d.text n)) t =
+    subst (λ e. AreTextLines d path (spot (offset (unindented (place_at n (front path (line_rest (drop n d.text)))))) after)
+    (add_break line_break (add_tokens chain tokens)) (lines_from d.text e) t) (line_end-text path d.text n u b) more in
+    let all : AreTextLines d path ix chain (line_place n (drop n d.text) ∷ lines_from d.text (line_end_at d.text n)) t =
+    (tokens, (n, line_break), after, line, inr (goes, rest)) in
     subst (λ lines. AreTextLines d path ix chain lines t) (sym first ∙ ap (lines_from d.text) place) all
 
 -- the last line of a text
-last_by : (path : List Container) (d : Document) (ix : Spot) (n : ℕ) (after : MathBraces) (chain tokens : List Item) (line_break : Option Item) (lines : List Place) → IsLine d.names.texts (content_at d ix) tokens (n, line_break) after
+last_by : (path : List Container) (d : Document) (ix : Spot) (n : ℕ) (after : MathBraces) (chain tokens : List Item) (line_break : Option Item)
+    (lines : List Place) → IsLine d.names.texts (content_at d ix) tokens (n, line_break) after
     → (lines ≡ []) ⊎ ((more : List Place) × (lines ≡ line_place n (drop n d.text) ∷ more)) → ends_text (around d path) (line_rest (drop n d.text)) ≡ true
     → AreTextLines d path ix chain lines (text_lines (add_tokens chain tokens) line_break lines)
 unfolding AreTextLines front
@@ -127,7 +140,8 @@ last_by path d ix n after chain tokens line_break lines line (inr (more, some)) 
     let p : AreTextLines d path ix chain here given = (tokens, (n, line_break), after, line, inl (ends, refl)) in
     subst (λ ls. AreTextLines d path ix chain ls (text_lines (add_tokens chain tokens) line_break ls)) (sym some) p
 
-lines_last : (path : List Container) (d : Document) (ix : Spot) (n : ℕ) (after : MathBraces) (chain tokens : List Item) (line_break : Option Item) → IsLine d.names.texts (content_at d ix) tokens (n, line_break) after → n ≡ line_end_at d.text ix.at
+lines_last : (path : List Container) (d : Document) (ix : Spot) (n : ℕ) (after : MathBraces) (chain tokens : List Item) (line_break : Option Item)
+    → IsLine d.names.texts (content_at d ix) tokens (n, line_break) after → n ≡ line_end_at d.text ix.at
     → ends_text (around d path) (line_rest (drop n d.text)) ≡ true
     → AreTextLines d path ix chain (lines_from d.text (line_end_at d.text ix.at)) (text_lines (add_tokens chain tokens) line_break (lines_from d.text n))
 lines_last path d ix n after chain tokens line_break line place ends =
@@ -136,24 +150,29 @@ lines_last path d ix n after chain tokens line_break line place ends =
       | inl within ↦ inr (lines_from d.text (line_end_at d.text n), lines_at-line d.text n within)
       | inr past ↦ inl (lines_at-end d.text n past)
     ] in
-    subst (λ e. AreTextLines d path ix chain (lines_from d.text e) (text_lines (add_tokens chain tokens) line_break (lines_from d.text n))) place (last_by path d ix n after chain tokens line_break (lines_from d.text n) line lines ends)
+    subst (λ e. AreTextLines d path ix chain (lines_from d.text e) (text_lines (add_tokens chain tokens) line_break (lines_from d.text n))) place
+    (last_by path d ix n after chain tokens line_break (lines_from d.text n) line lines ends)
 
 -- the break after a chain in the tree
-pub with_child-chained : (f : Forest Item) (chain : List Item) (line_break : Option Item) → with_child (chained f chain) line_break ≡ chained f (add_break line_break chain)
+pub with_child-chained : (f : Forest Item) (chain : List Item) (line_break : Option Item)
+    → with_child (chained f chain) line_break ≡ chained f (add_break line_break chain)
 with_child-chained f chain None = refl
 with_child-chained f chain (Some x) = appended-chained f chain x
 
-closed_by : (t : Bool) (f : Forest Item) (chain : List Item) (x : Item) → is_backslash_break x.body ≡ t → JoinsNone f → with_closed_break (chained f chain) (Some x) ≡ chained f (close_break (Some x) chain)
+closed_by : (t : Bool) (f : Forest Item) (chain : List Item) (x : Item)
+    → is_backslash_break x.body ≡ t → JoinsNone f → with_closed_break (chained f chain) (Some x) ≡ chained f (close_break (Some x) chain)
 closed_by true f chain x h apart = rw h (with_text-chained f chain x.start (x.start + 1) false apart (omega arith))
 closed_by false f chain x h apart = rw h refl
 
-pub with_closed_break-chained : (f : Forest Item) (chain : List Item) (line_break : Option Item) → JoinsNone f → with_closed_break (chained f chain) line_break ≡ chained f (close_break line_break chain)
+pub with_closed_break-chained : (f : Forest Item) (chain : List Item) (line_break : Option Item)
+    → JoinsNone f → with_closed_break (chained f chain) line_break ≡ chained f (close_break line_break chain)
 with_closed_break-chained f chain None apart = refl
 with_closed_break-chained f chain (Some x) apart = closed_by (is_backslash_break x.body) f chain x refl apart
 
 -- what is no text stays first, whatever comes after it
 token_behind : (m y : Item) (chain : List Item) → is_text m.body ≡ false → add_token (m ∷ chain) y ≡ m ∷ add_token chain y
-token_behind m y [] plain = cond-false _ _ _ (and_right (is_text y.body) (is_text m.body && (m.«end» == y.start)) (and_left (is_text m.body) (m.«end» == y.start) plain))
+token_behind m y [] plain =
+    cond-false _ _ _ (and_right (is_text y.body) (is_text m.body && (m.«end» == y.start)) (and_left (is_text m.body) (m.«end» == y.start) plain))
 token_behind m y (z ∷ zs) plain = refl
 
 closed_if : (t : Bool) (m : Item) (s : ℕ) (chain : List Item) → is_text m.body ≡ false
@@ -172,7 +191,8 @@ pub so_far_start : (d : Document) (start : ℕ) (old : Forest Item) → IsCharBo
 so_far_start d start old boundary = record { chain = []; tree_is = refl; boundary = boundary; from = inl refl; goes_on = λ more e t p. p }
 
 -- A line ends between characters.
-pub next_boundary : (d : Document) (ix n : ℕ) (b : MathBraces) (line_break : Option Item) → IsUtf8 d.text → IsCharBoundary d.text ix → EndsLine (content_at d (spot ix b)) (n, line_break) → IsCharBoundary d.text n
+pub next_boundary : (d : Document) (ix n : ℕ) (b : MathBraces) (line_break : Option Item)
+    → IsUtf8 d.text → IsCharBoundary d.text ix → EndsLine (content_at d (spot ix b)) (n, line_break) → IsCharBoundary d.text n
 next_boundary d ix n b line_break utf8 boundary ends =
     let place : n ≡ line_end_at d.text ix = ends.place in
     let within : n ≤ length d.text = ends.within in
@@ -183,15 +203,19 @@ next_boundary d ix n b line_break utf8 boundary ends =
     ]
 
 -- The tokens of a line open and close nothing.
-read_path : {texts : List CowStr} {after : MathBraces} (d : Document) (start : ℕ) (ix : Spot) (old now read : Forest Item) (answer : ℕ × Option Item) → LinesSoFar d start old now ix → JoinsNone old
+read_path : {texts : List CowStr} {after : MathBraces} (d : Document) (start : ℕ) (ix : Spot) (old now read : Forest Item) (answer : ℕ × Option Item)
+    → LinesSoFar d start old now ix → JoinsNone old
     → AppendsLine texts (content_at d ix) now read answer after → AreIn (length old.nodes) old.spine → path_of d.options read ≡ path_of d.options old
 read_path d start ix old now read answer s apart line there =
-    ap (path_of d.options) (line.tree_is ∙ ap (λ f. with_tokens f line.tokens) s.tree_is ∙ with_tokens-chained old s.chain line.tokens apart) ∙ path_of-chained d.options old (add_tokens s.chain line.tokens) there
+    ap (path_of d.options) (line.tree_is ∙ ap (λ f. with_tokens f line.tokens) s.tree_is ∙ with_tokens-chained old s.chain line.tokens apart)
+    ∙ path_of-chained d.options old (add_tokens s.chain line.tokens) there
 
 -- after a line, where the text continues
-pub so_far_more : (path : List Container) (d : Document) (names : Names) (after : MathBraces) (start : ℕ) (ix : Spot) (n at : ℕ) (old now read new : Forest Item) (line_break : Option Item) → path ≡ path_of d.options old → IsUtf8 d.text → LinesSoFar d start old now ix → JoinsNone old
+pub so_far_more : (path : List Container) (d : Document) (names : Names) (after : MathBraces) (start : ℕ) (ix : Spot) (n at : ℕ)
+    (old now read new : Forest Item) (line_break : Option Item) → path ≡ path_of d.options old → IsUtf8 d.text → LinesSoFar d start old now ix → JoinsNone old
     → Extends names d.names → AppendsLine names.texts (content_at d ix) now read (n, line_break) after → EndsLine (content_at d ix) (n, line_break)
-    → ends_text (around d path) (line_rest (drop n d.text)) ≡ false → at ≡ offset (unindented (place_at n (front path (line_rest (drop n d.text))))) → IsPlaceOf d.text (unindented (place_at n (front path (line_rest (drop n d.text)))))
+    → ends_text (around d path) (line_rest (drop n d.text)) ≡ false → at ≡ offset (unindented (place_at n (front path (line_rest (drop n d.text)))))
+    → IsPlaceOf d.text (unindented (place_at n (front path (line_rest (drop n d.text)))))
     → new ≡ with_child read line_break → (LinesSoFar (document d.text d.options names) start old new (spot at after)) × (ix.at < at)
 so_far_more path d names after start ix n at old now read new line_break path_is u s apart grown line ends goes at_is i new_is =
     let b = next_boundary d ix.at n ix.braces line_break u s.boundary ends in
@@ -204,10 +228,14 @@ so_far_more path d names after start ix n at old now read new line_break path_is
         chain = add_break line_break chain;
         tree_is = new_is ∙ ap (λ f. with_child f line_break) tree ∙ with_child-chained old chain line_break;
         boundary = subst (IsCharBoundary d.text) (sym at_is) i.boundary;
-        from = inr (elim s.from [ inl same ↦ (let e = ap (line_end_at d.text) same in let p : n ≡ line_end_at d.text ix.at = ends.place in omega arith) | inr past ↦ omega arith ]);
+        from = inr (elim s.from [
+          | inl same ↦ (let e = ap (line_end_at d.text) same in let p : n ≡ line_end_at d.text ix.at = ends.place in omega arith)
+          | inr past ↦ omega arith
+        ]);
         goes_on = λ more e t p.
             let later : Document = document d.text d.options more in
-            s.goes_on more (extends_both more names d.names e grown) t (subst (λ c. AreTextLines later c ix s.chain (lines_from d.text (line_end_at d.text ix.at)) t) path_is
+            s.goes_on more (extends_both more names d.names e grown) t
+            (subst (λ c. AreTextLines later c ix s.chain (lines_from d.text (line_end_at d.text ix.at)) t) path_is
             (lines_more path later ix n after s.chain line.tokens line_break t (line_more (e.more_texts, e.texts) line.line) ends.place goes u b
             (subst (λ z. AreTextLines later path (spot z after) (add_break line_break chain) (lines_from d.text (line_end_at d.text z)) t) at_is
             (subst (λ c. AreTextLines later c (spot at after) (add_break line_break chain) (lines_from d.text (line_end_at d.text at)) t) (sym path_is) p))));
@@ -216,7 +244,8 @@ so_far_more path d names after start ix n at old now read new line_break path_is
     )
 
 -- after the last line
-pub so_far_end : (path : List Container) (d : Document) (names : Names) (after : MathBraces) (start : ℕ) (ix : Spot) (n : ℕ) (old now read : Forest Item) (line_break : Option Item) (underline : Option HeadingLevel) → path ≡ path_of d.options old → LinesSoFar d start old now ix → JoinsNone old
+pub so_far_end : (path : List Container) (d : Document) (names : Names) (after : MathBraces) (start : ℕ) (ix : Spot) (n : ℕ) (old now read : Forest Item)
+    (line_break : Option Item) (underline : Option HeadingLevel) → path ≡ path_of d.options old → LinesSoFar d start old now ix → JoinsNone old
     → Extends names d.names → AppendsLine names.texts (content_at d ix) now read (n, line_break) after → EndsLine (content_at d ix) (n, line_break)
     → ends_text (around d path) (line_rest (drop n d.text)) ≡ true → IsCharBoundary d.text n → IfSome line_break (λ x. x.start < 2 ^ 63)
     → underline ≡ option_map (λ (found : ℕ × HeadingLevel). found.1) (underline_of path (line_rest (drop n d.text)))
@@ -233,14 +262,19 @@ so_far_end path d names after start ix n old now read line_break underline path_
           (subst (λ c. AreTextLines later c ix s.chain (lines_from d.text (line_end_at d.text ix.at)) given) path_is
           (lines_last path later ix n after s.chain line.tokens line_break (line_more (e.more_texts, e.texts) line.line) ends.place stops));
       tree_is = tree;
-      underline = said ∙ ap (option_map (λ (found : ℕ × HeadingLevel). found.1)) (sym (underline_there path d.text n) ∙ ap (λ c. underline_first c (lines_from d.text n)) path_is);
-      later = elim s.from [ inl same ↦ (let e = ap (line_end_at d.text) same in let p : n ≡ line_end_at d.text ix.at = ends.place in omega arith) | inr past ↦ (let from : ix.at ≤ n = ends.from in omega arith) ];
+      underline = said ∙ ap (option_map (λ (found : ℕ × HeadingLevel). found.1))
+          (sym (underline_there path d.text n) ∙ ap (λ c. underline_first c (lines_from d.text n)) path_is);
+      later = elim s.from [
+        | inl same ↦ (let e = ap (line_end_at d.text) same in let p : n ≡ line_end_at d.text ix.at = ends.place in omega arith)
+        | inr past ↦ (let from : ix.at ≤ n = ends.from in omega arith)
+      ];
       boundary = boundary;
       short = short;
     }
 
 -- what the next line says
-pub goes_by : (o : Option (ℕ × HeadingLevel)) (t : Bool) (v at : ℕ) (next : NextLine) → next ≡ next_by o t v → next ≡ More at → ((is_some o || t) ≡ false) × (at ≡ v)
+pub goes_by : (o : Option (ℕ × HeadingLevel)) (t : Bool) (v at : ℕ) (next : NextLine)
+    → next ≡ next_by o t v → next ≡ More at → ((is_some o || t) ≡ false) × (at ≡ v)
 goes_by (Some underline) t v at next e f = cc
 goes_by None true v at next e f = cc
 goes_by None false v at next e f = (refl, let same : More at ≡ More v = sym f ∙ e in cc)
@@ -258,7 +292,8 @@ underlined_by None true v level next e f = cc
 underlined_by None false v level next e f = cc
 
 -- the backslash of a hard break is in the text
-pub break_fits : (d : Document) (ix : Spot) (n : ℕ) (line_break : Option Item) → length d.text < 2 ^ 63 → EndsLine (content_at d ix) (n, line_break) → IfSome line_break (λ x. x.start < 2 ^ 63)
+pub break_fits : (d : Document) (ix : Spot) (n : ℕ) (line_break : Option Item)
+    → length d.text < 2 ^ 63 → EndsLine (content_at d ix) (n, line_break) → IfSome line_break (λ x. x.start < 2 ^ 63)
 break_fits d ix n None small ends = tt
 break_fits d ix n (Some x) small ends =
     let within : n ≤ length d.text = ends.within in
@@ -272,7 +307,8 @@ abbrev pub line_source : Options → List ℕ → Spot → Source
 line_source options text p = record { options = options; whole = text; text = text; start = p.at; row = false; braces = p.braces }
 
 -- the same source, where the text and the options are still those
-pub same_line : (texts : List CowStr) (after : MathBraces) (t u : List ℕ) (o w : Options) (ix : Spot) (old new : Forest Item) (answer : ℕ × Option Item) → t ≡ u → o ≡ w
+pub same_line : (texts : List CowStr) (after : MathBraces) (t u : List ℕ) (o w : Options) (ix : Spot) (old new : Forest Item) (answer : ℕ × Option Item)
+    → t ≡ u → o ≡ w
     → AppendsLine texts (line_source o t ix) old new answer after → AppendsLine texts (content_at (document u w no_names) ix) old new answer after
 same_line texts after t u o w ix old new answer e f line =
     subst (λ z. AppendsLine texts (line_source z u ix) old new answer after) f (subst (λ z. AppendsLine texts (line_source o z ix) old new answer after) e line)
@@ -283,29 +319,39 @@ same_end t u o w ix answer e f ends =
     subst (λ z. EndsLine (line_source z u ix) answer) f (subst (λ z. EndsLine (line_source o z ix) answer) e ends)
 
 -- the two steps, of a text that is held by other names before and after the line is read
-pub so_far_next : (names later : Names) (after : MathBraces) (first text now_text : List ℕ) (o w : Options) (start : ℕ) (ix : Spot) (n at : ℕ) (old now read new : Forest Item) (line_break : Option Item) (found : NextLine) (path : List Container)
-    → text ≡ first → o ≡ w → now_text ≡ text → path ≡ path_of w read → AreIn (length old.nodes) old.spine → IsUtf8 first → LinesSoFar (document first w names) start old now ix → JoinsNone old
+pub so_far_next : (names later : Names) (after : MathBraces) (first text now_text : List ℕ) (o w : Options) (start : ℕ) (ix : Spot) (n at : ℕ)
+    (old now read new : Forest Item) (line_break : Option Item) (found : NextLine) (path : List Container)
+    → text ≡ first → o ≡ w → now_text ≡ text → path ≡ path_of w read → AreIn (length old.nodes) old.spine → IsUtf8 first
+    → LinesSoFar (document first w names) start old now ix → JoinsNone old
     → Extends later names → AppendsLine later.texts (line_source o text ix) now read (n, line_break) after → EndsLine (line_source o text ix) (n, line_break)
     → found ≡ next_line_of (context w path) n (line_rest (drop n now_text)) → found ≡ More at
     → IsPlaceOf now_text (unindented (place_at n (front path (line_rest (drop n now_text))))) → new ≡ with_child read line_break
     → (LinesSoFar (document first w later) start old new (spot at after)) × (ix.at < at)
-so_far_next names later after first text now_text o w start ix n at old now read new line_break found path same same_options kept path_is there u s apart grown line ends value is place new_is =
+so_far_next names later after first text now_text o w start ix n at old now read new line_break found path same same_options kept path_is there u s apart grown
+    line ends value is place new_is =
     let e : now_text ≡ first = kept ∙ same in
     let goes = goes_by _ _ _ _ _ (subst (λ t. found ≡ next_line_of (context w path) n (line_rest (drop n t))) e value) is in
     let line_is = same_line later.texts after text first o w ix now read (n, line_break) same same_options line in
     so_far_more path (document first w names) later after start ix n at old now read new line_break
     (path_is ∙ read_path (document first w names) start ix old now read (n, line_break) s apart line_is there) u s apart grown line_is
-    (same_end text first o w ix (n, line_break) same same_options ends) goes.0 goes.1 (subst (λ t. IsPlaceOf t (unindented (place_at n (front path (line_rest (drop n t)))))) e place) new_is
+    (same_end text first o w ix (n, line_break) same same_options ends) goes.0 goes.1
+    (subst (λ t. IsPlaceOf t (unindented (place_at n (front path (line_rest (drop n t)))))) e place) new_is
 
-pub so_far_stop : (names later : Names) (after : MathBraces) (first text now_text : List ℕ) (o w : Options) (start : ℕ) (ix : Spot) (n : ℕ) (old now read : Forest Item) (line_break : Option Item) (underline : Option HeadingLevel) (path : List Container)
-    → text ≡ first → o ≡ w → now_text ≡ text → path ≡ path_of w read → AreIn (length old.nodes) old.spine → IsUtf8 first → LinesSoFar (document first w names) start old now ix → JoinsNone old
-    → Extends later names → AppendsLine later.texts (line_source o text ix) now read (n, line_break) after → EndsLine (line_source o text ix) (n, line_break) → length first < 2 ^ 63
-    → (ends_text (context w path) (line_rest (drop n now_text)) ≡ true) × (underline ≡ option_map (λ (u : ℕ × HeadingLevel). u.1) (underline_of path (line_rest (drop n now_text))))
+pub so_far_stop : (names later : Names) (after : MathBraces) (first text now_text : List ℕ) (o w : Options) (start : ℕ) (ix : Spot) (n : ℕ)
+    (old now read : Forest Item) (line_break : Option Item) (underline : Option HeadingLevel) (path : List Container)
+    → text ≡ first → o ≡ w → now_text ≡ text → path ≡ path_of w read → AreIn (length old.nodes) old.spine → IsUtf8 first
+    → LinesSoFar (document first w names) start old now ix → JoinsNone old
+    → Extends later names → AppendsLine later.texts (line_source o text ix) now read (n, line_break) after → EndsLine (line_source o text ix) (n, line_break)
+    → length first < 2 ^ 63
+    → (ends_text (context w path) (line_rest (drop n now_text)) ≡ true)
+    × (underline ≡ option_map (λ (u : ℕ × HeadingLevel). u.1) (underline_of path (line_rest (drop n now_text))))
     → IsCharBoundary text n
     → AppendsLines (document first w later) start old read (record { next = n; line_break = line_break; underline = underline })
-so_far_stop names later after first text now_text o w start ix n old now read line_break underline path same same_options kept path_is there u s apart grown line ends small said boundary =
+so_far_stop names later after first text now_text o w start ix n old now read line_break underline path same same_options kept path_is there u s apart grown
+    line ends small said boundary =
     let e : now_text ≡ first = kept ∙ same in
-    let stops = subst (λ t. (ends_text (context w path) (line_rest (drop n t)) ≡ true) × (underline ≡ option_map (λ (u : ℕ × HeadingLevel). u.1) (underline_of path (line_rest (drop n t))))) e said in
+    let stops = subst (λ t. (ends_text (context w path) (line_rest (drop n t)) ≡ true)
+    × (underline ≡ option_map (λ (u : ℕ × HeadingLevel). u.1) (underline_of path (line_rest (drop n t))))) e said in
     let ended = same_end text first o w ix (n, line_break) same same_options ends in
     let line_is = same_line later.texts after text first o w ix now read (n, line_break) same same_options line in
     so_far_end path (document first w names) later after start ix n old now read line_break underline
@@ -313,9 +359,12 @@ so_far_stop names later after first text now_text o w start ix n old now read li
     ended stops.0 (subst (λ t. IsCharBoundary t n) same boundary) (break_fits (document first w names) ix n line_break small ended) stops.1
 
 -- a paragraph just opened, with the marker of its task list item
-pub path_of-paragraph : (options : Options) (g p m : Forest Item) (x : Item) (ix : TreeIndex) (marker : Option Item) → container_of options x.body ≡ None → p ≡ pushed (appended g x) ix → m ≡ with_child p marker → ix.0 ≡ length g.nodes
+pub path_of-paragraph : (options : Options) (g p m : Forest Item) (x : Item) (ix : TreeIndex) (marker : Option Item)
+    → container_of options x.body ≡ None → p ≡ pushed (appended g x) ix → m ≡ with_child p marker → ix.0 ≡ length g.nodes
     → AreIn (length g.nodes) g.spine → path_of options m ≡ path_of options g
-path_of-paragraph options g p m x ix None leaf e f at a = ap (path_of options) (f ∙ e) ∙ path_of-opened options g x ix at a ∙ ap (λ c. with_container c (path_of options g)) leaf
+path_of-paragraph options g p m x ix None leaf e f at a =
+    ap (path_of options) (f ∙ e) ∙ path_of-opened options g x ix at a ∙ ap (λ c. with_container c (path_of options g)) leaf
 path_of-paragraph options g p m x ix (Some y) leaf e f at a =
-    ap (path_of options) (f ∙ ap (λ q. appended q y) e) ∙ path_in-append options (g.nodes ++ (length g.spine + 1, x) ∷ []) ((length (ix ∷ g.spine) + 1, y) ∷ []) (ix ∷ g.spine) (opened_in g x ix at a)
+    ap (path_of options) (f ∙ ap (λ q. appended q y) e)
+    ∙ path_in-append options (g.nodes ++ (length g.spine + 1, x) ∷ []) ((length (ix ∷ g.spine) + 1, y) ∷ []) (ix ∷ g.spine) (opened_in g x ix at a)
     ∙ path_of-opened options g x ix at a ∙ ap (λ c. with_container c (path_of options g)) leaf

@@ -4,7 +4,8 @@ use Rattle.first_pass_items.specs.declared.option_set.Options.{Options}
 use Rattle.first_pass_items.specs.OptionWords.{has}
 use Rattle.first_pass_lines.specs.Rest.{Rest}
 use Rattle.first_pass_lines.specs.Plain.{is_plain, begins_plain}
-use Rattle.first_pass_scan.proofs.PlainFacts.{plain_begins, plain_eol, plain_blank, plain_hrule, plain_atx, plain_fence, plain_listitem, plain_metadata, plain_indent}
+use Rattle.first_pass_scan.proofs.PlainFacts.{plain_begins, plain_eol, plain_blank, plain_hrule, plain_atx, plain_fence, plain_listitem, plain_metadata}
+use Rattle.first_pass_scan.proofs.PlainFacts.{plain_indent}
 use Rattle.first_pass_html.specs.Tags.{BeginsTagLine}
 use Rattle.first_pass_open.proofs.PlainLemmas.{plain_all}
 use Rattle.first_pass_grammar.specs.Kinds.{Paragraph, all_taken, html_kind, first_kind, last_kind, IsKindBy, IsKind, interrupts_with}
@@ -19,7 +20,8 @@ plain_62 = refl
 
 pub plain_interrupts : (whole : Bool) (bs : List ℕ) → begins_plain bs ≡ true → interrupts_with whole bs ≡ false
 plain_interrupts whole bs h =
-    rw (plain_eol bs h) (rw (plain_hrule bs h) (rw (plain_atx bs h) (rw (plain_fence bs h) (rw (plain_begins 62 bs h plain_62) (rw (plain_listitem bs h) (rw (plain_begins 60 bs h plain_60) refl))))))
+    rw (plain_eol bs h) (rw (plain_hrule bs h)
+    (rw (plain_atx bs h) (rw (plain_fence bs h) (rw (plain_begins 62 bs h plain_62) (rw (plain_listitem bs h) (rw (plain_begins 60 bs h plain_60) refl))))))
 
 pub plain_html : (bs : List ℕ) → begins_plain bs ≡ true → html_kind bs ≡ None
 plain_html bs h = rw (plain_begins 60 bs h plain_60) refl

@@ -1,5 +1,6 @@
 -- A paragraph, or a heading that is underlined, is added to the tree.
-use Rattle.std.proofs.Common.{◌≡◌, inl, inr, Bool, ◌≤◌, ℕ, ◌+◌, List, [], ◌∷◌, ◌++◌, length, drop, Option, Some, None, IfSome, MatchOption, IsUtf8, IsCharBoundary, refl, sym, ap, subst, ◌∙◌, arith, false, IsSome, slice_get}
+use Rattle.std.proofs.Common.{◌≡◌, inl, inr, Bool, ◌≤◌, ℕ, ◌+◌, List, [], ◌∷◌, ◌++◌, length, drop, Option, Some, None, IfSome, MatchOption, IsUtf8}
+use Rattle.std.proofs.Common.{IsCharBoundary, refl, sym, ap, subst, ◌∙◌, arith, false, IsSome, slice_get}
 use Rattle.first_pass_items.specs.declared.item.Item.{Item}
 use Rattle.first_pass_items.specs.declared.item.HeadingLevel.{HeadingLevel}
 use Rattle.first_pass_tree.specs.Forest.{Forest, added, appended, pushed, is_text, item_at, IsForest}
@@ -18,7 +19,8 @@ use Rattle.first_pass_names.specs.TableEntries.{no_names}
 use Rattle.first_pass_items.specs.declared.option_set.Options.{Options}
 use Rattle.first_pass_items.specs.declared.item.HeadingIndex.{HeadingIndex}
 use Rattle.std.specs.Option.{option_map, option_map_or}
-use Rattle.first_pass_grammar.specs.Texts.{underline_first, text_children, plain_text, underlined_text, by_backslash, heading_bytes, children_without, heading_children, IsUnderlined}
+use Rattle.first_pass_grammar.specs.Texts.{underline_first, text_children, plain_text, underlined_text, by_backslash, heading_bytes, children_without}
+use Rattle.first_pass_grammar.specs.Texts.{heading_children, IsUnderlined}
 use Rattle.first_pass_grammar.specs.Tables.{Taken, taking}
 use Rattle.first_pass_grammar.specs.Completion.{lines_from}
 use Rattle.first_pass_open.specs.Path.{path_of}
@@ -44,7 +46,8 @@ no_underline : (o : Option (ℕ × HeadingLevel)) → None ≡ option_map (λ (f
 no_underline None h = refl
 no_underline (Some underline) h = cc
 
-some_underline : (level : HeadingLevel) (o : Option (ℕ × HeadingLevel)) → Some level ≡ option_map (λ (found : ℕ × HeadingLevel). found.1) o → (n : ℕ) × (o ≡ Some (n, level))
+some_underline : (level : HeadingLevel) (o : Option (ℕ × HeadingLevel))
+    → Some level ≡ option_map (λ (found : ℕ × HeadingLevel). found.1) o → (n : ℕ) × (o ≡ Some (n, level))
 some_underline level None h = cc
 some_underline level (Some underline) h = (underline.0, ap (λ z. Some (underline.0, z)) (sym (same_Some level underline.1 h)))
 
@@ -61,7 +64,8 @@ unfolding heading_children
 children_renamed text options m n start marker l = refl
 
 -- the children of a heading, by its attribute block, or none
-pub children_by : (d : Document) (start : ℕ) (marker : Option Item) (l : TextLines) (o : Option Braces) → heading_braces d.options (heading_bytes d start marker l) ≡ o
+pub children_by : (d : Document) (start : ℕ) (marker : Option Item) (l : TextLines) (o : Option Braces)
+    → heading_braces d.options (heading_bytes d start marker l) ≡ o
     → heading_children d start marker l ≡ children_without d start marker l o
 unfolding heading_children
 children_by d start marker l o e = ap (children_without d start marker l) e
@@ -70,9 +74,11 @@ children_by d start marker l o e = ap (children_without d start marker l) e
 abbrev given : List ℕ → ℕ → List Item → Option Item → TextLines
 given text next chain line_break = text_lines chain line_break (lines_from text next)
 
-module _ (text : List ℕ) (options : Options) (names : Names) (start n : ℕ) (marker : Option Item) (old new : Forest Item) (chain : List Item) (line_break : Option Item)
+module _ (text : List ℕ) (options : Options) (names : Names) (start n : ℕ) (marker : Option Item) (old new : Forest Item) (chain : List Item)
+    (line_break : Option Item)
     (are : (more : Names) → Extends more names
-    → AreTextLines (document text options more) (path_of options old) (spot start no_braces) [] (lines_from text (line_end_at text start)) (given text n chain line_break))
+    → AreTextLines (document text options more) (path_of options old) (spot start no_braces) [] (lines_from text (line_end_at text start))
+    (given text n chain line_break))
     (later : line_end_at text start ≤ n) (boundary : IsCharBoundary text n) where
   abbrev lines : TextLines
   lines = given text n chain line_break
@@ -102,12 +108,15 @@ module _ (text : List ℕ) (options : Options) (names : Names) (start n : ℕ) (
   pub heading_added : (level : HeadingLevel) (index : Option HeadingIndex) (next : ℕ)
       → Some level ≡ option_map (λ (found : ℕ × HeadingLevel). found.1) (underline_first (path_of options old) (lines_from text n))
       → next ≡ line_end_at text n → IsCharBoundary text next
-      → ((more : Names) → Extends more names → NamesAttributes more index (heading_attributes_of options (chain_bytes text start (marker_items marker ++ chain))))
-      → new ≡ added old (heading_block start next level index (heading_children (document text options no_names) start marker lines)) → AddsPlainText (document text options names) start marker old new next
+      → ((more : Names) → Extends more names
+      → NamesAttributes more index (heading_attributes_of options (chain_bytes text start (marker_items marker ++ chain))))
+      → new ≡ added old (heading_block start next level index (heading_children (document text options no_names) start marker lines))
+      → AddsPlainText (document text options names) start marker old new next
   heading_added level index next said next_is ends named tree_is =
       let (size, some) = some_underline level (underline_first (path_of options old) (lines_from text n)) said in
       let within = underline_within (path_of options old) text n (size, level) (sym (underline_there (path_of options old) text n) ∙ some) in
-      let behind : drop 1 (lines_from text n) ≡ lines_from text next = ap (λ (ls : List Place). drop 1 ls) (lines_at-line text n within) ∙ ap (lines_from text) (sym next_is) in
+      let behind : drop 1 (lines_from text n) ≡ lines_from text next =
+      ap (λ (ls : List Place). drop 1 ls) (lines_at-line text n within) ∙ ap (lines_from text) (sym next_is) in
       let kids : List Item = heading_children (document text options no_names) start marker lines in
       let t : Taken = taking (heading_block start next level index kids) (lines_from text next) in
       record {
@@ -134,18 +143,21 @@ abbrev pub opened_item : ℕ → Item
 opened_item start = record { start = start; «end» = 0; body = Paragraph }
 
 -- A paragraph stands open in the tree, with the marker of its task list item and the chain of its lines in it, but for the break after the last of them.
-pub record StandsOpen (text : List ℕ) (options : Options) (names : Names) (start : ℕ) (marker : Option Item) (g r : Forest Item) (ix : TreeIndex) (end : TextEnd) : Type 0 where
+pub record StandsOpen (text : List ℕ) (options : Options) (names : Names) (start : ℕ) (marker : Option Item) (g r : Forest Item) (ix : TreeIndex)
+    (end : TextEnd) : Type 0 where
   pub chain : List Item
   pub at : ix.0 ≡ length g.nodes
   pub tree_is : r ≡ chained (pushed (appended g (opened_item start)) ix) (marker_items marker ++ chain)
   pub plain : IfSome marker (λ y. is_text y.body ≡ false)
   pub are : (more : Names) → Extends more names
-      → AreTextLines (document text options more) (path_of options g) (spot start no_braces) [] (lines_from text (line_end_at text start)) (given text end.next chain end.line_break)
+      → AreTextLines (document text options more) (path_of options g) (spot start no_braces) [] (lines_from text (line_end_at text start))
+      (given text end.next chain end.line_break)
   pub said : end.underline ≡ option_map (λ (found : ℕ × HeadingLevel). found.1) (underline_first (path_of options g) (lines_from text end.next))
   pub later : line_end_at text start ≤ end.next
   pub boundary : IsCharBoundary text end.next
 
-pub stands_open : (text : List ℕ) (options : Options) (names : Names) (start : ℕ) (marker : Option Item) (g a p m r : Forest Item) (ix : TreeIndex) (end : TextEnd) → IsForest g
+pub stands_open : (text : List ℕ) (options : Options) (names : Names) (start : ℕ) (marker : Option Item) (g a p m r : Forest Item) (ix : TreeIndex)
+    (end : TextEnd) → IsForest g
     → a ≡ appended g (opened_item start) → a.current ≡ Some ix → p ≡ pushed a ix → m ≡ with_child p marker → IfSome marker (λ y. is_text y.body ≡ false)
     → AppendsLines (document text options names) start m r end → StandsOpen text options names start marker g r ix end
 stands_open text options names start marker g a p m r ix end forest a_is current p_is m_is plain read =
@@ -153,7 +165,8 @@ stands_open text options names start marker g a p m r ix end forest a_is current
     let at = opened_at g a x ix a_is current in
     let opened = opened_is g a p x ix a_is p_is in
     let there : m ≡ with_child (pushed (appended g x) ix) marker = m_is ∙ ap (λ f. with_child f marker) opened in
-    let same : path_of options m ≡ path_of options g = path_of-paragraph options g p m x ix marker refl opened m_is at (open_are_in g.nodes g.spine forest.opened) in
+    let same : path_of options m ≡ path_of options g =
+    path_of-paragraph options g p m x ix marker refl opened m_is at (open_are_in g.nodes g.spine forest.opened) in
     record {
       chain = read.chain;
       at = at;
@@ -188,7 +201,8 @@ module _ {text : List ℕ} {options : Options} {read_names : Names} {start : ℕ
       ∙ with_closed_break-chained (pushed (appended g x) ix) chain end.line_break (joins_none-fresh (pushed (appended g x) ix) refl)
 
   -- a paragraph, whose last line is ended
-  text_filled : (n : Forest Item) → n ≡ with_closed_break r end.line_break → n ≡ chained (pushed (appended g (opened_item start)) ix) (text_children marker read_lines)
+  text_filled : (n : Forest Item)
+      → n ≡ with_closed_break r end.line_break → n ≡ chained (pushed (appended g (opened_item start)) ix) (text_children marker read_lines)
   text_filled n is =
       ended (opened_item start) whole_chain r n t.tree_is is
       ∙ ap (chained (pushed (appended g (opened_item start)) ix)) (closed_marked marker end.line_break t.chain t.plain)
@@ -204,17 +218,21 @@ module _ {text : List ℕ} {options : Options} {read_names : Names} {start : ℕ
 
   -- what is left of the chain of a heading, its last line ended, are its children
   cut_is : (o : Option Braces) → heading_braces options (chain_bytes text start whole_chain) ≡ o
-      → close_break end.line_break (cut_chain text options start (by_backslash end.line_break) whole_chain) ≡ heading_children (document text options no_names) start marker read_lines
+      → close_break end.line_break (cut_chain text options start (by_backslash end.line_break) whole_chain)
+      ≡ heading_children (document text options no_names) start marker read_lines
   cut_is None none =
-      ap (close_break end.line_break) (cut_none text options start (by_backslash end.line_break) whole_chain none) ∙ closed_marked marker end.line_break t.chain t.plain
+      ap (close_break end.line_break) (cut_none text options start (by_backslash end.line_break) whole_chain none)
+      ∙ closed_marked marker end.line_break t.chain t.plain
       ∙ sym (children_by (document text options no_names) start marker read_lines None none)
   cut_is (Some block) some =
       ap (λ (o : Option Braces). close_break end.line_break
-      (option_map_or (λ (b : Braces). cut (start + kept_before (by_backslash end.line_break) b.opening (chain_bytes text start whole_chain)) whole_chain) o whole_chain)) some
+      (option_map_or (λ (b : Braces). cut (start + kept_before (by_backslash end.line_break) b.opening (chain_bytes text start whole_chain)) whole_chain) o
+      whole_chain)) some
       ∙ sym (children_by (document text options no_names) start marker read_lines (Some block) some)
 
   -- a heading, whose attribute block is cut off, and whose last line is then ended
-  module _ (names : Names) (grown : Extends names read_names) (level : HeadingLevel) (broken : Bool) (h n : Forest Item) (broken_is : broken ≡ by_backslash end.line_break)
+  module _ (names : Names) (grown : Extends names read_names) (level : HeadingLevel) (broken : Bool) (h n : Forest Item)
+      (broken_is : broken ≡ by_backslash end.line_break)
       (heads : BecomesHeading (document text options names) level broken ix r h) (n_is : n ≡ with_closed_break h end.line_break) where
     abbrev kids : List Item
     kids = heading_children (document text options no_names) start marker read_lines
@@ -226,20 +244,24 @@ module _ {text : List ℕ} {options : Options} {read_names : Names} {start : ℕ
         × ((more : Names) → Extends more names → NamesAttributes more heads.index (heading_attributes_of options (chain_bytes text start whole_chain)))
     cut_off =
         let fresh = pushed-fresh g (opened_item start) ix t.at in
-        let cuts = subst (λ (o : Option Item). IfSome o (λ x. CutsBlock (document text options names) x.start broken r heads.cut heads.index)) its_item heads.cuts in
+        let cuts =
+        subst (λ (o : Option Item). IfSome o (λ x. CutsBlock (document text options names) x.start broken r heads.cut heads.index)) its_item heads.cuts in
         cuts (pushed (appended g (opened_item start)) ix) whole_chain (record { last = fresh.0; none = fresh.1 }) t.tree_is
 
     heading_filled : n ≡ chained (pushed (appended g heading_item) ix) kids
     heading_filled =
         ended heading_item (cut_chain text options start broken whole_chain) h n
-        (heads.tree_is ∙ open_named g heads.cut (opened_item start) (cut_chain text options start broken whole_chain) ix t.at cut_off.0 (Heading level heads.index)) n_is
+        (heads.tree_is
+        ∙ open_named g heads.cut (opened_item start) (cut_chain text options start broken whole_chain) ix t.at cut_off.0 (Heading level heads.index)) n_is
         ∙ ap (chained (pushed (appended g heading_item) ix))
-        (ap (λ (b : Bool). close_break end.line_break (cut_chain text options start b whole_chain)) broken_is ∙ cut_is (heading_braces options (chain_bytes text start whole_chain)) refl)
+        (ap (λ (b : Bool). close_break end.line_break (cut_chain text options start b whole_chain)) broken_is
+        ∙ cut_is (heading_braces options (chain_bytes text start whole_chain)) refl)
 
     pub heading_open : IsSome (slice_get n.spine 0)
     heading_open = still_open g n heading_item kids ix t.at heading_filled
 
-    pub closed_heading : (new : Forest Item) (next : ℕ) → Some level ≡ end.underline → next ≡ line_end_at text end.next → IsUtf8 text → new ≡ closed_by n next n.spine
+    pub closed_heading : (new : Forest Item) (next : ℕ)
+        → Some level ≡ end.underline → next ≡ line_end_at text end.next → IsUtf8 text → new ≡ closed_by n next n.spine
         → AddsPlainText (document text options names) start marker g new next
     closed_heading new next some next_is utf8 is =
         heading_added text options names start end.next marker g new t.chain end.line_break

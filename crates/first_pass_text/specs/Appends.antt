@@ -56,7 +56,8 @@ pub record AppendsHeading (texts : List CowStr) (s : Source) (content : List ℕ
 pub record AddsPlainText (d : Document) (start : ℕ) (marker : Option Item) (old new : Forest Item) (next : ℕ) : Type 0 where
   pub items : List (ℕ × Item)
   pub is : (more : Names) → Extends more d.names
-      → IsPlainText (document d.text d.options more) (path_of d.options old) start marker (lines_from d.text (line_end_at d.text start)) (taking items (lines_from d.text next))
+      → IsPlainText (document d.text d.options more) (path_of d.options old) start marker (lines_from d.text (line_end_at d.text start))
+      (taking items (lines_from d.text next))
   pub tree_is : new ≡ added old items
   pub later : line_end_at d.text start ≤ next
   pub boundary : IsCharBoundary d.text next
@@ -65,6 +66,7 @@ pub record AddsPlainText (d : Document) (start : ℕ) (marker : Option Item) (ol
 pub record AddsHeading (d : Document) (start : ℕ) (level : HeadingLevel) (old new : Forest Item) (next : ℕ) : Type 0 where
   pub index : Option HeadingIndex
   pub chain : List Item
-  pub line : (more : Names) → Extends more d.names → IsHeading (document d.text d.options more) (heading_text_at d.text start (level_number level)) index chain next
+  pub line : (more : Names)
+      → Extends more d.names → IsHeading (document d.text d.options more) (heading_text_at d.text start (level_number level)) index chain next
   pub tree_is : new ≡ added old (heading_block start next level index chain)
   pub end_is : next ≡ line_end_at d.text start

@@ -22,7 +22,8 @@ pub record IsBare (f : Forest Item) : Type 0 where
 -- a chain that begins at an offset, without the attribute block at its end; a backslash breaks its last line, or doesn't
 abbrev pub cut_chain : List ℕ → Options → ℕ → Bool → List Item → List Item
 cut_chain text options start broken chain =
-    option_map_or (λ block. cut (start + kept_before broken block.opening (chain_bytes text start chain)) chain) (heading_braces options (chain_bytes text start chain)) chain
+    option_map_or (λ block. cut (start + kept_before broken block.opening (chain_bytes text start chain)) chain)
+    (heading_braces options (chain_bytes text start chain)) chain
 
 -- The attribute block of the heading's text that begins at an offset is cut off its chain, which stands alone in the innermost open node, and the index of its
 -- attributes names them, whatever more is named.

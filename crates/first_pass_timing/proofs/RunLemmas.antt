@@ -1,5 +1,6 @@
 -- Runs of the pass, one after the other, and what is told of them.
-use Rattle.std.proofs.Common.{inl, inr, zero, ◌≡◌, ℕ, ◌+◌, ◌-◌, ◌<◌, ◌≤◌, suc, min, true, false, Option, None, Some, List, [], ◌∷◌, ◌++◌, length, length-append, map, take, refl, sym, ap, ◌∙◌, subst, arith}
+use Rattle.std.proofs.Common.{inl, inr, zero, ◌≡◌, ℕ, ◌+◌, ◌-◌, ◌<◌, ◌≤◌, suc, min, true, false, Option, None, Some, List, [], ◌∷◌, ◌++◌, length, length-append}
+use Rattle.std.proofs.Common.{map, take, refl, sym, ap, ◌∙◌, subst, arith}
 use Rattle.std.proofs.Math.Nat.{min-eq_left}
 use Rattle.std.proofs.Math.Seq.{take-append_seam}
 use Rattle.std.proofs.lemmas.Bool.{leb-false, leb-true}
@@ -42,7 +43,8 @@ pub record SoFar (asked : Option ℕ) (old new : Option (List ℕ)) (first : ℕ
   pub fewer : (k : ℕ) → 0 < k → k < suc (length more) → enough asked k (elapsed (take k (first ∷ more))) ≡ false
 
 -- one run
-pub first_run : (asked : Option ℕ) (old new : Option (List ℕ)) (began ended least : ℕ) → least ≡ ended - began → Consumes old new (began ∷ ended ∷ []) → SoFar asked old new (began, ended) ended 1 least
+pub first_run : (asked : Option ℕ) (old new : Option (List ℕ)) (began ended least : ℕ)
+    → least ≡ ended - began → Consumes old new (began ∷ ended ∷ []) → SoFar asked old new (began, ended) ended 1 least
 unfolding last_end
 first_run asked old new began ended least is read = record {
   more = [];
@@ -52,7 +54,8 @@ first_run asked old new began ended least is read = record {
 }
 
 -- another run is timed too
-more_timed : (old mid new : Option (List ℕ)) (runs : List (ℕ × ℕ)) (run : ℕ × ℕ) (count least : ℕ) → AreTimed old mid runs count least → Consumes mid new (run.0 ∷ run.1 ∷ [])
+more_timed : (old mid new : Option (List ℕ)) (runs : List (ℕ × ℕ)) (run : ℕ × ℕ) (count least : ℕ)
+    → AreTimed old mid runs count least → Consumes mid new (run.0 ∷ run.1 ∷ [])
     → AreTimed old new (runs ++ run ∷ []) (count + 1) (min least (time_of run))
 more_timed old mid new runs run count least timed read = record {
   read = subst (Consumes old new) (flat_map_more (λ r. r.0 ∷ r.1 ∷ []) [] runs run) (Consumes-trans old mid new _ _ timed.read read);
@@ -65,11 +68,14 @@ few_at_last : (asked : Option ℕ) (first run : ℕ × ℕ) (more : List (ℕ ×
     → enough asked count (ended - first.0) ≡ false → k ≡ suc (length more) → enough asked k (elapsed (take k (first ∷ (more ++ run ∷ [])))) ≡ false
 unfolding elapsed
 few_at_last asked first run more ended count k last counted few whole =
-    let cut : take k (first ∷ (more ++ run ∷ [])) ≡ first ∷ more = ap (λ n. take n (first ∷ (more ++ run ∷ []))) whole ∙ take-append_seam (first ∷ more) (run ∷ []) in
-    ap (λ rs. enough asked k (elapsed rs)) cut ∙ ap (λ e. enough asked k (e - first.0)) last ∙ ap (λ n. enough asked n (ended - first.0)) (whole ∙ sym counted) ∙ few
+    let cut : take k (first ∷ (more ++ run ∷ [])) ≡ first ∷ more =
+    ap (λ n. take n (first ∷ (more ++ run ∷ []))) whole ∙ take-append_seam (first ∷ more) (run ∷ []) in
+    ap (λ rs. enough asked k (elapsed rs)) cut ∙ ap (λ e. enough asked k (e - first.0)) last ∙ ap (λ n. enough asked n (ended - first.0)) (whole ∙ sym counted)
+    ∙ few
 
 -- another run, where those so far are not enough
-pub next_run : (asked : Option ℕ) (old mid new : Option (List ℕ)) (first run : ℕ × ℕ) (ended count least counted next : ℕ) → SoFar asked old mid first ended count least → enough asked count (ended - first.0) ≡ false
+pub next_run : (asked : Option ℕ) (old mid new : Option (List ℕ)) (first run : ℕ × ℕ) (ended count least counted next : ℕ)
+    → SoFar asked old mid first ended count least → enough asked count (ended - first.0) ≡ false
     → counted ≡ count + 1 → next ≡ min least (time_of run) → Consumes mid new (run.0 ∷ run.1 ∷ []) → SoFar asked old new first run.1 counted next
 next_run asked old mid new first run ended count least counted next so_far few more is read =
     let runs = first ∷ so_far.more in
@@ -85,10 +91,12 @@ next_run asked old mid new first run ended count least counted next so_far few m
     }
 
 -- so long all of them took
-lasts : (asked : Option ℕ) (first : ℕ × ℕ) (more : List (ℕ × ℕ)) (ended count : ℕ) → last_end first.1 more ≡ ended → count ≡ suc (length more) → enough asked count (ended - first.0) ≡ true
+lasts : (asked : Option ℕ) (first : ℕ × ℕ) (more : List (ℕ × ℕ)) (ended count : ℕ)
+    → last_end first.1 more ≡ ended → count ≡ suc (length more) → enough asked count (ended - first.0) ≡ true
     → enough asked (length (first ∷ more)) (elapsed (first ∷ more)) ≡ true
 unfolding elapsed
-lasts asked first more ended count last counted many = ap (λ e. enough asked (suc (length more)) (e - first.0)) last ∙ ap (λ n. enough asked n (ended - first.0)) (sym counted) ∙ many
+lasts asked first more ended count last counted many =
+    ap (λ e. enough asked (suc (length more)) (e - first.0)) last ∙ ap (λ n. enough asked n (ended - first.0)) (sym counted) ∙ many
 
 -- runs that are enough, and were not before the last
 just_enough : (asked : Option ℕ) (runs : List (ℕ × ℕ)) → 0 < length runs → enough asked (length runs) (elapsed runs) ≡ true
@@ -97,12 +105,15 @@ just_enough None runs some many fewer = (many, fewer)
 just_enough (Some asked) runs some many fewer =
     let reached : asked ≤ length runs = leb-true asked (length runs) many in
     elim (leb_tells 2 (length runs)) [
-      | inl h ↦ (let below : length runs - 1 < asked = leb-false asked (length runs - 1) (fewer (length runs - 1) (omega (arith, h.1)) (omega (arith, h.1))) in omega (arith, h.1))
+      | inl h ↦ (
+          let below : length runs - 1 < asked = leb-false asked (length runs - 1) (fewer (length runs - 1) (omega (arith, h.1)) (omega (arith, h.1))) in
+          omega (arith, h.1))
       | inr h ↦ omega (arith, h.1)
     ]
 
 -- the runs, where they are enough
-pub all_runs : (asked : Option ℕ) (old new : Option (List ℕ)) (first : ℕ × ℕ) (ended count least : ℕ) → SoFar asked old new first ended count least → enough asked count (ended - first.0) ≡ true → IsTimed asked old new count least
+pub all_runs : (asked : Option ℕ) (old new : Option (List ℕ)) (first : ℕ × ℕ) (ended count least : ℕ)
+    → SoFar asked old new first ended count least → enough asked count (ended - first.0) ≡ true → IsTimed asked old new count least
 all_runs asked old new first ended count least so_far many =
     let runs = first ∷ so_far.more in
     record {

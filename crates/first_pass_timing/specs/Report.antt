@@ -16,5 +16,6 @@ rate bytes nanos = bytes * 10_000 / max 1 nanos
 -- the line: how long the text is, how many nodes its tree has, how many runs were made, and the least time of a run, in milliseconds and as a rate
 abbrev pub report_line : ℕ → ℕ → ℕ → ℕ → List ℕ
 report_line bytes nodes runs nanos =
-    decimal bytes ++ codes " bytes, " ++ decimal nodes ++ codes " nodes, best of " ++ decimal runs ++ codes " runs: " ++ thousandths (nanos / 1000) ++ codes " ms, "
+    decimal bytes ++ codes " bytes, " ++ decimal nodes ++ codes " nodes, best of " ++ decimal runs ++ codes " runs: " ++ thousandths (nanos / 1000)
+    ++ codes " ms, "
     ++ tenths (rate bytes nanos) ++ codes " MB/s\n"

@@ -1,5 +1,6 @@
 -- What is known of runs of the pass that were timed (this project).
-use Rattle.std.specs.Prelude.{◌≡◌, ℕ, ◌-◌, ◌<◌, ◌≤◌, max, ◌==◌, ◌||◌, ◌&&◌, nat_le, Bool, true, false, Option, None, Some, List, [], ◌∷◌, length, map, take, All, Contains}
+use Rattle.std.specs.Prelude.{◌≡◌, ℕ, ◌-◌, ◌<◌, ◌≤◌, max, ◌==◌, ◌||◌, ◌&&◌, nat_le, Bool, true, false, Option, None, Some, List, [], ◌∷◌, length, map, take}
+use Rattle.std.specs.Prelude.{All, Contains}
 use Rattle.std.specs.List.{flat_map}
 use Rattle.std.specs.Io.KnownBytes.{Consumes}
 

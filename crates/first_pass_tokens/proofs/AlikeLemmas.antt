@@ -1,5 +1,6 @@
 -- A line has one list of tokens, but for the indices of the texts that they name, and so has a cell.
-use Rattle.std.proofs.Common.{◌≡◌, ℕ, zero, suc, ◌+◌, ◌-◌, ◌==◌, ◌&&◌, ◌||◌, not, Bool, true, false, List, [], ◌∷◌, slice_index, nat_lt, min, Option, Some, None, unwrap_or, refl, sym, ap, subst, ◌∙◌, inl, inr}
+use Rattle.std.proofs.Common.{◌≡◌, ℕ, zero, suc, ◌+◌, ◌-◌, ◌==◌, ◌&&◌, ◌||◌, not, Bool, true, false, List, [], ◌∷◌, slice_index, nat_lt, min, Option, Some}
+use Rattle.std.proofs.Common.{None, unwrap_or, refl, sym, ap, subst, ◌∙◌, inl, inr}
 use Rattle.std.specs.Option.{option_map, option_map_or}
 use Rattle.std.specs.Char.{is_ascii_punctuation}
 use Rattle.std.proofs.lemmas.Bool.{cases_Bool, cond_both, cond-true, cond-false, true≢false}
@@ -8,7 +9,8 @@ use Rattle.first_pass_items.specs.CowText.{text_of}
 use Rattle.first_pass_items.specs.declared.item.CowIndex.{CowIndex}
 use Rattle.first_pass_items.specs.declared.item.Item.{Item}
 use Rattle.first_pass_items.specs.declared.item.ItemBody.{ItemBody}
-use Rattle.first_pass_items.specs.declared.item.ItemBody.TheVariants.{SynthesizeText, MaybeEmphasis, MaybeMath, MaybeHtml, MaybeImage, MaybeLinkOpen, MaybeLinkClose, SynthesizeChar}
+use Rattle.first_pass_items.specs.declared.item.ItemBody.TheVariants.{SynthesizeText, MaybeEmphasis, MaybeMath, MaybeHtml, MaybeImage, MaybeLinkOpen}
+use Rattle.first_pass_items.specs.declared.item.ItemBody.TheVariants.{MaybeLinkClose, SynthesizeChar}
 use Rattle.first_pass_tree.specs.Forest.{is_text}
 use Rattle.first_pass_walk.specs.Walk.{is_special}
 use Rattle.first_pass_flank.specs.declared.flank.DelimiterRun.{DelimiterRun}
@@ -21,8 +23,11 @@ use Rattle.first_pass_tokens.specs.Alike.{text_among, BodiesAlike, ItemsAlike, A
 use Rattle.first_pass_tokens.specs.Chains.{text_token, token, run_tokens, touches, add_token, add_tokens, add_text}
 use Rattle.first_pass_tokens.specs.Braces.{MathBraces, dollar_context, braces_after}
 use Rattle.first_pass_tokens.specs.NamedTexts.{NamesAmong, Becomes}
-use Rattle.first_pass_tokens.specs.Pieces.{Source, found_at, special_found, reference_found, dash_found, dollar_found, special_piece, backslash_piece, backslash_piece_in, backquote_piece, is_delimiter, is_quote, is_too_long, run_in, run_size, run_piece, delimiter_piece, quote_piece, dot_piece, dash_piece, bracket_piece, run_at, size}
-use Rattle.first_pass_tokens.specs.LineTokens.{Spot, spot, ends_at, ArePieces, IsDivision, IsLine, IsCell, add_piece, add_pieces, text_end, blanks_at_end, line_end_len, line_break}
+use Rattle.first_pass_tokens.specs.Pieces.{Source, found_at, special_found, reference_found, dash_found, dollar_found, special_piece, backslash_piece}
+use Rattle.first_pass_tokens.specs.Pieces.{backslash_piece_in, backquote_piece, is_delimiter, is_quote, is_too_long, run_in, run_size, run_piece}
+use Rattle.first_pass_tokens.specs.Pieces.{delimiter_piece, quote_piece, dot_piece, dash_piece, bracket_piece, run_at, size}
+use Rattle.first_pass_tokens.specs.LineTokens.{Spot, spot, ends_at, ArePieces, IsDivision, IsLine, IsCell, add_piece, add_pieces, text_end, blanks_at_end}
+use Rattle.first_pass_tokens.specs.LineTokens.{line_end_len, line_break}
 
 -- a piece that is ready names no text
 abbrev pub names_text : ItemBody → Bool
@@ -159,7 +164,8 @@ module _ (texts others : List CowStr) where
         | inl some ↦
             let first : add_text from to escaped xs ≡ add_token xs (text_token from to escaped) = cond-true _ _ _ some in
             let other : add_text from to escaped us ≡ add_token us (text_token from to escaped) = cond-true _ _ _ some in
-            rw (first, other) (alike_add xs us (text_token from to escaped) (text_token from to escaped) h (record { starts = refl; ends = refl; bodies = refl }))
+            rw (first, other)
+            (alike_add xs us (text_token from to escaped) (text_token from to escaped) h (record { starts = refl; ends = refl; bodies = refl }))
         | inr none ↦
             let first : add_text from to escaped xs ≡ xs = cond-false _ _ _ none in
             let other : add_text from to escaped us ≡ us = cond-false _ _ _ none in
@@ -180,7 +186,10 @@ module _ (texts others : List CowStr) where
 
   piece_same : (stop at : ℕ) (p : Piece) → NamesNone p → PiecesAlike stop at p p
   piece_same stop at (Left n) none = record { sizes = refl; gives = λ xs us h. alike_text at (min (at + n) stop) false xs us h }
-  piece_same stop at (Begins dropped escaped) none = record { sizes = refl; gives = λ xs us h. alike_text (at + dropped) (min (at + (dropped + 1)) stop) escaped xs us h }
+  piece_same stop at (Begins dropped escaped) none = record {
+    sizes = refl;
+    gives = λ xs us h. alike_text (at + dropped) (min (at + (dropped + 1)) stop) escaped xs us h;
+  }
   piece_same stop at (Token dropped n body) none = record {
     sizes = refl;
     gives = λ xs us h. alike_add xs us (token (at + dropped) n body) (token (at + dropped) n body) h (token_same (at + dropped) n body none);
@@ -212,7 +221,8 @@ module _ (texts others : List CowStr) where
     ends : to ≡ stop
     gives : (cut : ℕ) (xs us : List Item) → AreAlike texts others xs us → AreAlike texts others (add_pieces cut at ps xs) (add_pieces cut at qs us)
 
-  one_way : (s : Source) (at : ℕ) (b : MathBraces) (ps : List Piece) (to : Spot) (qs : List Piece) (stop : Spot) → ArePieces texts s at b ps to → ends_at s to.at ≡ true
+  one_way : (s : Source) (at : ℕ) (b : MathBraces) (ps : List Piece) (to : Spot) (qs : List Piece) (stop : Spot)
+      → ArePieces texts s at b ps to → ends_at s to.at ≡ true
       → ArePieces others s at b qs stop → ends_at s stop.at ≡ true → OneWay s at ps qs to stop
   one_way s at b [] to [] stop h f k g = record { ends = sym h ∙ k; gives = λ cut xs us are. are }
   one_way s at b [] to (q ∷ qs) stop h f k g = absurd (true≢false (sym f ∙ ap (λ (t : Spot). ends_at s t.at) (sym h) ∙ k.0))
@@ -225,7 +235,8 @@ module _ (texts others : List CowStr) where
       record {
         ends = rest.ends;
         gives = λ cut xs us are.
-            subst (λ (n : ℕ). AreAlike texts others (add_pieces cut (at + size p) ps (add_piece cut at p xs)) (add_pieces cut (at + n) qs (add_piece cut at q us))) same
+            subst (λ (n : ℕ).
+            AreAlike texts others (add_pieces cut (at + size p) ps (add_piece cut at p xs)) (add_pieces cut (at + n) qs (add_piece cut at q us))) same
             (rest.gives cut (add_piece cut at p xs) (add_piece cut at q us) ((first cut).gives xs us are));
       }
 

@@ -1,5 +1,6 @@
 -- Each token of a chain has a byte, so a chain in order has at most as many tokens as bytes.
-use Rattle.std.proofs.Common.{◌≡◌, ℕ, zero, suc, ◌+◌, ◌-◌, ◌≤◌, ◌<◌, ◌==◌, ◌&&◌, Bool, false, List, [], ◌∷◌, ◌++◌, length, Option, Some, None, nat_lt, min, if◌then◌else◌, refl, sym, ap, subst, arith}
+use Rattle.std.proofs.Common.{◌≡◌, ℕ, zero, suc, ◌+◌, ◌-◌, ◌≤◌, ◌<◌, ◌==◌, ◌&&◌, Bool, false, List, [], ◌∷◌, ◌++◌, length, Option, Some, None, nat_lt, min}
+use Rattle.std.proofs.Common.{if◌then◌else◌, refl, sym, ap, subst, arith}
 use Rattle.std.proofs.lemmas.Bool.{and_parts, cond_both, eqb-true, ltb-true}
 use Rattle.first_pass_items.specs.declared.cow_str.CowStr.{CowStr}
 use Rattle.first_pass_tokens.specs.Braces.{MathBraces, braces_after}
@@ -30,7 +31,9 @@ pub bytes_add : (chain : List Item) (y : Item) → y.start < y.«end» → HaveB
 bytes_add [] y some h = (some, tt)
 bytes_add (x ∷ []) y some h =
     cond_both (touches x y) (record x { «end» = y.«end» } ∷ []) (x ∷ y ∷ []) HaveBytes
-    (λ b. let behind = eqb-true x.«end» y.start (and_parts (is_text x.body) (x.«end» == y.start) (and_parts (is_text y.body) (is_text x.body && (x.«end» == y.start)) b).1).1 in
+    (λ b.
+    let behind =
+    eqb-true x.«end» y.start (and_parts (is_text x.body) (x.«end» == y.start) (and_parts (is_text y.body) (is_text x.body && (x.«end» == y.start)) b).1).1 in
     (omega (arith, h.0), tt))
     (λ b. (h.0, (some, tt)))
 bytes_add (x ∷ z ∷ zs) y some h = (h.0, bytes_add (z ∷ zs) y some h.1)
@@ -59,17 +62,20 @@ bytes_piece text stop at (Begins dropped escaped) chain facts h = bytes_text (at
 bytes_piece text stop at (Token dropped n body) chain facts h = bytes_add chain (token (at + dropped) n body) (omega (arith, facts.some)) h
 bytes_piece text stop at (Run n opens closes) chain facts h = bytes_adds chain (run_tokens at n opens closes) (run_has_bytes at n opens closes) h
 
-bytes_pieces : (texts : List CowStr) (s : Source) (stop at : ℕ) (b : MathBraces) (ps : List Piece) (to : Spot) (chain : List Item) → ArePieces texts s at b ps to → HaveBytes chain
+bytes_pieces : (texts : List CowStr) (s : Source) (stop at : ℕ) (b : MathBraces) (ps : List Piece) (to : Spot) (chain : List Item)
+    → ArePieces texts s at b ps to → HaveBytes chain
     → HaveBytes (add_pieces stop at ps chain)
 bytes_pieces texts s stop at b [] to chain are h = h
 bytes_pieces texts s stop at b (p ∷ ps) to chain are h =
-    bytes_pieces texts s stop (at + size p) (braces_after (found_at s at) b) ps to (add_piece stop at p chain) are.2 (bytes_piece s.text stop at p chain (piece_of texts b s at p are.0 are.1) h)
+    bytes_pieces texts s stop (at + size p) (braces_after (found_at s at) b) ps to (add_piece stop at p chain) are.2
+    (bytes_piece s.text stop at p chain (piece_of texts b s at p are.0 are.1) h)
 
 -- the backslash of the last line's break after, or nothing
 pub bytes_closed : (break : Option Item) (chain : List Item) → HaveBytes chain → HaveBytes (close_break break chain)
 bytes_closed None chain h = h
 bytes_closed (Some x) chain h =
-    cond_both (is_backslash_break x.body) (add_text x.start (x.start + 1) false chain) chain HaveBytes (λ b. bytes_text x.start (x.start + 1) false chain h) (λ b. h)
+    cond_both (is_backslash_break x.body) (add_text x.start (x.start + 1) false chain) chain HaveBytes
+    (λ b. bytes_text x.start (x.start + 1) false chain h) (λ b. h)
 
 -- another chain after
 pub bytes_append : (xs ys : List Item) → HaveBytes xs → HaveBytes ys → HaveBytes (xs ++ ys)
@@ -79,27 +85,33 @@ bytes_append (x ∷ xs) ys h k = (h.0, bytes_append xs ys h.1 k)
 -- the tokens of a cell
 pub cell_has_bytes : {texts : List CowStr} {s : Source} {tokens : List Item} {end : ℕ} {after : MathBraces} → IsCell texts s tokens end after → HaveBytes tokens
 cell_has_bytes {texts} {s} {tokens} {end} {after} cell =
-    subst HaveBytes (sym cell.tokens_are) (bytes_pieces texts s (end - blanks_at_end s end) s.start s.braces cell.pieces (spot end after) [] cell.division.divided tt)
+    subst HaveBytes (sym cell.tokens_are)
+    (bytes_pieces texts s (end - blanks_at_end s end) s.start s.braces cell.pieces (spot end after) [] cell.division.divided tt)
 
 -- the tokens of a line
-pub line_has_bytes : {texts : List CowStr} {s : Source} {tokens : List Item} {answer : ℕ × Option Item} {after : MathBraces} → IsLine texts s tokens answer after → HaveBytes tokens
+pub line_has_bytes : {texts : List CowStr} {s : Source} {tokens : List Item} {answer : ℕ × Option Item} {after : MathBraces}
+    → IsLine texts s tokens answer after → HaveBytes tokens
 line_has_bytes {texts} {s} {tokens} {answer} {after} line =
-    subst HaveBytes (sym line.tokens_are) (bytes_pieces texts s (text_end s line.content_end) s.start s.braces line.pieces (spot line.content_end after) [] line.division.divided tt)
+    subst HaveBytes (sym line.tokens_are)
+    (bytes_pieces texts s (text_end s line.content_end) s.start s.braces line.pieces (spot line.content_end after) [] line.division.divided tt)
 
 -- a chain that is cut has no more items than before
 pub cut_few : (e : ℕ) (chain : List Item) → length (cut e chain) ≤ length chain
 cut_few e [] = omega arith
 cut_few e (x ∷ xs) =
     let few = cut_few e xs in
-    cond_both (nat_lt x.start e) (cut_item e x ∷ cut e xs) (if is_escaped x.body && (x.start == e) then text_token (e - 1) e false ∷ [] else []) (λ (ys : List Item). length ys ≤ length (x ∷ xs))
+    cond_both (nat_lt x.start e) (cut_item e x ∷ cut e xs) (if is_escaped x.body && (x.start == e) then text_token (e - 1) e false ∷ [] else [])
+    (λ (ys : List Item). length ys ≤ length (x ∷ xs))
     (λ b. omega arith)
-    (λ b. cond_both (is_escaped x.body && (x.start == e)) (text_token (e - 1) e false ∷ []) [] (λ (ys : List Item). length ys ≤ length (x ∷ xs)) (λ c. omega arith) (λ c. omega arith))
+    (λ b. cond_both (is_escaped x.body && (x.start == e)) (text_token (e - 1) e false ∷ []) []
+    (λ (ys : List Item). length ys ≤ length (x ∷ xs)) (λ c. omega arith) (λ c. omega arith))
 
 -- a piece gives at most as many tokens as it has bytes
 few_add : (chain : List Item) (y : Item) → length (add_token chain y) ≤ length chain + 1
 few_add [] y = omega arith
 few_add (x ∷ []) y =
-    cond_both (touches x y) (record x { «end» = y.«end» } ∷ []) (x ∷ y ∷ []) (λ (ys : List Item). length ys ≤ length (x ∷ []) + 1) (λ b. omega arith) (λ b. omega arith)
+    cond_both (touches x y) (record x { «end» = y.«end» } ∷ []) (x ∷ y ∷ [])
+    (λ (ys : List Item). length ys ≤ length (x ∷ []) + 1) (λ b. omega arith) (λ b. omega arith)
 few_add (x ∷ z ∷ zs) y = (let few = few_add (z ∷ zs) y in omega arith)
 
 few_text : (a b : ℕ) (escaped : Bool) (chain : List Item) → length (add_text a b escaped chain) ≤ length chain + 1
@@ -123,7 +135,8 @@ few_piece stop at (Begins dropped escaped) chain some =
 few_piece stop at (Token dropped n body) chain some = (let few = few_add chain (token (at + dropped) n body) in omega arith)
 few_piece stop at (Run n opens closes) chain some = few_run at n opens closes chain
 
-few_by_pieces : (texts : List CowStr) (s : Source) (stop at : ℕ) (b : MathBraces) (ps : List Piece) (to : Spot) (chain : List Item) → ArePieces texts s at b ps to
+few_by_pieces : (texts : List CowStr) (s : Source) (stop at : ℕ) (b : MathBraces) (ps : List Piece) (to : Spot) (chain : List Item)
+    → ArePieces texts s at b ps to
     → length (add_pieces stop at ps chain) + at ≤ length chain + to.at
 few_by_pieces texts s stop at b [] to chain is = (let same : at ≡ to.at = ap (λ (t : Spot). t.at) is in omega arith)
 few_by_pieces texts s stop at b (p ∷ ps) to chain is =
@@ -138,14 +151,16 @@ few_in_content : (texts : List CowStr) (s : Source) (pieces : List Piece) (to : 
 few_in_content texts s pieces to stop are = (let few = few_by_pieces texts s stop s.start s.braces pieces to [] are in omega arith)
 
 -- A cell has at most as many tokens as bytes.
-pub few_in_cell : {texts : List CowStr} {s : Source} {tokens : List Item} {end : ℕ} {after : MathBraces} → IsCell texts s tokens end after → length tokens + s.start ≤ end
+pub few_in_cell : {texts : List CowStr} {s : Source} {tokens : List Item} {end : ℕ} {after : MathBraces}
+    → IsCell texts s tokens end after → length tokens + s.start ≤ end
 few_in_cell {texts} {s} {tokens} {end} {after} cell =
     let few = few_in_content texts s cell.pieces (spot end after) (end - blanks_at_end s end) cell.division.divided in
     let same = ap (λ (ts : List Item). length ts) cell.tokens_are in
     omega arith
 
 -- A line has at most as many tokens as bytes.
-pub few_in_line : {texts : List CowStr} {s : Source} {tokens : List Item} {answer : ℕ × Option Item} {after : MathBraces} → IsLine texts s tokens answer after → length tokens + s.start ≤ answer.0
+pub few_in_line : {texts : List CowStr} {s : Source} {tokens : List Item} {answer : ℕ × Option Item} {after : MathBraces}
+    → IsLine texts s tokens answer after → length tokens + s.start ≤ answer.0
 few_in_line {texts} {s} {tokens} {answer} {after} line =
     let end = line.content_end in
     let few = few_in_content texts s line.pieces (spot end after) (text_end s end) line.division.divided in
@@ -165,7 +180,8 @@ few_ended f e (Some c) = (let same = ended_length f.nodes c.0 (λ (x : Item). re
 few_token : (f : Forest Item) (x : Item) → length (with_token f x).nodes ≤ length f.nodes + 1
 few_token f x =
     let more = length-append f.nodes ((length f.spine + 1, x) ∷ []) in
-    cond_both (is_text x.body && joins_at f x.start f.current) (with_end f x.«end» f.current) (appended f x) (λ (g : Forest Item). length g.nodes ≤ length f.nodes + 1)
+    cond_both (is_text x.body && joins_at f x.start f.current) (with_end f x.«end» f.current) (appended f x)
+    (λ (g : Forest Item). length g.nodes ≤ length f.nodes + 1)
     (λ b. few_ended f x.«end» f.current) (λ b. omega arith)
 
 few_tokens : (f : Forest Item) (tokens : List Item) → length (with_tokens f tokens).nodes ≤ length f.nodes + length tokens
@@ -176,7 +192,8 @@ few_tokens f (x ∷ xs) =
     omega arith
 
 -- what is appended of a line has at most as many nodes as bytes
-pub few_of_line : {texts : List CowStr} {s : Source} {old new : Forest Item} {answer : ℕ × Option Item} {after : MathBraces} → AppendsLine texts s old new answer after → length new.nodes ≤ length old.nodes + (answer.0 - s.start)
+pub few_of_line : {texts : List CowStr} {s : Source} {old new : Forest Item} {answer : ℕ × Option Item} {after : MathBraces}
+    → AppendsLine texts s old new answer after → length new.nodes ≤ length old.nodes + (answer.0 - s.start)
 few_of_line {texts} {s} {old} {new} {answer} line =
     let few = few_in_line line.line in
     let tree = few_tokens old line.tokens in
@@ -184,7 +201,8 @@ few_of_line {texts} {s} {old} {new} {answer} line =
     omega arith
 
 -- and so has what is appended of a cell
-pub few_of_cell : {texts : List CowStr} {s : Source} {old new : Forest Item} {end : ℕ} {after : MathBraces} → AppendsCell texts s old new end after → length new.nodes ≤ length old.nodes + (end - s.start)
+pub few_of_cell : {texts : List CowStr} {s : Source} {old new : Forest Item} {end : ℕ} {after : MathBraces}
+    → AppendsCell texts s old new end after → length new.nodes ≤ length old.nodes + (end - s.start)
 few_of_cell {texts} {s} {old} {new} {end} cell =
     let few = few_in_cell cell.cell in
     let tree = few_tokens old cell.tokens in

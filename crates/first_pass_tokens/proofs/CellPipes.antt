@@ -6,7 +6,8 @@ use Rattle.first_pass_items.specs.declared.cow_str.CowStr.{CowStr}
 use Rattle.first_pass_tokens.specs.Braces.{MathBraces, braces_after}
 use Rattle.first_pass_items.specs.declared.item.Item.{Item}
 use Rattle.first_pass_items.specs.declared.item.ItemBody.{ItemBody}
-use Rattle.first_pass_items.specs.declared.item.ItemBody.TheVariants.{MaybeEmphasis, MaybeMath, MaybeSmartQuote, SynthesizeChar, SynthesizeText, MaybeCode, MaybeHtml, MaybeLinkOpen, MaybeLinkClose, MaybeImage}
+use Rattle.first_pass_items.specs.declared.item.ItemBody.TheVariants.{MaybeEmphasis, MaybeMath, MaybeSmartQuote, SynthesizeChar, SynthesizeText, MaybeCode}
+use Rattle.first_pass_items.specs.declared.item.ItemBody.TheVariants.{MaybeHtml, MaybeLinkOpen, MaybeLinkClose, MaybeImage}
 use Rattle.first_pass_tokens.specs.declared.pieces.Piece.{Piece}
 use Rattle.first_pass_tokens.specs.declared.pieces.Piece.TheVariants.{Left, Begins, Token, Run}
 use Rattle.first_pass_tokens.specs.Pieces.{Source, found_at, size}
@@ -31,7 +32,8 @@ markup_no_pipe text start n (MaybeEmphasis left opens closes) k kind over low hi
 markup_no_pipe text start n (MaybeSmartQuote quote opens closes) k kind over low high pipe =
     let here : k ≡ start = omega (arith, over.0) in
     absurd (false≢true (sym (quote_other quote over.2).1 ∙ eq-eqb quote 124 (sym over.1 ∙ sym (ap (slice_index text) here) ∙ pipe)))
-markup_no_pipe text start n (MaybeMath opens closes context) k kind over low high pipe = (let same = other_byte text start k 36 (omega (arith, over.0)) over.1 pipe in omega arith)
+markup_no_pipe text start n (MaybeMath opens closes context) k kind over low high pipe =
+    (let same = other_byte text start k 36 (omega (arith, over.0)) over.1 pipe in omega arith)
 markup_no_pipe text start n (SynthesizeChar c) k kind over low high pipe =
     let byte : over.byte ≡ 124 = sym (over.each k low (omega (arith, over.to))) ∙ pipe in
     let none : None ≡ Some c = ap (λ (b : ℕ). smart_char b over.n) (sym byte) ∙ over.char in
@@ -73,7 +75,8 @@ pipe_inside text at (Token dropped n body) k facts other low high pipe =
     absurd (markup_no_pipe text (at + dropped) n body k facts.kind facts.over (omega (arith, facts.few)) (omega arith) pipe)
 
 module _ (s : Source) (row : s.row ≡ true) (on : has s.options tables ≡ true) where
-  pipe_in : (texts : List CowStr) (b : MathBraces) (at : ℕ) (p : Piece) → ends_at s at ≡ false → Becomes texts b (found_at s at) p → (k : ℕ) → at ≤ k → k < at + size p → slice_index s.text k ≡ 124
+  pipe_in : (texts : List CowStr) (b : MathBraces) (at : ℕ) (p : Piece)
+      → ends_at s at ≡ false → Becomes texts b (found_at s at) p → (k : ℕ) → at ≤ k → k < at + size p → slice_index s.text k ≡ 124
       → (at < k) × (slice_index s.text (k - 1) ≡ 92)
   pipe_in texts b at p runs is k low high pipe =
       elim (cases_lt at k) [
@@ -88,9 +91,11 @@ module _ (s : Source) (row : s.row ≡ true) (on : has s.options tables ≡ true
   pipes_from texts at b (p ∷ ps) to are k low high pipe =
       elim (cases_lt k (at + size p)) [
         | inl inside ↦ pipe_in texts b at p are.0 are.1 k low inside pipe
-        | inr behind ↦ let rest = pipes_from texts (at + size p) (braces_after (found_at s at) b) ps to are.2 k behind high pipe in (omega (arith, rest.0), rest.1)
+        | inr behind ↦
+            let rest = pipes_from texts (at + size p) (braces_after (found_at s at) b) ps to are.2 k behind high pipe in (omega (arith, rest.0), rest.1)
       ]
 
   -- the pipes of a cell
-  pub cell_pipes : {texts : List CowStr} {tokens : List Item} {end : ℕ} {after : MathBraces} → IsCell texts s tokens end after → PipesAreEscaped s.text s.start end
+  pub cell_pipes : {texts : List CowStr} {tokens : List Item} {end : ℕ} {after : MathBraces}
+      → IsCell texts s tokens end after → PipesAreEscaped s.text s.start end
   cell_pipes {texts} {tokens} {end} {after} cell = pipes_from texts s.start s.braces cell.pieces (spot end after) cell.division.divided

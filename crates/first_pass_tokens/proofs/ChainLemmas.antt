@@ -1,14 +1,18 @@
 -- Chains and trees: what a token adds and joins, what a cut leaves, and the block that a chain closes to.
-use Rattle.std.proofs.Common.{ℕ, suc, zero, ◌≡◌, ◌+◌, ◌≤◌, ◌<◌, ◌==◌, ◌&&◌, Bool, true, false, List, [], ◌∷◌, ◌++◌, length, take, drop, Option, Some, None, MatchOption, nat_lt, slice_get, slice_index, refl, sym, ap, ◌∙◌, inl, inr, arith, length-append, append_assoc}
+use Rattle.std.proofs.Common.{ℕ, suc, zero, ◌≡◌, ◌+◌, ◌≤◌, ◌<◌, ◌==◌, ◌&&◌, Bool, true, false, List, [], ◌∷◌, ◌++◌, length, take, drop, Option, Some, None}
+use Rattle.std.proofs.Common.{MatchOption, nat_lt, slice_get, slice_index, refl, sym, ap, ◌∙◌, inl, inr, arith, length-append, append_assoc}
 use Rattle.std.specs.Option.{option_map}
 use Rattle.std.proofs.lemmas.List.{append-nil}
 use Rattle.std.proofs.Math.Seq.{take-append_seam, drop-append_seam}
-use Rattle.std.proofs.lemmas.Bool.{lt-ltb, le-ltb, cond-true, cond-false, cond_both, cases_Bool, cases_lt, and_parts, and_from, and_left, and_right, eq-eqb, ne_eqb, false≢true}
+use Rattle.std.proofs.lemmas.Bool.{lt-ltb, le-ltb, cond-true, cond-false, cond_both, cases_Bool, cases_lt, and_parts, and_from, and_left, and_right, eq-eqb}
+use Rattle.std.proofs.lemmas.Bool.{ne_eqb, false≢true}
 use Rattle.first_pass_items.specs.declared.item.Item.{Item}
 use Rattle.first_pass_items.specs.declared.item.ItemBody.{ItemBody}
 use Rattle.first_pass_items.specs.declared.item.ItemBody.TheVariants.{SoftBreak, HardBreak}
 use Rattle.first_pass_tree.specs.declared.tree_index.TreeIndex.{TreeIndex}
-use Rattle.first_pass_tree.specs.Forest.{Forest, depths, item_at, modify, modified, appended, pushed, popped, cut_to, childless, is_text, is_escaped, cut_item, cut_tokens, cut_siblings, last_before, last_child, open_place, HasLeaves, ends_text_at, joins_at, with_end, with_end_at, with_text, at_depth, added, block_of}
+use Rattle.first_pass_tree.specs.Forest.{Forest, depths, item_at, modify, modified, appended, pushed, popped, cut_to, childless, is_text, is_escaped, cut_item}
+use Rattle.first_pass_tree.specs.Forest.{cut_tokens, cut_siblings, last_before, last_child, open_place, HasLeaves, ends_text_at, joins_at, with_end}
+use Rattle.first_pass_tree.specs.Forest.{with_end_at, with_text, at_depth, added, block_of}
 use Rattle.first_pass_tree.proofs.Blocks.{modify-at, forest-eq, block-calls}
 use Rattle.first_pass_tokens.specs.Chains.{is_backslash_break, close_break, text_token, touches, AreApart, add_token, add_tokens, add_text, cut}
 use Rattle.first_pass_tokens.specs.LineTokens.{is_break}
@@ -18,7 +22,8 @@ use Rattle.first_pass_tokens.specs.TreeTokens.{with_token, with_tokens, chained,
 pub add_text-none : (from to : ℕ) (escaped : Bool) (chain : List Item) → to ≤ from → add_text from to escaped chain ≡ chain
 add_text-none from to escaped chain none = cond-false _ _ _ (le-ltb from to none)
 
-pub add_text-some : (from to : ℕ) (escaped : Bool) (chain : List Item) → from < to → add_text from to escaped chain ≡ add_token chain (text_token from to escaped)
+pub add_text-some : (from to : ℕ) (escaped : Bool) (chain : List Item)
+    → from < to → add_text from to escaped chain ≡ add_token chain (text_token from to escaped)
 add_text-some from to escaped chain some = cond-true _ _ _ (lt-ltb from to some)
 
 -- a chain of one token at least keeps its first place
@@ -27,10 +32,12 @@ add_token-cons x z [] t u = cond_both (touches z t) _ _ (λ (ys : List Item). ad
 add_token-cons x z (w ∷ ws) t u = refl
 
 -- a text lengthened by the one after it
-add_token-longer : (x : Item) (at to : ℕ) → is_text x.body ≡ true → add_token (record x { «end» = at } ∷ []) (text_token at to false) ≡ record x { «end» = to } ∷ []
+add_token-longer : (x : Item) (at to : ℕ)
+    → is_text x.body ≡ true → add_token (record x { «end» = at } ∷ []) (text_token at to false) ≡ record x { «end» = to } ∷ []
 add_token-longer x at to text = cond-true (is_text x.body && (at == at)) _ _ (and_from _ _ text (eq-eqb at at refl))
 
-add_token-joined : (chain : List Item) (from mid to : ℕ) (escaped : Bool) → add_token (add_token chain (text_token from mid escaped)) (text_token mid to false) ≡ add_token chain (text_token from to escaped)
+add_token-joined : (chain : List Item) (from mid to : ℕ) (escaped : Bool)
+    → add_token (add_token chain (text_token from mid escaped)) (text_token mid to false) ≡ add_token chain (text_token from to escaped)
 add_token-joined [] from mid to escaped = cond-true _ _ _ (eq-eqb mid mid refl)
 add_token-joined (x ∷ []) from mid to escaped =
     elim (cases_Bool (is_text x.body && (x.«end» == from))) [
@@ -40,13 +47,16 @@ add_token-joined (x ∷ []) from mid to escaped =
           ∙ ap (λ (ys : List Item). x ∷ ys) (cond-true _ _ _ (eq-eqb mid mid refl)) ∙ sym (cond-false _ _ _ apart)
     ]
 add_token-joined (x ∷ z ∷ zs) from mid to escaped =
-    add_token-cons x z zs (text_token from mid escaped) (text_token mid to false) ∙ ap (λ (ys : List Item). x ∷ ys) (add_token-joined (z ∷ zs) from mid to escaped)
+    add_token-cons x z zs (text_token from mid escaped) (text_token mid to false)
+    ∙ ap (λ (ys : List Item). x ∷ ys) (add_token-joined (z ∷ zs) from mid to escaped)
 
 -- a text that is not empty, and then the one after it, are one text
-pub add_text-joined : (from mid to : ℕ) (escaped : Bool) (chain : List Item) → from < mid → mid ≤ to → add_text mid to false (add_text from mid escaped chain) ≡ add_text from to escaped chain
+pub add_text-joined : (from mid to : ℕ) (escaped : Bool) (chain : List Item)
+    → from < mid → mid ≤ to → add_text mid to false (add_text from mid escaped chain) ≡ add_text from to escaped chain
 add_text-joined from mid to escaped chain first order =
     elim (cases_lt mid to) [
-      | inl more ↦ add_text-some mid to false _ more ∙ ap (λ (ys : List Item). add_token ys (text_token mid to false)) (add_text-some from mid escaped chain first)
+      | inl more ↦
+          add_text-some mid to false _ more ∙ ap (λ (ys : List Item). add_token ys (text_token mid to false)) (add_text-some from mid escaped chain first)
           ∙ add_token-joined chain from mid to escaped ∙ sym (add_text-some from to escaped chain (omega arith))
       | inr none ↦
           let same : to ≡ mid = omega arith in
@@ -56,7 +66,8 @@ add_text-joined from mid to escaped chain first order =
 -- a chain in which nothing touches
 apart_behind : (x z : Item) (zs : List Item) (t : Item) → touches x z ≡ false → AreApart (add_token (z ∷ zs) t) → AreApart (x ∷ add_token (z ∷ zs) t)
 apart_behind x z [] t apart =
-    cond_both (touches z t) (record z { «end» = t.«end» } ∷ []) (z ∷ t ∷ []) (λ (ys : List Item). AreApart ys → AreApart (x ∷ ys)) (λ b h. (apart, tt)) (λ b h. (apart, h))
+    cond_both (touches z t) (record z { «end» = t.«end» } ∷ []) (z ∷ t ∷ [])
+    (λ (ys : List Item). AreApart ys → AreApart (x ∷ ys)) (λ b h. (apart, tt)) (λ b h. (apart, h))
 apart_behind x z (w ∷ ws) t apart = λ h. (apart, h)
 
 pub add_token-apart : (chain : List Item) (t : Item) → AreApart chain → AreApart (add_token chain t)
@@ -70,7 +81,8 @@ add_tokens-apart chain (x ∷ xs) h = add_tokens-apart (add_token chain x) xs (a
 
 pub add_text-apart : (from to : ℕ) (escaped : Bool) (chain : List Item) → AreApart chain → AreApart (add_text from to escaped chain)
 add_text-apart from to escaped chain h =
-    cond_both (nat_lt from to) (add_token chain (text_token from to escaped)) chain AreApart (λ b. add_token-apart chain (text_token from to escaped) h) (λ b. h)
+    cond_both (nat_lt from to) (add_token chain (text_token from to escaped)) chain AreApart
+    (λ b. add_token-apart chain (text_token from to escaped) h) (λ b. h)
 
 -- a token that does not touch the last one is put after the chain
 add_token-behind : (front : List Item) (x y : Item) → touches x y ≡ false → add_token (front ++ x ∷ []) y ≡ (front ++ x ∷ []) ++ y ∷ []
@@ -81,7 +93,8 @@ add_token-behind (p ∷ q ∷ qs) x y apart = ap (λ (ys : List Item). p ∷ ys)
 add_tokens-behind : (front : List Item) (x : Item) (xs : List Item) → AreApart (x ∷ xs) → add_tokens (front ++ x ∷ []) xs ≡ front ++ x ∷ xs
 add_tokens-behind front x [] h = refl
 add_tokens-behind front x (y ∷ ys) h =
-    ap (λ (chain : List Item). add_tokens chain ys) (add_token-behind front x y h.0) ∙ add_tokens-behind (front ++ x ∷ []) y ys h.1 ∙ append_assoc front (x ∷ []) (y ∷ ys)
+    ap (λ (chain : List Item). add_tokens chain ys) (add_token-behind front x y h.0) ∙ add_tokens-behind (front ++ x ∷ []) y ys h.1
+    ∙ append_assoc front (x ∷ []) (y ∷ ys)
 
 -- tokens of which none touches the one before it, put after nothing
 pub add_tokens-none : (tokens : List Item) → AreApart tokens → add_tokens [] tokens ≡ tokens
@@ -113,13 +126,15 @@ modify-modify (n ∷ ns) (suc i) g h = ap (λ (ms : List (ℕ × Item)). n ∷ m
 pub modified-modified : (f : Forest Item) (ix : TreeIndex) (g h : Item → Item) → modified (modified f ix g) ix h ≡ modified f ix (λ x. h (g x))
 modified-modified f ix g h = ap (λ (ns : List (ℕ × Item)). record f { nodes = ns }) (modify-modify f.nodes ix.0 g h)
 
-item_modified : (ns : List (ℕ × Item)) (i : ℕ) (g : Item → Item) → option_map (λ n. n.1) (slice_get (modify ns i g) i) ≡ option_map g (option_map (λ n. n.1) (slice_get ns i))
+item_modified : (ns : List (ℕ × Item)) (i : ℕ) (g : Item → Item)
+    → option_map (λ n. n.1) (slice_get (modify ns i g) i) ≡ option_map g (option_map (λ n. n.1) (slice_get ns i))
 item_modified [] i g = refl
 item_modified (n ∷ ns) zero g = refl
 item_modified (n ∷ ns) (suc i) g = item_modified ns i g
 
 -- a text with another end
-ends_moved : (at e next : ℕ) (o : Option Item) → ends_text_at at o ≡ true → (e == next) ≡ true → ends_text_at next (option_map {T = Item} (λ x. record x { «end» = e }) o) ≡ true
+ends_moved : (at e next : ℕ) (o : Option Item)
+    → ends_text_at at o ≡ true → (e == next) ≡ true → ends_text_at next (option_map {T = Item} (λ x. record x { «end» = e }) o) ≡ true
 ends_moved at e next None h same = absurd (false≢true h)
 ends_moved at e next (Some x) h same = and_from _ _ (and_parts _ _ h).0 same
 
@@ -137,9 +152,11 @@ touches_appended f y x = ap (λ (b : Bool). is_text x.body && b) (joins_appended
 joined_last : (f : Forest Item) (y x : Item) → touches y x ≡ true → with_token (appended f y) x ≡ appended f (record y { «end» = x.«end» })
 joined_last f y x t =
     cond-true _ _ _ (touches_appended f y x ∙ t)
-    ∙ ap (λ (ns : List (ℕ × Item)). record (appended f y) { nodes = ns }) (modify-at f.nodes [] (length f.spine + 1, y) (length f.nodes) (λ z. record z { «end» = x.«end» }) refl)
+    ∙ ap (λ (ns : List (ℕ × Item)). record (appended f y) { nodes = ns })
+    (modify-at f.nodes [] (length f.spine + 1, y) (length f.nodes) (λ z. record z { «end» = x.«end» }) refl)
 
-joined_current : (f : Forest Item) (o : Option TreeIndex) (y x : Item) → f.current ≡ o → joins_at f y.start o ≡ true → touches y x ≡ true → with_token (with_end f y.«end» o) x ≡ with_end f x.«end» o
+joined_current : (f : Forest Item) (o : Option TreeIndex) (y x : Item)
+    → f.current ≡ o → joins_at f y.start o ≡ true → touches y x ≡ true → with_token (with_end f y.«end» o) x ≡ with_end f x.«end» o
 joined_current f None y x is joins t = absurd (false≢true joins)
 joined_current f (Some c) y x is joins t =
     let g = with_end_at f c y.«end» in
@@ -154,7 +171,8 @@ joined_current f (Some c) y x is joins t =
 with_token-joined : (f : Forest Item) (y x : Item) → touches y x ≡ true → with_token f (record y { «end» = x.«end» }) ≡ with_token (with_token f y) x
 with_token-joined f y x t =
     elim (cases_Bool (is_text y.body && joins_at f y.start f.current)) [
-      | inl joins ↦ cond-true _ _ _ joins ∙ sym (ap (λ (g : Forest Item). with_token g x) (cond-true _ _ _ joins) ∙ joined_current f f.current y x refl (and_parts _ _ joins).1 t)
+      | inl joins ↦ cond-true _ _ _ joins
+          ∙ sym (ap (λ (g : Forest Item). with_token g x) (cond-true _ _ _ joins) ∙ joined_current f f.current y x refl (and_parts _ _ joins).1 t)
       | inr apart ↦ cond-false _ _ _ apart ∙ sym (ap (λ (g : Forest Item). with_token g x) (cond-false _ _ _ apart) ∙ joined_last f y x t)
     ]
 
@@ -183,10 +201,12 @@ pub with_text-some : (f : Forest Item) (s e : ℕ) (b : Bool) → s < e → with
 with_text-some f s e b some = cond-false _ _ _ (ne_eqb s e (λ same. omega arith))
 
 -- a text appended to the tree with a chain
-pub with_tokens-text : (f : Forest Item) (chain : List Item) (s e : ℕ) (b : Bool) → s ≤ e → with_tokens f (add_text s e b chain) ≡ with_text (with_tokens f chain) s e b
+pub with_tokens-text : (f : Forest Item) (chain : List Item) (s e : ℕ) (b : Bool)
+    → s ≤ e → with_tokens f (add_text s e b chain) ≡ with_text (with_tokens f chain) s e b
 with_tokens-text f chain s e b order =
     elim (cases_lt s e) [
-      | inl some ↦ ap (with_tokens f) (add_text-some s e b chain some) ∙ with_tokens-add f chain (text_token s e b) ∙ sym (with_text-some (with_tokens f chain) s e b some)
+      | inl some ↦ ap (with_tokens f) (add_text-some s e b chain some) ∙ with_tokens-add f chain (text_token s e b)
+          ∙ sym (with_text-some (with_tokens f chain) s e b some)
       | inr none ↦ ap (with_tokens f) (add_text-none s e b chain none) ∙ sym (with_text-none (with_tokens f chain) s e b (omega arith))
     ]
 
@@ -213,15 +233,18 @@ pub with_token-chained : (f : Forest Item) (chain : List Item) (x : Item) → Jo
 with_token-chained f [] x none = cond-false _ _ _ (and_right _ _ (none x.start))
 with_token-chained f (y ∷ ys) x none = with_token-behind f y ys x
 
-pub with_tokens-chained : (f : Forest Item) (chain tokens : List Item) → JoinsNone f → with_tokens (chained f chain) tokens ≡ chained f (add_tokens chain tokens)
+pub with_tokens-chained : (f : Forest Item) (chain tokens : List Item)
+    → JoinsNone f → with_tokens (chained f chain) tokens ≡ chained f (add_tokens chain tokens)
 with_tokens-chained f chain [] none = refl
 with_tokens-chained f chain (x ∷ xs) none =
     ap (λ (g : Forest Item). with_tokens g xs) (with_token-chained f chain x none) ∙ with_tokens-chained f (add_token chain x) xs none
 
-pub with_text-chained : (f : Forest Item) (chain : List Item) (s e : ℕ) (b : Bool) → JoinsNone f → s ≤ e → with_text (chained f chain) s e b ≡ chained f (add_text s e b chain)
+pub with_text-chained : (f : Forest Item) (chain : List Item) (s e : ℕ) (b : Bool)
+    → JoinsNone f → s ≤ e → with_text (chained f chain) s e b ≡ chained f (add_text s e b chain)
 with_text-chained f chain s e b none order =
     elim (cases_lt s e) [
-      | inl some ↦ with_text-some (chained f chain) s e b some ∙ with_token-chained f chain (text_token s e b) none ∙ ap (chained f) (sym (add_text-some s e b chain some))
+      | inl some ↦ with_text-some (chained f chain) s e b some ∙ with_token-chained f chain (text_token s e b) none
+          ∙ ap (chained f) (sym (add_text-some s e b chain some))
       | inr empty ↦ with_text-none (chained f chain) s e b (omega arith) ∙ ap (chained f) (sym (add_text-none s e b chain empty))
     ]
 
@@ -234,7 +257,8 @@ pub appended-break : (f : Forest Item) (chain : List Item) (x : Item) → is_bre
 appended-break f chain x is = appended-chained f chain x ∙ ap (chained f) (sym (add_token-plain chain x (break-plain x.body is)))
 
 -- a chain that a break by a backslash would stand after, where the block ends, and any other chain
-pub close_break-backslash : (f : Forest Item) (chain : List Item) (x : Item) → JoinsNone f → is_backslash_break x.body ≡ true → with_text (chained f chain) x.start (x.start + 1) false ≡ chained f (close_break (Some x) chain)
+pub close_break-backslash : (f : Forest Item) (chain : List Item) (x : Item)
+    → JoinsNone f → is_backslash_break x.body ≡ true → with_text (chained f chain) x.start (x.start + 1) false ≡ chained f (close_break (Some x) chain)
 close_break-backslash f chain x none is = with_text-chained f chain x.start (x.start + 1) false none (omega arith) ∙ ap (chained f) (sym (cond-true _ _ _ is))
 
 pub close_break-other : (chain : List Item) (x : Item) → is_backslash_break x.body ≡ false → close_break (Some x) chain ≡ chain
@@ -261,7 +285,8 @@ length-leaves d [] = refl
 length-leaves d (x ∷ xs) = ap suc (length-leaves d xs)
 
 pub chained-length : (f : Forest Item) (chain : List Item) → length (chained f chain).nodes ≡ length f.nodes + length chain
-chained-length f chain = ap length (chained-nodes f chain) ∙ length-append f.nodes (at_depth (length f.spine + 1) (leaves chain)) ∙ ap (λ (n : ℕ). length f.nodes + n) (length-leaves (length f.spine + 1) chain)
+chained-length f chain = ap length (chained-nodes f chain) ∙ length-append f.nodes (at_depth (length f.spine + 1) (leaves chain))
+    ∙ ap (λ (n : ℕ). length f.nodes + n) (length-leaves (length f.spine + 1) chain)
 
 abbrev place_at : ℕ → TreeIndex
 place_at m = record { 0 = m }
@@ -277,7 +302,8 @@ chained-current f x (y ∷ ys) =
     chained-current (appended f x) y ys ∙ ap (λ (m : ℕ). Some (place_at m)) z
 
 -- a node that was just opened has nothing after it, and none of its children is current
-pub pushed-fresh : (g : Forest Item) (x : Item) (ix : TreeIndex) → ix.0 ≡ length g.nodes → (open_place (pushed (appended g x) ix).spine + 1 ≡ length (pushed (appended g x) ix).nodes) × ((pushed (appended g x) ix).current ≡ None)
+pub pushed-fresh : (g : Forest Item) (x : Item) (ix : TreeIndex) → ix.0 ≡ length g.nodes
+    → (open_place (pushed (appended g x) ix).spine + 1 ≡ length (pushed (appended g x) ix).nodes) × ((pushed (appended g x) ix).current ≡ None)
 pushed-fresh g x ix at = (omega (arith, at, length-append g.nodes ((length g.spine + 1, x) ∷ [])), refl)
 
 -- a node that was appended and opened
@@ -286,7 +312,8 @@ pub record IsOpened (f : Forest Item) (x : Item) (place : TreeIndex) (f₂ : For
   pub is : f₂ ≡ pushed (appended f x) place
 
 -- the clauses of append and push, as they come
-pub opened-calls : (f f₁ f₂ : Forest Item) (x : Item) (place opened : TreeIndex) → place.0 ≡ length f.nodes → f₁ ≡ appended f x → f₁.current ≡ Some opened → f₂ ≡ pushed f₁ opened → IsOpened f x place f₂
+pub opened-calls : (f f₁ f₂ : Forest Item) (x : Item) (place opened : TreeIndex)
+    → place.0 ≡ length f.nodes → f₁ ≡ appended f x → f₁.current ≡ Some opened → f₂ ≡ pushed f₁ opened → IsOpened f x place f₂
 opened-calls f f₁ f₂ x place opened at e₁ c₁ e₂ =
     let current : f₁.current ≡ Some (place_at (length f.nodes)) = ap (λ (v : Forest Item). v.current) e₁ in
     let there : place ≡ place_at (length f.nodes) = ap place_at at in
@@ -312,7 +339,8 @@ leaf_depth d [] k within = absurd (omega arith)
 leaf_depth d (x ∷ xs) zero within = omega arith
 leaf_depth d (x ∷ xs) (suc k) within = leaf_depth d xs k (omega arith)
 
-behind_depth : (ns : List (ℕ × Item)) (d : ℕ) (chain : List Item) (k : ℕ) → length ns ≤ k → k < length (ns ++ at_depth d (leaves chain)) → slice_index (depths (ns ++ at_depth d (leaves chain))) k ≡ d
+behind_depth : (ns : List (ℕ × Item)) (d : ℕ) (chain : List Item) (k : ℕ)
+    → length ns ≤ k → k < length (ns ++ at_depth d (leaves chain)) → slice_index (depths (ns ++ at_depth d (leaves chain))) k ≡ d
 behind_depth [] d chain k low high = leaf_depth d chain k high
 behind_depth (n ∷ ns) d chain zero low high = absurd (omega arith)
 behind_depth (n ∷ ns) d chain (suc k) low high = behind_depth ns d chain k (omega arith) (omega arith)
@@ -324,7 +352,8 @@ has_leaves-chained f chain last k low high =
     let spine = chained-spine f chain in
     let low' : length f.nodes ≤ k = omega (arith, low, last, ap open_place spine) in
     let high' : k < length (f.nodes ++ at_depth (length f.spine + 1) (leaves chain)) = omega (arith, high, ap length nodes) in
-    ap (λ (ns : List (ℕ × Item)). slice_index (depths ns) k) nodes ∙ behind_depth f.nodes (length f.spine + 1) chain k low' high' ∙ ap (λ (is : List TreeIndex). length is + 1) (sym spine)
+    ap (λ (ns : List (ℕ × Item)). slice_index (depths ns) k) nodes ∙ behind_depth f.nodes (length f.spine + 1) chain k low' high'
+    ∙ ap (λ (is : List TreeIndex). length is + 1) (sym spine)
 
 -- a cut
 pub cut_tokens-leaves : (e d : ℕ) (chain : List Item) → cut_tokens e d (at_depth d (leaves chain)) ≡ at_depth d (leaves (cut e chain))
@@ -347,7 +376,8 @@ last_at ds d n k is at =
     ap (last_before ds d) is ∙ cond-true _ _ _ (eq-eqb (slice_index ds k) d at)
 
 -- the current node of a chain is the last child
-last_chained : (f : Forest Item) (chain : List Item) → open_place f.spine + 1 ≡ length f.nodes → f.current ≡ None → last_child f.spine (chained f chain).nodes ≡ (chained f chain).current
+last_chained : (f : Forest Item) (chain : List Item)
+    → open_place f.spine + 1 ≡ length f.nodes → f.current ≡ None → last_child f.spine (chained f chain).nodes ≡ (chained f chain).current
 last_chained f [] last none = cond-false _ _ _ (le-ltb (open_place f.spine + 1) (length f.nodes) (omega arith)) ∙ sym none
 last_chained f (x ∷ xs) last none =
     let g = chained f (x ∷ xs) in
@@ -359,7 +389,8 @@ last_chained f (x ∷ xs) last none =
     let place : last_before (depths g.nodes) (length f.spine + 1) (length g.nodes) ≡ k = last_at (depths g.nodes) _ _ k (omega arith) at in
     cond-true _ _ _ (lt-ltb (open_place f.spine + 1) (length g.nodes) (omega arith)) ∙ ap (λ (m : ℕ). Some (place_at m)) place ∙ sym (chained-current f x xs)
 
-pub cut_siblings-chained : (f : Forest Item) (chain : List Item) (e : ℕ) → open_place f.spine + 1 ≡ length f.nodes → f.current ≡ None → cut_siblings (chained f chain) e ≡ chained f (cut e chain)
+pub cut_siblings-chained : (f : Forest Item) (chain : List Item) (e : ℕ)
+    → open_place f.spine + 1 ≡ length f.nodes → f.current ≡ None → cut_siblings (chained f chain) e ≡ chained f (cut e chain)
 cut_siblings-chained f chain e last none =
     let d = length f.spine + 1 in
     let g = chained f chain in
@@ -376,22 +407,26 @@ cut_siblings-chained f chain e last none =
     ∙ ap (λ (k : ℕ). f.nodes ++ cut_tokens e k (at_depth d (leaves chain))) depth
     ∙ ap (λ (ns : List (ℕ × Item)). f.nodes ++ ns) (cut_tokens-leaves e d chain) ∙ sym (chained-nodes f (cut e chain)) in
     forest-eq (cut_siblings g e) (chained f (cut e chain)) nodes (spine ∙ sym (chained-spine f (cut e chain)))
-    (ap (λ (is : List TreeIndex). last_child is (cut_siblings g e).nodes) spine ∙ ap (λ (ns : List (ℕ × Item)). last_child f.spine ns) nodes ∙ last_chained f (cut e chain) last none)
+    (ap (λ (is : List TreeIndex). last_child is (cut_siblings g e).nodes) spine ∙ ap (λ (ns : List (ℕ × Item)). last_child f.spine ns) nodes
+    ∙ last_chained f (cut e chain) last none)
 
 -- the nodes before a chain
 taken_chained : (f : Forest Item) (chain : List Item) (n : ℕ) → n ≡ length f.nodes → take n (chained f chain).nodes ≡ f.nodes
 taken_chained f chain n same =
-    ap (λ (m : ℕ). take m (chained f chain).nodes) same ∙ ap (take (length f.nodes)) (chained-nodes f chain) ∙ take-append_seam f.nodes (at_depth (length f.spine + 1) (leaves chain))
+    ap (λ (m : ℕ). take m (chained f chain).nodes) same ∙ ap (take (length f.nodes)) (chained-nodes f chain)
+    ∙ take-append_seam f.nodes (at_depth (length f.spine + 1) (leaves chain))
 
 no_open : (s : List TreeIndex) (i : TreeIndex) (is : List TreeIndex) → s ≡ [] → s ≡ i ∷ is → ⊥
 no_open s i is a b = cc
 
 -- the innermost open node without its chain
-pub childless-chained : (f : Forest Item) (chain : List Item) (ix : TreeIndex) → ix.0 + 1 ≡ length f.nodes → f.current ≡ None → childless (chained f chain) ix ≡ f
+pub childless-chained : (f : Forest Item) (chain : List Item) (ix : TreeIndex)
+    → ix.0 + 1 ≡ length f.nodes → f.current ≡ None → childless (chained f chain) ix ≡ f
 childless-chained f chain ix last none = forest-eq (childless (chained f chain) ix) f (taken_chained f chain (ix.0 + 1) last) (chained-spine f chain) (sym none)
 
 -- the same, closed
-pub removed-chained : (f : Forest Item) (chain : List Item) (ix : TreeIndex) (rest : List TreeIndex) → ix.0 + 1 ≡ length f.nodes → cut_to (popped (chained f chain) ix rest) (ix.0 + 1) ≡ popped f ix rest
+pub removed-chained : (f : Forest Item) (chain : List Item) (ix : TreeIndex) (rest : List TreeIndex)
+    → ix.0 + 1 ≡ length f.nodes → cut_to (popped (chained f chain) ix rest) (ix.0 + 1) ≡ popped f ix rest
 removed-chained f chain ix rest last =
     forest-eq (cut_to (popped (chained f chain) ix rest) (ix.0 + 1)) (popped f ix rest) (taken_chained f chain (ix.0 + 1) last) refl refl
 
@@ -400,7 +435,8 @@ pub record IsClosed (f : Forest Item) (x : Item) (chain : List Item) (place : Tr
   pub within : place.0 < length f₄.nodes
   pub block : (h : Item → Item) → modified f₄ place h ≡ added f (block_of (h x) (leaves chain))
 
-module _ {f f₂ : Forest Item} {x : Item} {place : TreeIndex} (o : IsOpened f x place f₂) (f₃ f₄ : Forest Item) (chain : List Item) (chain_is : f₃ ≡ chained f₂ chain) where
+module _ {f f₂ : Forest Item} {x : Item} {place : TreeIndex} (o : IsOpened f x place f₂) (f₃ f₄ : Forest Item) (chain : List Item)
+    (chain_is : f₃ ≡ chained f₂ chain) where
   closed_spine : f₃.spine ≡ place ∷ f.spine
   closed_spine = ap (λ (v : Forest Item). v.spine) chain_is ∙ chained-spine f₂ chain ∙ opened-spine o
 
@@ -410,18 +446,21 @@ module _ {f f₂ : Forest Item} {x : Item} {place : TreeIndex} (o : IsOpened f x
       ∙ ap (λ (v : Forest Item). length v.nodes + length chain) o.is ∙ ap (λ (n : ℕ). n + length chain) (length-append f.nodes ((length f.spine + 1, x) ∷ []))
 
   -- the clause of pop, as it comes
-  pub closed-calls : (r : Option TreeIndex) → MatchOption r ((f₃.spine ≡ []) × (f₄ ≡ f₃)) (λ ix. (f₃.spine ≡ ix ∷ f₄.spine) × (f₄ ≡ popped f₃ ix f₄.spine)) → IsClosed f x chain place f₄
+  pub closed-calls : (r : Option TreeIndex)
+      → MatchOption r ((f₃.spine ≡ []) × (f₄ ≡ f₃)) (λ ix. (f₃.spine ≡ ix ∷ f₄.spine) × (f₄ ≡ popped f₃ ix f₄.spine)) → IsClosed f x chain place f₄
   closed-calls None m = absurd (no_open f₃.spine place f.spine m.0 closed_spine)
   closed-calls (Some ix) m =
       let nodes : f₄.nodes ≡ f₃.nodes = ap (λ (v : Forest Item). v.nodes) m.1 in
       record {
         within = omega (arith, o.at, closed_length, ap length nodes);
-        block = λ h. block-calls f (appended f x) f₂ f₃ f₄ x h (leaves chain) place place (Some ix) o.at refl (ap (λ (n : ℕ). Some (place_at n)) (sym o.at)) o.is
+        block =
+            λ h. block-calls f (appended f x) f₂ f₃ f₄ x h (leaves chain) place place (Some ix) o.at refl (ap (λ (n : ℕ). Some (place_at n)) (sym o.at)) o.is
             (ap (λ (v : Forest Item). v.nodes) chain_is ∙ chained-nodes f₂ chain) (ap (λ (v : Forest Item). v.spine) chain_is ∙ chained-spine f₂ chain) m;
       }
 
   -- the clause of remove_node, as it comes: the node alone is left
-  pub removed-calls : (r : Option TreeIndex) → MatchOption r ((f₃.spine ≡ []) × (f₄ ≡ f₃)) (λ ix. (f₃.spine ≡ ix ∷ f₄.spine) × (f₄ ≡ cut_to (popped f₃ ix f₄.spine) (ix.0 + 1))) → f₄ ≡ appended f x
+  pub removed-calls : (r : Option TreeIndex)
+      → MatchOption r ((f₃.spine ≡ []) × (f₄ ≡ f₃)) (λ ix. (f₃.spine ≡ ix ∷ f₄.spine) × (f₄ ≡ cut_to (popped f₃ ix f₄.spine) (ix.0 + 1))) → f₄ ≡ appended f x
   removed-calls None m = absurd (no_open f₃.spine place f.spine m.0 closed_spine)
   removed-calls (Some ix) m =
       let spine = closed_spine in
@@ -429,14 +468,16 @@ module _ {f f₂ : Forest Item} {x : Item} {place : TreeIndex} (o : IsOpened f x
       let same : ix ≡ place = cc in
       let there : place ≡ place_at (length f.nodes) = ap place_at o.at in
       let nodes : f₂.nodes ≡ f.nodes ++ (length f.spine + 1, x) ∷ [] = ap (λ (v : Forest Item). v.nodes) o.is in
-      let last : ix.0 + 1 ≡ length f₂.nodes = ap (λ (j : TreeIndex). j.0 + 1) (same ∙ there) ∙ sym (length-append f.nodes ((length f.spine + 1, x) ∷ [])) ∙ sym (ap length nodes) in
+      let last : ix.0 + 1 ≡ length f₂.nodes =
+      ap (λ (j : TreeIndex). j.0 + 1) (same ∙ there) ∙ sym (length-append f.nodes ((length f.spine + 1, x) ∷ [])) ∙ sym (ap length nodes) in
       forest-eq f₄ (appended f x)
       (ap (λ (v : Forest Item). v.nodes) m.1 ∙ ap (λ (v : Forest Item). take (ix.0 + 1) v.nodes) chain_is ∙ taken_chained f₂ chain (ix.0 + 1) last ∙ nodes)
       rest
       (ap (λ (v : Forest Item). v.current) m.1 ∙ ap (λ (j : TreeIndex). Some j) (same ∙ there))
 
 -- the same for trees that are spelled out
-pub closed-chained : (g : Forest Item) (x : Item) (h : Item → Item) (chain : List Item) (ix : TreeIndex) → ix.0 ≡ length g.nodes → modified (popped (chained (pushed (appended g x) ix) chain) ix g.spine) ix h ≡ added g (block_of (h x) (leaves chain))
+pub closed-chained : (g : Forest Item) (x : Item) (h : Item → Item) (chain : List Item) (ix : TreeIndex)
+    → ix.0 ≡ length g.nodes → modified (popped (chained (pushed (appended g x) ix) chain) ix g.spine) ix h ≡ added g (block_of (h x) (leaves chain))
 closed-chained g x h chain ix at =
     let f₂ = pushed (appended g x) ix in
     let o : IsOpened g x ix f₂ = record { at = at; is = refl } in

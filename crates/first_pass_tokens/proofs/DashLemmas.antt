@@ -1,5 +1,6 @@
 -- Dashes: a text so many times, and where it may be cut.
-use Rattle.std.proofs.Common.{◌≡◌, ℕ, zero, suc, ◌+◌, ◌-◌, ◌*◌, ◌≤◌, List, [], ◌∷◌, ◌++◌, length, take, drop, encode_utf8, IsUtf8, IsCharBoundary, refl, sym, ap, subst, ◌∙◌, arith, length-append, append_assoc}
+use Rattle.std.proofs.Common.{◌≡◌, ℕ, zero, suc, ◌+◌, ◌-◌, ◌*◌, ◌≤◌, List, [], ◌∷◌, ◌++◌, length, take, drop, encode_utf8, IsUtf8, IsCharBoundary, refl, sym}
+use Rattle.std.proofs.Common.{ap, subst, ◌∙◌, arith, length-append, append_assoc}
 use Rattle.std.specs.List.{slice_range}
 use Rattle.std.proofs.lemmas.List.{append-nil}
 use Rattle.std.proofs.lemmas.Str.{IsCharBoundary-at_seam, IsUtf8-append, IsUtf8-nil, IsUtf8-encode}

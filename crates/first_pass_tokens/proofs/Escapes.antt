@@ -1,5 +1,6 @@
 -- Each escaped text of a chain stands after a backslash that no token has, so a chain may be cut at any offset between two characters.
-use Rattle.std.proofs.Common.{◌≡◌, ℕ, ◌+◌, ◌-◌, ◌≤◌, ◌<◌, ◌==◌, ◌&&◌, Bool, true, false, List, [], ◌∷◌, ◌++◌, slice_index, Option, Some, None, IsCharBoundary, nat_lt, min, if◌then◌else◌, inl, inr, refl, sym, ap, subst, ◌∙◌, arith, zero, suc}
+use Rattle.std.proofs.Common.{◌≡◌, ℕ, ◌+◌, ◌-◌, ◌≤◌, ◌<◌, ◌==◌, ◌&&◌, Bool, true, false, List, [], ◌∷◌, ◌++◌, slice_index, Option, Some, None, IsCharBoundary}
+use Rattle.std.proofs.Common.{nat_lt, min, if◌then◌else◌, inl, inr, refl, sym, ap, subst, ◌∙◌, arith, zero, suc}
 use Rattle.std.proofs.lemmas.Bool.{cond-true, cond-false, cond_both, cases_lt, and_parts, and_right, lt-ltb, le-ltb, ltb-true, eqb-true, ne_eqb, false≢true}
 use Rattle.std.proofs.lemmas.Str.{IsCharBoundary-before_ascii}
 use Rattle.first_pass_items.specs.Bytes.{backslash}
@@ -47,9 +48,11 @@ ends_add from at (x ∷ z ∷ zs) y within = ends_add x.«end» at (z ∷ zs) y 
 
 ends_text : (from at a b : ℕ) (escaped : Bool) (chain : List Item) → EndsBy from at chain → b ≤ at → EndsBy from at (add_text a b escaped chain)
 ends_text from at a b escaped chain h within =
-    cond_both (nat_lt a b) (add_token chain (text_token a b escaped)) chain (EndsBy from at) (λ some. ends_add from at chain (text_token a b escaped) within) (λ none. h)
+    cond_both (nat_lt a b) (add_token chain (text_token a b escaped)) chain (EndsBy from at)
+    (λ some. ends_add from at chain (text_token a b escaped) within) (λ none. h)
 
-ends_run : (from at n : ℕ) (opens closes : Bool) (chain : List Item) → EndsBy from at chain → EndsBy from (at + n) (add_tokens chain (run_tokens at n opens closes))
+ends_run : (from at n : ℕ) (opens closes : Bool) (chain : List Item)
+    → EndsBy from at chain → EndsBy from (at + n) (add_tokens chain (run_tokens at n opens closes))
 ends_run from at zero opens closes chain h = ends_later from at (at + 0) chain h (omega arith)
 ends_run from at (suc n) opens closes chain h =
     let x = token at 1 (MaybeEmphasis (suc n) opens closes) in
@@ -83,7 +86,8 @@ escapes_text text from mid a b escaped chain h k behind =
     (λ some. escapes_add text from mid chain (text_token a b escaped) h k behind) (λ none. k)
 
 -- the tokens of a text joined after a chain
-pub escapes_adds : (text : List ℕ) (from mid to : ℕ) (chain tokens : List Item) → AreInOrder text from mid chain → EscapesStand text from chain → AreInOrder text mid to tokens
+pub escapes_adds : (text : List ℕ) (from mid to : ℕ) (chain tokens : List Item)
+    → AreInOrder text from mid chain → EscapesStand text from chain → AreInOrder text mid to tokens
     → EscapesStand text mid tokens → EscapesStand text from (add_tokens chain tokens)
 escapes_adds text from mid to chain [] h k order stand = k
 escapes_adds text from mid to chain (x ∷ xs) h k order stand =
@@ -99,7 +103,8 @@ escapes_closed text from to (Some x) chain h k =
     (λ b. escapes_text text from to x.start (x.start + 1) false chain (ends_in_order text from to chain h) k (λ e. absurd (false≢true e))) (λ b. k)
 
 -- an item after that is no escaped text
-pub escapes_append : (text : List ℕ) (from : ℕ) (chain : List Item) (y : Item) → EscapesStand text from chain → is_escaped y.body ≡ false → EscapesStand text from (chain ++ y ∷ [])
+pub escapes_append : (text : List ℕ) (from : ℕ) (chain : List Item) (y : Item)
+    → EscapesStand text from chain → is_escaped y.body ≡ false → EscapesStand text from (chain ++ y ∷ [])
 escapes_append text from [] y k plain = (λ e. absurd (false≢true (sym plain ∙ e)), tt)
 escapes_append text from (x ∷ xs) y k plain = (k.0, escapes_append text x.«end» xs y k.1 plain)
 
@@ -123,7 +128,8 @@ escapes_piece text from stop at (Token dropped n body) chain facts h k =
     escapes_add text from at chain (token (at + dropped) n body) h k (λ e. absurd (false≢true (sym (markup_unescaped body facts.kind) ∙ e)))
 escapes_piece text from stop at (Run n opens closes) chain facts h k = escapes_run text from at n opens closes chain h k
 
-escapes_pieces : (texts : List CowStr) (s : Source) (from stop at : ℕ) (b : MathBraces) (ps : List Piece) (to : Spot) (chain : List Item) → ArePieces texts s at b ps to → EndsBy from at chain → EscapesStand s.text from chain
+escapes_pieces : (texts : List CowStr) (s : Source) (from stop at : ℕ) (b : MathBraces) (ps : List Piece) (to : Spot) (chain : List Item)
+    → ArePieces texts s at b ps to → EndsBy from at chain → EscapesStand s.text from chain
     → EscapesStand s.text from (add_pieces stop at ps chain)
 escapes_pieces texts s from stop at b [] to chain are h k = k
 escapes_pieces texts s from stop at b (p ∷ ps) to chain are h k =
@@ -131,10 +137,12 @@ escapes_pieces texts s from stop at b (p ∷ ps) to chain are h k =
     (escapes_piece s.text from stop at p chain (piece_of texts b s at p are.0 are.1) h k)
 
 -- The escaped texts of a line stand after their backslashes.
-pub line_escapes : {texts : List CowStr} {s : Source} {tokens : List Item} {answer : ℕ × Option Item} {after : MathBraces} → IsLine texts s tokens answer after → EscapesStand s.text s.start tokens
+pub line_escapes : {texts : List CowStr} {s : Source} {tokens : List Item} {answer : ℕ × Option Item} {after : MathBraces}
+    → IsLine texts s tokens answer after → EscapesStand s.text s.start tokens
 line_escapes {texts} {s} {tokens} {answer} {after} line =
     subst (EscapesStand s.text s.start) (sym line.tokens_are)
-    (escapes_pieces texts s s.start (text_end s line.content_end) s.start s.braces line.pieces (spot line.content_end after) [] line.division.divided (omega arith) tt)
+    (escapes_pieces texts s s.start (text_end s line.content_end) s.start s.braces line.pieces (spot line.content_end after) [] line.division.divided
+    (omega arith) tt)
 
 cut_first : (e : ℕ) (x : Item) (xs : List Item) → x.start < e → cut e (x ∷ xs) ≡ cut_item e x ∷ cut e xs
 cut_first e x xs before = cond-true _ _ _ (lt-ltb x.start e before)
@@ -153,7 +161,8 @@ left_behind e x = if is_escaped x.body && (x.start == e) then text_token (e - 1)
 cut_at_first : (e : ℕ) (x : Item) (xs : List Item) → e ≤ x.start → cut e (x ∷ xs) ≡ left_behind e x
 cut_at_first e x xs behind = cond-false _ _ _ (le-ltb x.start e behind)
 
-backslash_in_order : (text : List ℕ) (from e : ℕ) (x : Item) → EscapeBehind text from x → IsCharBoundary text e → from ≤ e → AreInOrder text from e (left_behind e x)
+backslash_in_order : (text : List ℕ) (from e : ℕ) (x : Item)
+    → EscapeBehind text from x → IsCharBoundary text e → from ≤ e → AreInOrder text from e (left_behind e x)
 backslash_in_order text from e x stands at order =
     cond_both (is_escaped x.body && (x.start == e)) (text_token (e - 1) e false ∷ []) [] (AreInOrder text from e)
     (λ b.
@@ -166,7 +175,8 @@ backslash_in_order text from e x stands at order =
     (λ b. order)
 
 -- A chain in order that is cut is in order up to there, also where an escaped text begins at the cut.
-pub cut_escaped : (text : List ℕ) (from to e : ℕ) (chain : List Item) → AreInOrder text from to chain → EscapesStand text from chain → IsCharBoundary text e → from ≤ e
+pub cut_escaped : (text : List ℕ) (from to e : ℕ) (chain : List Item)
+    → AreInOrder text from to chain → EscapesStand text from chain → IsCharBoundary text e → from ≤ e
     → AreInOrder text from e (cut e chain)
 cut_escaped text from to e [] h k at order = order
 cut_escaped text from to e (x ∷ xs) h k at order =
@@ -190,8 +200,10 @@ cut_has_bytes text from e [] h k = tt
 cut_has_bytes text from e (x ∷ xs) h k =
     cond_both (nat_lt x.start e) (cut_item e x ∷ cut e xs) (left_behind e x) HaveBytes
     (λ b.
-    let before = ltb-true x.start e b in
-    (cond_both (nat_lt e x.«end») (record x { «end» = e }) x (λ (y : Item). y.start < y.«end») (λ c. before) (λ c. h.0), cut_has_bytes text x.«end» e xs h.1 k.1))
+    let before = ltb-true x.start e b in (
+      cond_both (nat_lt e x.«end») (record x { «end» = e }) x (λ (y : Item). y.start < y.«end») (λ c. before) (λ c. h.0),
+      cut_has_bytes text x.«end» e xs h.1 k.1,
+    ))
     (λ b. cond_both (is_escaped x.body && (x.start == e)) (text_token (e - 1) e false ∷ []) [] HaveBytes
     (λ c.
     let both = and_parts (is_escaped x.body) (x.start == e) c in

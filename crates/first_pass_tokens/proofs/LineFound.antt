@@ -1,5 +1,6 @@
 -- Each line has tokens, and so has each cell, once the texts that they name are named.
-use Rattle.std.proofs.Common.{◌⊎◌, inl, inr, ℕ, zero, suc, ◌+◌, ◌-◌, ◌<◌, ◌≤◌, ◌≡◌, Bool, true, false, List, [], ◌∷◌, ◌++◌, length, encode_utf8, Option, refl, arith}
+use Rattle.std.proofs.Common.{◌⊎◌, inl, inr, ℕ, zero, suc, ◌+◌, ◌-◌, ◌<◌, ◌≤◌, ◌≡◌, Bool, true, false, List, [], ◌∷◌, ◌++◌, length, encode_utf8, Option, refl}
+use Rattle.std.proofs.Common.{arith}
 use Rattle.std.proofs.lemmas.Bool.{cases_lt, or_left, le-leb}
 use Rattle.first_pass_items.specs.declared.cow_str.CowStr.{CowStr}
 use Rattle.first_pass_items.specs.declared.cow_str.CowStr.TheVariants.{Borrowed}
@@ -29,7 +30,8 @@ record FoundPiece (texts : List CowStr) (b : MathBraces) (found : Found) : Type 
   piece : Piece
   becomes : Becomes named b found piece
 
-stands : (texts : List CowStr) (n : ℕ) (text : List ℕ) → IsNamingToken (texts ++ borrowed text ∷ []) n text (Token 0 n (SynthesizeText (record { 0 = length texts })))
+stands : (texts : List CowStr) (n : ℕ) (text : List ℕ)
+    → IsNamingToken (texts ++ borrowed text ∷ []) n text (Token 0 n (SynthesizeText (record { 0 = length texts })))
 unfolding borrowed
 stands texts n text =
     let ix : CowIndex = record { 0 = length texts } in
@@ -91,7 +93,8 @@ division_by texts s at b false h first f =
       ended = further.ended;
     }
 
-division_at : (texts : List CowStr) (s : Source) (at : ℕ) (b : MathBraces) (most : ℕ) → length s.text ≤ at + suc most → (at < length s.text) ⊎ (length s.text ≤ at)
+division_at : (texts : List CowStr) (s : Source) (at : ℕ) (b : MathBraces) (most : ℕ)
+    → length s.text ≤ at + suc most → (at < length s.text) ⊎ (length s.text ≤ at)
     → ((named : List CowStr) (next : ℕ) (later : MathBraces) → length s.text ≤ next + most → Division named s next later) → Division texts s at b
 division_at texts s at b most h (inl within) f =
     let first = found_piece texts b (found_at s at) in

@@ -1,10 +1,13 @@
 -- The division of a content: one more piece, that there is one division, that no line end stands in it, and where the line ends.
-use Rattle.std.proofs.Common.{ℕ, min, zero, suc, ◌≡◌, ◌⊎◌, ◌+◌, ◌-◌, ◌≤◌, ◌<◌, ◌==◌, ◌&&◌, ◌||◌, ◌%◌, if◌then◌else◌, Bool, true, false, List, [], ◌∷◌, ◌++◌, length, take, drop, get_or, slice_index, nat_lt, nat_le, Option, None, IfSome, Result, Ok, Err, IfOk, unwrap_or, refl, sym, ap, subst, ◌∙◌, inl, inr, arith, length-drop}
+use Rattle.std.proofs.Common.{ℕ, min, zero, suc, ◌≡◌, ◌⊎◌, ◌+◌, ◌-◌, ◌≤◌, ◌<◌, ◌==◌, ◌&&◌, ◌||◌, ◌%◌, if◌then◌else◌, Bool, true, false, List, [], ◌∷◌, ◌++◌}
+use Rattle.std.proofs.Common.{length, take, drop, get_or, slice_index, nat_lt, nat_le, Option, None, IfSome, Result, Ok, Err, IfOk, unwrap_or, refl, sym, ap}
+use Rattle.std.proofs.Common.{subst, ◌∙◌, inl, inr, arith, length-drop}
 use Rattle.std.specs.List.{suffix_len, slice_range, prefix_len}
 use Rattle.std.specs.declared.alloc.AllocError.{AllocError}
 use Rattle.std.proofs.lemmas.List.{get_or-drop, get_or_past, drop-drop, at_drop_all, at_drop_more}
 use Rattle.std.proofs.lemmas.List.Sums.{suffix_len-le-length, suffix_len-take_yes, suffix_len-take_no, prefix_len_is, prefix_len_stops}
-use Rattle.std.proofs.lemmas.Bool.{false≢true, cases_lt, cases_Bool, cond_both, cond-true, cond-false, eqb-true, or_parts, or_cases, and_parts, and_cases, lt-leb, le-leb, leb-false, leb-true, not_from_true, not_from_false}
+use Rattle.std.proofs.lemmas.Bool.{false≢true, cases_lt, cases_Bool, cond_both, cond-true, cond-false, eqb-true, or_parts, or_cases, and_parts, and_cases}
+use Rattle.std.proofs.lemmas.Bool.{lt-leb, le-leb, leb-false, leb-true, not_from_true, not_from_false}
 use Rattle.first_pass_items.specs.OptionWords.{has, tables}
 use Rattle.first_pass_items.specs.declared.item.Item.{Item}
 use Rattle.first_pass_tree.specs.Forest.{Forest}
@@ -15,7 +18,8 @@ use Rattle.first_pass_items.specs.declared.cow_str.CowStr.{CowStr}
 use Rattle.first_pass_tokens.specs.Braces.{MathBraces, braces_after}
 use Rattle.first_pass_tokens.specs.NamedTexts.{Becomes}
 use Rattle.first_pass_tokens.specs.Pieces.{Source, found_at, size}
-use Rattle.first_pass_tokens.specs.LineTokens.{Spot, spot, text_end, ends_at, ends_cell, ArePieces, IsDivision, IsLine, IsCell, IsBreak, EndsLine, EndsCell, add_piece, add_pieces, line_end_len, line_break, breaks_by_backslash, backslashes_at_end, blanks_at_end}
+use Rattle.first_pass_tokens.specs.LineTokens.{Spot, spot, text_end, ends_at, ends_cell, ArePieces, IsDivision, IsLine, IsCell, IsBreak, EndsLine, EndsCell}
+use Rattle.first_pass_tokens.specs.LineTokens.{add_piece, add_pieces, line_end_len, line_break, breaks_by_backslash, backslashes_at_end, blanks_at_end}
 use Rattle.first_pass_tokens.specs.TreeTokens.{AppendsLine, AppendsCell, with_tokens, chained, JoinsNone}
 use Rattle.first_pass_tokens.specs.Chains.{token, run_tokens, add_tokens, AreApart}
 use Rattle.first_pass_tokens.proofs.PieceFacts.{IsPieceAt, found_facts, becomes_facts, visible_plain, visible_fits}
@@ -107,7 +111,8 @@ pub record IsContent (text : List ℕ) (start end : ℕ) : Type 0 where
   pub within : end ≤ length text
   pub plain : (k : ℕ) → start ≤ k → k < end → is_line_end (slice_index text k) ≡ false
 
-content_from : (texts : List CowStr) (s : Source) (at : ℕ) (b : MathBraces) (ps : List Piece) (to : Spot) → at ≤ length s.text → ArePieces texts s at b ps to → IsContent s.text at to.at
+content_from : (texts : List CowStr) (s : Source) (at : ℕ) (b : MathBraces) (ps : List Piece) (to : Spot)
+    → at ≤ length s.text → ArePieces texts s at b ps to → IsContent s.text at to.at
 content_from texts s at b [] to within is =
     let same : at ≡ to.at = ap (λ (t : Spot). t.at) is in
     record { order = omega arith; within = omega arith; plain = λ k low high. absurd (omega arith) }
@@ -171,7 +176,8 @@ line_end_at s end plain h =
             | inl past ↦ absurd (omega arith)
             | inr line ↦
                 at_drop_more (λ (bs : List ℕ). unwrap_or (eol_len bs) 0) s.text end 0 within ∙ end_here b (drop (end + 1) s.text) line
-                ∙ ap (λ (next : Bool). if b == 13 && next then 2 else 1) (begins_drop s.text (end + 1)) ∙ sym (cond-false _ _ _ (lt-leb (length s.text) end within))
+                ∙ ap (λ (next : Bool). if b == 13 && next then 2 else 1) (begins_drop s.text (end + 1))
+                ∙ sym (cond-false _ _ _ (lt-leb (length s.text) end within))
           ]
       | inr past ↦ at_drop_all (λ (bs : List ℕ). unwrap_or (eol_len bs) 0) s.text end past ∙ sym (cond-true _ _ _ (le-leb (length s.text) end past))
     ]
@@ -212,7 +218,8 @@ line_end_fits s end within =
     cond_both (slice_index s.text end == 13 && slice_index s.text (end + 1) == 10) 2 1 (λ (n : ℕ). end + n ≤ length s.text)
     (λ two. elim (cases_lt (end + 1) (length s.text)) [
       | inl more ↦ omega arith
-      | inr past ↦ absurd (false≢true (ap (λ (x : ℕ). x == 10) (sym (get_or_past s.text (end + 1) 0 past)) ∙ (and_parts (slice_index s.text end == 13) (slice_index s.text (end + 1) == 10) two).1))
+      | inr past ↦ absurd (false≢true (ap (λ (x : ℕ). x == 10) (sym (get_or_past s.text (end + 1) 0 past))
+          ∙ (and_parts (slice_index s.text end == 13) (slice_index s.text (end + 1) == 10) two).1))
     ])
     (λ one. omega arith))
 
@@ -223,7 +230,8 @@ line_end_some s end within =
     (λ b. cond_both (slice_index s.text end == 13 && slice_index s.text (end + 1) == 10) 2 1 (λ (n : ℕ). 0 < n) (λ two. omega arith) (λ one. omega arith))
 
 -- how many bytes pass at the end of a front of a list, if one does not or there are no more
-suffix_bounded : (p : ℕ → Bool) (xs : List ℕ) (n k : ℕ) → n ≤ length xs → k ≤ n → (k ≡ 0) ⊎ ((0 < k) × (p (get_or xs (k - 1) 0) ≡ false)) → suffix_len p (take n xs) ≤ n - k
+suffix_bounded : (p : ℕ → Bool) (xs : List ℕ) (n k : ℕ)
+    → n ≤ length xs → k ≤ n → (k ≡ 0) ⊎ ((0 < k) × (p (get_or xs (k - 1) 0) ≡ false)) → suffix_len p (take n xs) ≤ n - k
 suffix_bounded p xs zero k within order stops = omega (arith, suffix_len-le-length p (take 0 xs))
 suffix_bounded p xs (suc n) k within order stops =
     elim (cases_lt k (suc n)) [
@@ -241,7 +249,9 @@ suffix_bounded p xs (suc n) k within order stops =
           let all : k ≡ suc n = omega arith in
           elim stops [
             | inl none ↦ absurd (omega arith)
-            | inr at ↦ let none = suffix_len-take_no p xs (suc n) 0 (omega arith) within (ap (λ (x : ℕ). p (get_or xs (x - 1) 0)) (sym all) ∙ at.1) in omega arith
+            | inr at ↦
+                let none = suffix_len-take_no p xs (suc n) 0 (omega arith) within (ap (λ (x : ℕ). p (get_or xs (x - 1) 0)) (sym all) ∙ at.1) in
+                omega arith
           ]
     ]
 
@@ -267,8 +277,10 @@ break_in_line : (s : Source) (end : ℕ) → s.start ≤ end → end ≤ length 
 unfolding line_break breaks_by_backslash backslashes_at_end blanks_at_end
 break_in_line s end order within =
     let next = end + line_end_len s end in
-    let white : suffix_len is_white (slice_range s.text s.start end) ≤ end - s.start = end_bounded is_white s.text s.start s.start end (omega arith) order within (inl refl) in
-    let slashes : suffix_len (λ b. b == 92) (slice_range s.text s.start end) ≤ end - s.start = end_bounded (λ b. b == 92) s.text s.start s.start end (omega arith) order within (inl refl) in
+    let white : suffix_len is_white (slice_range s.text s.start end) ≤ end - s.start =
+    end_bounded is_white s.text s.start s.start end (omega arith) order within (inl refl) in
+    let slashes : suffix_len (λ b. b == 92) (slice_range s.text s.start end) ≤ end - s.start =
+    end_bounded (λ b. b == 92) s.text s.start s.start end (omega arith) order within (inl refl) in
     cond_both (nat_le (length s.text) end) None _ (λ (o : Option Item). IfSome o (λ x. IsBreak s.start next x)) (λ b. tt)
     (λ b. let some = line_end_some s end (leb-false (length s.text) end b) in
     cond_both (breaks_by_backslash s end) _ _ (λ (x : Item). IsBreak s.start next x)
@@ -280,7 +292,8 @@ break_in_line s end order within =
     (λ soft. record { from = order; before = omega arith; to = refl; kind = refl })))
 
 -- where a line ends
-pub ends_line : {texts : List CowStr} {s : Source} {tokens : List Item} {answer : ℕ × Option Item} {after : MathBraces} → s.start ≤ length s.text → IsLine texts s tokens answer after → EndsLine s answer
+pub ends_line : {texts : List CowStr} {s : Source} {tokens : List Item} {answer : ℕ × Option Item} {after : MathBraces}
+    → s.start ≤ length s.text → IsLine texts s tokens answer after → EndsLine s answer
 ends_line {texts} {s} {tokens} {answer} {after} within line =
     let end = line.content_end in
     let c = content_of within line.division in
@@ -296,7 +309,8 @@ ends_line {texts} {s} {tokens} {answer} {after} within line =
     })
 
 -- the same of what a call returns
-pub ends_line-if : (texts : List CowStr) (after : MathBraces) (s : Source) (old new : Forest Item) (r : Result (ℕ × Option Item) AllocError) → s.start ≤ length s.text → IfOk r (λ a. AppendsLine texts s old new a after) → IfOk r (λ a. EndsLine s a)
+pub ends_line-if : (texts : List CowStr) (after : MathBraces) (s : Source) (old new : Forest Item) (r : Result (ℕ × Option Item) AllocError)
+    → s.start ≤ length s.text → IfOk r (λ a. AppendsLine texts s old new a after) → IfOk r (λ a. EndsLine s a)
 ends_line-if texts after s old new (Ok a) within h = ends_line within h.line
 ends_line-if texts after s old new (Err e) within h = tt
 
@@ -315,14 +329,16 @@ content_reach s end c =
       | inr whole ↦ omega arith
     ]
 
-begun : (texts : List CowStr) (s : Source) (at : ℕ) (b : MathBraces) (ps : List Piece) (to : Spot) → ArePieces texts s at b ps to → ends_at s to.at ≡ true → ends_at s at ≡ false → at < to.at
+begun : (texts : List CowStr) (s : Source) (at : ℕ) (b : MathBraces) (ps : List Piece) (to : Spot)
+    → ArePieces texts s at b ps to → ends_at s to.at ≡ true → ends_at s at ≡ false → at < to.at
 begun texts s at b [] to same ended on = absurd (false≢true (sym on ∙ ap (λ (t : Spot). ends_at s t.at) same ∙ ended))
 begun texts s at b (p ∷ ps) to h ended on =
     let some = piece_some s.text at p (piece_of texts b s at p h.0 h.1) in
     let rest = pieces_reach texts s (at + size p) (braces_after (found_at s at) b) ps to h.2 in
     omega arith
 
-pub cell_ends : {texts : List CowStr} {s : Source} {tokens : List Item} {end : ℕ} {after : MathBraces} → s.start ≤ length s.text → IsCell texts s tokens end after → EndsCell s end
+pub cell_ends : {texts : List CowStr} {s : Source} {tokens : List Item} {end : ℕ} {after : MathBraces}
+    → s.start ≤ length s.text → IsCell texts s tokens end after → EndsCell s end
 cell_ends {texts} {s} {tokens} {end} {after} within cell =
     let c = content_of within cell.division in
     record {
@@ -337,31 +353,38 @@ cell_ends {texts} {s} {tokens} {end} {after} within cell =
 add_pieces-apart : (stop at : ℕ) (ps : List Piece) (chain : List Item) → AreApart chain → AreApart (add_pieces stop at ps chain)
 add_pieces-apart stop at [] chain h = h
 add_pieces-apart stop at (Left n ∷ ps) chain h = add_pieces-apart stop (at + n) ps _ (add_text-apart at (min (at + n) stop) false chain h)
-add_pieces-apart stop at (Begins dropped escaped ∷ ps) chain h = add_pieces-apart stop (at + (dropped + 1)) ps _ (add_text-apart (at + dropped) (min (at + (dropped + 1)) stop) escaped chain h)
+add_pieces-apart stop at (Begins dropped escaped ∷ ps) chain h =
+    add_pieces-apart stop (at + (dropped + 1)) ps _ (add_text-apart (at + dropped) (min (at + (dropped + 1)) stop) escaped chain h)
 add_pieces-apart stop at (Token dropped n body ∷ ps) chain h =
     add_pieces-apart stop (at + (dropped + n)) ps _ (add_token-apart chain (token (at + dropped) n body) h)
 add_pieces-apart stop at (Run n opens closes ∷ ps) chain h =
     add_pieces-apart stop (at + n) ps _ (add_tokens-apart chain (run_tokens at n opens closes) h)
 
 pub cell_apart : {texts : List CowStr} {s : Source} {tokens : List Item} {end : ℕ} {after : MathBraces} → IsCell texts s tokens end after → AreApart tokens
-cell_apart {texts} {s} {tokens} {end} {after} cell = subst AreApart (sym cell.tokens_are) (add_pieces-apart (end - blanks_at_end s end) s.start cell.pieces [] tt)
+cell_apart {texts} {s} {tokens} {end} {after} cell =
+    subst AreApart (sym cell.tokens_are) (add_pieces-apart (end - blanks_at_end s end) s.start cell.pieces [] tt)
 
-pub line_apart : {texts : List CowStr} {s : Source} {tokens : List Item} {answer : ℕ × Option Item} {after : MathBraces} → IsLine texts s tokens answer after → AreApart tokens
+pub line_apart : {texts : List CowStr} {s : Source} {tokens : List Item} {answer : ℕ × Option Item} {after : MathBraces}
+    → IsLine texts s tokens answer after → AreApart tokens
 line_apart {texts} {s} line = subst AreApart (sym line.tokens_are) (add_pieces-apart (text_end s line.content_end) s.start line.pieces [] tt)
 
 -- the tokens of a line alone
-pub line_alone : {texts : List CowStr} {s : Source} {tokens : List Item} {answer : ℕ × Option Item} {after : MathBraces} → IsLine texts s tokens answer after → add_tokens [] tokens ≡ tokens
+pub line_alone : {texts : List CowStr} {s : Source} {tokens : List Item} {answer : ℕ × Option Item} {after : MathBraces}
+    → IsLine texts s tokens answer after → add_tokens [] tokens ≡ tokens
 line_alone {texts} {s} {tokens} line = add_tokens-none tokens (line_apart line)
 
 -- a cell appended after a chain
-pub appended_cell : {texts : List CowStr} {s : Source} {old new : Forest Item} {end : ℕ} {after : MathBraces} (f : Forest Item) (chain : List Item) (h : AppendsCell texts s old new end after)
+pub appended_cell : {texts : List CowStr} {s : Source} {old new : Forest Item} {end : ℕ} {after : MathBraces} (f : Forest Item) (chain : List Item)
+    (h : AppendsCell texts s old new end after)
     → old ≡ chained f chain → JoinsNone f → new ≡ chained f (add_tokens chain h.tokens)
 appended_cell f chain h is none = h.tree_is ∙ ap (λ (g : Forest Item). with_tokens g h.tokens) is ∙ with_tokens-chained f chain h.tokens none
 
 -- a cell appended where no text can be joined
-pub appended_cell_alone : {texts : List CowStr} {s : Source} {old new : Forest Item} {end : ℕ} {after : MathBraces} (h : AppendsCell texts s old new end after) → JoinsNone old → new ≡ chained old h.tokens
+pub appended_cell_alone : {texts : List CowStr} {s : Source} {old new : Forest Item} {end : ℕ} {after : MathBraces} (h : AppendsCell texts s old new end after)
+    → JoinsNone old → new ≡ chained old h.tokens
 appended_cell_alone {texts} {s} {old} h none = appended_cell old [] h refl none ∙ ap (chained old) (add_tokens-none h.tokens (cell_apart h.cell))
 
 -- a line appended after a chain
-pub appended_line : {texts : List CowStr} {s : Source} {old new : Forest Item} {answer : ℕ × Option Item} {after : MathBraces} (f : Forest Item) (chain : List Item) (h : AppendsLine texts s old new answer after) → old ≡ chained f chain → JoinsNone f → new ≡ chained f (add_tokens chain h.tokens)
+pub appended_line : {texts : List CowStr} {s : Source} {old new : Forest Item} {answer : ℕ × Option Item} {after : MathBraces} (f : Forest Item)
+    (chain : List Item) (h : AppendsLine texts s old new answer after) → old ≡ chained f chain → JoinsNone f → new ≡ chained f (add_tokens chain h.tokens)
 appended_line f chain h is none = h.tree_is ∙ ap (λ (g : Forest Item). with_tokens g h.tokens) is ∙ with_tokens-chained f chain h.tokens none

@@ -1,5 +1,6 @@
 -- The tokens of possible markup in a line stand over the bytes of their kinds, and no backquote is left to a text.
-use Rattle.std.proofs.Common.{◌≡◌, ℕ, ◌+◌, ◌-◌, ◌≤◌, ◌==◌, ◌&&◌, Bool, true, false, nat_lt, min, List, [], ◌∷◌, Option, slice_index, sym, ap, subst, ◌∙◌, inl, inr, refl, arith, zero, suc, ◌<◌}
+use Rattle.std.proofs.Common.{◌≡◌, ℕ, ◌+◌, ◌-◌, ◌≤◌, ◌==◌, ◌&&◌, Bool, true, false, nat_lt, min, List, [], ◌∷◌, Option, slice_index, sym, ap, subst, ◌∙◌, inl}
+use Rattle.std.proofs.Common.{inr, refl, arith, zero, suc, ◌<◌}
 use Rattle.std.proofs.lemmas.Bool.{cases_lt, cond_both, and_parts, eqb-true, false≢true}
 use Rattle.first_pass_items.specs.declared.cow_str.CowStr.{CowStr}
 use Rattle.first_pass_tokens.specs.Braces.{MathBraces, braces_after}
@@ -62,19 +63,24 @@ over_piece text stop at (Token dropped n body) chain facts h = over_add text cha
 over_piece text stop at (Run n opens closes) chain facts h =
     over_adds text chain (run_tokens at n opens closes) h (run_over text at n opens closes (λ some. (facts.all, facts.delimiter)))
 
-over_pieces : (texts : List CowStr) (s : Source) (stop at : ℕ) (b : MathBraces) (ps : List Piece) (to : Spot) (chain : List Item) → ArePieces texts s at b ps to → StandOver s.text chain
+over_pieces : (texts : List CowStr) (s : Source) (stop at : ℕ) (b : MathBraces) (ps : List Piece) (to : Spot) (chain : List Item)
+    → ArePieces texts s at b ps to → StandOver s.text chain
     → StandOver s.text (add_pieces stop at ps chain)
 over_pieces texts s stop at b [] to chain are h = h
 over_pieces texts s stop at b (p ∷ ps) to chain are h =
-    over_pieces texts s stop (at + size p) (braces_after (found_at s at) b) ps to (add_piece stop at p chain) are.2 (over_piece s.text stop at p chain (piece_of texts b s at p are.0 are.1) h)
+    over_pieces texts s stop (at + size p) (braces_after (found_at s at) b) ps to (add_piece stop at p chain) are.2
+    (over_piece s.text stop at p chain (piece_of texts b s at p are.0 are.1) h)
 
 -- the tokens of a cell
-pub cell_over : {texts : List CowStr} {s : Source} {tokens : List Item} {end : ℕ} {after : MathBraces} → IsCell texts s tokens end after → StandOver s.text tokens
+pub cell_over : {texts : List CowStr} {s : Source} {tokens : List Item} {end : ℕ} {after : MathBraces}
+    → IsCell texts s tokens end after → StandOver s.text tokens
 cell_over {texts} {s} {tokens} {end} {after} cell =
-    subst (StandOver s.text) (sym cell.tokens_are) (over_pieces texts s (end - blanks_at_end s end) s.start s.braces cell.pieces (spot end after) [] cell.division.divided tt)
+    subst (StandOver s.text) (sym cell.tokens_are)
+    (over_pieces texts s (end - blanks_at_end s end) s.start s.braces cell.pieces (spot end after) [] cell.division.divided tt)
 
 -- the tokens of a line
-pub line_over : {texts : List CowStr} {s : Source} {tokens : List Item} {answer : ℕ × Option Item} {after : MathBraces} → IsLine texts s tokens answer after → StandOver s.text tokens
+pub line_over : {texts : List CowStr} {s : Source} {tokens : List Item} {answer : ℕ × Option Item} {after : MathBraces}
+    → IsLine texts s tokens answer after → StandOver s.text tokens
 line_over {texts} {s} {tokens} {answer} {after} line =
     subst (StandOver s.text) (sym line.tokens_are)
     (over_pieces texts s (text_end s line.content_end) s.start s.braces line.pieces (spot line.content_end after) [] line.division.divided tt)
@@ -123,20 +129,24 @@ spare_piece text stop at (Begins dropped escaped) chain facts h =
 spare_piece text stop at (Token dropped n body) chain facts h =
     spare_add text chain (token (at + dropped) n body) (λ is. absurd (false≢true (sym (markup_plain body facts.kind) ∙ is))) h
 
-spare_pieces : (texts : List CowStr) (s : Source) (stop at : ℕ) (b : MathBraces) (ps : List Piece) (to : Spot) (chain : List Item) → ArePieces texts s at b ps to → TextsHaveNoBackquote s.text chain
+spare_pieces : (texts : List CowStr) (s : Source) (stop at : ℕ) (b : MathBraces) (ps : List Piece) (to : Spot) (chain : List Item)
+    → ArePieces texts s at b ps to → TextsHaveNoBackquote s.text chain
     → TextsHaveNoBackquote s.text (add_pieces stop at ps chain)
 spare_pieces texts s stop at b [] to chain are h = h
 spare_pieces texts s stop at b (p ∷ ps) to chain are h =
-    spare_pieces texts s stop (at + size p) (braces_after (found_at s at) b) ps to (add_piece stop at p chain) are.2 (spare_piece s.text stop at p chain (piece_of texts b s at p are.0 are.1) h)
+    spare_pieces texts s stop (at + size p) (braces_after (found_at s at) b) ps to (add_piece stop at p chain) are.2
+    (spare_piece s.text stop at p chain (piece_of texts b s at p are.0 are.1) h)
 
 -- the texts of a cell
-pub cell_spares : {texts : List CowStr} {s : Source} {tokens : List Item} {end : ℕ} {after : MathBraces} → IsCell texts s tokens end after → TextsHaveNoBackquote s.text tokens
+pub cell_spares : {texts : List CowStr} {s : Source} {tokens : List Item} {end : ℕ} {after : MathBraces}
+    → IsCell texts s tokens end after → TextsHaveNoBackquote s.text tokens
 cell_spares {texts} {s} {tokens} {end} {after} cell =
     subst (TextsHaveNoBackquote s.text) (sym cell.tokens_are)
     (spare_pieces texts s (end - blanks_at_end s end) s.start s.braces cell.pieces (spot end after) [] cell.division.divided tt)
 
 -- the texts of a line
-pub line_spares : {texts : List CowStr} {s : Source} {tokens : List Item} {answer : ℕ × Option Item} {after : MathBraces} → IsLine texts s tokens answer after → TextsHaveNoBackquote s.text tokens
+pub line_spares : {texts : List CowStr} {s : Source} {tokens : List Item} {answer : ℕ × Option Item} {after : MathBraces}
+    → IsLine texts s tokens answer after → TextsHaveNoBackquote s.text tokens
 line_spares {texts} {s} {tokens} {answer} {after} line =
     subst (TextsHaveNoBackquote s.text) (sym line.tokens_are)
     (spare_pieces texts s (text_end s line.content_end) s.start s.braces line.pieces (spot line.content_end after) [] line.division.divided tt)

@@ -56,7 +56,8 @@ division_more : {new old : List CowStr} {s : Source} {ps : List Piece} {to : Spo
 division_more {new} {old} {s} {ps} {to} more d = record { divided = pieces_more new old s s.start s.braces ps to more d.divided; ended = d.ended }
 
 -- a line stays one while more is named, and so does a cell
-pub line_more : {new old : List CowStr} {s : Source} {tokens : List Item} {answer : ℕ × Option Item} {after : MathBraces} → AreMore new old → IsLine old s tokens answer after
+pub line_more : {new old : List CowStr} {s : Source} {tokens : List Item} {answer : ℕ × Option Item} {after : MathBraces}
+    → AreMore new old → IsLine old s tokens answer after
     → IsLine new s tokens answer after
 line_more more line = record {
   no_cell = line.no_cell;
@@ -67,7 +68,8 @@ line_more more line = record {
   answer_is = line.answer_is;
 }
 
-pub cell_more : {new old : List CowStr} {s : Source} {tokens : List Item} {end : ℕ} {after : MathBraces} → AreMore new old → IsCell old s tokens end after → IsCell new s tokens end after
+pub cell_more : {new old : List CowStr} {s : Source} {tokens : List Item} {end : ℕ} {after : MathBraces}
+    → AreMore new old → IsCell old s tokens end after → IsCell new s tokens end after
 cell_more more cell = record { pieces = cell.pieces; division = division_more more cell.division; tokens_are = cell.tokens_are }
 
 pub appends_line_more : {new old : List CowStr} {s : Source} {before later : Forest Item} {answer : ℕ × Option Item} {after : MathBraces} → AreMore new old

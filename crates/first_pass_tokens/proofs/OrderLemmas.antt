@@ -1,5 +1,7 @@
 -- Tokens one after the other: a chain in order stays so with a token after it, and the tokens of a line or a cell are in order.
-use Rattle.std.proofs.Common.{ℕ, zero, suc, ◌≡◌, ◌⊎◌, ◌+◌, ◌-◌, ◌≤◌, ◌<◌, ◌==◌, ◌%◌, min, Bool, true, false, List, [], ◌∷◌, ◌++◌, length, take, drop, get_or, slice_index, nat_lt, nat_le, if◌then◌else◌, Option, Some, None, IfSome, IsUtf8, IsCharBoundary, refl, sym, ap, subst, ◌∙◌, inl, inr, arith, length-drop}
+use Rattle.std.proofs.Common.{ℕ, zero, suc, ◌≡◌, ◌⊎◌, ◌+◌, ◌-◌, ◌≤◌, ◌<◌, ◌==◌, ◌%◌, min, Bool, true, false, List, [], ◌∷◌, ◌++◌, length, take, drop, get_or}
+use Rattle.std.proofs.Common.{slice_index, nat_lt, nat_le, if◌then◌else◌, Option, Some, None, IfSome, IsUtf8, IsCharBoundary, refl, sym, ap, subst, ◌∙◌, inl}
+use Rattle.std.proofs.Common.{inr, arith, length-drop}
 use Rattle.std.specs.List.{suffix_len, slice_range}
 use Rattle.std.proofs.lemmas.List.{get_or-drop}
 use Rattle.std.proofs.lemmas.List.Sums.{suffix_len-le-length, suffix_len-take_yes, suffix_len-take_no}
@@ -15,7 +17,8 @@ use Rattle.first_pass_lines.proofs.PlaceFacts.{line_end_boundary}
 use Rattle.first_pass_tokens.specs.declared.pieces.Piece.{Piece}
 use Rattle.first_pass_tokens.specs.declared.pieces.Piece.TheVariants.{Left, Begins, Token, Run}
 use Rattle.first_pass_tokens.specs.Pieces.{Source, found_at}
-use Rattle.first_pass_tokens.specs.LineTokens.{Spot, spot, ends_at, ends_cell, ArePieces, IsLine, IsCell, EndsLine, add_pieces, text_end, breaks_by_backslash, backslashes_at_end, blanks_at_end, line_end_len, break_of, line_break}
+use Rattle.first_pass_tokens.specs.LineTokens.{Spot, spot, ends_at, ends_cell, ArePieces, IsLine, IsCell, EndsLine, add_pieces, text_end, breaks_by_backslash}
+use Rattle.first_pass_tokens.specs.LineTokens.{backslashes_at_end, blanks_at_end, line_end_len, break_of, line_break}
 use Rattle.first_pass_tokens.specs.Chains.{text_token, token, run_tokens, touches, add_token, add_tokens, add_text, is_backslash_break, close_break}
 use Rattle.first_pass_tokens.specs.Order.{AreInOrder}
 use Rattle.first_pass_tokens.proofs.ChainLemmas.{add_text-none}
@@ -39,12 +42,14 @@ order_from text low from to [] h less = omega arith
 order_from text low from to (x ∷ xs) h less = (omega (arith, h.0), h.1, h.2, h.3, h.4)
 
 -- another list in order after
-pub order_append : (text : List ℕ) (from mid to : ℕ) (xs ys : List Item) → AreInOrder text from mid xs → AreInOrder text mid to ys → AreInOrder text from to (xs ++ ys)
+pub order_append : (text : List ℕ) (from mid to : ℕ) (xs ys : List Item)
+    → AreInOrder text from mid xs → AreInOrder text mid to ys → AreInOrder text from to (xs ++ ys)
 order_append text from mid to [] ys h k = order_from text from mid to ys k h
 order_append text from mid to (x ∷ xs) ys h k = (h.0, h.1, h.2, h.3, order_append text x.«end» mid to xs ys h.4 k)
 
 -- a token after
-pub order_add : (text : List ℕ) (from mid : ℕ) (chain : List Item) (y : Item) → AreInOrder text from mid chain → mid ≤ y.start → y.start ≤ y.«end» → IsCharBoundary text y.start → IsCharBoundary text y.«end» → AreInOrder text from y.«end» (add_token chain y)
+pub order_add : (text : List ℕ) (from mid : ℕ) (chain : List Item) (y : Item) → AreInOrder text from mid chain → mid ≤ y.start → y.start ≤ y.«end»
+    → IsCharBoundary text y.start → IsCharBoundary text y.«end» → AreInOrder text from y.«end» (add_token chain y)
 order_add text from mid [] y h behind order starts ends = (omega arith, order, starts, ends, omega arith)
 order_add text from mid (x ∷ []) y h behind order starts ends =
     cond_both (touches x y) (record x { «end» = y.«end» } ∷ []) (x ∷ y ∷ []) (AreInOrder text from y.«end»)
@@ -53,12 +58,14 @@ order_add text from mid (x ∷ []) y h behind order starts ends =
 order_add text from mid (x ∷ z ∷ zs) y h behind order starts ends = (h.0, h.1, h.2, h.3, order_add text x.«end» mid (z ∷ zs) y h.4 behind order starts ends)
 
 -- tokens in order after
-pub order_adds : (text : List ℕ) (from mid to : ℕ) (chain tokens : List Item) → AreInOrder text from mid chain → AreInOrder text mid to tokens → AreInOrder text from to (add_tokens chain tokens)
+pub order_adds : (text : List ℕ) (from mid to : ℕ) (chain tokens : List Item)
+    → AreInOrder text from mid chain → AreInOrder text mid to tokens → AreInOrder text from to (add_tokens chain tokens)
 order_adds text from mid to chain [] h k = order_to text from mid to chain h k
 order_adds text from mid to chain (x ∷ xs) h k = order_adds text from x.«end» to (add_token chain x) xs (order_add text from mid chain x h k.0 k.1 k.2 k.3) k.4
 
 -- a text after, or none
-pub order_text : (text : List ℕ) (from mid a b : ℕ) (escaped : Bool) (chain : List Item) → AreInOrder text from mid chain → mid ≤ a → a ≤ b → IsCharBoundary text a → IsCharBoundary text b → AreInOrder text from b (add_text a b escaped chain)
+pub order_text : (text : List ℕ) (from mid a b : ℕ) (escaped : Bool) (chain : List Item)
+    → AreInOrder text from mid chain → mid ≤ a → a ≤ b → IsCharBoundary text a → IsCharBoundary text b → AreInOrder text from b (add_text a b escaped chain)
 order_text text from mid a b escaped chain h behind order starts ends =
     cond_both (nat_lt a b) (add_token chain (text_token a b escaped)) chain (AreInOrder text from b)
     (λ some. order_add text from mid chain (text_token a b escaped) h behind order starts ends)
@@ -76,7 +83,8 @@ module _ (s : Source) (utf8 : IsUtf8 s.text) (stop : ℕ) (to : Spot) (from : �
       subst (IsCharBoundary s.text) same (IsCharBoundary-after_ascii s.text (at - 1) utf8 (at_byte s.text (at - 1) (omega (arith, h.0))) (omega (arith, h.1)))
 
   -- the tokens of a run
-  run_in_order : (at n : ℕ) (opens closes : Bool) → ((k : ℕ) → at ≤ k → k < at + n → IsVisible (slice_index s.text k)) → AreInOrder s.text at (at + n) (run_tokens at n opens closes)
+  run_in_order : (at n : ℕ) (opens closes : Bool)
+      → ((k : ℕ) → at ≤ k → k < at + n → IsVisible (slice_index s.text k)) → AreInOrder s.text at (at + n) (run_tokens at n opens closes)
   run_in_order at zero opens closes bytes = omega arith
   run_in_order at (suc n) opens closes bytes =
       let here = bytes at (omega arith) (omega arith) in
@@ -90,9 +98,11 @@ module _ (s : Source) (utf8 : IsUtf8 s.text) (stop : ℕ) (to : Spot) (from : �
             (run_in_order (at + 1) n opens closes (λ k low high. bytes k (omega arith) (omega arith))),
       )
 
-  pieces_in_order : (texts : List CowStr) (at : ℕ) (b : MathBraces) (ps : List Piece) (begin : ℕ) (escaped : Bool) (chain : List Item) → ArePieces texts s at b ps to → s.start ≤ begin → begin ≤ at
+  pieces_in_order : (texts : List CowStr) (at : ℕ) (b : MathBraces) (ps : List Piece) (begin : ℕ) (escaped : Bool) (chain : List Item)
+      → ArePieces texts s at b ps to → s.start ≤ begin → begin ≤ at
       → (begin < at) ⊎ (escaped ≡ false) → begin ≤ stop
-      → IsCharBoundary s.text begin → AreInOrder s.text from begin chain → AreInOrder s.text from stop (add_pieces stop at ps (add_text begin (min at stop) escaped chain))
+      → IsCharBoundary s.text begin → AreInOrder s.text from begin chain
+      → AreInOrder s.text from stop (add_pieces stop at ps (add_text begin (min at stop) escaped chain))
   pieces_in_order texts at b [] begin escaped chain is low upto mark ahead starts h =
       let same : at ≡ to.at = ap (λ (t : Spot). t.at) is in
       let short = last_text.short in
@@ -111,7 +121,8 @@ module _ (s : Source) (utf8 : IsUtf8 s.text) (stop : ℕ) (to : Spot) (from : �
       let before : at + dropped ≤ stop = last_text.behind (at + dropped) (omega arith) (omega arith)
       (inr (omega (arith, facts.some), ap is_white backslash, inl (omega arith))) in
       let cut : min at stop ≡ at = omega arith in
-      pieces_in_order texts (at + (dropped + 1)) (braces_after (found_at s at) b) ps (at + dropped) mark_next (add_text begin (min at stop) escaped chain) pieces.2
+      pieces_in_order texts (at + (dropped + 1)) (braces_after (found_at s at) b) ps (at + dropped) mark_next
+      (add_text begin (min at stop) escaped chain) pieces.2
       (omega arith) (omega arith) (inl (omega arith)) before behind
       (rw cut (order_to s.text from at (at + dropped) (add_text begin at escaped chain)
       (order_text s.text from begin begin at escaped chain h (omega arith) upto starts here) (omega arith)))
@@ -128,7 +139,8 @@ module _ (s : Source) (utf8 : IsUtf8 s.text) (stop : ℕ) (to : Spot) (from : �
       let more = add_token (add_text begin at escaped chain) (token (at + dropped) n body) in
       let none = add_text-none (at + dropped + n) (min (at + (dropped + n)) stop) false more (omega arith) in
       rw cut (subst (λ c. AreInOrder s.text from stop (add_pieces stop (at + (dropped + n)) ps c)) none
-      (pieces_in_order texts (at + (dropped + n)) (braces_after (found_at s at) b) ps (at + dropped + n) false more pieces.2 (omega arith) (omega arith) (inr refl) before last
+      (pieces_in_order texts (at + (dropped + n)) (braces_after (found_at s at) b) ps (at + dropped + n) false more pieces.2 (omega arith) (omega arith)
+      (inr refl) before last
       (order_add s.text from at (add_text begin at escaped chain) (token (at + dropped) n body)
       (order_text s.text from begin begin at escaped chain h (omega arith) upto starts here) (omega arith) (omega arith) first last)))
   pieces_in_order texts at b (Run n opens closes ∷ ps) begin escaped chain pieces low upto mark ahead starts h =
@@ -153,7 +165,8 @@ module _ (s : Source) (utf8 : IsUtf8 s.text) (stop : ℕ) (to : Spot) (from : �
       (order_text s.text from begin begin at escaped chain h (omega arith) upto starts here) (run_in_order at n opens closes facts.bytes))))
 
 -- the first and the last of the bytes that pass at the end of a front of a list
-pub suffix_first : (p : ℕ → Bool) (xs : List ℕ) (n : ℕ) → n ≤ length xs → 0 < suffix_len p (take n xs) → (suffix_len p (take n xs) ≤ n) × (p (get_or xs (n - suffix_len p (take n xs)) 0) ≡ true)
+pub suffix_first : (p : ℕ → Bool) (xs : List ℕ) (n : ℕ)
+    → n ≤ length xs → 0 < suffix_len p (take n xs) → (suffix_len p (take n xs) ≤ n) × (p (get_or xs (n - suffix_len p (take n xs)) 0) ≡ true)
 suffix_first p xs zero within some = absurd (omega (arith, suffix_len-le-length p (take 0 xs)))
 suffix_first p xs (suc n) within some =
     let back : suc n - 1 ≡ n = omega arith in
@@ -228,21 +241,25 @@ content_boundary s end within ended =
     ]
 
 -- the last byte of a content that ends with a backslash
-backslash_last : (s : Source) (end : ℕ) → s.start ≤ end → end ≤ length s.text → breaks_by_backslash s end ≡ true → (s.start ≤ end - 1) × (0 < end) × (slice_index s.text (end - 1) ≡ 92)
+backslash_last : (s : Source) (end : ℕ)
+    → s.start ≤ end → end ≤ length s.text → breaks_by_backslash s end ≡ true → (s.start ≤ end - 1) × (0 < end) × (slice_index s.text (end - 1) ≡ 92)
 unfolding breaks_by_backslash backslashes_at_end
 backslash_last s end order within breaks =
-    let odd = eqb-true (backslashes_at_end s end % 2) 1 (and_parts (backslashes_at_end s end % 2 == 1) (nat_lt (end + line_end_len s end) (length s.text)) breaks).0 in
+    let odd =
+    eqb-true (backslashes_at_end s end % 2) 1 (and_parts (backslashes_at_end s end % 2 == 1) (nat_lt (end + line_end_len s end) (length s.text)) breaks).0 in
     let last = content_last (λ b. b == 92) s.text s.start end order within (omega arith) in
     (last.0, last.1, eqb-true (slice_index s.text (end - 1)) 92 last.2)
 
-blanks_by : (s : Source) (end n : ℕ) → n ≡ blanks_at_end s end → s.start ≤ end → end ≤ length s.text → IsCharBoundary s.text end → IsPlaceFrom s.text s.start (end - n)
+blanks_by : (s : Source) (end n : ℕ)
+    → n ≡ blanks_at_end s end → s.start ≤ end → end ≤ length s.text → IsCharBoundary s.text end → IsPlaceFrom s.text s.start (end - n)
 unfolding blanks_at_end
 blanks_by s end zero is order within boundary =
     let none : end - 0 ≡ end = omega arith in
     subst (IsPlaceFrom s.text s.start) (sym none) (order, boundary)
 blanks_by s end (suc n) is order within boundary =
     let f = content_first is_white s.text s.start end order within (omega arith) in
-    subst (λ k. IsPlaceFrom s.text s.start (end - k)) (sym is) (omega (arith, f.0), IsCharBoundary-before_ascii s.text (end - blanks_at_end s end) (omega (arith, f.0)) (white_small _ f.1))
+    subst (λ k. IsPlaceFrom s.text s.start (end - k)) (sym is)
+    (omega (arith, f.0), IsCharBoundary-before_ascii s.text (end - blanks_at_end s end) (omega (arith, f.0)) (white_small _ f.1))
 
 -- where the last text of a content ends
 text_end_place : (s : Source) (end : ℕ) → s.start ≤ end → end ≤ length s.text → IsCharBoundary s.text end → IsPlaceFrom s.text s.start (text_end s end)
@@ -262,8 +279,10 @@ pub record StandsBehind (text : List ℕ) (at next : ℕ) (x : Item) : Type 0 wh
   pub ends : IsCharBoundary text x.«end»
   pub backslash : is_backslash_break x.body ≡ true → (x.start + 1 ≤ next) × IsCharBoundary text (x.start + 1)
 
-break_by : (s : Source) (end next : ℕ) (breaks : Bool) → breaks_by_backslash s end ≡ breaks → s.start ≤ end → end ≤ length s.text → end ≤ next → IsCharBoundary s.text end → IsCharBoundary s.text next
-    → IsCharBoundary s.text (if breaks then end - 1 else end - blanks_at_end s end) → StandsBehind s.text (if breaks then end - 1 else end - blanks_at_end s end) next (break_of end next breaks (blanks_at_end s end))
+break_by : (s : Source) (end next : ℕ) (breaks : Bool)
+    → breaks_by_backslash s end ≡ breaks → s.start ≤ end → end ≤ length s.text → end ≤ next → IsCharBoundary s.text end → IsCharBoundary s.text next
+    → IsCharBoundary s.text (if breaks then end - 1 else end - blanks_at_end s end)
+    → StandsBehind s.text (if breaks then end - 1 else end - blanks_at_end s end) next (break_of end next breaks (blanks_at_end s end))
 break_by s end next true is order within later boundary ends starts =
     let last = backslash_last s end order within is in
     let behind : end - 1 + 1 ≡ end = omega (arith, last.1) in
@@ -280,7 +299,8 @@ break_by s end next false is order within later boundary ends starts =
     (λ hard. record { from = omega arith; order = omega arith; to = refl; starts = starts; ends = ends; backslash = λ b. absurd (false≢true b) })
     (λ soft. record { from = omega arith; order = later; to = refl; starts = boundary; ends = ends; backslash = λ b. absurd (false≢true b) })
 
-break_stands : (s : Source) (end next : ℕ) → next ≡ end + line_end_len s end → s.start ≤ end → end ≤ length s.text → IsCharBoundary s.text end → IsCharBoundary s.text next → IfSome (line_break s end) (StandsBehind s.text (text_end s end) next)
+break_stands : (s : Source) (end next : ℕ) → next ≡ end + line_end_len s end → s.start ≤ end → end ≤ length s.text → IsCharBoundary s.text end
+    → IsCharBoundary s.text next → IfSome (line_break s end) (StandsBehind s.text (text_end s end) next)
 unfolding line_break text_end
 break_stands s end next is order within boundary ends =
     cond_both (nat_le (length s.text) end) None _ (λ (o : Option Item). IfSome o (StandsBehind s.text (text_end s end) next)) (λ b. tt)
@@ -288,7 +308,8 @@ break_stands s end next is order within boundary ends =
     (break_by s end next (breaks_by_backslash s end) refl order within (omega arith) boundary ends (text_end_place s end order within boundary).1))
 
 -- a line ends between two characters
-pub line_end_place : {s : Source} {answer : ℕ × Option Item} → IsUtf8 s.text → IsCharBoundary s.text s.start → EndsLine s answer → IsCharBoundary s.text answer.0
+pub line_end_place : {s : Source} {answer : ℕ × Option Item}
+    → IsUtf8 s.text → IsCharBoundary s.text s.start → EndsLine s answer → IsCharBoundary s.text answer.0
 line_end_place {s} {answer} utf8 boundary ends =
     let within : answer.0 ≤ length s.text = ends.within in
     let from : s.start ≤ answer.0 = ends.from in
@@ -305,7 +326,8 @@ pub record LineInOrder (s : Source) (stop : ℕ) (tokens : List Item) (answer : 
   pub break_fits : IfSome answer.1 (StandsBehind s.text stop answer.0)
 
 -- the tokens of a content whose texts stop at an offset
-content_in_order : (texts : List CowStr) (s : Source) (pieces : List Piece) (to : Spot) (stop : ℕ) → IsUtf8 s.text → IsCharBoundary s.text s.start → ArePieces texts s s.start s.braces pieces to
+content_in_order : (texts : List CowStr) (s : Source) (pieces : List Piece) (to : Spot) (stop : ℕ)
+    → IsUtf8 s.text → IsCharBoundary s.text s.start → ArePieces texts s s.start s.braces pieces to
     → IsTextEnd s to.at stop → IsPlaceFrom s.text s.start stop → AreInOrder s.text s.start stop (add_pieces stop s.start pieces [])
 content_in_order texts s pieces to stop utf8 boundary are last_text place =
     let empty : add_text s.start (min s.start stop) false [] ≡ [] = add_text-none s.start (min s.start stop) false [] (omega arith) in
@@ -314,7 +336,8 @@ content_in_order texts s pieces to stop utf8 boundary are last_text place =
     (omega arith) (omega arith) (inr refl) place.0 boundary (omega arith))
 
 -- The tokens of a cell are in order from its start up to its end, which stands between two characters.
-pub cell_in_order : {texts : List CowStr} {s : Source} {tokens : List Item} {end : ℕ} {after : MathBraces} → IsUtf8 s.text → IsCharBoundary s.text s.start → s.start ≤ length s.text → IsCell texts s tokens end after
+pub cell_in_order : {texts : List CowStr} {s : Source} {tokens : List Item} {end : ℕ} {after : MathBraces}
+    → IsUtf8 s.text → IsCharBoundary s.text s.start → s.start ≤ length s.text → IsCell texts s tokens end after
     → AreInOrder s.text s.start end tokens
 cell_in_order {texts} {s} {tokens} {end} {after} utf8 boundary within cell =
     let c = content_of within cell.division in
@@ -325,11 +348,14 @@ cell_in_order {texts} {s} {tokens} {end} {after} utf8 boundary within cell =
     (content_in_order texts s cell.pieces (spot end after) stop utf8 boundary cell.division.divided (cell_text_end s end c.within)
     (blanks_by s end (blanks_at_end s end) refl c.order c.within finish)) (omega arith))
 
-pub cell_end_place : {texts : List CowStr} {s : Source} {tokens : List Item} {end : ℕ} {after : MathBraces} → s.start ≤ length s.text → IsCell texts s tokens end after → IsCharBoundary s.text end
+pub cell_end_place : {texts : List CowStr} {s : Source} {tokens : List Item} {end : ℕ} {after : MathBraces}
+    → s.start ≤ length s.text → IsCell texts s tokens end after → IsCharBoundary s.text end
 cell_end_place {texts} {s} {tokens} {end} {after} within cell = content_boundary s end (content_of within cell.division).within cell.division.ended
 
 -- the tokens and the break of a line
-pub line_in_order : {texts : List CowStr} {s : Source} {tokens : List Item} {answer : ℕ × Option Item} {after : MathBraces} → IsUtf8 s.text → IsCharBoundary s.text s.start → s.start ≤ length s.text → (line : IsLine texts s tokens answer after) → LineInOrder s (text_end s line.content_end) tokens answer
+pub line_in_order : {texts : List CowStr} {s : Source} {tokens : List Item} {answer : ℕ × Option Item} {after : MathBraces}
+    → IsUtf8 s.text → IsCharBoundary s.text s.start → s.start ≤ length s.text → (line : IsLine texts s tokens answer after)
+    → LineInOrder s (text_end s line.content_end) tokens answer
 line_in_order {texts} {s} {tokens} {answer} {after} utf8 boundary within line =
     let end = line.content_end in
     let c = content_of within line.division in
@@ -345,15 +371,19 @@ line_in_order {texts} {s} {tokens} {answer} {after} utf8 boundary within line =
           (content_in_order texts s line.pieces (spot end after) (text_end s end) utf8 boundary line.division.divided last_text place);
       before = omega arith;
       ends = next;
-      break_fits = subst (λ (o : Option Item). IfSome o (StandsBehind s.text (text_end s end) answer.0)) (sym break_is) (break_stands s end answer.0 answer_is c.order c.within finish next);
+      break_fits = subst (λ (o : Option Item). IfSome o (StandsBehind s.text (text_end s end) answer.0)) (sym break_is)
+          (break_stands s end answer.0 answer_is c.order c.within finish next);
     }
 
 -- the break alone: it begins where the line's tokens end or after that, and ends with the line
-pub break_in_order : {texts : List CowStr} {s : Source} {tokens : List Item} {answer : ℕ × Option Item} {after : MathBraces} → IsUtf8 s.text → IsCharBoundary s.text s.start → s.start ≤ length s.text → (line : IsLine texts s tokens answer after) → IfSome answer.1 (StandsBehind s.text (text_end s line.content_end) answer.0)
+pub break_in_order : {texts : List CowStr} {s : Source} {tokens : List Item} {answer : ℕ × Option Item} {after : MathBraces}
+    → IsUtf8 s.text → IsCharBoundary s.text s.start → s.start ≤ length s.text → (line : IsLine texts s tokens answer after)
+    → IfSome answer.1 (StandsBehind s.text (text_end s line.content_end) answer.0)
 break_in_order utf8 boundary within line = (line_in_order utf8 boundary within line).break_fits
 
 -- a chain after which the last line's break stands, closed
-pub order_closed : (text : List ℕ) (from at next : ℕ) (break : Option Item) (chain : List Item) → AreInOrder text from at chain → at ≤ next → IfSome break (StandsBehind text at next) → AreInOrder text from next (close_break break chain)
+pub order_closed : (text : List ℕ) (from at next : ℕ) (break : Option Item) (chain : List Item)
+    → AreInOrder text from at chain → at ≤ next → IfSome break (StandsBehind text at next) → AreInOrder text from next (close_break break chain)
 order_closed text from at next None chain h later behind = order_to text from at next chain h later
 order_closed text from at next (Some x) chain h later behind =
     cond_both (is_backslash_break x.body) (add_text x.start (x.start + 1) false chain) chain (AreInOrder text from next)
@@ -363,7 +393,9 @@ order_closed text from at next (Some x) chain h later behind =
     (λ b. order_to text from at next chain h later)
 
 -- the chain of a line alone
-pub closed_line_in_order : {texts : List CowStr} {s : Source} {tokens : List Item} {next : ℕ} {break : Option Item} {after : MathBraces} → IsUtf8 s.text → IsCharBoundary s.text s.start → s.start ≤ length s.text → IsLine texts s tokens (next, break) after → AreInOrder s.text s.start next (close_break break (add_tokens [] tokens))
+pub closed_line_in_order : {texts : List CowStr} {s : Source} {tokens : List Item} {next : ℕ} {break : Option Item} {after : MathBraces}
+    → IsUtf8 s.text → IsCharBoundary s.text s.start → s.start ≤ length s.text → IsLine texts s tokens (next, break) after
+    → AreInOrder s.text s.start next (close_break break (add_tokens [] tokens))
 closed_line_in_order {texts} {s} {tokens} {next} {break} utf8 boundary within line =
     let l = line_in_order utf8 boundary within line in
     order_closed s.text s.start (text_end s line.content_end) next break (add_tokens [] tokens)

@@ -1,5 +1,6 @@
 -- The piece at a place, case by case: which bytes it has, and which token. What else is said of pieces rests on these facts alone.
-use Rattle.std.proofs.Common.{◌≡◌, ℕ, ◌+◌, ◌-◌, ◌≤◌, ◌<◌, ◌==◌, ◌&&◌, not, Bool, true, false, List, length, drop, get_or, slice_index, Option, Some, unwrap_or, refl, sym, ap, subst, ◌∙◌, inl, inr, arith, length-drop, ◌||◌, suc, nat_lt, None}
+use Rattle.std.proofs.Common.{◌≡◌, ℕ, ◌+◌, ◌-◌, ◌≤◌, ◌<◌, ◌==◌, ◌&&◌, not, Bool, true, false, List, length, drop, get_or, slice_index, Option, Some, unwrap_or}
+use Rattle.std.proofs.Common.{refl, sym, ap, subst, ◌∙◌, inl, inr, arith, length-drop, ◌||◌, suc, nat_lt, None}
 use Rattle.std.specs.Option.{option_map_or}
 use Rattle.std.specs.Char.{is_ascii_punctuation}
 use Rattle.std.specs.List.{prefix_len}
@@ -11,7 +12,8 @@ use Rattle.first_pass_items.specs.declared.cow_str.CowStr.{CowStr}
 use Rattle.first_pass_items.specs.declared.item.CowIndex.{CowIndex}
 use Rattle.first_pass_items.specs.declared.item.ItemBody.{ItemBody}
 use Rattle.first_pass_items.specs.declared.option_set.Options.{Options}
-use Rattle.first_pass_items.specs.declared.item.ItemBody.TheVariants.{Text, MaybeEmphasis, MaybeMath, MaybeSmartQuote, SynthesizeChar, SynthesizeText, MaybeCode, MaybeHtml, MaybeLinkOpen, MaybeLinkClose, MaybeImage}
+use Rattle.first_pass_items.specs.declared.item.ItemBody.TheVariants.{Text, MaybeEmphasis, MaybeMath, MaybeSmartQuote, SynthesizeChar, SynthesizeText}
+use Rattle.first_pass_items.specs.declared.item.ItemBody.TheVariants.{MaybeCode, MaybeHtml, MaybeLinkOpen, MaybeLinkClose, MaybeImage}
 use Rattle.first_pass_tree.specs.Forest.{is_text, is_escaped}
 use Rattle.first_pass_lines.specs.Lines.{is_line_end, is_white}
 use Rattle.first_pass_links.specs.Entities.{entity_at}
@@ -25,7 +27,9 @@ use Rattle.first_pass_tokens.specs.declared.pieces.Piece.TheVariants.{Left, Begi
 use Rattle.first_pass_tokens.specs.MarkupBytes.{AreBackquotes, StandsOver, smart_char}
 use Rattle.first_pass_tokens.specs.Braces.{MathBraces, dollar_context}
 use Rattle.first_pass_tokens.specs.NamedTexts.{Becomes}
-use Rattle.first_pass_tokens.specs.Pieces.{Source, found_at, special_found, reference_found, dash_found, dollar_found, special_piece, backslash_piece, backslash_piece_in, backquote_piece, is_delimiter, is_too_long, run_in, run_size, is_quote, quote_piece, dot_piece, dash_piece, run_piece, delimiter_piece, bracket_piece, run_at}
+use Rattle.first_pass_tokens.specs.Pieces.{Source, found_at, special_found, reference_found, dash_found, dollar_found, special_piece, backslash_piece}
+use Rattle.first_pass_tokens.specs.Pieces.{backslash_piece_in, backquote_piece, is_delimiter, is_too_long, run_in, run_size, is_quote, quote_piece, dot_piece}
+use Rattle.first_pass_tokens.specs.Pieces.{dash_piece, run_piece, delimiter_piece, bracket_piece, run_at}
 use Rattle.first_pass_tokens.proofs.ReferenceBytes.{is_reference_byte, reference_at}
 
 -- a visible character of ASCII
@@ -438,7 +442,8 @@ dot_facts text at within is =
     record {
       some = omega arith;
       few = omega arith;
-      bytes = three_visible text at (omega (arith, is), omega (arith, is)) (omega (arith, next), omega (arith, next)) (omega (arith, last), omega (arith, last));
+      bytes =
+          three_visible text at (omega (arith, is), omega (arith, is)) (omega (arith, next), omega (arith, next)) (omega (arith, last), omega (arith, last));
       last = let place : at + 0 + 3 - 1 ≡ at + 2 = omega arith in ap (λ (k : ℕ). slice_index text k == 92) place ∙ ap (λ (x : ℕ). x == 92) last;
       kind = refl;
       over =

@@ -1,5 +1,6 @@
 -- A delimiter run begins and ends between two characters of the whole text.
-use Rattle.std.proofs.Common.{ℕ, ◌≡◌, ◌+◌, ◌-◌, ◌≤◌, ◌<◌, ◌||◌, true, List, length, take, slice_index, Option, Some, None, IsCharBoundary, IsUtf8, refl, sym, ap, subst, ◌∙◌, inl, inr, arith}
+use Rattle.std.proofs.Common.{ℕ, ◌≡◌, ◌+◌, ◌-◌, ◌≤◌, ◌<◌, ◌||◌, true, List, length, take, slice_index, Option, Some, None, IsCharBoundary, IsUtf8, refl, sym}
+use Rattle.std.proofs.Common.{ap, subst, ◌∙◌, inl, inr, arith}
 use Rattle.std.proofs.lemmas.List.{length-take, get_or-take, take_all}
 use Rattle.std.proofs.lemmas.Bool.{cases_lt, cases_Bool}
 use Rattle.std.proofs.lemmas.Bool.Decides.{nat_tests}
@@ -8,7 +9,8 @@ use Rattle.first_pass_tokens.specs.Pieces.{text_upto, is_delimiter, is_quote, ru
 use Rattle.first_pass_tokens.proofs.PieceFacts.{IsVisible, run_same}
 
 -- a byte of a text up to an offset is one of the text
-pub byte_upto : (text : List ℕ) (end : Option ℕ) (k : ℕ) → k < length (text_upto text end) → (slice_index (text_upto text end) k ≡ slice_index text k) × (k < length text)
+pub byte_upto : (text : List ℕ) (end : Option ℕ) (k : ℕ)
+    → k < length (text_upto text end) → (slice_index (text_upto text end) k ≡ slice_index text k) × (k < length text)
 byte_upto text None k within = (refl, within)
 byte_upto text (Some e) k within =
     let size = length-take e text in

@@ -1,8 +1,10 @@
 -- What is read of a content, and what is appended of it.
-use Rattle.std.proofs.Common.{ℕ, zero, suc, ◌≡◌, ◌⊎◌, ◌+◌, ◌-◌, ◌≤◌, ◌<◌, ◌==◌, ◌%◌, min, Bool, true, false, List, [], ◌∷◌, ◌++◌, length, slice_index, nat_lt, Option, Result, Ok, Err, OnOk, IfOk, refl, sym, ap, subst, ◌∙◌, inl, inr, arith}
+use Rattle.std.proofs.Common.{ℕ, zero, suc, ◌≡◌, ◌⊎◌, ◌+◌, ◌-◌, ◌≤◌, ◌<◌, ◌==◌, ◌%◌, min, Bool, true, false, List, [], ◌∷◌, ◌++◌, length, slice_index, nat_lt}
+use Rattle.std.proofs.Common.{Option, Result, Ok, Err, OnOk, IfOk, refl, sym, ap, subst, ◌∙◌, inl, inr, arith}
 use Rattle.std.specs.List.{suffix_len, slice_range}
 use Rattle.std.specs.declared.alloc.AllocError.{AllocError}
-use Rattle.std.proofs.lemmas.Bool.{cases_lt, cases_Bool, lt-leb, le-leb, or_from, or_parts, or_left, and_right, cond_both, cond-true, cond-false, and_parts, eqb-true}
+use Rattle.std.proofs.lemmas.Bool.{cases_lt, cases_Bool, lt-leb, le-leb, or_from, or_parts, or_left, and_right, cond_both, cond-true, cond-false, and_parts}
+use Rattle.std.proofs.lemmas.Bool.{eqb-true}
 use Rattle.first_pass_items.specs.declared.cow_str.CowStr.{CowStr}
 use Rattle.first_pass_tokens.specs.Braces.{MathBraces, braces_after}
 use Rattle.first_pass_items.specs.declared.item.Item.{Item}
@@ -18,7 +20,8 @@ use Rattle.first_pass_tokens.specs.declared.pieces.Found.{Found}
 use Rattle.first_pass_tokens.specs.declared.pieces.Found.TheVariants.{Ready, Reference, Dashes, Dollar, OpenBrace, CloseBrace}
 use Rattle.first_pass_tokens.specs.NamedTexts.{Becomes, AreMore}
 use Rattle.first_pass_tokens.specs.Pieces.{Source, found_at, special_found, size, EndsSolid, FoundSolid}
-use Rattle.first_pass_tokens.specs.LineTokens.{Spot, spot, ends_at, ArePieces, add_piece, add_pieces, text_end, breaks_by_backslash, backslashes_at_end, blanks_at_end, line_end_len, line_break}
+use Rattle.first_pass_tokens.specs.LineTokens.{Spot, spot, ends_at, ArePieces, add_piece, add_pieces, text_end, breaks_by_backslash, backslashes_at_end}
+use Rattle.first_pass_tokens.specs.LineTokens.{blanks_at_end, line_end_len, line_break}
 use Rattle.first_pass_tokens.specs.TreeTokens.{with_tokens, AppendsLine, AppendsCell}
 use Rattle.first_pass_tokens.specs.Pending.{pending_after, tree_after, IsReadTo}
 use Rattle.first_pass_tokens.proofs.PieceFacts.{IsPieceAt, IsMarkup, IsRun, delimiter_other, markup_plain, visible_solid, off}
@@ -63,7 +66,8 @@ unfolding is_special
 plain_cell options b plain = (or_parts (begins_cell options b) _ (or_parts (begins_token b) _ plain).1).0
 
 -- a byte that is not special is a piece by itself, and ends no content
-plain_piece : (z : Source) (at : ℕ) → at < length z.text → is_special z.options (slice_index z.text at) ≡ false → (ends_at z at ≡ false) × (found_at z at ≡ Ready (Left 1))
+plain_piece : (z : Source) (at : ℕ)
+    → at < length z.text → is_special z.options (slice_index z.text at) ≡ false → (ends_at z at ≡ false) × (found_at z at ≡ Ready (Left 1))
 unfolding ends_at found_at
 plain_piece z at within plain =
     let b = slice_index z.text at in
@@ -76,7 +80,8 @@ pub found_special : (z : Source) (at : ℕ) → is_special z.options (slice_inde
 unfolding found_at
 found_special z at special = sym (cond-true _ _ _ special)
 
-pub so_far_start : {texts : List CowStr} (z : Source) → z.start ≤ length z.text → SoFar texts z [] (record { begin = z.start; escaped = false }) z.start z.braces
+pub so_far_start : {texts : List CowStr} (z : Source)
+    → z.start ≤ length z.text → SoFar texts z [] (record { begin = z.start; escaped = false }) z.start z.braces
 so_far_start z within = record {
   pieces = [];
   divided = refl;
@@ -123,16 +128,19 @@ shown_here begin at stop escaped chain order =
     let here : min at stop ≡ at = omega arith in
     ap (λ (x : ℕ). add_text begin x escaped chain) here
 
-module _ {texts : List CowStr} (z : Source) (chain : List Item) (pending : Pending) (at : ℕ) (b : MathBraces) (s : SoFar texts z chain pending at b) (on : ends_at z at ≡ false) where
+module _ {texts : List CowStr} (z : Source) (chain : List Item) (pending : Pending) (at : ℕ) (b : MathBraces) (s : SoFar texts z chain pending at b)
+    (on : ends_at z at ≡ false) where
   divided_on : (p : Piece) → Becomes texts b (found_at z at) p
       → ArePieces texts z z.start z.braces (s.pieces ++ p ∷ []) (spot (at + size p) (braces_after (found_at z at) b))
   divided_on p is = are_more texts z z.start z.braces s.pieces (spot at b) p s.divided on is
 
-  shown_on : (p : Piece) (stop : ℕ) → pending.begin ≤ stop → add_pieces stop z.start (s.pieces ++ p ∷ []) [] ≡ add_piece stop at p (add_text pending.begin (min at stop) pending.escaped chain)
+  shown_on : (p : Piece) (stop : ℕ) → pending.begin ≤ stop
+      → add_pieces stop z.start (s.pieces ++ p ∷ []) [] ≡ add_piece stop at p (add_text pending.begin (min at stop) pending.escaped chain)
   shown_on p stop ahead = add_pieces_more texts z stop z.start z.braces s.pieces (spot at b) [] p s.divided ∙ ap (add_piece stop at p) (s.shown stop ahead)
 
   -- the same, where the text before the piece is appended
-  shown_past : (p : Piece) (stop : ℕ) → at ≤ stop → add_pieces stop z.start (s.pieces ++ p ∷ []) [] ≡ add_piece stop at p (add_text pending.begin at pending.escaped chain)
+  shown_past : (p : Piece) (stop : ℕ)
+      → at ≤ stop → add_pieces stop z.start (s.pieces ++ p ∷ []) [] ≡ add_piece stop at p (add_text pending.begin at pending.escaped chain)
   shown_past p stop past = shown_on p stop (omega (arith, s.upto)) ∙ ap (add_piece stop at p) (shown_here pending.begin at stop pending.escaped chain past)
 
   -- one more piece
@@ -195,21 +203,24 @@ module _ {texts : List CowStr} (z : Source) (chain : List Item) (pending : Pendi
       }
 
 -- n bytes that are single pieces
-so_far_bytes : {texts : List CowStr} (z : Source) (chain : List Item) (pending : Pending) (n at : ℕ) (b : MathBraces) → SoFar texts z chain pending at b → at + n ≤ length z.text
+so_far_bytes : {texts : List CowStr} (z : Source) (chain : List Item) (pending : Pending) (n at : ℕ) (b : MathBraces)
+    → SoFar texts z chain pending at b → at + n ≤ length z.text
     → ((k : ℕ) → at ≤ k → k < at + n → (ends_at z k ≡ false) × (found_at z k ≡ Ready (Left 1))) → SoFar texts z chain pending (at + n) b
 so_far_bytes {texts} z chain pending zero at b s fits single =
     let here : at ≡ at + 0 = omega arith in
     subst (λ (k : ℕ). SoFar texts z chain pending k b) here s
 so_far_bytes {texts} z chain pending (suc n) at b s fits single =
     let first = single at (omega arith) (omega arith) in
-    let more = so_far_piece z chain pending at b s first.0 (Left 1) (subst (λ (f : Found). Becomes texts b f (Left 1)) (sym first.1) refl) (omega arith) (omega arith) in
+    let more =
+    so_far_piece z chain pending at b s first.0 (Left 1) (subst (λ (f : Found). Becomes texts b f (Left 1)) (sym first.1) refl) (omega arith) (omega arith) in
     let same = subst (λ (f : Found). SoFar texts z chain pending (at + 1) (braces_after f b)) first.1 more in
     let rest = so_far_bytes z chain pending n (at + 1) b same (omega arith) (λ k low high. single k (omega arith) (omega arith)) in
     let here : at + 1 + n ≡ at + suc n = omega arith in
     subst (λ (k : ℕ). SoFar texts z chain pending k b) here rest
 
 -- up to a place that no special byte stands before
-so_far_upto : {texts : List CowStr} (z : Source) (chain : List Item) (pending : Pending) (at to : ℕ) (b : MathBraces) → SoFar texts z chain pending at b → at ≤ to
+so_far_upto : {texts : List CowStr} (z : Source) (chain : List Item) (pending : Pending) (at to : ℕ) (b : MathBraces)
+    → SoFar texts z chain pending at b → at ≤ to
     → to ≤ length z.text → ((k : ℕ) → at ≤ k → k < to → is_special z.options (slice_index z.text k) ≡ false) → SoFar texts z chain pending to b
 so_far_upto {texts} z chain pending at to b s order within plain =
     let there : at + (to - at) ≡ to = omega arith in
@@ -233,7 +244,8 @@ begins_before_break z begin end low high within begins =
     elim (cases_Bool (breaks_by_backslash z end)) [
       | inl breaks ↦
           rw breaks
-          (let odd = eqb-true (backslashes_at_end z end % 2) 1 (and_parts (backslashes_at_end z end % 2 == 1) (nat_lt (end + line_end_len z end) (length z.text)) breaks).0 in
+          (let odd = eqb-true (backslashes_at_end z end % 2) 1
+          (and_parts (backslashes_at_end z end % 2 == 1) (nat_lt (end + line_end_len z end) (length z.text)) breaks).0 in
           elim begins [
             | inl same ↦
                 let bound = end_bounded (λ b. b == 92) z.text z.start begin end low high within (inl same) in
@@ -275,14 +287,16 @@ pub read_start : {texts : List CowStr} (z : Source) (old : Forest Item) → z.st
     → IsRead texts z old old (record { begin = z.start; escaped = false }) (spot z.start z.braces)
 read_start z old within = record { tokens = []; read = so_far_start z within; tree_is = refl }
 
-pub read_upto : {texts : List CowStr} {z : Source} {old tree : Forest Item} {pending : Pending} (at to : ℕ) (b : MathBraces) → IsRead texts z old tree pending (spot at b)
+pub read_upto : {texts : List CowStr} {z : Source} {old tree : Forest Item} {pending : Pending} (at to : ℕ) (b : MathBraces)
+    → IsRead texts z old tree pending (spot at b)
     → at ≤ to → to ≤ length z.text → ((k : ℕ) → at ≤ k → k < to → is_special z.options (slice_index z.text k) ≡ false)
     → IsRead texts z old tree pending (spot to b)
 read_upto {texts} {z} {old} {tree} {pending} at to b r order within plain =
     record { tokens = r.tokens; read = so_far_upto z r.tokens pending at to b r.read order within plain; tree_is = r.tree_is }
 
 -- the same, while more is named
-pub read_more : {new old : List CowStr} {z : Source} {before tree : Forest Item} {pending : Pending} {to : Spot} → AreMore new old → IsRead old z before tree pending to
+pub read_more : {new old : List CowStr} {z : Source} {before tree : Forest Item} {pending : Pending} {to : Spot}
+    → AreMore new old → IsRead old z before tree pending to
     → IsRead new z before tree pending to
 read_more {new} {old} {z} {before} {tree} {pending} {to} more r =
     let s = r.read in
@@ -302,7 +316,8 @@ read_more {new} {old} {z} {before} {tree} {pending} {to} more r =
     }
 
 -- the piece of what stands there ends as that does
-pub becomes_solid : (texts : List CowStr) (b : MathBraces) (text : List ℕ) (at : ℕ) (found : Found) (p : Piece) → Becomes texts b found p → FoundSolid text at found
+pub becomes_solid : (texts : List CowStr) (b : MathBraces) (text : List ℕ) (at : ℕ) (found : Found) (p : Piece)
+    → Becomes texts b found p → FoundSolid text at found
     → EndsSolid text at p
 becomes_solid texts b text at (Ready piece) p is solid = subst (EndsSolid text at) (sym is) solid
 becomes_solid texts b text at (Reference n c) p is solid = subst (EndsSolid text at) (sym is.2) solid
@@ -333,7 +348,8 @@ tree_is_after text old tree chain pending at (Run n opens closes) facts order sa
     ∙ sym (with_tokens-adds old (add_text pending.begin at pending.escaped chain) (run_tokens at n opens closes))
 
 pub read_piece : {texts : List CowStr} {z : Source} {old tree new : Forest Item} {pending next : Pending} {at : ℕ} {b : MathBraces} {to : Spot} (p : Piece)
-    → IsRead texts z old tree pending (spot at b) → ends_at z at ≡ false → Becomes texts b (found_at z at) p → at + size p ≤ length z.text → EndsSolid z.text at p
+    → IsRead texts z old tree pending (spot at b) → ends_at z at ≡ false → Becomes texts b (found_at z at) p → at + size p ≤ length z.text
+    → EndsSolid z.text at p
     → new ≡ tree_after at p pending tree → next ≡ pending_after at p pending → to ≡ spot (at + size p) (braces_after (found_at z at) b)
     → IsRead texts z old new next to
 read_piece {texts} {z} {old} {tree} {new} {pending} {next} {at} {b} p r on is fits ends tree_new next_is to_is =
@@ -372,10 +388,12 @@ read_line z old tree new pending end after plain r new_is = record {
 }
 
 -- the same of what a line's end returns
-pub read_ended : {texts : List CowStr} (z : Source) (old tree new : Forest Item) (pending : Pending) (end : ℕ) (after : MathBraces) (r : Result (ℕ × Option Item) AllocError)
+pub read_ended : {texts : List CowStr} (z : Source) (old tree new : Forest Item) (pending : Pending) (end : ℕ) (after : MathBraces)
+    (r : Result (ℕ × Option Item) AllocError)
     → z.row ≡ false → IsReadTo texts z old tree (spot end after) pending
     → OnOk r ((w : List ℕ) (b : MathBraces) → new ≡ with_text tree pending.begin (text_end (record z { whole = w; braces = b }) end) pending.escaped)
-    → IfOk r (λ a. (w : List ℕ) (b : MathBraces) → a ≡ (end + line_end_len (record z { whole = w; braces = b }) end, line_break (record z { whole = w; braces = b }) end))
+    → IfOk r (λ a.
+    (w : List ℕ) (b : MathBraces) → a ≡ (end + line_end_len (record z { whole = w; braces = b }) end, line_break (record z { whole = w; braces = b }) end))
     → IfOk r (λ a. AppendsLine texts z old new a after)
 read_ended {texts} z old tree new pending end after (Ok a) plain read new_is is =
     subst (λ (c : ℕ × Option Item). AppendsLine texts z old new c after) (sym (is z.whole z.braces))

@@ -1,5 +1,6 @@
 -- The tokens of a line: its content divided into pieces, the texts and other tokens that they give, and the break after them.
-use Rattle.std.specs.Prelude.{◌≡◌, ℕ, ◌+◌, ◌-◌, ◌%◌, ◌==◌, ◌<◌, ◌≤◌, ◌&&◌, ◌||◌, Bool, true, false, List, [], ◌∷◌, length, drop, slice_index, Option, Some, None, IfSome, nat_lt, nat_le, min, if◌then◌else◌}
+use Rattle.std.specs.Prelude.{◌≡◌, ℕ, ◌+◌, ◌-◌, ◌%◌, ◌==◌, ◌<◌, ◌≤◌, ◌&&◌, ◌||◌, Bool, true, false, List, [], ◌∷◌, length, drop, slice_index, Option, Some}
+use Rattle.std.specs.Prelude.{None, IfSome, nat_lt, nat_le, min, if◌then◌else◌}
 use Rattle.std.specs.List.{slice_range, prefix_len, suffix_len}
 use Rattle.first_pass_items.specs.Bytes.{line_feed, carriage_return, backslash, pipe}
 use Rattle.first_pass_items.specs.OptionWords.{has, tables}

@@ -1,13 +1,16 @@
 -- The pieces that the content of a line is divided into. Places are offsets into the text.
-use Rattle.std.specs.Prelude.{◌≡◌, ℕ, ◌+◌, ◌-◌, ◌==◌, ◌<◌, ◌&&◌, ◌||◌, not, Bool, true, false, List, take, drop, slice_index, length, Option, Some, None, unwrap_or, nat_lt, if◌then◌else◌}
+use Rattle.std.specs.Prelude.{◌≡◌, ℕ, ◌+◌, ◌-◌, ◌==◌, ◌<◌, ◌&&◌, ◌||◌, not, Bool, true, false, List, take, drop, slice_index, length, Option, Some, None}
+use Rattle.std.specs.Prelude.{unwrap_or, nat_lt, if◌then◌else◌}
 use Rattle.std.specs.Option.{option_map_or}
 use Rattle.std.specs.Char.{is_ascii_punctuation}
 use Rattle.std.specs.List.{prefix_len, slice_range}
 use Rattle.first_pass_lines.specs.Lines.{is_ascii_white}
-use Rattle.first_pass_items.specs.Bytes.{exclamation_mark, quotation_mark, dollar_sign, ampersand, apostrophe, hyphen, full_stop, less_than, left_bracket, backslash, right_bracket, backquote, left_brace, pipe, right_brace, asterisk, underscore, circumflex, tilde}
+use Rattle.first_pass_items.specs.Bytes.{exclamation_mark, quotation_mark, dollar_sign, ampersand, apostrophe, hyphen, full_stop, less_than, left_bracket}
+use Rattle.first_pass_items.specs.Bytes.{backslash, right_bracket, backquote, left_brace, pipe, right_brace, asterisk, underscore, circumflex, tilde}
 use Rattle.first_pass_flank.specs.declared.flank.DelimiterRun.{DelimiterRun}
 use Rattle.first_pass_flank.specs.Flank.{first_char, last_char, ends_with_pipe, can_open, can_close}
-use Rattle.first_pass_items.specs.declared.item.ItemBody.TheVariants.{MaybeCode, MaybeHtml, MaybeLinkOpen, MaybeLinkClose, MaybeImage, MaybeSmartQuote, SynthesizeChar}
+use Rattle.first_pass_items.specs.declared.item.ItemBody.TheVariants.{MaybeCode, MaybeHtml, MaybeLinkOpen, MaybeLinkClose, MaybeImage, MaybeSmartQuote}
+use Rattle.first_pass_items.specs.declared.item.ItemBody.TheVariants.{SynthesizeChar}
 use Rattle.first_pass_items.specs.declared.option_set.Options.{Options}
 use Rattle.first_pass_links.specs.Entities.{entity_at}
 use Rattle.first_pass_walk.specs.Walk.{is_special}

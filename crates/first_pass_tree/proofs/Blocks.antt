@@ -1,5 +1,6 @@
 -- What a caller needs to add a block: open it, add its children, close it.
-use Rattle.std.proofs.Common.{◌≡◌, ℕ, ◌+◌, ◌<◌, suc, zero, List, [], ◌∷◌, ◌++◌, length, Some, None, Bool, false, eqb, slice_get, MatchOption, Option, refl, sym, ◌∙◌, ap, arith, append_assoc}
+use Rattle.std.proofs.Common.{◌≡◌, ℕ, ◌+◌, ◌<◌, suc, zero, List, [], ◌∷◌, ◌++◌, length, Some, None, Bool, false, eqb, slice_get, MatchOption, Option, refl, sym}
+use Rattle.std.proofs.Common.{◌∙◌, ap, arith, append_assoc}
 use Rattle.first_pass_tree.specs.declared.tree_index.TreeIndex.{TreeIndex}
 use Rattle.first_pass_tree.specs.Forest.{Forest, modify, at_depth, added, block_of, appended, pushed, popped, with_item, modified, item_at, with_text}
 use Rattle.std.specs.Option.{option_map}
@@ -26,14 +27,17 @@ pub modify-at : {T : Type 0} (xs ys : List (ℕ × T)) (n : ℕ × T) (i : ℕ) 
 modify-at xs ys n i g e = ap (λ k. modify (xs ++ n ∷ ys) k g) e ∙ modify-here xs ys n g
 
 -- the item is added and opened, children are added, and it is closed
-pub closed-block : {T : Type 0} (f : Forest T) (x : T) (kids : List (ℕ × T)) → record f { nodes = (f.nodes ++ (length f.spine + 1, x) ∷ []) ++ at_depth (length f.spine + 2) kids; current = Some (record { 0 = length f.nodes }) } ≡ added f (block_of x kids)
+pub closed-block : {T : Type 0} (f : Forest T) (x : T) (kids : List (ℕ × T))
+    → record f { nodes = (f.nodes ++ (length f.spine + 1, x) ∷ []) ++ at_depth (length f.spine + 2) kids; current = Some (record { 0 = length f.nodes }) }
+    ≡ added f (block_of x kids)
 closed-block {T = T} f x kids =
     let d = length f.spine + 1 in
     let z : d + 0 ≡ d = omega arith in
     let w : d + 1 ≡ length f.spine + 2 = omega arith in
     let k : at_depth (length f.spine + 2) kids ≡ at_depth d (at_depth 1 kids) = ap (λ e. at_depth e kids) (sym w) ∙ sym (at_depth-at_depth d 1 kids) in
     ap (λ (ns : List (ℕ × T)). record f { nodes = ns; current = Some (record { 0 = length f.nodes }) })
-    (append_assoc f.nodes ((d, x) ∷ []) (at_depth (length f.spine + 2) kids) ∙ ap (λ (ns : List (ℕ × T)). f.nodes ++ (d, x) ∷ ns) k ∙ ap (λ e. f.nodes ++ (e, x) ∷ at_depth d (at_depth 1 kids)) (sym z))
+    (append_assoc f.nodes ((d, x) ∷ []) (at_depth (length f.spine + 2) kids) ∙ ap (λ (ns : List (ℕ × T)). f.nodes ++ (d, x) ∷ ns) k
+    ∙ ap (λ e. f.nodes ++ (e, x) ∷ at_depth d (at_depth 1 kids)) (sym z))
 
 pub forest-eq : {T : Type 0} (f g : Forest T) → f.nodes ≡ g.nodes → f.spine ≡ g.spine → f.current ≡ g.current → f ≡ g
 forest-eq f g a b c =
@@ -43,7 +47,9 @@ abbrev at_place : ℕ → TreeIndex
 at_place m = record { 0 = m }
 
 -- a node added and opened, children under it, closed, and its item written: the whole block is added
-pub block-built : {T : Type 0} (f f₁ f₂ f₃ f₄ : Forest T) (x : T) (g : T → T) (kids : List (ℕ × T)) (ix : TreeIndex) → f₁ ≡ appended f x → f₂ ≡ pushed f₁ ix → f₃.nodes ≡ f₂.nodes ++ at_depth (length f₂.spine + 1) kids → f₃.spine ≡ f₂.spine → f₃.spine ≡ ix ∷ f₄.spine → f₄ ≡ popped f₃ ix f₄.spine → ix.0 ≡ length f.nodes → modified f₄ ix g ≡ added f (block_of (g x) kids)
+pub block-built : {T : Type 0} (f f₁ f₂ f₃ f₄ : Forest T) (x : T) (g : T → T) (kids : List (ℕ × T)) (ix : TreeIndex)
+    → f₁ ≡ appended f x → f₂ ≡ pushed f₁ ix → f₃.nodes ≡ f₂.nodes ++ at_depth (length f₂.spine + 1) kids → f₃.spine ≡ f₂.spine → f₃.spine ≡ ix ∷ f₄.spine
+    → f₄ ≡ popped f₃ ix f₄.spine → ix.0 ≡ length f.nodes → modified f₄ ix g ≡ added f (block_of (g x) kids)
 block-built {T = T} f f₁ f₂ f₃ f₄ x g kids ix e₁ e₂ n₃ s₃ p₃ e₄ i =
     let d = length f.spine + 1 in
     let K = at_depth (length f₂.spine + 1) kids in
@@ -60,17 +66,20 @@ block-built {T = T} f f₁ f₂ f₃ f₄ x g kids ix e₁ e₂ n₃ s₃ p₃ e
     let z : d ≡ d + 0 = omega arith in
     let s : f₄.spine ≡ f.spine = cc in
     forest-eq (modified f₄ ix g) (added f (block_of (g x) kids))
-    (ap (λ (ns : List (ℕ × T)). modify ns ix.0 g) n ∙ modify-at f.nodes (at_depth d (at_depth 1 kids)) (d, x) ix.0 g i ∙ ap (λ e. f.nodes ++ (e, g x) ∷ at_depth d (at_depth 1 kids)) z)
+    (ap (λ (ns : List (ℕ × T)). modify ns ix.0 g) n ∙ modify-at f.nodes (at_depth d (at_depth 1 kids)) (d, x) ix.0 g i
+    ∙ ap (λ e. f.nodes ++ (e, g x) ∷ at_depth d (at_depth 1 kids)) z)
     s
     (c₄ ∙ ap (λ (m : ℕ). Some (at_place m)) i)
 
 -- a text where no node is current
-pub text-fresh : (f : Forest Item) (s e : ℕ) (b : Bool) → s < e → f.current ≡ None → with_text f s e b ≡ appended f (record { start = s; «end» = e; body = Text b })
+pub text-fresh : (f : Forest Item) (s e : ℕ) (b : Bool)
+    → s < e → f.current ≡ None → with_text f s e b ≡ appended f (record { start = s; «end» = e; body = Text b })
 text-fresh f s e b l h =
     let t : eqb s e ≡ false = grind (arith, nat_tests) in
     rw (t, h)
 
-modify-same : {T : Type 0} (ns : List (ℕ × T)) (i : ℕ) (x : T) (g : T → T) → option_map (λ n. n.1) (slice_get ns i) ≡ Some x → modify ns i (λ _. g x) ≡ modify ns i g
+modify-same : {T : Type 0} (ns : List (ℕ × T)) (i : ℕ) (x : T) (g : T → T)
+    → option_map (λ n. n.1) (slice_get ns i) ≡ Some x → modify ns i (λ _. g x) ≡ modify ns i g
 modify-same [] i x g e = refl
 modify-same (n ∷ ns) zero x g e = let h : n.1 ≡ x = cc in ap (λ k. (n.0, g k) ∷ ns) (sym h)
 modify-same (n ∷ ns) (suc i) x g e = ap (λ z. n ∷ z) (modify-same ns i x g e)
@@ -83,7 +92,11 @@ no-open : (s : List TreeIndex) (i : TreeIndex) (is : List TreeIndex) → s ≡ [
 no-open s i is a b = cc
 
 -- the same from the clauses of the calls as they come: append, push, children, pop, and a write at the place
-pub block-calls : {T : Type 0} (f f₁ f₂ f₃ f₄ : Forest T) (x : T) (g : T → T) (kids : List (ℕ × T)) (place opened : TreeIndex) (r : Option TreeIndex) → place.0 ≡ length f.nodes → f₁ ≡ appended f x → f₁.current ≡ Some opened → f₂ ≡ pushed f₁ opened → f₃.nodes ≡ f₂.nodes ++ at_depth (length f₂.spine + 1) kids → f₃.spine ≡ f₂.spine → MatchOption r ((f₃.spine ≡ []) × (f₄ ≡ f₃)) (λ ix. (f₃.spine ≡ ix ∷ f₄.spine) × (f₄ ≡ popped f₃ ix f₄.spine)) → modified f₄ place g ≡ added f (block_of (g x) kids)
+pub block-calls : {T : Type 0} (f f₁ f₂ f₃ f₄ : Forest T) (x : T) (g : T → T) (kids : List (ℕ × T)) (place opened : TreeIndex) (r : Option TreeIndex)
+    → place.0 ≡ length f.nodes → f₁ ≡ appended f x → f₁.current ≡ Some opened
+    → f₂ ≡ pushed f₁ opened → f₃.nodes ≡ f₂.nodes ++ at_depth (length f₂.spine + 1) kids
+    → f₃.spine ≡ f₂.spine → MatchOption r ((f₃.spine ≡ []) × (f₄ ≡ f₃)) (λ ix. (f₃.spine ≡ ix ∷ f₄.spine) × (f₄ ≡ popped f₃ ix f₄.spine))
+    → modified f₄ place g ≡ added f (block_of (g x) kids)
 block-calls {T = T} f f₁ f₂ f₃ f₄ x g kids place opened None i e₁ c₁ e₂ n₃ s₃ h =
     let b₂ : f₂.spine ≡ opened ∷ f₁.spine = ap (λ (v : Forest T). v.spine) e₂ in absurd (no-open f₃.spine opened f₁.spine h.0 (s₃ ∙ b₂))
 block-calls {T = T} f f₁ f₂ f₃ f₄ x g kids place opened (Some ix) i e₁ c₁ e₂ n₃ s₃ h =
@@ -93,7 +106,8 @@ block-calls {T = T} f f₁ f₂ f₃ f₄ x g kids place opened (Some ix) i e₁
     let q : place ≡ opened = cc in
     let o : ix ≡ opened = cc in
     let w : ix ≡ place = o ∙ sym q in
-    block-built f f₁ f₂ f₃ f₄ x g kids place e₁ (e₂ ∙ ap (pushed f₁) (sym q)) n₃ s₃ (h.0 ∙ ap (λ (j : TreeIndex). j ∷ f₄.spine) w) (h.1 ∙ ap (λ (j : TreeIndex). popped f₃ j f₄.spine) w) i
+    block-built f f₁ f₂ f₃ f₄ x g kids place e₁ (e₂ ∙ ap (pushed f₁) (sym q)) n₃ s₃ (h.0 ∙ ap (λ (j : TreeIndex). j ∷ f₄.spine) w)
+    (h.1 ∙ ap (λ (j : TreeIndex). popped f₃ j f₄.spine) w) i
 
 -- one item added is a block of its own
 pub one-kid : {T : Type 0} (f g : Forest T) (x : T) → g ≡ appended f x → g.nodes ≡ f.nodes ++ at_depth (length f.spine + 1) ((0, x) ∷ [])

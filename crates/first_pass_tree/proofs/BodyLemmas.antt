@@ -7,7 +7,8 @@ use Rattle.first_pass_tree.specs.declared.tree_index.TreeIndex.{TreeIndex}
 use Rattle.first_pass_tree.specs.Forest.{Forest, modify, body_at, item_at}
 
 -- a change that keeps the body
-pub body-kept : (nodes : List (ℕ × Item)) (place i : ℕ) (g : Item → Item) → ((x : Item) → (g x).body ≡ x.body) → body_at (modify nodes place g) i ≡ body_at nodes i
+pub body-kept : (nodes : List (ℕ × Item)) (place i : ℕ) (g : Item → Item)
+    → ((x : Item) → (g x).body ≡ x.body) → body_at (modify nodes place g) i ≡ body_at nodes i
 body-kept [] place i g h = refl
 body-kept (n ∷ nodes) zero zero g h = ap (λ b. Some b) (h n.1)
 body-kept (n ∷ nodes) zero (suc i) g h = refl
@@ -29,19 +30,22 @@ body-later (n ∷ nodes) (suc place) zero g h = refl
 body-later (n ∷ nodes) (suc place) (suc i) g h = body-later nodes place i g (omega arith)
 
 -- a change at a place
-pub body-changed : (nodes : List (ℕ × Item)) (place : ℕ) (g : Item → Item) (b c : ItemBody) → body_at nodes place ≡ Some b → ((x : Item) → x.body ≡ b → (g x).body ≡ c) → body_at (modify nodes place g) place ≡ Some c
+pub body-changed : (nodes : List (ℕ × Item)) (place : ℕ) (g : Item → Item) (b c : ItemBody)
+    → body_at nodes place ≡ Some b → ((x : Item) → x.body ≡ b → (g x).body ≡ c) → body_at (modify nodes place g) place ≡ Some c
 body-changed [] place g b c h f = cc
 body-changed (n ∷ nodes) zero g b c h f = (let e : n.1.body ≡ b = cc in ap (λ z. Some z) (f n.1 e))
 body-changed (n ∷ nodes) (suc place) g b c h f = body-changed nodes place g b c h f
 
 -- a change at a place that agrees with another there
-pub changed_alike : (nodes : List (ℕ × Item)) (place : ℕ) (g h : Item → Item) (b : ItemBody) → body_at nodes place ≡ Some b → ((x : Item) → x.body ≡ b → g x ≡ h x) → modify nodes place g ≡ modify nodes place h
+pub changed_alike : (nodes : List (ℕ × Item)) (place : ℕ) (g h : Item → Item) (b : ItemBody)
+    → body_at nodes place ≡ Some b → ((x : Item) → x.body ≡ b → g x ≡ h x) → modify nodes place g ≡ modify nodes place h
 changed_alike [] place g h b is same = refl
 changed_alike (n ∷ nodes) zero g h b is same = (let e : n.1.body ≡ b = cc in ap (λ z. (n.0, z) ∷ nodes) (same n.1 e))
 changed_alike (n ∷ nodes) (suc place) g h b is same = ap (λ z. n ∷ z) (changed_alike nodes place g h b is same)
 
 -- a change that changes nothing there
-pub not_changed : (nodes : List (ℕ × Item)) (place : ℕ) (g : Item → Item) (b : ItemBody) → body_at nodes place ≡ Some b → ((x : Item) → x.body ≡ b → g x ≡ x) → modify nodes place g ≡ nodes
+pub not_changed : (nodes : List (ℕ × Item)) (place : ℕ) (g : Item → Item) (b : ItemBody)
+    → body_at nodes place ≡ Some b → ((x : Item) → x.body ≡ b → g x ≡ x) → modify nodes place g ≡ nodes
 not_changed [] place g b is same = refl
 not_changed (n ∷ nodes) zero g b is same = (let e : n.1.body ≡ b = cc in ap (λ z. (n.0, z) ∷ nodes) (same n.1 e))
 not_changed (n ∷ nodes) (suc place) g b is same = ap (λ z. n ∷ z) (not_changed nodes place g b is same)

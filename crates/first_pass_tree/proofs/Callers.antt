@@ -1,11 +1,13 @@
 -- What a caller keeps of a tree over several calls.
-use Rattle.std.proofs.Common.{◌≡◌, ◌≢◌, ℕ, ◌+◌, ◌<◌, ◌⊎◌, List, [], ◌∷◌, ◌++◌, length, Some, Bool, true, false, ◌&&◌, eqb, get_or, refl, sym, ◌∙◌, ap, subst, ⊎_elim, arith, append_assoc}
+use Rattle.std.proofs.Common.{◌≡◌, ◌≢◌, ℕ, ◌+◌, ◌<◌, ◌⊎◌, List, [], ◌∷◌, ◌++◌, length, Some, Bool, true, false, ◌&&◌, eqb, get_or, refl, sym, ◌∙◌, ap, subst}
+use Rattle.std.proofs.Common.{⊎_elim, arith, append_assoc}
 use Rattle.std.proofs.lemmas.List.{length-append, length-map, map-append, get_or_append_left, get_or_at}
 use Rattle.std.proofs.lemmas.Bool.Decides.{nat_tests}
 use Rattle.first_pass_items.specs.declared.item.Item.{Item}
 use Rattle.first_pass_items.specs.declared.item.ItemBody.TheVariants.{Text}
 use Rattle.first_pass_tree.specs.declared.tree_index.TreeIndex.{TreeIndex}
-use Rattle.first_pass_tree.specs.Forest.{Forest, IsForest, IsChild, depths, open_place, item_at, is_text, ends_text_at, appended, added, at_depth, with_text, with_end_at}
+use Rattle.first_pass_tree.specs.Forest.{Forest, IsForest, IsChild, depths, open_place, item_at, is_text, ends_text_at, appended, added, at_depth, with_text}
+use Rattle.first_pass_tree.specs.Forest.{with_end_at}
 use Rattle.first_pass_tree.proofs.Depths.{open-last}
 use Rattle.first_pass_tree.proofs.Blocks.{at_depth-append}
 
@@ -26,7 +28,8 @@ child-appended f x h =
     }
 
 -- a child stays one where the list continues after it
-pub child-kept : {T : Type 0} (f g : Forest T) (more : List (ℕ × T)) (ix : TreeIndex) → g.nodes ≡ f.nodes ++ more → g.spine ≡ f.spine → IsChild f ix → IsChild g ix
+pub child-kept : {T : Type 0} (f g : Forest T) (more : List (ℕ × T)) (ix : TreeIndex)
+    → g.nodes ≡ f.nodes ++ more → g.spine ≡ f.spine → IsChild f ix → IsChild g ix
 child-kept {T = T} f g more ix n s h =
     let w = length-map f.nodes (λ n. n.0) in
     record {
@@ -40,7 +43,8 @@ child-kept {T = T} f g more ix n s h =
     }
 
 -- children so far and one more block
-pub more-added : {T : Type 0} (f g h : Forest T) (kids block : List (ℕ × T)) → g.nodes ≡ f.nodes ++ at_depth (length f.spine + 1) kids → g.spine ≡ f.spine → h ≡ added g block → h.nodes ≡ f.nodes ++ at_depth (length f.spine + 1) (kids ++ block)
+pub more-added : {T : Type 0} (f g h : Forest T) (kids block : List (ℕ × T)) → g.nodes ≡ f.nodes ++ at_depth (length f.spine + 1) kids → g.spine ≡ f.spine
+    → h ≡ added g block → h.nodes ≡ f.nodes ++ at_depth (length f.spine + 1) (kids ++ block)
 more-added {T = T} f g h kids block n s e =
     let d = length f.spine + 1 in
     ap (λ (v : Forest T). v.nodes) e
@@ -62,7 +66,8 @@ text-empty f s e b h =
     rw t
 
 -- a text after a text that ends at its start is joined to it
-pub text-joined : (f : Forest Item) (s e : ℕ) (b : Bool) (c : TreeIndex) (x : Item) → s < e → f.current ≡ Some c → item_at f c ≡ Some x → is_text x.body ≡ true → x.«end» ≡ s → with_text f s e b ≡ with_end_at f c e
+pub text-joined : (f : Forest Item) (s e : ℕ) (b : Bool) (c : TreeIndex) (x : Item)
+    → s < e → f.current ≡ Some c → item_at f c ≡ Some x → is_text x.body ≡ true → x.«end» ≡ s → with_text f s e b ≡ with_end_at f c e
 text-joined f s e b c x l h i t p =
     let n : eqb s e ≡ false = grind (arith, nat_tests) in
     let q : eqb x.«end» s ≡ true = grind (arith, nat_tests) in
@@ -73,7 +78,8 @@ neither true b h = h
 neither false b h = refl
 
 -- a text after an item that isn't a text, or ends elsewhere, stands alone
-pub text-apart : (f : Forest Item) (s e : ℕ) (b : Bool) (c : TreeIndex) (x : Item) → s < e → f.current ≡ Some c → item_at f c ≡ Some x → (is_text x.body ≡ false) ⊎ (x.«end» ≢ s) → with_text f s e b ≡ appended f (record { start = s; «end» = e; body = Text b })
+pub text-apart : (f : Forest Item) (s e : ℕ) (b : Bool) (c : TreeIndex) (x : Item) → s < e → f.current ≡ Some c → item_at f c ≡ Some x
+    → (is_text x.body ≡ false) ⊎ (x.«end» ≢ s) → with_text f s e b ≡ appended f (record { start = s; «end» = e; body = Text b })
 text-apart f s e b c x l h i t =
     let n : eqb s e ≡ false = grind (arith, nat_tests) in
     let a : ends_text_at s (Some x) ≡ false =

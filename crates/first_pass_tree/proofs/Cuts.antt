@@ -1,12 +1,14 @@
 -- The children of a node cut at an offset: what is left is a forest.
-use Rattle.std.proofs.Common.{◌≡◌, ℕ, ◌+◌, ◌-◌, ◌≤◌, suc, zero, List, [], ◌∷◌, ◌++◌, length, take, drop, Some, None, true, false, Bool, nat_lt, if◌then◌else◌, ◌&&◌, ◌==◌, IfSome, Option, refl, sym, ◌∙◌, ap, subst, ⊎_elim, arith}
+use Rattle.std.proofs.Common.{◌≡◌, ℕ, ◌+◌, ◌-◌, ◌≤◌, suc, zero, List, [], ◌∷◌, ◌++◌, length, take, drop, Some, None, true, false, Bool, nat_lt, if◌then◌else◌}
+use Rattle.std.proofs.Common.{◌&&◌, ◌==◌, IfSome, Option, refl, sym, ◌∙◌, ap, subst, ⊎_elim, arith}
 use Rattle.std.proofs.lemmas.List.{take-take, drop-take, take-append-drop, length-append, map-append, length-map, take-map, length-take-le, length-drop}
 use Rattle.std.proofs.lemmas.Bool.Decides.{nat_tests}
 use Rattle.std.proofs.lemmas.Bool.{cases_lt}
 use Rattle.first_pass_tree.specs.declared.tree_index.TreeIndex.{TreeIndex}
 use Rattle.first_pass_items.specs.declared.item.Item.{Item}
 use Rattle.first_pass_items.specs.declared.item.ItemBody.TheVariants.{Text}
-use Rattle.first_pass_tree.specs.Forest.{Forest, IsForest, IsLastAt, IsOpenPath, IsPreorder, depths, cut_tokens, cut_item, is_escaped, cut_siblings, last_child, last_before, open_place}
+use Rattle.first_pass_tree.specs.Forest.{Forest, IsForest, IsLastAt, IsOpenPath, IsPreorder, depths, cut_tokens, cut_item, is_escaped, cut_siblings, last_child}
+use Rattle.first_pass_tree.specs.Forest.{last_before, open_place}
 use Rattle.first_pass_tree.proofs.Depths.{preorder-take, path-take_open, open-last}
 use Rattle.first_pass_tree.proofs.Moves.{last_before-is}
 
@@ -16,14 +18,17 @@ cut_by e n rest false true b = (n.0, cut_item e n.1) ∷ rest
 cut_by e n rest false false true = (n.0, record { start = e - 1; «end» = e; body = Text false }) ∷ []
 cut_by e n rest false false false = []
 
-cut_by-depths : (e : ℕ) (n : ℕ × Item) (ns rest : List (ℕ × Item)) (u a b : Bool) → depths rest ≡ take (length rest) (depths ns) → depths (cut_by e n rest u a b) ≡ take (length (cut_by e n rest u a b)) (depths (n ∷ ns))
+cut_by-depths : (e : ℕ) (n : ℕ × Item) (ns rest : List (ℕ × Item)) (u a b : Bool)
+    → depths rest ≡ take (length rest) (depths ns) → depths (cut_by e n rest u a b) ≡ take (length (cut_by e n rest u a b)) (depths (n ∷ ns))
 unfolding cut_by
 cut_by-depths e n ns rest true a b h = ap (λ z. n.0 ∷ z) h
 cut_by-depths e n ns rest false true b h = ap (λ z. n.0 ∷ z) h
 cut_by-depths e n ns rest false false true h = refl
 cut_by-depths e n ns rest false false false h = refl
 
-cut_by-is : (e d : ℕ) (n : ℕ × Item) (ns : List (ℕ × Item)) (u a b : Bool) → (if u then n ∷ cut_tokens e d ns else (if a then (n.0, cut_item e n.1) ∷ cut_tokens e d ns else (if b then (n.0, record { start = e - 1; «end» = e; body = Text false }) ∷ [] else []))) ≡ cut_by e n (cut_tokens e d ns) u a b
+cut_by-is : (e d : ℕ) (n : ℕ × Item) (ns : List (ℕ × Item)) (u a b : Bool) → (if u then n ∷ cut_tokens e d ns
+    else (if a then (n.0, cut_item e n.1) ∷ cut_tokens e d ns else (if b then (n.0, record { start = e - 1; «end» = e; body = Text false }) ∷ [] else [])))
+    ≡ cut_by e n (cut_tokens e d ns) u a b
 unfolding cut_by
 cut_by-is e d n ns true a b = refl
 cut_by-is e d n ns false true b = refl
@@ -52,7 +57,8 @@ cut-length e d (n ∷ ns) =
 
 take-two : {X : Type 0} (xs : List X) (p m : ℕ) → take p xs ++ take m (drop p xs) ≡ take (p + m) xs
 take-two xs p m =
-    ap (λ ys. ys ++ take m (drop p xs)) (sym (take-take p (p + m) xs (omega arith))) ∙ ap (λ ys. take p (take (p + m) xs) ++ ys) (sym (drop-take p m xs)) ∙ take-append-drop p (take (p + m) xs)
+    ap (λ ys. ys ++ take m (drop p xs)) (sym (take-take p (p + m) xs (omega arith))) ∙ ap (λ ys. take p (take (p + m) xs) ++ ys) (sym (drop-take p m xs))
+    ∙ take-append-drop p (take (p + m) xs)
 
 drop-depths : {T : Type 0} (ns : List (ℕ × T)) (p : ℕ) → depths (drop p ns) ≡ drop p (depths ns)
 drop-depths ns zero = refl
@@ -60,7 +66,8 @@ drop-depths [] (suc p) = refl
 drop-depths (n ∷ ns) (suc p) = drop-depths ns p
 
 -- the current node after a cut is the last child: the first place after the innermost open node has its depth, and none there has less
-last_child-is : (ns : List (ℕ × Item)) (is : List TreeIndex) → IsPreorder (depths ns) → IsOpenPath (depths ns) is → IfSome (last_child is ns) (λ c. IsLastAt (depths ns) (length is + 1) c.0)
+last_child-is : (ns : List (ℕ × Item)) (is : List TreeIndex)
+    → IsPreorder (depths ns) → IsOpenPath (depths ns) is → IfSome (last_child is ns) (λ c. IsLastAt (depths ns) (length is + 1) c.0)
 last_child-is ns is pre path =
     let ds = depths ns in
     let d = length is + 1 in
@@ -73,7 +80,11 @@ last_child-is ns is pre path =
     let low = o.behind p (omega arith) (omega arith) in
     let high = pre (open_place is) (omega arith) in
     let i = last_before-is ds d p (length ns) q (omega (arith, o.depth)) (λ k a b. let w = o.behind k (omega arith) (omega arith) in omega arith) in
-    let r : IsLastAt ds d (last_before ds d (length ns)) = record { within = omega (arith, i.within); depth = i.depth; behind = λ k a b. i.behind k a (omega arith) } in
+    let r : IsLastAt ds d (last_before ds d (length ns)) = record {
+      within = omega (arith, i.within);
+      depth = i.depth;
+      behind = λ k a b. i.behind k a (omega arith);
+    } in
     subst (λ (b : Bool). IfSome {T = TreeIndex} (if b then Some (record { 0 = last_before ds d (length ns) }) else None) (λ c. IsLastAt ds d c.0)) (sym t) r)
     (λ q.
     let t : nat_lt p (length ns) ≡ false = grind (arith, nat_tests) in
@@ -92,13 +103,18 @@ cut_siblings-is f e h =
     let n : length (take p f.nodes ++ cs) ≡ p + length cs = omega (arith, length-append (take p f.nodes) cs, length-take-le p f.nodes l) in
     let v : p + length cs ≤ length ds = omega (arith, cut-length e d (drop p f.nodes), length-drop p f.nodes) in
     let a : depths (take p f.nodes ++ cs) ≡ take p ds ++ take (length cs) (drop p ds) =
-    map-append (λ n. n.0) (take p f.nodes) cs ∙ ap (λ (x : List ℕ). x ++ depths cs) (sym (take-map (λ n. n.0) p f.nodes)) ∙ ap (λ (x : List ℕ). take p ds ++ x) (cut-depths e d (drop p f.nodes) ∙ ap (take (length cs)) (drop-depths f.nodes p)) in
+    map-append (λ n. n.0) (take p f.nodes) cs ∙ ap (λ (x : List ℕ). x ++ depths cs) (sym (take-map (λ n. n.0) p f.nodes))
+    ∙ ap (λ (x : List ℕ). take p ds ++ x) (cut-depths e d (drop p f.nodes) ∙ ap (take (length cs)) (drop-depths f.nodes p)) in
     let b : depths (take p f.nodes ++ cs) ≡ take (length (take p f.nodes ++ cs)) ds = a ∙ take-two ds p (length cs) ∙ ap (λ k. take k ds) (sym n) in
     let w : length (take p f.nodes ++ cs) ≤ length ds = omega arith in
     let pre : IsPreorder (depths (take p f.nodes ++ cs)) = subst IsPreorder (sym b) (preorder-take ds _ w h.preorder) in
-    let path : IsOpenPath (depths (take p f.nodes ++ cs)) f.spine = subst (λ (v : List ℕ). IsOpenPath v f.spine) (sym b) (path-take_open ds f.spine _ (omega arith) w h.opened) in
+    let path : IsOpenPath (depths (take p f.nodes ++ cs)) f.spine =
+    subst (λ (v : List ℕ). IsOpenPath v f.spine) (sym b) (path-take_open ds f.spine _ (omega arith) w h.opened) in
     record { preorder = pre; opened = path; at_current = last_child-is (take p f.nodes ++ cs) f.spine pre path }
 
 -- the same, from what the calls on the fields answer
-pub siblings-by : (f : Forest Item) (e p d : ℕ) (ns : List (ℕ × Item)) (cur : Option TreeIndex) → p ≡ open_place f.spine + 1 → d ≡ length f.spine + 1 → ns ≡ take p f.nodes ++ cut_tokens e d (drop p f.nodes) → cur ≡ (if nat_lt p (length ns) then Some (record { 0 = last_before (depths ns) d (length ns) }) else None) → record f { nodes = ns; current = cur } ≡ cut_siblings f e
+pub siblings-by : (f : Forest Item) (e p d : ℕ) (ns : List (ℕ × Item)) (cur : Option TreeIndex)
+    → p ≡ open_place f.spine + 1 → d ≡ length f.spine + 1 → ns ≡ take p f.nodes ++ cut_tokens e d (drop p f.nodes)
+    → cur ≡ (if nat_lt p (length ns) then Some (record { 0 = last_before (depths ns) d (length ns) }) else None)
+    → record f { nodes = ns; current = cur } ≡ cut_siblings f e
 siblings-by f e p d ns cur ep ed el ec = cc

@@ -1,5 +1,6 @@
 -- Lists of depths: the last place of a depth, and open paths, through an edit.
-use Rattle.std.proofs.Common.{◌≡◌, ℕ, ◌+◌, ◌-◌, ◌<◌, ◌≤◌, suc, zero, List, [], ◌∷◌, ◌++◌, length, get_or, take, drop, nat_lt, true, false, refl, sym, ap, ◌∙◌, arith, add-one}
+use Rattle.std.proofs.Common.{◌≡◌, ℕ, ◌+◌, ◌-◌, ◌<◌, ◌≤◌, suc, zero, List, [], ◌∷◌, ◌++◌, length, get_or, take, drop, nat_lt, true, false, refl, sym, ap, ◌∙◌}
+use Rattle.std.proofs.Common.{arith, add-one}
 use Rattle.std.proofs.lemmas.Bool.Decides.{nat_tests}
 use Rattle.std.proofs.lemmas.List.{places, get_or_append_left, get_or_push, length_push, get_or-take, get_or-drop, length-take-le, length-drop}
 use Rattle.std.proofs.lemmas.List.Sums.{prefix_len_passes, prefix_len_stops}
@@ -45,7 +46,8 @@ last-take ds d i n h l m = record {
   behind = λ k p q. grind (arith, places, length-take-le n ds m, get_or-take, h.behind k p);
 }
 
-pub path-take : (ds : List ℕ) (is : List TreeIndex) (d i n : ℕ) → IsLastAt ds d i → length is < d → i < n → n ≤ length ds → IsOpenPath ds is → IsOpenPath (take n ds) is
+pub path-take : (ds : List ℕ) (is : List TreeIndex) (d i n : ℕ)
+    → IsLastAt ds d i → length is < d → i < n → n ≤ length ds → IsOpenPath ds is → IsOpenPath (take n ds) is
 path-take ds [] d i n g l p m h =
     let o = last-order ds 0 d 0 i h g (omega arith) in last-take ds 0 0 n h (omega arith) m
 path-take ds (j ∷ is) d i n g l p m h =
@@ -78,7 +80,8 @@ before-end ds i k a b =
     let s = prefix_len_passes p (drop (i + 1) ds) (k - (i + 1)) 0 (omega arith) in
     let u = get_or-drop (i + 1) ds (k - (i + 1)) 0 in
     let x : i + 1 + (k - (i + 1)) ≡ k = omega arith in
-    let y : nat_lt (get_or ds i 0) (get_or ds k 0) ≡ true = ap (λ z. nat_lt (get_or ds i 0) (get_or ds z 0)) (sym x) ∙ ap (nat_lt (get_or ds i 0)) (sym u) ∙ s in
+    let y : nat_lt (get_or ds i 0) (get_or ds k 0) ≡ true =
+    ap (λ z. nat_lt (get_or ds i 0) (get_or ds z 0)) (sym x) ∙ ap (nat_lt (get_or ds i 0)) (sym u) ∙ s in
     grind (arith, nat_tests, y)
 
 -- what stands at their end is not

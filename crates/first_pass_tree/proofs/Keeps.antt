@@ -1,6 +1,9 @@
 -- Each change of a forest leaves a forest.
-use Rattle.std.proofs.Common.{◌≡◌, ℕ, ◌+◌, ◌-◌, ◌<◌, ◌≤◌, ◌^◌, suc, zero, List, [], ◌∷◌, ◌++◌, length, get_or, set, take, drop, map, Some, None, true, false, Bool, nat_lt, eqb, ◌≢◌, ◌⊎◌, reverse, slice_get, IfSome, Option, refl, sym, ◌∙◌, ap, subst, ⊎_elim, arith}
-use Rattle.std.proofs.lemmas.List.{length-append, length-reverse, get_or-reverse, map-append, length-map, take-map, get_or-map, get_or_past, take_more, reverse-append, get_or-append_right, get_or-drop, get_or-take, length-take-le, length-drop, get_or-set_other, length-set, get_or_append_left, get_or_at}
+use Rattle.std.proofs.Common.{◌≡◌, ℕ, ◌+◌, ◌-◌, ◌<◌, ◌≤◌, ◌^◌, suc, zero, List, [], ◌∷◌, ◌++◌, length, get_or, set, take, drop, map, Some, None, true, false}
+use Rattle.std.proofs.Common.{Bool, nat_lt, eqb, ◌≢◌, ◌⊎◌, reverse, slice_get, IfSome, Option, refl, sym, ◌∙◌, ap, subst, ⊎_elim, arith}
+use Rattle.std.proofs.lemmas.List.{length-append, length-reverse, get_or-reverse, map-append, length-map, take-map, get_or-map, get_or_past, take_more}
+use Rattle.std.proofs.lemmas.List.{reverse-append, get_or-append_right, get_or-drop, get_or-take, length-take-le, length-drop, get_or-set_other, length-set}
+use Rattle.std.proofs.lemmas.List.{get_or_append_left, get_or_at}
 use Rattle.std.proofs.lemmas.List.Sums.{prefix_len-drop_yes, prefix_len-drop_no, prefix_len-drop_all, prefix_len-le-length, prefix_len_is}
 use Rattle.std.proofs.lemmas.Bool.Decides.{nat_tests}
 use Rattle.std.proofs.lemmas.Bool.{cases_lt}
@@ -11,8 +14,11 @@ use Rattle.first_pass_items.specs.declared.item.AlignmentIndex.{AlignmentIndex}
 use Rattle.first_pass_items.specs.declared.item.Item.{Item}
 use Rattle.first_pass_items.specs.declared.item.ItemBody.{ItemBody}
 use Rattle.first_pass_items.specs.declared.item.ItemBody.TheVariants.{Table, TableHead, TableRow, TableCell}
-use Rattle.first_pass_tree.specs.Forest.{Forest, IsForest, IsLastAt, IsOpenPath, IsPreorder, depths, item_at, modify, run_end, end_of, child_of, sibling_of, in_table, in_table_by, appended, popped, cut_to, kept_after, childless, wrapped, map_from, deeper, IsShallow, open_place, IsChild}
-use Rattle.first_pass_tree.proofs.Depths.{last-push, last-take, path-append, path-last_depth, path-take, preorder-append, preorder-take, path-take_open, open-last, last-order, depth-small, before-end}
+use Rattle.first_pass_tree.specs.Forest.{Forest, IsForest, IsLastAt, IsOpenPath, IsPreorder, depths, item_at, modify, run_end, end_of, child_of, sibling_of}
+use Rattle.first_pass_tree.specs.Forest.{in_table, in_table_by, appended, popped, cut_to, kept_after, childless, wrapped, map_from, deeper, IsShallow}
+use Rattle.first_pass_tree.specs.Forest.{open_place, IsChild}
+use Rattle.first_pass_tree.proofs.Depths.{last-push, last-take, path-append, path-last_depth, path-take, preorder-append, preorder-take, path-take_open}
+use Rattle.first_pass_tree.proofs.Depths.{open-last, last-order, depth-small, before-end}
 
 pub appended-is : {T : Type 0} (f : Forest T) (x : T) → IsForest f → IsForest (appended f x)
 appended-is f x h =
@@ -23,11 +29,13 @@ appended-is f x h =
     record {
       preorder = subst IsPreorder (sym m) (preorder-append ds e h.preorder l.0 (omega arith));
       opened = subst (λ (v : List ℕ). IsOpenPath v f.spine) (sym m) (path-append ds f.spine e (omega arith) h.opened);
-      at_current = subst (λ (v : List ℕ). IsLastAt v e (length f.nodes)) (sym m) (subst (λ (n : ℕ). IsLastAt (ds ++ e ∷ []) e n) (length-map f.nodes (λ n. n.0)) (last-push ds e));
+      at_current = subst (λ (v : List ℕ). IsLastAt v e (length f.nodes)) (sym m)
+          (subst (λ (n : ℕ). IsLastAt (ds ++ e ∷ []) e n) (length-map f.nodes (λ n. n.0)) (last-push ds e));
     }
 
 -- the same, from what the calls on the fields answer
-pub appended-by : {T : Type 0} (f : Forest T) (x : T) (ns : List (ℕ × T)) (d n : ℕ) → IsForest f → ns ≡ f.nodes ++ (d, x) ∷ [] → d ≡ length f.spine + 1 → n ≡ length f.nodes → record f { nodes = ns; current = Some (record { 0 = n }) } ≡ appended f x
+pub appended-by : {T : Type 0} (f : Forest T) (x : T) (ns : List (ℕ × T)) (d n : ℕ) → IsForest f → ns ≡ f.nodes ++ (d, x) ∷ [] → d ≡ length f.spine + 1
+    → n ≡ length f.nodes → record f { nodes = ns; current = Some (record { 0 = n }) } ≡ appended f x
 appended-by f x ns d n h e p q = cc
 
 -- a write to one item
@@ -54,11 +62,13 @@ pub modified-is : {T : Type 0} (f : Forest T) (i : ℕ) (g : T → T) → IsFore
 modified-is f i g h = same_depths-is f (modify f.nodes i g) (depths-modify f.nodes i g) h
 
 -- whatever item is written at a place
-pub set-is : {T : Type 0} (f : Forest T) (i : ℕ) (n : ℕ × T) (y : T) → n ≡ get_or f.nodes i n → IsForest f → IsForest (record f { nodes = set f.nodes i (n.0, y) })
+pub set-is : {T : Type 0} (f : Forest T) (i : ℕ) (n : ℕ × T) (y : T)
+    → n ≡ get_or f.nodes i n → IsForest f → IsForest (record f { nodes = set f.nodes i (n.0, y) })
 set-is f i n y e h = rw (modify-set f.nodes i n (λ _. y) e) (modified-is f i (λ _. y) h)
 
 -- the tree up to its innermost open node, which is closed
-pub closed-is : {T : Type 0} (f : Forest T) (c : TreeIndex) (rest : List TreeIndex) → f.spine ≡ c ∷ rest → IsForest f → IsForest (cut_to (popped f c rest) (c.0 + 1))
+pub closed-is : {T : Type 0} (f : Forest T) (c : TreeIndex) (rest : List TreeIndex)
+    → f.spine ≡ c ∷ rest → IsForest f → IsForest (cut_to (popped f c rest) (c.0 + 1))
 closed-is f c rest e h =
     let ds = depths f.nodes in
     let o = subst (λ (v : List TreeIndex). IsOpenPath ds v) e h.opened in
@@ -71,7 +81,8 @@ closed-is f c rest e h =
     }
 
 -- what a write to one item leaves
-pub modified-by : {T : Type 0} (f now : Forest T) (i : ℕ) (n : ℕ × T) (g : T → T) → f ≡ now → n ≡ get_or f.nodes i n → record f { nodes = set f.nodes i (n.0, g n.1) } ≡ record now { nodes = modify now.nodes i g }
+pub modified-by : {T : Type 0} (f now : Forest T) (i : ℕ) (n : ℕ × T) (g : T → T)
+    → f ≡ now → n ≡ get_or f.nodes i n → record f { nodes = set f.nodes i (n.0, g n.1) } ≡ record now { nodes = modify now.nodes i g }
 modified-by {T = T} f now i n g e q =
     ap (λ (ns : List (ℕ × T)). record f { nodes = ns }) (modify-set f.nodes i n g q) ∙ ap (λ (v : Forest T). record v { nodes = modify v.nodes i g }) e
 
@@ -91,7 +102,8 @@ pub depth_read : {T : Type 0} (ns : List (ℕ × T)) (i : ℕ) (d : ℕ × T) �
 depth_read ns i d l = get_or-map (λ n. n.0) ns i d 0 l
 
 -- a run of deeper nodes, one node on and at its end
-pub run_more : {T : Type 0} (ns : List (ℕ × T)) (depth i : ℕ) (d : ℕ × T) → i < length ns → depth < (get_or ns i d).0 → run_end (depths ns) depth (i + 1) ≡ run_end (depths ns) depth i
+pub run_more : {T : Type 0} (ns : List (ℕ × T)) (depth i : ℕ) (d : ℕ × T)
+    → i < length ns → depth < (get_or ns i d).0 → run_end (depths ns) depth (i + 1) ≡ run_end (depths ns) depth i
 run_more ns depth i d l h =
     let m = length-map ns (λ n. n.0) in
     let r = depth_read ns i d l in
@@ -111,22 +123,26 @@ run_all ns depth i l =
     let e = prefix_len-drop_all (λ d. nat_lt depth d) (depths ns) i (omega arith) in omega arith
 
 -- the first child, as the code tests it
-pub child-some : {T : Type 0} (ns : List (ℕ × T)) (i : ℕ) (d : ℕ × T) → i + 1 < length ns → (get_or ns i d).0 < (get_or ns (i + 1) d).0 → Some (record { 0 = i + 1 }) ≡ child_of (depths ns) i
+pub child-some : {T : Type 0} (ns : List (ℕ × T)) (i : ℕ) (d : ℕ × T)
+    → i + 1 < length ns → (get_or ns i d).0 < (get_or ns (i + 1) d).0 → Some (record { 0 = i + 1 }) ≡ child_of (depths ns) i
 child-some ns i d l h =
     let a = depth_read ns i d (omega arith) in
     let b = depth_read ns (i + 1) d l in
     let t : nat_lt (get_or (depths ns) i 0) (get_or (depths ns) (i + 1) 0) ≡ true = grind (arith, nat_tests) in
     rw t
 
-pub child-none : {T : Type 0} (ns : List (ℕ × T)) (i : ℕ) (d : ℕ × T) → i < length ns → (i + 1 < length ns → (get_or ns (i + 1) d).0 ≤ (get_or ns i d).0) → None ≡ child_of (depths ns) i
+pub child-none : {T : Type 0} (ns : List (ℕ × T)) (i : ℕ) (d : ℕ × T)
+    → i < length ns → (i + 1 < length ns → (get_or ns (i + 1) d).0 ≤ (get_or ns i d).0) → None ≡ child_of (depths ns) i
 child-none ns i d l h =
     let a = depth_read ns i d l in
     let t : nat_lt (get_or (depths ns) i 0) (get_or (depths ns) (i + 1) 0) ≡ false =
-    ⊎_elim (λ p. let b = depth_read ns (i + 1) d p in let k = h p in grind (arith, nat_tests)) (λ p. let b = depth_past ns (i + 1) p in grind (arith, nat_tests)) (cases_lt (i + 1) (length ns)) in
+    ⊎_elim (λ p. let b = depth_read ns (i + 1) d p in let k = h p in grind (arith, nat_tests))
+    (λ p. let b = depth_past ns (i + 1) p in grind (arith, nat_tests)) (cases_lt (i + 1) (length ns)) in
     rw t
 
 -- the next sibling, as the code tests it
-pub sibling-some : {T : Type 0} (ns : List (ℕ × T)) (i e : ℕ) (d : ℕ × T) → i < length ns → e ≡ run_end (depths ns) (get_or ns i d).0 (i + 1) → e < length ns → (get_or ns e d).0 ≡ (get_or ns i d).0 → Some (record { 0 = e }) ≡ sibling_of (depths ns) i
+pub sibling-some : {T : Type 0} (ns : List (ℕ × T)) (i e : ℕ) (d : ℕ × T) → i < length ns → e ≡ run_end (depths ns) (get_or ns i d).0 (i + 1) → e < length ns
+    → (get_or ns e d).0 ≡ (get_or ns i d).0 → Some (record { 0 = e }) ≡ sibling_of (depths ns) i
 sibling-some ns i e d l r p h =
     let m = length-map ns (λ n. n.0) in
     let a = depth_read ns i d l in
@@ -136,7 +152,8 @@ sibling-some ns i e d l r p h =
     let u : eqb (get_or (depths ns) e 0) (get_or (depths ns) i 0) ≡ true = grind (arith, nat_tests) in
     rw (← q, t, u)
 
-pub sibling-none : {T : Type 0} (ns : List (ℕ × T)) (i e : ℕ) (d : ℕ × T) → i < length ns → e ≡ run_end (depths ns) (get_or ns i d).0 (i + 1) → (e < length ns → (get_or ns e d).0 ≢ (get_or ns i d).0) → None ≡ sibling_of (depths ns) i
+pub sibling-none : {T : Type 0} (ns : List (ℕ × T)) (i e : ℕ) (d : ℕ × T) → i < length ns → e ≡ run_end (depths ns) (get_or ns i d).0 (i + 1)
+    → (e < length ns → (get_or ns e d).0 ≢ (get_or ns i d).0) → None ≡ sibling_of (depths ns) i
 sibling-none ns i e d l r h =
     let m = length-map ns (λ n. n.0) in
     let a = depth_read ns i d l in
@@ -163,14 +180,21 @@ get-read (x ∷ xs) zero d l = refl
 get-read (x ∷ xs) (suc k) d l = get-read xs k d (omega arith)
 
 -- one step outwards
-pub in_table-turn : (ns : List (ℕ × Item)) (xs : List TreeIndex) (left k : ℕ) (d : TreeIndex) (m : ℕ × Item) → left ≡ k + 1 → k < length xs → IsOpenPath (depths ns) (reverse (take left xs)) → (in_table ns (reverse (take left xs)) ≡ in_table_by (in_table ns (reverse (take k xs))) (Some (get_or ns (get_or xs k d).0 m).1.body)) × IsOpenPath (depths ns) (reverse (take k xs))
+pub in_table-turn : (ns : List (ℕ × Item)) (xs : List TreeIndex) (left k : ℕ) (d : TreeIndex) (m : ℕ × Item)
+    → left ≡ k + 1 → k < length xs → IsOpenPath (depths ns) (reverse (take left xs))
+    → (in_table ns (reverse (take left xs)) ≡ in_table_by (in_table ns (reverse (take k xs))) (Some (get_or ns (get_or xs k d).0 m).1.body))
+    × IsOpenPath (depths ns) (reverse (take k xs))
 in_table-turn ns xs left k d m e l h =
     let r = ap (λ n. reverse (take n xs)) e ∙ rev_take xs k d l in
     let o = subst (IsOpenPath (depths ns)) r h in
-    let w : (get_or xs k d).0 < length ns = omega (arith, o.0.within, length-map ns (λ n. n.0)) in
-    (ap (in_table ns) r ∙ ap (λ (o : Option (ℕ × Item)). in_table_by (in_table ns (reverse (take k xs))) (option_map (λ m. m.1.body) o)) (get-read ns (get_or xs k d).0 m w), o.1)
+    let w : (get_or xs k d).0 < length ns = omega (arith, o.0.within, length-map ns (λ n. n.0)) in (
+      ap (in_table ns) r
+          ∙ ap (λ (o : Option (ℕ × Item)). in_table_by (in_table ns (reverse (take k xs))) (option_map (λ m. m.1.body) o)) (get-read ns (get_or xs k d).0 m w),
+      o.1,
+    )
 
-pub in_table-stop : (o : Bool) (b : ItemBody) → ((a : AlignmentIndex) → b ≡ Table a → ⊥) → (b ≡ TableHead → ⊥) → (b ≡ TableRow → ⊥) → (b ≡ TableCell → ⊥) → in_table_by o (Some b) ≡ false
+pub in_table-stop : (o : Bool) (b : ItemBody)
+    → ((a : AlignmentIndex) → b ≡ Table a → ⊥) → (b ≡ TableHead → ⊥) → (b ≡ TableRow → ⊥) → (b ≡ TableCell → ⊥) → in_table_by o (Some b) ≡ false
 in_table-stop o (Table a) t h r c = absurd (t a refl)
 in_table-stop o TableHead t h r c = absurd (h refl)
 in_table-stop o TableRow t h r c = absurd (r refl)
@@ -184,7 +208,8 @@ pub in_table-table : (o : Bool) (b : ItemBody) (a : AlignmentIndex) → b ≡ Ta
 in_table-table o b a e = rw e refl
 
 -- in a map in place the element that comes next is as it was
-pub map_over_same : {X : Type 0} (f : X → X) (xs ys : List X) (i : ℕ) (d : X) → i < length xs → ys ≡ map f (take i xs) ++ drop i xs → get_or ys i d ≡ get_or xs i d
+pub map_over_same : {X : Type 0} (f : X → X) (xs ys : List X) (i : ℕ) (d : X)
+    → i < length xs → ys ≡ map f (take i xs) ++ drop i xs → get_or ys i d ≡ get_or xs i d
 map_over_same f xs ys i d l e =
     let n : length (map f (take i xs)) ≡ i = length-map (take i xs) f ∙ length-take-le i xs (omega arith) in
     let r = get_or-append_right (map f (take i xs)) (drop i xs) i i d n (omega arith) in
@@ -245,12 +270,14 @@ pub opened-within : {T : Type 0} (f : Forest T) (c : TreeIndex) (rest : List Tre
 opened-within f c rest e h = open-within f c (ap (λ (is : List TreeIndex). slice_get is 0) e) h
 
 -- a change from a place on, one element on and at the end
-pub map_from-more : {T : Type 0} (g : ℕ × T → ℕ × T) (ns : List (ℕ × T)) (i : ℕ) (n : ℕ × T) → i < length ns → n ≡ get_or ns i n → map_from g (suc i) (set ns i (g n)) ≡ map_from g i ns
+pub map_from-more : {T : Type 0} (g : ℕ × T → ℕ × T) (ns : List (ℕ × T)) (i : ℕ) (n : ℕ × T)
+    → i < length ns → n ≡ get_or ns i n → map_from g (suc i) (set ns i (g n)) ≡ map_from g i ns
 map_from-more g [] i n l e = absurd (omega arith)
 map_from-more g (m ∷ ns) zero n l e = ap (λ k. g k ∷ map g ns) e
 map_from-more g (m ∷ ns) (suc i) n l e = ap (λ k. m ∷ k) (map_from-more g ns i n (omega arith) e)
 
-pub map_from-next : {T : Type 0} (g : ℕ × T → ℕ × T) (ns : List (ℕ × T)) (i : ℕ) (n : ℕ × T) → i < length ns → n ≡ get_or ns i n → map_from g (i + 1) (set ns i (g n)) ≡ map_from g i ns
+pub map_from-next : {T : Type 0} (g : ℕ × T → ℕ × T) (ns : List (ℕ × T)) (i : ℕ) (n : ℕ × T)
+    → i < length ns → n ≡ get_or ns i n → map_from g (i + 1) (set ns i (g n)) ≡ map_from g i ns
 map_from-next g ns i n l e =
     let h : i + 1 ≡ suc i = omega arith in
     ap (λ k. map_from g k (set ns i (g n))) h ∙ map_from-more g ns i n l e
@@ -262,14 +289,16 @@ map_from-end g (m ∷ ns) zero l = absurd (omega arith)
 map_from-end g (m ∷ ns) (suc i) l = ap (λ k. m ∷ k) (map_from-end g ns i (omega arith))
 
 -- nodes after the insertion of one and the change of those after it
-pub wrap-nodes : {T : Type 0} (g : ℕ × T → ℕ × T) (ns : List (ℕ × T)) (p : ℕ) (y : ℕ × T) → p ≤ length ns → map_from g (suc p) (insert ns p y) ≡ take p ns ++ y ∷ map g (drop p ns)
+pub wrap-nodes : {T : Type 0} (g : ℕ × T → ℕ × T) (ns : List (ℕ × T)) (p : ℕ) (y : ℕ × T)
+    → p ≤ length ns → map_from g (suc p) (insert ns p y) ≡ take p ns ++ y ∷ map g (drop p ns)
 wrap-nodes g [] zero y l = refl
 wrap-nodes g (n ∷ ns) zero y l = refl
 wrap-nodes g [] (suc p) y l = absurd (omega arith)
 wrap-nodes g (n ∷ ns) (suc p) y l = ap (λ z. n ∷ z) (wrap-nodes g ns p y (omega arith))
 
 -- the depths after an inserted place are those that stood before it
-pub insert-small : {T : Type 0} (ns : List (ℕ × T)) (p : ℕ) (y : ℕ × T) → p ≤ length ns → IsShallow (depths ns) → (k : ℕ) → suc p ≤ k → k < length (insert ns p y) → get_or (depths (insert ns p y)) k 0 < 2 ^ 63
+pub insert-small : {T : Type 0} (ns : List (ℕ × T)) (p : ℕ) (y : ℕ × T)
+    → p ≤ length ns → IsShallow (depths ns) → (k : ℕ) → suc p ≤ k → k < length (insert ns p y) → get_or (depths (insert ns p y)) k 0 < 2 ^ 63
 insert-small ns p y l h zero a b = absurd (omega arith)
 insert-small [] zero y l h (suc k) a b = absurd (omega arith)
 insert-small (n ∷ ns) zero y l h (suc k) a b = h k (omega (arith, length-map (n ∷ ns) (λ (m : ℕ × _). m.0)))
@@ -282,7 +311,8 @@ map_set (m ∷ ns) zero n = refl
 map_set (m ∷ ns) (suc i) n = ap (λ z. m.0 ∷ z) (map_set ns i n)
 
 -- a write to one place leaves the depths after it
-pub raise-keeps : {T : Type 0} (ns : List (ℕ × T)) (i : ℕ) (n : ℕ × T) → ((k : ℕ) → i ≤ k → k < length ns → get_or (depths ns) k 0 < 2 ^ 63) → (k : ℕ) → i + 1 ≤ k → k < length (set ns i n) → get_or (depths (set ns i n)) k 0 < 2 ^ 63
+pub raise-keeps : {T : Type 0} (ns : List (ℕ × T)) (i : ℕ) (n : ℕ × T) → ((k : ℕ) → i ≤ k → k < length ns → get_or (depths ns) k 0 < 2 ^ 63) → (k : ℕ)
+    → i + 1 ≤ k → k < length (set ns i n) → get_or (depths (set ns i n)) k 0 < 2 ^ 63
 raise-keeps ns i n h k a b =
     let e : depths (set ns i n) ≡ set (depths ns) i n.0 = map_set ns i n in
     let ne : k ≢ i = omega arith in
@@ -305,7 +335,8 @@ wrap-behind ds p e j l =
     r ∙ ap (λ k. get_or (e ∷ map (λ d. d + 1) (drop p ds)) k 0) z ∙ get_or-map (λ d. d + 1) (drop p ds) j 0 0 w ∙ ap (λ d. d + 1) (get_or-drop p ds j 0)
 
 wrap-length : (ds : List ℕ) (p e : ℕ) → p ≤ length ds → length (take p ds ++ e ∷ map (λ d. d + 1) (drop p ds)) ≡ length ds + 1
-wrap-length ds p e m = grind (arith, length-append (take p ds) (e ∷ map (λ d. d + 1) (drop p ds)), length-take-le p ds m, length-map (drop p ds) (λ d. d + 1), length-drop p ds)
+wrap-length ds p e m =
+    grind (arith, length-append (take p ds) (e ∷ map (λ d. d + 1) (drop p ds)), length-take-le p ds m, length-map (drop p ds) (λ d. d + 1), length-drop p ds)
 
 -- a last node before the place stays it, where what is put in is deeper
 last-wrap : (ds : List ℕ) (d i p e : ℕ) → IsLastAt ds d i → i < p → p ≤ length ds → d < e → IsLastAt (take p ds ++ e ∷ map (λ d. d + 1) (drop p ds)) d i
@@ -321,7 +352,8 @@ last-wrap ds d i p e h l m q = record {
       let z : k ≡ suc (p + j) = omega arith in
       let w : p + j < length ds = omega (arith, wrap-length ds p e m) in
       let v = h.behind (p + j) (omega arith) w in
-      let g : get_or (take p ds ++ e ∷ map (λ d. d + 1) (drop p ds)) k 0 ≡ get_or ds (p + j) 0 + 1 = ap (λ k. get_or (take p ds ++ e ∷ map (λ d. d + 1) (drop p ds)) k 0) z ∙ wrap-behind ds p e j w in
+      let g : get_or (take p ds ++ e ∷ map (λ d. d + 1) (drop p ds)) k 0 ≡ get_or ds (p + j) 0 + 1 =
+      ap (λ k. get_or (take p ds ++ e ∷ map (λ d. d + 1) (drop p ds)) k 0) z ∙ wrap-behind ds p e j w in
       omega arith)
       (λ y.
       let z : k ≡ p = omega arith in
@@ -331,7 +363,8 @@ last-wrap ds d i p e h l m q = record {
       (cases_lt k p);
 }
 
-path-wrap : (ds : List ℕ) (is : List TreeIndex) (p e : ℕ) → open_place is < p → p ≤ length ds → length is < e → IsOpenPath ds is → IsOpenPath (take p ds ++ e ∷ map (λ d. d + 1) (drop p ds)) is
+path-wrap : (ds : List ℕ) (is : List TreeIndex) (p e : ℕ)
+    → open_place is < p → p ≤ length ds → length is < e → IsOpenPath ds is → IsOpenPath (take p ds ++ e ∷ map (λ d. d + 1) (drop p ds)) is
 path-wrap ds [] p e l m q h = last-wrap ds 0 0 p e h l m (omega arith)
 path-wrap ds (i ∷ is) p e l m q h =
     let o : open_place is < i.0 = last-order ds _ _ _ i.0 (open-last ds is h.1) h.0 (omega arith) in
@@ -341,12 +374,14 @@ depths-deeper : {T : Type 0} (ns : List (ℕ × T)) → depths (map deeper ns) �
 depths-deeper [] = refl
 depths-deeper (n ∷ ns) = ap (λ z. (n.0 + 1) ∷ z) (depths-deeper ns)
 
-depths-wrap : {T : Type 0} (ns : List (ℕ × T)) (p e : ℕ) (x : T) → depths (take p ns ++ (e, x) ∷ map deeper (drop p ns)) ≡ take p (depths ns) ++ e ∷ map (λ d. d + 1) (drop p (depths ns))
+depths-wrap : {T : Type 0} (ns : List (ℕ × T)) (p e : ℕ) (x : T)
+    → depths (take p ns ++ (e, x) ∷ map deeper (drop p ns)) ≡ take p (depths ns) ++ e ∷ map (λ d. d + 1) (drop p (depths ns))
 depths-wrap ns zero e x = ap (λ z. e ∷ z) (depths-deeper ns)
 depths-wrap [] (suc p) e x = refl
 depths-wrap (n ∷ ns) (suc p) e x = ap (λ z. n.0 ∷ z) (depths-wrap ns p e x)
 
-preorder-wrap : (ds : List ℕ) (p e : ℕ) → IsPreorder ds → 0 < p → p ≤ length ds → get_or ds (p - 1) 0 + 1 ≡ e → IsPreorder (take p ds ++ e ∷ map (λ d. d + 1) (drop p ds))
+preorder-wrap : (ds : List ℕ) (p e : ℕ)
+    → IsPreorder ds → 0 < p → p ≤ length ds → get_or ds (p - 1) 0 + 1 ≡ e → IsPreorder (take p ds ++ e ∷ map (λ d. d + 1) (drop p ds))
 preorder-wrap ds p e h z m q = λ k a.
     let es = take p ds ++ e ∷ map (λ d. d + 1) (drop p ds) in
     let len = wrap-length ds p e m in
@@ -399,7 +434,9 @@ wrapped-is f c x q h =
     record {
       preorder = subst IsPreorder t (preorder-wrap ds p e h.preorder (omega arith) m v);
       opened = subst (λ (v : List ℕ). IsOpenPath v f.spine) t (path-wrap ds f.spine p e (omega arith) m (omega arith) h.opened);
-      at_current = subst (λ (o : Option TreeIndex). IfSome o (λ c. IsLastAt (depths (take p f.nodes ++ (e, x) ∷ map deeper (drop p f.nodes))) (length f.spine + 1) c.0)) (sym q)
+      at_current =
+          subst (λ (o : Option TreeIndex). IfSome o (λ c. IsLastAt (depths (take p f.nodes ++ (e, x) ∷ map deeper (drop p f.nodes))) (length f.spine + 1) c.0))
+          (sym q)
           (subst (λ (v : List ℕ). IsLastAt v (length f.spine + 1) c.0) t (last-wrap ds _ c.0 p e l (omega arith) m (omega arith)));
     }
 
@@ -408,7 +445,9 @@ root-depth ds [] h = h.depth
 root-depth ds (i ∷ is) h = root-depth ds is h.1
 
 pub shallow : {T : Type 0} (f : Forest T) → IsForest f → length f.nodes < 2 ^ 63 → IsShallow (depths f.nodes)
-shallow f h l = λ k a. let s = depth-small (depths f.nodes) h.preorder (root-depth (depths f.nodes) f.spine h.opened) k a in omega (arith, length-map f.nodes (λ n. n.0))
+shallow f h l = λ k a.
+    let s = depth-small (depths f.nodes) h.preorder (root-depth (depths f.nodes) f.spine h.opened) k a in
+    omega (arith, length-map f.nodes (λ n. n.0))
 
 pub current-within : {T : Type 0} (f : Forest T) (c : TreeIndex) → f.current ≡ Some c → IsForest f → c.0 < length f.nodes
 current-within f c q h =
@@ -416,8 +455,10 @@ current-within f c q h =
     omega (arith, l.within, length-map f.nodes (λ n. n.0))
 
 -- the end of what is below a node whose depth is read
-pub end-read : {T : Type 0} (ns ms : List (ℕ × T)) (i e : ℕ) (n : ℕ × T) → i < length ns → n ≡ get_or ns i n → ms ≡ ns → e ≡ run_end (depths ms) n.0 (i + 1) → e ≡ end_of (depths ns) i
-end-read {T = T} ns ms i e n l r q h = h ∙ ap (λ (v : List (ℕ × T)). run_end (depths v) n.0 (i + 1)) q ∙ ap (λ d. run_end (depths ns) d (i + 1)) (sym (depth_at ns i n l r))
+pub end-read : {T : Type 0} (ns ms : List (ℕ × T)) (i e : ℕ) (n : ℕ × T)
+    → i < length ns → n ≡ get_or ns i n → ms ≡ ns → e ≡ run_end (depths ms) n.0 (i + 1) → e ≡ end_of (depths ns) i
+end-read {T = T} ns ms i e n l r q h =
+    h ∙ ap (λ (v : List (ℕ × T)). run_end (depths v) n.0 (i + 1)) q ∙ ap (λ d. run_end (depths ns) d (i + 1)) (sym (depth_at ns i n l r))
 
 -- the last node of its depth ends with the list
 last-end : {T : Type 0} (ns : List (ℕ × T)) (d i : ℕ) → IsLastAt (depths ns) d i → end_of (depths ns) i ≡ length ns
@@ -445,19 +486,23 @@ path-within ds [] h k l d = absurd (omega arith)
 path-within ds (i ∷ is) h zero l d = h.0.within
 path-within ds (i ∷ is) h (suc k) l d = path-within ds is h.1 k (omega arith) d
 
-pub spine-small : {T : Type 0} (f : Forest T) (xs : List TreeIndex) → f.spine ≡ reverse xs → IsForest f → length f.nodes < 2 ^ 63 → (k : ℕ) → k < length xs → IfSome (slice_get xs k) (λ ix. ix.0 < 2 ^ 63)
+pub spine-small : {T : Type 0} (f : Forest T) (xs : List TreeIndex)
+    → f.spine ≡ reverse xs → IsForest f → length f.nodes < 2 ^ 63 → (k : ℕ) → k < length xs → IfSome (slice_get xs k) (λ ix. ix.0 < 2 ^ 63)
 spine-small f xs e h l k a =
     let d : TreeIndex = record { 0 = 0 } in
     let n = length-reverse xs in
     let r = get_or-reverse xs (length xs - 1 - k) d (omega arith) in
     let z : length xs - 1 - (length xs - 1 - k) ≡ k = omega arith in
-    let w = path-within (depths f.nodes) (reverse xs) (subst (λ (v : List TreeIndex). IsOpenPath (depths f.nodes) v) e h.opened) (length xs - 1 - k) (omega arith) d in
+    let w =
+    path-within (depths f.nodes) (reverse xs) (subst (λ (v : List TreeIndex). IsOpenPath (depths f.nodes) v) e h.opened) (length xs - 1 - k) (omega arith) d in
     let m = length-map f.nodes (λ n. n.0) in
     let q : get_or (reverse xs) (length xs - 1 - k) d ≡ get_or xs k d = r ∙ ap (λ i. get_or xs i d) z in
     let v : (get_or xs k d).0 < 2 ^ 63 = omega (arith, ap (λ (t : TreeIndex). t.0) q) in
     subst (λ (o : Option TreeIndex). IfSome o (λ ix. ix.0 < 2 ^ 63)) (sym (get-read xs k d a)) v
 
-pub item-read : {T : Type 0} (f now : Forest T) (ix : TreeIndex) (n : ℕ × T) → f ≡ now → ix.0 < length now.nodes → n ≡ get_or f.nodes ix.0 n → item_at now ix ≡ Some n.1
+pub item-read : {T : Type 0} (f now : Forest T) (ix : TreeIndex) (n : ℕ × T)
+    → f ≡ now → ix.0 < length now.nodes → n ≡ get_or f.nodes ix.0 n → item_at now ix ≡ Some n.1
 item-read {T = T} f now ix n e l r =
     let m = subst (λ (v : Forest T). ix.0 < length v.nodes) (sym e) l in
-    sym (ap (λ (v : Forest T). item_at v ix) e) ∙ ap (λ (o : Option (ℕ × T)). option_map (λ k. k.1) o) (get-read f.nodes ix.0 n m ∙ ap (λ (k : ℕ × T). Some k) (sym r))
+    sym (ap (λ (v : Forest T). item_at v ix) e)
+    ∙ ap (λ (o : Option (ℕ × T)). option_map (λ k. k.1) o) (get-read f.nodes ix.0 n m ∙ ap (λ (k : ℕ × T). Some k) (sym r))

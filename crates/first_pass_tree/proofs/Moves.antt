@@ -1,14 +1,17 @@
 -- Siblings moved out of a list of depths.
-use Rattle.std.proofs.Common.{◌≡◌, ◌≢◌, ℕ, ◌+◌, ◌-◌, ◌<◌, ◌≤◌, suc, zero, List, [], ◌∷◌, length, get_or, set, map, Some, None, true, false, Bool, eqb, cond, IfSome, IsSomeAnd, Option, refl, sym, ◌∙◌, ap, subst, ⊎_elim, arith}
+use Rattle.std.proofs.Common.{◌≡◌, ◌≢◌, ℕ, ◌+◌, ◌-◌, ◌<◌, ◌≤◌, suc, zero, List, [], ◌∷◌, length, get_or, set, map, Some, None, true, false, Bool, eqb, cond}
+use Rattle.std.proofs.Common.{IfSome, IsSomeAnd, Option, refl, sym, ◌∙◌, ap, subst, ⊎_elim, arith}
 use Rattle.std.proofs.lemmas.List.{length-map, length-set, get_or-set_other}
 use Rattle.std.proofs.lemmas.Bool.{cases_lt, cases_eq}
 use Rattle.std.proofs.lemmas.Bool.Decides.{nat_tests}
 use Rattle.first_pass_tree.specs.declared.tree_index.TreeIndex.{TreeIndex}
-use Rattle.first_pass_tree.specs.Forest.{Forest, IsForest, IsLastAt, IsOpenPath, IsPreorder, IsChildOfCurrent, depths, map_from, shallower, end_of, run_end, last_before, moved_out, open_place}
+use Rattle.first_pass_tree.specs.Forest.{Forest, IsForest, IsLastAt, IsOpenPath, IsPreorder, IsChildOfCurrent, depths, map_from, shallower, end_of, run_end}
+use Rattle.first_pass_tree.specs.Forest.{last_before, moved_out, open_place}
 use Rattle.first_pass_tree.proofs.Depths.{last-order, open-last, at-end}
 use Rattle.first_pass_tree.proofs.Keeps.{map_set, run-within}
 
-pub lower-keeps : {T : Type 0} (ns : List (ℕ × T)) (i : ℕ) (n : ℕ × T) → ((k : ℕ) → i ≤ k → k < length ns → 0 < get_or (depths ns) k 0) → (k : ℕ) → i + 1 ≤ k → k < length (set ns i n) → 0 < get_or (depths (set ns i n)) k 0
+pub lower-keeps : {T : Type 0} (ns : List (ℕ × T)) (i : ℕ) (n : ℕ × T)
+    → ((k : ℕ) → i ≤ k → k < length ns → 0 < get_or (depths ns) k 0) → (k : ℕ) → i + 1 ≤ k → k < length (set ns i n) → 0 < get_or (depths (set ns i n)) k 0
 lower-keeps ns i n h k a b =
     let e : depths (set ns i n) ≡ set (depths ns) i n.0 = map_set ns i n in
     let ne : k ≢ i = omega arith in
@@ -41,7 +44,8 @@ lower-length [] (suc e) = refl
 lower-length (n ∷ ns) (suc e) = ap suc (lower-length ns e)
 
 -- a last node before the place stays it, where all after the place is two deeper
-last-lower : {T : Type 0} (ns : List (ℕ × T)) (d i e m : ℕ) → IsLastAt (depths ns) d i → i < e → d ≤ m → ((k : ℕ) → e ≤ k → k < length (depths ns) → m + 2 ≤ get_or (depths ns) k 0) → IsLastAt (depths (map_from shallower e ns)) d i
+last-lower : {T : Type 0} (ns : List (ℕ × T)) (d i e m : ℕ) → IsLastAt (depths ns) d i → i < e → d ≤ m
+    → ((k : ℕ) → e ≤ k → k < length (depths ns) → m + 2 ≤ get_or (depths ns) k 0) → IsLastAt (depths (map_from shallower e ns)) d i
 last-lower ns d i e m h l q b = record {
   within = omega (arith, lower-length ns e, h.within);
   depth = lower-before ns e i l ∙ h.depth;
@@ -53,13 +57,16 @@ last-lower ns d i e m h l q b = record {
       (cases_lt k e);
 }
 
-path-lower : {T : Type 0} (ns : List (ℕ × T)) (is : List TreeIndex) (e m : ℕ) → open_place is < e → length is ≤ m → ((k : ℕ) → e ≤ k → k < length (depths ns) → m + 2 ≤ get_or (depths ns) k 0) → IsOpenPath (depths ns) is → IsOpenPath (depths (map_from shallower e ns)) is
+path-lower : {T : Type 0} (ns : List (ℕ × T)) (is : List TreeIndex) (e m : ℕ) → open_place is < e → length is ≤ m
+    → ((k : ℕ) → e ≤ k → k < length (depths ns) → m + 2 ≤ get_or (depths ns) k 0) → IsOpenPath (depths ns) is → IsOpenPath (depths (map_from shallower e ns)) is
 path-lower ns [] e m l q b h = last-lower ns 0 0 e m h l (omega arith) b
 path-lower ns (i ∷ is) e m l q b h =
     let o : open_place is < i.0 = last-order (depths ns) _ _ _ i.0 (open-last (depths ns) is h.1) h.0 (omega arith) in
     (last-lower ns _ i.0 e m h.0 l (omega arith) b, path-lower ns is e m (omega arith) (omega arith) b h.1)
 
-preorder-lower : {T : Type 0} (ns : List (ℕ × T)) (e m : ℕ) → 0 < e → IsPreorder (depths ns) → (e < length (depths ns) → get_or (depths ns) e 0 ≤ m) → m ≤ get_or (depths ns) (e - 1) 0 + 2 → ((k : ℕ) → e ≤ k → k < length (depths ns) → 0 < get_or (depths ns) k 0) → IsPreorder (depths (map_from shallower e ns))
+preorder-lower : {T : Type 0} (ns : List (ℕ × T)) (e m : ℕ)
+    → 0 < e → IsPreorder (depths ns) → (e < length (depths ns) → get_or (depths ns) e 0 ≤ m) → m ≤ get_or (depths ns) (e - 1) 0 + 2
+    → ((k : ℕ) → e ≤ k → k < length (depths ns) → 0 < get_or (depths ns) k 0) → IsPreorder (depths (map_from shallower e ns))
 preorder-lower ns e m z h q r b = λ k a.
     let w : k + 1 < length (depths ns) = omega (arith, lower-length ns e) in
     let p = h k w in
@@ -89,7 +96,8 @@ pub record IsLastBefore (ds : List ℕ) (d n r : ℕ) : Type 0 where
   pub behind : (k : ℕ) → r < k → k < n → d < get_or ds k 0
 
 -- the last place of a depth, where one place has it and nothing after that is above it
-pub last_before-is : (ds : List ℕ) (d p n : ℕ) → p < n → get_or ds p 0 ≡ d → ((k : ℕ) → p < k → k < n → d ≤ get_or ds k 0) → IsLastBefore ds d n (last_before ds d n)
+pub last_before-is : (ds : List ℕ) (d p n : ℕ)
+    → p < n → get_or ds p 0 ≡ d → ((k : ℕ) → p < k → k < n → d ≤ get_or ds k 0) → IsLastBefore ds d n (last_before ds d n)
 last_before-is ds d p zero l e h = absurd (omega arith)
 last_before-is ds d p (suc n) l e h =
     ⊎_elim
@@ -106,7 +114,8 @@ last_before-is ds d p (suc n) l e h =
       within = omega (arith, i.within);
       depth = i.depth;
       behind = λ k a b.
-          ⊎_elim (λ y. let j = ap (λ i. get_or ds i 0) y in let o = h n (omega arith) (omega arith) in omega arith) (λ y. i.behind k a (omega arith)) (cases_eq k n);
+          ⊎_elim (λ y. let j = ap (λ i. get_or ds i 0) y in let o = h n (omega arith) (omega arith) in omega arith) (λ y. i.behind k a (omega arith))
+          (cases_eq k n);
     } in
     subst (λ (b : Bool). IsLastBefore ds d (suc n) (cond b n (last_before ds d n))) (sym t) r)
     (cases_eq (get_or ds n 0) d)
@@ -150,9 +159,12 @@ abbrev at_place : ℕ → TreeIndex
 at_place n = record { 0 = n }
 
 -- the same, from what the calls on the fields answer
-pub moved-by : {T : Type 0} (f : Forest T) (ix : TreeIndex) (d e r : ℕ) (ns : List (ℕ × T)) → d ≡ length f.spine + 1 → d + 1 ≡ get_or (depths f.nodes) ix.0 0 → e ≡ run_end (depths f.nodes) (d + 1) (ix.0 + 1) → ns ≡ map_from shallower e f.nodes → r ≡ last_before (depths ns) d (length ns) → record f { nodes = ns; current = Some (record { 0 = r }) } ≡ moved_out f ix
+pub moved-by : {T : Type 0} (f : Forest T) (ix : TreeIndex) (d e r : ℕ) (ns : List (ℕ × T))
+    → d ≡ length f.spine + 1 → d + 1 ≡ get_or (depths f.nodes) ix.0 0 → e ≡ run_end (depths f.nodes) (d + 1) (ix.0 + 1) → ns ≡ map_from shallower e f.nodes
+    → r ≡ last_before (depths ns) d (length ns) → record f { nodes = ns; current = Some (record { 0 = r }) } ≡ moved_out f ix
 moved-by {T = T} f ix d e r ns ed ei ee en er =
     let x : e ≡ end_of (depths f.nodes) ix.0 = ee ∙ ap (λ k. run_end (depths f.nodes) k (ix.0 + 1)) ei in
     let y : ns ≡ map_from shallower (end_of (depths f.nodes) ix.0) f.nodes = en ∙ ap (λ k. map_from shallower k f.nodes) x in
     let z : r ≡ last_before (depths ns) (length f.spine + 1) (length ns) = er ∙ ap (λ k. last_before (depths ns) k (length ns)) ed in
-    ap (λ k. record f { nodes = ns; current = Some (at_place k) }) z ∙ ap (λ (ms : List (ℕ × T)). record f { nodes = ms; current = Some (at_place (last_before (depths ms) (length f.spine + 1) (length ms))) }) y
+    ap (λ k. record f { nodes = ns; current = Some (at_place k) }) z
+    ∙ ap (λ (ms : List (ℕ × T)). record f { nodes = ms; current = Some (at_place (last_before (depths ms) (length f.spine + 1) (length ms))) }) y

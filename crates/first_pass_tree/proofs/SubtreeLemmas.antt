@@ -1,7 +1,9 @@
 -- Subtrees, as some are forgotten and as the depths of a tree change.
-use Rattle.std.proofs.Common.{◌≡◌, ℕ, ◌+◌, ◌-◌, ◌<◌, ◌≤◌, ◌==◌, ◌||◌, nat_lt, Bool, true, false, suc, zero, List, [], ◌∷◌, ◌++◌, length, get_or, set, take, reverse, slice_index, if◌then◌else◌, IfSome, Option, Some, None, refl, sym, ◌∙◌, ap, subst, arith}
+use Rattle.std.proofs.Common.{◌≡◌, ℕ, ◌+◌, ◌-◌, ◌<◌, ◌≤◌, ◌==◌, ◌||◌, nat_lt, Bool, true, false, suc, zero, List, [], ◌∷◌, ◌++◌, length, get_or, set, take}
+use Rattle.std.proofs.Common.{reverse, slice_index, if◌then◌else◌, IfSome, Option, Some, None, refl, sym, ◌∙◌, ap, subst, arith}
 use Rattle.std.proofs.lemmas.Bool.Decides.{nat_tests}
-use Rattle.std.proofs.lemmas.List.{reverse-append, length-reverse, take_all, take_more_set, length-set, length-map, length-append, length-take-le, take-append-le, take-take, take-map, get_or-take}
+use Rattle.std.proofs.lemmas.List.{reverse-append, length-reverse, take_all, take_more_set, length-set, length-map, length-append, length-take-le}
+use Rattle.std.proofs.lemmas.List.{take-append-le, take-take, take-map, get_or-take}
 use Rattle.first_pass_tree.specs.declared.subtrees.Subtree.{Subtree}
 use Rattle.first_pass_tree.specs.declared.tree_index.TreeIndex.{TreeIndex}
 use Rattle.first_pass_tree.specs.Subtrees.{IsSubtree, AreSubtrees, IsTree, subtree, within_first, ended_last, ended, stands_outside, last_between, left_between}

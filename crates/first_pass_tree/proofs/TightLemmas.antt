@@ -1,5 +1,6 @@
 -- The paragraphs of a list made tight, one node after the other.
-use Rattle.std.proofs.Common.{◌≡◌, ℕ, zero, suc, ◌+◌, ◌<◌, ◌≤◌, ◌-◌, ◌==◌, nat_lt, Bool, true, false, List, [], ◌∷◌, length, slice_index, if◌then◌else◌, Option, Some, refl, sym, ap, subst, ◌∙◌, ⊎_elim, arith}
+use Rattle.std.proofs.Common.{◌≡◌, ℕ, zero, suc, ◌+◌, ◌<◌, ◌≤◌, ◌-◌, ◌==◌, nat_lt, Bool, true, false, List, [], ◌∷◌, length, slice_index, if◌then◌else◌, Option}
+use Rattle.std.proofs.Common.{Some, refl, sym, ap, subst, ◌∙◌, ⊎_elim, arith}
 use Rattle.std.proofs.lemmas.Bool.{cases_lt}
 use Rattle.std.proofs.lemmas.Bool.Decides.{nat_tests}
 use Rattle.std.proofs.lemmas.List.{length-map}
@@ -16,7 +17,8 @@ use Rattle.first_pass_tree.proofs.BodyLemmas.{not_changed}
 abbrev node_of : ℕ → ℕ → ItemBody → Item
 node_of start «end» body = record { start = start; «end» = «end»; body = body }
 
-run_depths_by : (t : Bool) (depth : ℕ) (n : ℕ × Item) (ns : List (ℕ × Item)) → depths (tight_run depth ns) ≡ depths ns → depths (if t then tightened (depth + 2) n ∷ tight_run depth ns else n ∷ ns) ≡ depths (n ∷ ns)
+run_depths_by : (t : Bool) (depth : ℕ) (n : ℕ × Item) (ns : List (ℕ × Item))
+    → depths (tight_run depth ns) ≡ depths ns → depths (if t then tightened (depth + 2) n ∷ tight_run depth ns else n ∷ ns) ≡ depths (n ∷ ns)
 run_depths_by true depth n ns h = ap (λ ds. n.0 ∷ ds) h
 run_depths_by false depth n ns h = refl
 
@@ -39,7 +41,8 @@ tight_node_depths depth zero (n ∷ ns) = refl
 tight_node_depths depth (suc i) (n ∷ ns) = ap (λ ds. n.0 ∷ ds) (tight_node_depths depth i ns)
 
 -- one node more, before those that are tight
-tight_more : (depth i : ℕ) (ns : List (ℕ × Item)) → i < length ns → depth < slice_index (depths ns) i → tight_node depth i (tight_at depth (i + 1) ns) ≡ tight_at depth i ns
+tight_more : (depth i : ℕ) (ns : List (ℕ × Item))
+    → i < length ns → depth < slice_index (depths ns) i → tight_node depth i (tight_at depth (i + 1) ns) ≡ tight_at depth i ns
 unfolding tight_node tight_at tight_run
 tight_more depth i [] h deep = absurd (omega arith)
 tight_more depth zero (n ∷ ns) h deep = (let t : nat_lt depth n.0 ≡ true = grind (arith, nat_tests, deep) in rw t refl)
@@ -60,7 +63,8 @@ tight_past depth (suc i) (n ∷ ns) h deep =
     ap (λ k. tight_at depth k (n ∷ ns)) e ∙ ap (λ ms. n ∷ ms) (tight_past depth i ns (omega arith) deep)
 
 -- so are nodes that all are
-tight_over : (depth i gap : ℕ) (ns : List (ℕ × Item)) → i + gap ≤ length ns → ((k : ℕ) → i ≤ k → k < i + gap → depth + 2 < slice_index (depths ns) k) → tight_at depth (i + gap) ns ≡ tight_at depth i ns
+tight_over : (depth i gap : ℕ) (ns : List (ℕ × Item))
+    → i + gap ≤ length ns → ((k : ℕ) → i ≤ k → k < i + gap → depth + 2 < slice_index (depths ns) k) → tight_at depth (i + gap) ns ≡ tight_at depth i ns
 tight_over depth i zero ns h deep = (let e : i + 0 ≡ i = omega arith in ap (λ k. tight_at depth k ns) e)
 tight_over depth i (suc gap) ns h deep =
     let e : i + suc gap ≡ i + gap + 1 = omega arith in
@@ -69,7 +73,8 @@ tight_over depth i (suc gap) ns h deep =
     ∙ tight_over depth i gap ns (omega arith) (λ k a b. deep k a (omega arith))
 
 -- a step of the walk back, over nodes that are too deep
-pub tight_back : (depth place at : ℕ) (ns : List (ℕ × Item)) → place < at → at ≤ length ns → depth < slice_index (depths ns) place → ((k : ℕ) → place < k → k < at → depth + 2 < slice_index (depths ns) k)
+pub tight_back : (depth place at : ℕ) (ns : List (ℕ × Item))
+    → place < at → at ≤ length ns → depth < slice_index (depths ns) place → ((k : ℕ) → place < k → k < at → depth + 2 < slice_index (depths ns) k)
     → tight_node depth place (tight_at depth at ns) ≡ tight_at depth place ns
 tight_back depth place at ns l w deep over =
     let e : place + 1 + (at - (place + 1)) ≡ at = omega arith in
@@ -98,11 +103,13 @@ node_stays depth i [] h = refl
 node_stays depth zero (n ∷ ns) h = rw h refl
 node_stays depth (suc i) (n ∷ ns) h = ap (λ ms. n ∷ ms) (node_stays depth i ns h)
 
-tightened_two : (n : ℕ × Item) (depth : ℕ) (b c : ItemBody) → (n.0 == depth) ≡ true → n.1.body ≡ b → tight_body b ≡ c → tightened depth n ≡ (n.0, record { start = n.1.start; «end» = n.1.«end»; body = c })
+tightened_two : (n : ℕ × Item) (depth : ℕ) (b c : ItemBody)
+    → (n.0 == depth) ≡ true → n.1.body ≡ b → tight_body b ≡ c → tightened depth n ≡ (n.0, record { start = n.1.start; «end» = n.1.«end»; body = c })
 tightened_two n depth b c two is t = rw two (ap (λ x. (n.0, node_of n.1.start n.1.«end» x)) (ap tight_body is ∙ t))
 
 -- a node that is two deeper
-pub node_tight : (depth i : ℕ) (ns : List (ℕ × Item)) (b c : ItemBody) → (slice_index (depths ns) i == (depth + 2)) ≡ true → body_at ns i ≡ Some b → tight_body b ≡ c
+pub node_tight : (depth i : ℕ) (ns : List (ℕ × Item)) (b c : ItemBody)
+    → (slice_index (depths ns) i == (depth + 2)) ≡ true → body_at ns i ≡ Some b → tight_body b ≡ c
     → tight_node depth i ns ≡ modify ns i (λ x. record { start = x.start; «end» = x.«end»; body = c })
 unfolding tight_node
 node_tight depth i [] b c two is t = refl
@@ -128,7 +135,8 @@ pub not_two_deeper : (a b d : ℕ) → a ≡ b → (a - d ≡ 2 → ⊥) → (b 
 not_two_deeper a b d e h = not_two_by (b == (d + 2)) a b d refl e h
 
 -- the same body put at a place
-pub tight_same_body : (ns : List (ℕ × Item)) (i : ℕ) (b : ItemBody) → body_at ns i ≡ Some b → modify ns i (λ x. record { start = x.start; «end» = x.«end»; body = b }) ≡ ns
+pub tight_same_body : (ns : List (ℕ × Item)) (i : ℕ) (b : ItemBody)
+    → body_at ns i ≡ Some b → modify ns i (λ x. record { start = x.start; «end» = x.«end»; body = b }) ≡ ns
 tight_same_body ns i b is = not_changed ns i _ b is (λ x e. ap (λ z. node_of x.start x.«end» z) (sym e))
 
 -- no paragraph
@@ -155,13 +163,15 @@ tightening_begins old depth from to l = record { before = l; within = omega arit
 pub tightening_within : (old now : Forest Item) (depth from to at : ℕ) → to ≤ length old.nodes → IsTightening old depth from to at now → at ≤ length now.nodes
 tightening_within old now depth from to at l h = omega (arith, h.within, same_count old now h.depths_stay)
 
-pub tightening_deeper : (old now : Forest Item) (depth from to at k : ℕ) → ((j : ℕ) → from ≤ j → j < to → depth < slice_index (depths old.nodes) j) → from < at → at ≡ k + 1 → IsTightening old depth from to at now
+pub tightening_deeper : (old now : Forest Item) (depth from to at k : ℕ)
+    → ((j : ℕ) → from ≤ j → j < to → depth < slice_index (depths old.nodes) j) → from < at → at ≡ k + 1 → IsTightening old depth from to at now
     → depth < slice_index (depths now.nodes) k
 tightening_deeper old now depth from to at k deep l s h =
     let w = h.within in
     subst (λ (ds : List ℕ). depth < slice_index ds k) (sym h.depths_stay) (deep k (omega arith) (omega arith))
 
-pub tightening_next : (old now next : Forest Item) (depth from to at k : ℕ) → to ≤ length old.nodes → ((j : ℕ) → from ≤ j → j < to → depth < slice_index (depths old.nodes) j) → from < at → at ≡ k + 1 → IsTightening old depth from to at now
+pub tightening_next : (old now next : Forest Item) (depth from to at k : ℕ) → to ≤ length old.nodes
+    → ((j : ℕ) → from ≤ j → j < to → depth < slice_index (depths old.nodes) j) → from < at → at ≡ k + 1 → IsTightening old depth from to at now
     → next ≡ with_tight_node now depth (record { 0 = k }) → IsTightening old depth from to k next
 tightening_next old now next depth from to at k l deep b s h e =
     let w = h.within in
@@ -186,12 +196,14 @@ pub record IsTightFrom (f : Forest Item) (list depth at : ℕ) (g : Forest Item)
   pub tight : g ≡ tight_from f depth at
 
 -- at their end nothing is yet
-pub walk_begins : (f : Forest Item) (list depth at : ℕ) → list < length f.nodes → depth ≡ slice_index (depths f.nodes) list → at ≡ end_of (depths f.nodes) list → IsTightFrom f list depth at f
+pub walk_begins : (f : Forest Item) (list depth at : ℕ)
+    → list < length f.nodes → depth ≡ slice_index (depths f.nodes) list → at ≡ end_of (depths f.nodes) list → IsTightFrom f list depth at f
 walk_begins f list depth at l d e =
     let ds = depths f.nodes in
     let m = length-map f.nodes (λ n. n.0) in
     let n : tight_at depth at f.nodes ≡ f.nodes = ⊎_elim
-    (λ a. tight_stop depth at f.nodes (subst (λ (k : ℕ). slice_index ds k ≤ depth) (sym e) (subst (λ (k : ℕ). slice_index ds (end_of ds list) ≤ k) (sym d) (at-end ds list (omega arith) (omega arith)))))
+    (λ a. tight_stop depth at f.nodes (subst (λ (k : ℕ). slice_index ds k ≤ depth) (sym e)
+    (subst (λ (k : ℕ). slice_index ds (end_of ds list) ≤ k) (sym d) (at-end ds list (omega arith) (omega arith)))))
     (λ a. tight_end depth at f.nodes (omega arith))
     (cases_lt at (length ds)) in
     record {
@@ -202,21 +214,26 @@ walk_begins f list depth at l d e =
 
 pub walk_within : (f g : Forest Item) (list depth at : ℕ) → list < length f.nodes → IsTightFrom f list depth at g → at ≤ length g.nodes
 walk_within f g list depth at l h =
-    omega (arith, h.within, same_count f g (tight_from_depths f g depth at h.tight), run-within f.nodes (slice_index (depths f.nodes) list) (list + 1) (omega arith))
+    omega
+    (arith, h.within, same_count f g (tight_from_depths f g depth at h.tight), run-within f.nodes (slice_index (depths f.nodes) list) (list + 1) (omega arith))
 
 -- what is below the list is deeper
-pub walk_deeper : (f g : Forest Item) (list depth at k : ℕ) → depth ≡ slice_index (depths f.nodes) list → IsTightFrom f list depth at g → list < k → k < at → depth < slice_index (depths g.nodes) k
+pub walk_deeper : (f g : Forest Item) (list depth at k : ℕ)
+    → depth ≡ slice_index (depths f.nodes) list → IsTightFrom f list depth at g → list < k → k < at → depth < slice_index (depths g.nodes) k
 walk_deeper f g list depth at k d h a b =
     let w = h.within in
     let o = before-end (depths f.nodes) list k a (omega arith) in
-    subst (λ (ds : List ℕ). depth < slice_index ds k) (sym (tight_from_depths f g depth at h.tight)) (subst (λ (e : ℕ). e < slice_index (depths f.nodes) k) (sym d) o)
+    subst (λ (ds : List ℕ). depth < slice_index ds k) (sym (tight_from_depths f g depth at h.tight))
+    (subst (λ (e : ℕ). e < slice_index (depths f.nodes) k) (sym d) o)
 
 -- the nodes after an inner list are tight too
-pub walk_over : (f g : Forest Item) (list depth at past : ℕ) → IsTightFrom f list depth at g → list < past → past ≤ at → (h : Forest Item) → h ≡ tight_from f depth past → IsTightFrom f list depth past h
+pub walk_over : (f g : Forest Item) (list depth at past : ℕ)
+    → IsTightFrom f list depth at g → list < past → past ≤ at → (h : Forest Item) → h ≡ tight_from f depth past → IsTightFrom f list depth past h
 walk_over f g list depth at past from a b h t = record { behind = a; within = (let w = from.within in omega arith); tight = t }
 
 -- a step over an inner list, from the nodes after it to its place
-pub walk_next : (f g h next : Forest Item) (list depth at place past : ℕ) → list < length f.nodes → depth ≡ slice_index (depths f.nodes) list → IsTightFrom f list depth at g → list < place → place < past → past ≤ at
+pub walk_next : (f g h next : Forest Item) (list depth at place past : ℕ)
+    → list < length f.nodes → depth ≡ slice_index (depths f.nodes) list → IsTightFrom f list depth at g → list < place → place < past → past ≤ at
     → ((k : ℕ) → place < k → k < past → depth + 2 < slice_index (depths g.nodes) k)
     → h ≡ tight_from f depth past → next ≡ with_tight_node h depth (record { 0 = place }) → IsTightFrom f list depth place next
 walk_next f g h next list depth at place past l d from a b c over t e =
@@ -224,11 +241,13 @@ walk_next f g h next list depth at place past l d from a b c over t e =
     let s = tight_from_depths f g depth at from.tight in
     let w = walk_within f g list depth at l from in
     let n = same_count f g s in
-    let deep : depth < slice_index (depths f.nodes) place = subst (λ (ds : List ℕ). depth < slice_index ds place) s (walk_deeper f g list depth at place d from a (omega arith)) in
+    let deep : depth < slice_index (depths f.nodes) place =
+    subst (λ (ds : List ℕ). depth < slice_index ds place) s (walk_deeper f g list depth at place d from a (omega arith)) in
     record {
       behind = a;
       within = omega arith;
       tight = e
           ∙ ap (λ (v : Forest Item). with_tight_node v depth (record { 0 = place })) t
-          ∙ ap (λ (ns : List (ℕ × Item)). record f { nodes = ns }) (tight_back depth place past f.nodes b (omega arith) deep (λ k x y. subst (λ (ds : List ℕ). depth + 2 < slice_index ds k) s (over k x y)));
+          ∙ ap (λ (ns : List (ℕ × Item)). record f { nodes = ns })
+          (tight_back depth place past f.nodes b (omega arith) deep (λ k x y. subst (λ (ds : List ℕ). depth + 2 < slice_index ds k) s (over k x y)));
     }

@@ -2,7 +2,9 @@
 use Rattle.std.specs.Prelude.{◌≡◌, ℕ, ◌+◌, ◌<◌, ◌≤◌, ◌==◌, ◌&&◌, ◌||◌, ◌⊎◌, Bool, true, false, nat_lt, List, [], ◌∷◌, length, slice_index, Option, None}
 use Rattle.std.specs.List.{slice_index_or, list_any}
 use Rattle.std.specs.Char.{is_ascii_alphabetic}
-use Rattle.first_pass_items.specs.Bytes.{line_feed, carriage_return, space, exclamation_mark, quotation_mark, dollar_sign, ampersand, apostrophe, asterisk, hyphen, full_stop, less_than, left_bracket, backslash, right_bracket, circumflex, underscore, backquote, left_brace, pipe, right_brace, tilde}
+use Rattle.first_pass_items.specs.Bytes.{line_feed, carriage_return, space, exclamation_mark, quotation_mark, dollar_sign, ampersand, apostrophe, asterisk}
+use Rattle.first_pass_items.specs.Bytes.{hyphen, full_stop, less_than, left_bracket, backslash, right_bracket, circumflex, underscore, backquote, left_brace}
+use Rattle.first_pass_items.specs.Bytes.{pipe, right_brace, tilde}
 use Rattle.first_pass_items.specs.declared.option_set.Options.{Options}
 use Rattle.first_pass_items.specs.OptionWords.{has, tables, strikethrough, smart_punctuation, math, superscript, subscript}
 use Rattle.first_pass_walk.specs.declared.walk.LoopInstruction.{LoopInstruction}
@@ -80,10 +82,12 @@ Walks {F} {T} step marking [] (ix, f) (answer, last) =
     (NoneMarkedFrom marking.lut marking.bytes ix × (answer ≡ (length marking.bytes, None)) × (last ≡ f))
     ⊎ ((j : ℕ) × IsNextMarked marking.lut marking.bytes ix j × step f j (slice_index marking.bytes j) (BreakAtWith answer.0 answer.1) last)
 Walks {F} {T} step marking (n ∷ ns) (ix, f) (answer, last) =
-    (j : ℕ) × IsNextMarked marking.lut marking.bytes ix j × (g : F) × step f j (slice_index marking.bytes j) (ContinueAndSkip n) g × Walks step marking ns (j + n + 1, g) (answer, last)
+    (j : ℕ) × IsNextMarked marking.lut marking.bytes ix j × (g : F) × step f j (slice_index marking.bytes j) (ContinueAndSkip n) g
+    × Walks step marking ns (j + n + 1, g) (answer, last)
 
 -- the answer of a walk from ix with the closure f: there are calls that lead to it (this project)
-pub record IsWalk {F T : Type 0} (step : F → ℕ → ℕ → LoopInstruction (Option T) → F → Type 0) (lut : List Bool) (bytes : List ℕ) (ix : ℕ) (f : F) (answer : ℕ × Option T) : Type 0 where
+pub record IsWalk {F T : Type 0} (step : F → ℕ → ℕ → LoopInstruction (Option T) → F → Type 0) (lut : List Bool) (bytes : List ℕ) (ix : ℕ) (f : F)
+    (answer : ℕ × Option T) : Type 0 where
   pub skips : List ℕ
   pub last : F
   pub walk : Walks step (record { lut = lut; bytes = bytes }) skips (ix, f) (answer, last)

@@ -15,7 +15,8 @@ returns-in-Some-clause-ready c = λ names defined ready.
     let l = c.loop-behind in
     let e = l.invariant.same_end in
     let p = c.open_container.new.place in
-    let before = subst (λ (n : ℕ). ReadyAt d defined l.reading.tree l.reading.blank (Inside l.place) (lines_from text n)) (sym e) (l.invariant.ready names defined ready) in
+    let before =
+    subst (λ (n : ℕ). ReadyAt d defined l.reading.tree l.reading.blank (Inside l.place) (lines_from text n)) (sym e) (l.invariant.ready names defined ready) in
     let is : c.in_ok-behind.field-0 ≡ Some c.in-Some.behind = cc in
     subst (λ (n : ℕ). ReadyBehind d defined c.open_container.new.reading p n c.in-Some.behind) e
     (subst (λ o. ReadyIn d defined c.open_container.new.reading p (line_end l.place) o) is (c.in_ok-behind.ensures.ready names defined before))
@@ -25,9 +26,11 @@ returns-in-Some-clause-few c =
     let l = c.loop-behind in
     let first = c.args.reading.now.tree.nodes in
     let is : c.in_ok-behind.field-0 ≡ Some c.in-Some.behind = cc in
-    let grows : GrowsIn c.args.source.text.now l.place.line first c.open_container.new.reading.tree.nodes (offset c.open_container.new.place) c.in_ok-behind.field-0 =
+    let grows : GrowsIn c.args.source.text.now l.place.line first c.open_container.new.reading.tree.nodes
+    (offset c.open_container.new.place) c.in_ok-behind.field-0 =
     c.in_ok-behind.ensures.few first (subst (λ n. GrowsBy n (offset l.place) first l.reading.tree.nodes) (sym l.invariant.same_line) l.invariant.few) in
-    subst (λ n. GrowsIn c.args.source.text.now n first c.open_container.new.reading.tree.nodes (offset c.open_container.new.place) (Some c.in-Some.behind)) l.invariant.same_line
+    subst (λ n. GrowsIn c.args.source.text.now n first c.open_container.new.reading.tree.nodes (offset c.open_container.new.place) (Some c.in-Some.behind))
+    l.invariant.same_line
     (subst (GrowsIn c.args.source.text.now l.place.line first c.open_container.new.reading.tree.nodes (offset c.open_container.new.place)) is grows)
 
 pub returns-in-Some-clause-named : goal.returns-in-Some-clause-named

@@ -19,9 +19,12 @@ invariant-loop-behind l = record {
   same_line : l.place.line ≡ l.fn.place.line;
   same_end : line_end l.place ≡ line_end l.fn.place;
   no_empty : l.reading.empty_item ≡ None;
-  ready : (names : Names) (defined : Tables) → ReadyAt (document l.source.text.now l.source.options names) defined l.initial.reading.tree l.initial.reading.blank (Inside l.fn.place) (lines_from l.source.text.now (line_end l.fn.place))
-      → ReadyAt (document l.source.text.now l.source.options names) defined l.reading.tree l.reading.blank (Inside l.place) (lines_from l.source.text.now (line_end l.fn.place));
-  order : IsCharBoundary l.source.text.now l.fn.place.line → IsOrderedTo l.source.text.now l.initial.reading.tree (line_or l.initial.reading.tree l.fn.place.line (offset l.fn.place))
+  ready : (names : Names) (defined : Tables) → ReadyAt (document l.source.text.now l.source.options names) defined l.initial.reading.tree
+      l.initial.reading.blank (Inside l.fn.place) (lines_from l.source.text.now (line_end l.fn.place))
+      → ReadyAt (document l.source.text.now l.source.options names) defined l.reading.tree l.reading.blank (Inside l.place)
+      (lines_from l.source.text.now (line_end l.fn.place));
+  order : IsCharBoundary l.source.text.now l.fn.place.line
+      → IsOrderedTo l.source.text.now l.initial.reading.tree (line_or l.initial.reading.tree l.fn.place.line (offset l.fn.place))
       → IsOrderedTo l.source.text.now l.reading.tree (line_or l.reading.tree l.place.line (offset l.place));
   named : (names : Names) → AreNamed names l.initial.reading.tree.nodes → AreNamed names l.reading.tree.nodes;
   whole : (names : Names) → HasWholeTables names l.initial.reading.tree → HasWholeTables names l.reading.tree;

@@ -24,7 +24,8 @@ loop-ix-init c = record {
   same_text = c.in_ok-pass.ensures.text;
   same_options = c.in_ok-pass.ensures.options;
   boundary = IsCharBoundary-start c.args.text.now c.utf8.text;
-  ready = λ names more. subst (λ z. Ready (document c.args.text.now c.args.options names) z c.in_ok-pass.pass.reading (lines_from c.args.text.now 0)) (sym c.in_ok-pass.ensures.tables) (c.in_ok-pass.ensures.ready names);
+  ready = λ names more. subst (λ z. Ready (document c.args.text.now c.args.options names) z c.in_ok-pass.pass.reading (lines_from c.args.text.now 0))
+      (sym c.in_ok-pass.ensures.tables) (c.in_ok-pass.ensures.ready names);
   order = inl c.in_ok-pass.ensures.order;
   named = c.in_ok-pass.ensures.named;
   written = none_written c.args.text.now c.in_ok-pass.pass.allocs c.in_ok-pass.ensures.tables;
@@ -48,9 +49,11 @@ loop-ix-preserved c =
       same_options = ap (λ (z : Source). z.options) e.source ∙ i.same_options;
       boundary = subst (λ t. IsCharBoundary t next) i.same_text e.boundary;
       ready = λ names more.
-          subst (λ (z : List ℕ × Options). Ready (document z.0 z.1 names) (tables pass.allocs) before (lines_from z.0 c.loop-ix.ix) → Ready (document z.0 z.1 names) (tables new.allocs) behind (lines_from z.0 next)) (both_same i.same_text i.same_options) (e.ready names more)
+          subst (λ (z : List ℕ × Options). Ready (document z.0 z.1 names) (tables pass.allocs) before (lines_from z.0 c.loop-ix.ix)
+          → Ready (document z.0 z.1 names) (tables new.allocs) behind (lines_from z.0 next)) (both_same i.same_text i.same_options) (e.ready names more)
           (i.ready names (extends_both names (names_of new.allocs) (names_of pass.allocs) more e.names));
-      order = subst (λ (z : List ℕ × Options). IsOrderedFrom z.1 z.0 before c.loop-ix.ix → IsOrderedFrom z.1 z.0 behind next) (both_same i.same_text i.same_options) e.order i.order;
+      order = subst (λ (z : List ℕ × Options). IsOrderedFrom z.1 z.0 before c.loop-ix.ix → IsOrderedFrom z.1 z.0 behind next)
+          (both_same i.same_text i.same_options) e.order i.order;
       named = e.named i.named;
       written = subst (λ t. AreWritten t (refdefs_of pass.allocs) → AreWritten t (refdefs_of new.allocs)) i.same_text e.written i.written;
       few = (let read = i.few in let grows = e.few in let later = e.later.0 in omega arith);
@@ -71,8 +74,10 @@ returns-clause-derived c =
     let d = document c.args.text.now c.args.options names in
     let i = c.loop-ix.invariant in
     let now = c.close_containers.new.reading in
-    let here = subst (Ready d (tables c.loop-ix.pass.allocs) c.loop-ix.pass.reading) (lines_at-end c.args.text.now c.loop-ix.ix c.loop-ix-test.false) (i.ready names (extends_equal _ _ refl)) in
-    let closed : Ready d (tables c.loop-ix.pass.allocs) now [] = c.close_containers.ensures.ready d (tables c.loop-ix.pass.allocs) [] refl (λ m low high. tt) here in
+    let here = subst (Ready d (tables c.loop-ix.pass.allocs) c.loop-ix.pass.reading) (lines_at-end c.args.text.now c.loop-ix.ix c.loop-ix-test.false)
+    (i.ready names (extends_equal _ _ refl)) in
+    let closed : Ready d (tables c.loop-ix.pass.allocs) now [] =
+    c.close_containers.ensures.ready d (tables c.loop-ix.pass.allocs) [] refl (λ m low high. tt) here in
     ready_finish d (tables c.loop-ix.pass.allocs) now (all_closed c) closed
 
 pub returns-clause-whole : goal.returns-clause-whole

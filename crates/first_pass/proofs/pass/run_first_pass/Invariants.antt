@@ -15,7 +15,8 @@ invariant-loop-ix l = record {
   same_text : l.pass.source.text.now ≡ l.text;
   same_options : l.pass.source.options ≡ l.fn.options;
   boundary : IsCharBoundary l.text l.ix;
-  ready : (names : Names) → Extends names (names_of l.pass.allocs) → Ready (document l.text l.fn.options names) (tables l.pass.allocs) l.pass.reading (lines_from l.text l.ix);
+  ready : (names : Names)
+      → Extends names (names_of l.pass.allocs) → Ready (document l.text l.fn.options names) (tables l.pass.allocs) l.pass.reading (lines_from l.text l.ix);
   order : IsOrderedFrom l.fn.options l.text l.pass.reading l.ix;
   named : AreNamed (names_of l.pass.allocs) l.pass.reading.tree.nodes;
   written : AreWritten l.text (refdefs_of l.pass.allocs);

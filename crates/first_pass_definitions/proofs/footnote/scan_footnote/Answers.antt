@@ -17,7 +17,9 @@ pub returns-clause-borrowed : goal.returns-clause-borrowed
 returns-clause-borrowed c =
     let there : drop 2 c.range_from.result.now ≡ drop (c.args.start + 2) c.args.source.text.now =
     ap (drop 2) c.range_from.ensures.value ∙ drop-drop 2 c.args.start c.args.source.text.now in
-    subst (λ (xs : List ℕ). IfOk c.scan_footnote_head.result (λ answer. IfSome answer (λ found. text_of found.1 ≡ take (found.0 - 4) xs → Borrows (take (found.0 - 4) xs) found.1))) there
+    subst (λ (xs : List ℕ).
+    IfOk c.scan_footnote_head.result (λ answer. IfSome answer (λ found. text_of found.1 ≡ take (found.0 - 4) xs → Borrows (take (found.0 - 4) xs) found.1)))
+    there
     c.scan_footnote_head.ensures.borrowed
 
 pub returns-clause-err : goal.returns-clause-err
@@ -25,7 +27,8 @@ returns-clause-err c =
     let text = c.args.source.text.now in
     let around = context_of c.args.source.options c.args.tree.now in
     let bs = c.range_from.result.now in
-    subst (λ (xs : List ℕ). OnErr c.scan_footnote_head.result (FootnoteAsks around (in_table c.args.tree.now.nodes c.args.tree.now.spine) xs)) c.range_from.ensures.value
+    subst (λ (xs : List ℕ). OnErr c.scan_footnote_head.result (FootnoteAsks around (in_table c.args.tree.now.nodes c.args.tree.now.spine) xs))
+    c.range_from.ensures.value
     (on_err_weaker c.scan_footnote_head.result (λ f. footnote_asks around (footnote_prefix around) _ _ bs _ c.is_in_table-in_table.ensures f.0
     (f.1 (footnote_prefix around) (λ behind answer at b e p.
     let there = place_from text behind.now bs c.args.start at c.requires c.range_from.ensures.value b e in

@@ -20,7 +20,8 @@ returns-clause-err c =
     let text = c.args.source.text.now in
     let around = context_of c.args.source.options c.args.tree.now in
     let bs = c.range_from.result.now in
-    subst (λ (xs : List ℕ). OnErr c.scan_link_label_rest.result (LabelAsks around (in_table c.args.tree.now.nodes c.args.tree.now.spine) xs)) c.range_from.ensures.value
+    subst (λ (xs : List ℕ). OnErr c.scan_link_label_rest.result (LabelAsks around (in_table c.args.tree.now.nodes c.args.tree.now.spine) xs))
+    c.range_from.ensures.value
     (on_err_weaker c.scan_link_label_rest.result (λ f. label_asks around (prefix_crossed true around) _ _ bs _ c.is_in_table-in_table.ensures
     (f (prefix_crossed true around) (λ behind answer at b e p.
     let there = place_from text behind.now bs c.args.start at c.requires c.range_from.ensures.value b e in

@@ -25,7 +25,8 @@ returns-in_default-clause-value c =
 
 pub returns-then-not-begins-clause-value : goal.returns-then-not-begins-clause-value
 returns-then-not-begins-clause-value c =
-    let e = no_colon _ (context_of c.args.source.options c.args.tree.now) c.args.source.text.now c.args.start c.in-Some.label_len c.in-Some.label c.requires.bracket
+    let e =
+    no_colon _ (context_of c.args.source.options c.args.tree.now) c.args.source.text.now c.args.start c.in-Some.label_len c.in-Some.label c.requires.bracket
     (rw c.in-Some.is at c.in_ok-label_len.ensures.value)
     (colon_is (goal.at.returns-then-not-begins-clause-value c).After-begins ∙ c.if-not-begins.true) in
     rw e refl
@@ -38,30 +39,36 @@ scan_refdef-requires c =
 
 pub returns-in_default-2-clause-value : goal.returns-in_default-2-clause-value
 returns-in_default-2-clause-value c =
-    let e = no_target _ (context_of c.args.source.options c.args.tree.now) c.args.source.text.now c.args.start c.in-Some.label_len c.in-Some.label c.requires.bracket
+    let e =
+    no_target _ (context_of c.args.source.options c.args.tree.now) c.args.source.text.now c.args.start c.in-Some.label_len c.in-Some.label c.requires.bracket
     (rw c.in-Some.is at c.in_ok-label_len.ensures.value)
     (colon_is (goal.at.returns-in_default-2-clause-value c).After-begins ∙ c.if-not-begins.false) (rw c.in_default-2.is at c.in_ok-len.ensures.value) in
     rw e refl
 
 pub returns-clause-value : goal.returns-clause-value
 returns-clause-value c =
-    rw c.in_ok-new.ensures (is_reference _ (context_of c.args.source.options c.args.tree.now) c.args.source.text.now c.args.start c.in-Some.label_len c.in-Some-2.len c.in-Some.label
+    rw c.in_ok-new.ensures
+    (is_reference _ (context_of c.args.source.options c.args.tree.now) c.args.source.text.now c.args.start c.in-Some.label_len c.in-Some-2.len c.in-Some.label
     c.in-Some-2.definition c.requires.bracket
     (rw c.in-Some.is at c.in_ok-label_len.ensures.value) (colon_is (goal.at.returns-clause-value c).After-begins ∙ c.if-not-begins.false)
     (rw c.in-Some-2.is at c.in_ok-len.ensures.value))
 
 pub returns-in_err-label_len-clause-err : goal.returns-in_err-label_len-clause-err
 returns-in_err-label_len-clause-err c =
-    on_err c.from_residual.result (ask_label _ (context_of c.args.source.options c.args.tree.now) c.args.source.text.now c.args.start c.requires.bracket c.in_err-label_len.ensures.err)
+    on_err c.from_residual.result
+    (ask_label _ (context_of c.args.source.options c.args.tree.now) c.args.source.text.now c.args.start c.requires.bracket c.in_err-label_len.ensures.err)
 
 pub returns-in_err-len-clause-err : goal.returns-in_err-len-clause-err
 returns-in_err-len-clause-err c =
-    on_err c.from_residual-in_err-len.result (ask_target _ (context_of c.args.source.options c.args.tree.now) c.args.source.text.now c.args.start c.in-Some.label_len c.in-Some.label c.requires.bracket
-    (rw c.in-Some.is at c.in_ok-label_len.ensures.value) (colon_is (goal.at.returns-in_err-len-clause-err c).After-begins ∙ c.if-not-begins.false) c.in_err-len.ensures.err)
+    on_err c.from_residual-in_err-len.result
+    (ask_target _ (context_of c.args.source.options c.args.tree.now) c.args.source.text.now c.args.start c.in-Some.label_len c.in-Some.label c.requires.bracket
+    (rw c.in-Some.is at c.in_ok-label_len.ensures.value) (colon_is (goal.at.returns-in_err-len-clause-err c).After-begins ∙ c.if-not-begins.false)
+    c.in_err-len.ensures.err)
 
 pub returns-in_err-new-clause-err : goal.returns-in_err-new-clause-err
 returns-in_err-new-clause-err c =
-    on_err c.from_residual-in_err-new.result (ask_key _ (context_of c.args.source.options c.args.tree.now) c.args.source.text.now c.args.start _ c.requires.bracket
+    on_err c.from_residual-in_err-new.result
+    (ask_key _ (context_of c.args.source.options c.args.tree.now) c.args.source.text.now c.args.start _ c.requires.bracket
     (is_reference _ (context_of c.args.source.options c.args.tree.now) c.args.source.text.now c.args.start c.in-Some.label_len c.in-Some-2.len c.in-Some.label
     c.in-Some-2.definition c.requires.bracket
     (rw c.in-Some.is at c.in_ok-label_len.ensures.value) (colon_is (goal.at.returns-in_err-new-clause-err c).After-begins ∙ c.if-not-begins.false)

@@ -9,5 +9,6 @@ pub returns-then-not-begins-clause-value : goal.returns-then-not-begins-clause-v
 returns-then-not-begins-clause-value c =
     let h : begins 91 (drop c.args.start c.args.source.text.now) ≡ false = ap (begins 91) (sym
     (c.rest_of.ensures.value ∙ ap (drop c.args.start) c.as_bytes.ensures.value)) ∙ sym c.begins.ensures.value ∙ c.if-not-begins.true in
-    let e = no_bracket (in_table c.args.tree.now.nodes c.args.tree.now.spine) (context_of c.args.source.options c.args.tree.now) (drop c.args.start c.args.source.text.now) h in
+    let e = no_bracket (in_table c.args.tree.now.nodes c.args.tree.now.spine) (context_of c.args.source.options c.args.tree.now)
+    (drop c.args.start c.args.source.text.now) h in
     rw e refl

@@ -37,7 +37,8 @@ pub returns-in_default-clause-value : goal.returns-in_default-clause-value
 unfolding text
 returns-in_default-clause-value c =
     let at = (goal.at.returns-in_default-clause-value c).After-scan_eol in
-    space_plain (context_of c.args.source.options c.args.tree.now) c.args.source.text.now c.args.start c.scan_whitespace_no_nl.result (white_is at) (sym (eol_is at) ∙ c.in_default.is)
+    space_plain (context_of c.args.source.options c.args.tree.now) c.args.source.text.now c.args.start c.scan_whitespace_no_nl.result (white_is at)
+    (sym (eol_is at) ∙ c.in_default.is)
 
 pub returns-in_default-clause-place : goal.returns-in_default-clause-place
 unfolding text
@@ -53,7 +54,8 @@ pub returns-in_default-2-clause-value : goal.returns-in_default-2-clause-value
 unfolding text
 returns-in_default-2-clause-value c =
     let at = (goal.at.returns-in_default-2-clause-value c).After-scan_eol in
-    space_stops (context_of c.args.source.options c.args.tree.now) c.args.source.text.now c.args.start c.scan_whitespace_no_nl.result c.in-Some.line_end (white_is at)
+    space_stops (context_of c.args.source.options c.args.tree.now) c.args.source.text.now c.args.start c.scan_whitespace_no_nl.result c.in-Some.line_end
+    (white_is at)
     (sym (eol_is at) ∙ c.in-Some.is)
     (sym c.in_default-2.is ∙ c.in_ok-rest.ensures.value)
 

@@ -22,5 +22,6 @@ returns-then-is_some-clause-value c =
 
 pub returns-clause-value : goal.returns-clause-value
 returns-clause-value c =
-    not_alone (context_of c.args.source.options c.args.tree.now) (drop c.args.at c.args.source.text.now) c.args.at (rw c.in_default.is at c.in_ok-end.ensures.value)
+    not_alone (context_of c.args.source.options c.args.tree.now) (drop c.args.at c.args.source.text.now) c.args.at
+    (rw c.in_default.is at c.in_ok-end.ensures.value)
     (blank_is (goal.at.returns-clause-value c).After-is_some ∙ c.if-is_some.false)

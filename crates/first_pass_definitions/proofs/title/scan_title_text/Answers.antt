@@ -24,7 +24,8 @@ loop-bytes-init c =
       nothing = λ h. c.new-written.ensures.bytes;
       lines = λ l. absurd (omega arith);
       asked = λ l. absurd (omega arith);
-      title = rw c.new-written.ensures.bytes (behind_nothing _ ∙ whole_title (title_prefix (context_of c.args.source.options c.args.tree.now)) c.args.close c.args.text.now);
+      title = rw c.new-written.ensures.bytes
+          (behind_nothing _ ∙ whole_title (title_prefix (context_of c.args.source.options c.args.tree.now)) c.args.close c.args.text.now);
     }
 
 -- where the line stops
@@ -50,7 +51,8 @@ stop_at c =
 pub returns-then-begins-clause-value : goal.returns-then-begins-clause-value
 returns-then-begins-clause-value c =
     let at = (goal.at.returns-then-begins-clause-value c).After-begins in
-    let e = title_found (title_prefix (context_of c.args.source.options c.args.tree.now)) c.args.close c.loop-bytes.from (c.loop-bytes.from + c.scan_title_line.result)
+    let e =
+    title_found (title_prefix (context_of c.args.source.options c.args.tree.now)) c.args.close c.loop-bytes.from (c.loop-bytes.from + c.scan_title_line.result)
     (string_bytes c.loop-bytes.written) c.args.text.now
     c.requires.close c.loop-bytes.invariant.title (line_stops at) (sym (stop_is at) ∙ c.if-begins.true) in
     rw e (refl, c.in_ok-finish.ensures.value)
@@ -72,7 +74,8 @@ returns-in_default-clause-value c =
     let at = (goal.at.returns-in_default-clause-value c).After-begins in
     let k = sym c.in_default.is ∙ c.in_ok-next.ensures.value ∙ ap (λ xs. goes_on_at (title_prefix (context_of c.args.source.options c.args.tree.now)) xs
     (c.loop-bytes.from + c.scan_title_line.result)) c.as_bytes-bytes.ensures.value in
-    let e = no_title (title_prefix (context_of c.args.source.options c.args.tree.now)) c.args.close c.loop-bytes.from (c.loop-bytes.from + c.scan_title_line.result)
+    let e =
+    no_title (title_prefix (context_of c.args.source.options c.args.tree.now)) c.args.close c.loop-bytes.from (c.loop-bytes.from + c.scan_title_line.result)
     (string_bytes c.loop-bytes.written) c.args.text.now
     c.requires.close c.loop-bytes.invariant.title (line_stops at) (sym (stop_is at) ∙ c.if-begins.false) k in
     rw e refl
@@ -98,8 +101,10 @@ loop-bytes-preserved c =
       boundary = place.1;
       nothing = λ h. absurd (omega arith);
       lines = λ l. ap (list_any is_line_end) written ∙ any_last (string_bytes c.loop-bytes.written ++ part text c.loop-bytes.from stop);
-      asked = λ l. goes_asks (context_of c.args.source.options c.args.tree.now) c.args.close c.loop-bytes.from stop c.in-Some.next text c.loop-bytes.invariant.asked (line_stops at) (sym k) (none_or_some c.loop-bytes.from);
-      title = title_further (title_prefix (context_of c.args.source.options c.args.tree.now)) c.args.close c.loop-bytes.from stop c.in-Some.next (string_bytes c.push.new.self)
+      asked = λ l. goes_asks (context_of c.args.source.options c.args.tree.now) c.args.close c.loop-bytes.from stop c.in-Some.next text
+          c.loop-bytes.invariant.asked (line_stops at) (sym k) (none_or_some c.loop-bytes.from);
+      title = title_further (title_prefix (context_of c.args.source.options c.args.tree.now)) c.args.close c.loop-bytes.from stop c.in-Some.next
+          (string_bytes c.push.new.self)
           (string_bytes c.loop-bytes.written) text
           c.requires.close c.loop-bytes.invariant.title (line_stops at) (omega arith) k plain written;
     }
@@ -110,8 +115,10 @@ returns-in_err-next-clause-err c =
     let at = (goal.at.returns-in_err-next-clause-err c).After-begins in
     let around = context_of c.args.source.options c.args.tree.now in
     let stop : ℕ = c.loop-bytes.from + c.scan_title_line.result in
-    on_err c.from_residual-in_err-next.result (meets_asks around c.args.close c.loop-bytes.from stop c.args.text.now c.loop-bytes.invariant.asked (line_stops at)
-    (subst (λ (bs : List ℕ). option_map_or (λ e. line_may_head around (line_rest (drop (stop + e) bs))) (eol_len (drop stop bs)) false ≡ true) c.as_bytes-bytes.ensures.value c.in_err-next.ensures.err)
+    on_err c.from_residual-in_err-next.result
+    (meets_asks around c.args.close c.loop-bytes.from stop c.args.text.now c.loop-bytes.invariant.asked (line_stops at)
+    (subst (λ (bs : List ℕ). option_map_or (λ e. line_may_head around (line_rest (drop (stop + e) bs))) (eol_len (drop stop bs)) false ≡ true)
+    c.as_bytes-bytes.ensures.value c.in_err-next.ensures.err)
     (none_or_some c.loop-bytes.from))
 
 pub returns-in_err-push_str-clause-err : goal.returns-in_err-push_str-clause-err
@@ -120,7 +127,8 @@ returns-in_err-push_str-clause-err c =
     let around = context_of c.args.source.options c.args.tree.now in
     let stop : ℕ = c.loop-bytes.from + c.scan_title_line.result in
     let k = sym c.in-Some.is ∙ c.in_ok-next.ensures.value ∙ ap (λ xs. goes_on_at (title_prefix around) xs stop) c.as_bytes-bytes.ensures.value in
-    on_err c.from_residual-in_err-push_str.result (goes_asks around c.args.close c.loop-bytes.from stop c.in-Some.next c.args.text.now c.loop-bytes.invariant.asked (line_stops at) (sym k) (none_or_some c.loop-bytes.from))
+    on_err c.from_residual-in_err-push_str.result (goes_asks around c.args.close c.loop-bytes.from stop c.in-Some.next c.args.text.now
+    c.loop-bytes.invariant.asked (line_stops at) (sym k) (none_or_some c.loop-bytes.from))
 
 pub returns-in_err-push-clause-err : goal.returns-in_err-push-clause-err
 returns-in_err-push-clause-err c =
@@ -128,4 +136,5 @@ returns-in_err-push-clause-err c =
     let around = context_of c.args.source.options c.args.tree.now in
     let stop : ℕ = c.loop-bytes.from + c.scan_title_line.result in
     let k = sym c.in-Some.is ∙ c.in_ok-next.ensures.value ∙ ap (λ xs. goes_on_at (title_prefix around) xs stop) c.as_bytes-bytes.ensures.value in
-    on_err c.from_residual-in_err-push.result (goes_asks around c.args.close c.loop-bytes.from stop c.in-Some.next c.args.text.now c.loop-bytes.invariant.asked (line_stops at) (sym k) (none_or_some c.loop-bytes.from))
+    on_err c.from_residual-in_err-push.result (goes_asks around c.args.close c.loop-bytes.from stop c.in-Some.next c.args.text.now c.loop-bytes.invariant.asked
+    (line_stops at) (sym k) (none_or_some c.loop-bytes.from))

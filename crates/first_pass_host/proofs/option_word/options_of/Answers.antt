@@ -8,7 +8,8 @@ unfolding bitflags_on_literals
 returns-in-Ok-clause-some c =
     let ((numeral, small), value) = c.in-Ok.ensures.value.0 in
     let known = c.from_bits.ensures in
-    taken c.args.word.now c.in-Ok.bits c.from_bits.result (sym c.begins_with_plus.ensures ∙ c.if-begins_with_plus.false) numeral value (known.value tt) (known.known tt)
+    taken c.args.word.now c.in-Ok.bits c.from_bits.result (sym c.begins_with_plus.ensures ∙ c.if-begins_with_plus.false) numeral value (known.value tt)
+    (known.known tt)
 
 pub returns-in-Ok-clause-none : goal.returns-in-Ok-clause-none
 unfolding bitflags_on_literals

@@ -14,7 +14,8 @@ returns-then-begins_with_name c =
     let name : List ℕ = c.as_bytes.result.now in
     let others : ℕ = first_name_len (map text_of (drop (c.loop-name.name-index + 1) c.args.known.now)) c.args.bytes.now in
     let from = names_from c.args.known.now c.loop-name.name-index _ c.args.bytes.now name c.loop-name-test.true c.as_bytes.ensures.value in
-    ap length (sym c.as_bytes.ensures.value) ∙ sym (c.loop-name.invariant ∙ from ∙ ap (λ t. cond t (length name) others) (sym c.begins_with_name.ensures ∙ c.if-begins_with_name.true))
+    ap length (sym c.as_bytes.ensures.value)
+    ∙ sym (c.loop-name.invariant ∙ from ∙ ap (λ t. cond t (length name) others) (sym c.begins_with_name.ensures ∙ c.if-begins_with_name.true))
 
 pub loop-name-preserved : goal.loop-name-preserved
 loop-name-preserved c =
@@ -25,4 +26,5 @@ loop-name-preserved c =
 
 pub returns : goal.returns
 unfolding first_name_len
-returns c = sym (c.loop-name.invariant ∙ ap (λ names. first_name_len (map text_of names) c.args.bytes.now) (drop_all c.loop-name.name-index c.args.known.now c.loop-name-test.false))
+returns c = sym (c.loop-name.invariant
+    ∙ ap (λ names. first_name_len (map text_of names) c.args.bytes.now) (drop_all c.loop-name.name-index c.args.known.now c.loop-name-test.false))

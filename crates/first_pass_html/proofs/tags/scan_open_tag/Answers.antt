@@ -5,7 +5,8 @@ use Rattle.first_pass_html.proofs.WholeTagFacts.{opening_found, opening_needs_en
 use Rattle.first_pass_html.proofs.tags.scan_open_tag.Goals as goal
 
 pub returns-then-is_raw_name-clause-none : goal.returns-then-is_raw_name-clause-none
-returns-then-is_raw_name-clause-none c = opening_not_raw c.args.bytes.now c.in_ok-name.name (sym c.in_ok-name.ensures.value) (sym c.if-is_raw_name.ensures.value)
+returns-then-is_raw_name-clause-none c =
+    opening_not_raw c.args.bytes.now c.in_ok-name.name (sym c.in_ok-name.ensures.value) (sym c.if-is_raw_name.ensures.value)
 
 pub returns-in_err-end-clause-none : goal.returns-in_err-end-clause-none
 returns-in_err-end-clause-none c =
@@ -14,7 +15,8 @@ returns-in_err-end-clause-none c =
     let a : ℕ = c.scan_attributes-attributes.result in
     let past = subst (λ (xs : List ℕ). IsPastAttributes xs a) c.rest_of-behind.ensures.value c.scan_attributes-attributes.ensures.value in
     let left : c.rest_of.result.now ≡ drop a (drop n bytes) = c.rest_of.ensures.value ∙ ap (drop a) c.rest_of-behind.ensures.value in
-    rw c.from_residual-in_err-end.ensures (opening_needs_end bytes n a (sym c.in_ok-name.ensures.value) past (ap open_end_len (sym left) ∙ sym c.in_err-end.ensures.value))
+    rw c.from_residual-in_err-end.ensures
+    (opening_needs_end bytes n a (sym c.in_ok-name.ensures.value) past (ap open_end_len (sym left) ∙ sym c.in_err-end.ensures.value))
 
 pub returns-clause-found : goal.returns-clause-found
 returns-clause-found c =
@@ -27,4 +29,5 @@ returns-clause-found c =
     let within = subst (λ (xs : List ℕ). a ≤ length xs) behind c.scan_attributes-attributes.ensures.within in
     let left : c.rest_of.result.now ≡ drop a (drop n bytes) = c.rest_of.ensures.value ∙ ap (drop a) behind in
     let ends = subst (λ (xs : List ℕ). k ≤ length xs) left c.in_ok-end.ensures.within in
-    opening_found bytes n a k (sym c.in_ok-name.ensures.value) c.in_ok-name.ensures.within (sym c.if-is_raw_name.ensures.value) past within (ap open_end_len (sym left) ∙ sym c.in_ok-end.ensures.value) ends
+    opening_found bytes n a k (sym c.in_ok-name.ensures.value) c.in_ok-name.ensures.within (sym c.if-is_raw_name.ensures.value) past within
+    (ap open_end_len (sym left) ∙ sym c.in_ok-end.ensures.value) ends

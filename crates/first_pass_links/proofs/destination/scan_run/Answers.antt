@@ -9,14 +9,16 @@ use Rattle.first_pass_links.proofs.destination.scan_run.Goals.{then-loop-at-test
 pub returns-then-closes_none-clause-value : goal.returns-then-closes_none-clause-value
 returns-then-closes_none-clause-value c =
     let z : c.loop-at.at + 0 ≡ c.loop-at.at = omega arith in
-    let e = run_unopened c.args.deepest c.loop-at.nesting c.args.bytes.now c.loop-at.at c.loop-at-test.true (sym c.closes_none.ensures ∙ c.if-closes_none.true) in
+    let e =
+    run_unopened c.args.deepest c.loop-at.nesting c.args.bytes.now c.loop-at.at c.loop-at-test.true (sym c.closes_none.ensures ∙ c.if-closes_none.true) in
     sym (sym c.loop-at.invariant.passed ∙ ap (longer c.loop-at.at) e ∙ ap (λ n. Some n) z)
 
 pub returns-then-nesting-deepest-clause-value : goal.returns-then-nesting-deepest-clause-value
 returns-then-nesting-deepest-clause-value c =
     let deep = c.if-nesting-deepest.true in
     let behind = c.nesting_behind-nesting.ensures.value in
-    let e = run_deep c.args.deepest c.loop-at.nesting c.args.bytes.now c.loop-at.at c.loop-at-test.true (sym c.ends_run.ensures ∙ c.if-not-ends_run.true) (sym c.closes_none.ensures ∙ c.if-closes_none.false) c.loop-at.invariant.shallow (omega arith) in
+    let e = run_deep c.args.deepest c.loop-at.nesting c.args.bytes.now c.loop-at.at c.loop-at-test.true (sym c.ends_run.ensures ∙ c.if-not-ends_run.true)
+    (sym c.closes_none.ensures ∙ c.if-closes_none.false) c.loop-at.invariant.shallow (omega arith) in
     sym (sym c.loop-at.invariant.passed ∙ ap (longer c.loop-at.at) e)
 
 pub loop-at-preserved : goal.loop-at-preserved
@@ -37,7 +39,8 @@ loop-at-preserved c =
       within = omega arith;
       nested = omega arith;
       shallow = shallow;
-      passed = ap (λ n. longer (c.loop-at.at + c.unit_len-at.result) (run_len c.args.deepest n 0 (drop (c.loop-at.at + c.unit_len-at.result) bs))) behind ∙ u ∙ c.loop-at.invariant.passed;
+      passed = ap (λ n. longer (c.loop-at.at + c.unit_len-at.result) (run_len c.args.deepest n 0 (drop (c.loop-at.at + c.unit_len-at.result) bs))) behind ∙ u
+          ∙ c.loop-at.invariant.passed;
     }
 
 -- after the loop the run has ended
@@ -45,7 +48,8 @@ pub returns-then-nesting-eq0-clause-value : goal.returns-then-nesting-eq0-clause
 returns-then-nesting-eq0-clause-value c =
     let z : c.loop-at.at + 0 ≡ c.loop-at.at = omega arith in
     let e : run_len c.args.deepest c.loop-at.nesting 0 (drop c.loop-at.at c.args.bytes.now) ≡ if_closed c.loop-at.nesting = elim c.loop-at-test.branch [
-      | then-loop-at-test+else-not-ends_run w ↦ run_stopped c.args.deepest c.loop-at.nesting c.args.bytes.now c.loop-at.at w.loop-at-test.true (sym w.ends_run.ensures ∙ w.if-not-ends_run.false)
+      | then-loop-at-test+else-not-ends_run w ↦
+          run_stopped c.args.deepest c.loop-at.nesting c.args.bytes.now c.loop-at.at w.loop-at-test.true (sym w.ends_run.ensures ∙ w.if-not-ends_run.false)
       | else-loop-at-test w ↦ run_ended c.args.deepest c.loop-at.nesting c.args.bytes.now c.loop-at.at w.loop-at-test.false
     ] in
     sym (sym c.loop-at.invariant.passed ∙ ap (longer c.loop-at.at) (e ∙ ap if_closed c.if-nesting-eq0.true) ∙ ap (λ n. Some n) z)
@@ -56,7 +60,8 @@ open_run n h = elim (cases_Bool (n == 0)) [ inl e ↦ absurd (h (eqb-true n 0 e)
 pub returns-else-nesting-eq0-clause-value : goal.returns-else-nesting-eq0-clause-value
 returns-else-nesting-eq0-clause-value c =
     let e : run_len c.args.deepest c.loop-at.nesting 0 (drop c.loop-at.at c.args.bytes.now) ≡ if_closed c.loop-at.nesting = elim c.loop-at-test.branch [
-      | then-loop-at-test+else-not-ends_run w ↦ run_stopped c.args.deepest c.loop-at.nesting c.args.bytes.now c.loop-at.at w.loop-at-test.true (sym w.ends_run.ensures ∙ w.if-not-ends_run.false)
+      | then-loop-at-test+else-not-ends_run w ↦
+          run_stopped c.args.deepest c.loop-at.nesting c.args.bytes.now c.loop-at.at w.loop-at-test.true (sym w.ends_run.ensures ∙ w.if-not-ends_run.false)
       | else-loop-at-test w ↦ run_ended c.args.deepest c.loop-at.nesting c.args.bytes.now c.loop-at.at w.loop-at-test.false
     ] in
     sym (sym c.loop-at.invariant.passed ∙ ap (longer c.loop-at.at) (e ∙ open_run c.loop-at.nesting c.if-nesting-eq0.false))

@@ -17,6 +17,7 @@ loop-digit-preserved c =
     let more = at_drop_more (digits_value_after 10 c.loop-digit.value) c.args.digits.now i 0 (omega arith) in
     let small = six_bits c.loop-digit.value c.digit_value.result i c.loop-digit.invariant.small c.digit_value.ensures.small in
     record {
-      value = ap (λ d. digits_value_after 10 (c.loop-digit.value * 10 + d) (drop (i + 1) c.args.digits.now)) c.digit_value.ensures.value ∙ sym more ∙ c.loop-digit.invariant.value;
+      value = ap (λ d. digits_value_after 10 (c.loop-digit.value * 10 + d) (drop (i + 1) c.args.digits.now)) c.digit_value.ensures.value ∙ sym more
+          ∙ c.loop-digit.invariant.value;
       small = omega arith;
     }

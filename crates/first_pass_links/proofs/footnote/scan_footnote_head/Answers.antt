@@ -26,7 +26,8 @@ range_from-requires g c = λ h. mark_place g c
 
 pub scan_link_label_rest-requires-clause-places : goal.scan_link_label_rest-requires-clause-places
 scan_link_label_rest-requires-clause-places g c = λ behind n at b e.
-    let there = further c.args.text.now behind.now c.range_from.result.now at (mark_place g (goal.at.scan_link_label_rest-requires-clause-places g c).Else-not-begins_footnote) c.range_from.ensures.value b e in
+    let there = further c.args.text.now behind.now c.range_from.result.now at
+    (mark_place g (goal.at.scan_link_label_rest-requires-clause-places g c).Else-not-begins_footnote) c.range_from.ensures.value b e in
     c.requires.places behind n (2 + at) there.0 there.1
 
 pub returns-in_default-clause-value : goal.returns-in_default-clause-value

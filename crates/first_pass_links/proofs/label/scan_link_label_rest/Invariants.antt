@@ -12,8 +12,10 @@ invariant-loop-at g l = record {
   read : IsRead l.text (string_bytes l.written) l.from l.at;
   few : l.characters ≤ 999;
   label : (prefix : List ℕ → Option ℕ) → AnswersWith l.text prefix (goal.F-post g l.linebreak_handler)
-      → label_behind l.is_in_table (known_as l.characters l.solid (string_bytes l.written ++ part l.text l.from l.at)) (left_at prefix l.text l.at) ≡ label_at prefix l.is_in_table l.text;
-  tracked : (prefix : List ℕ → Option ℕ) → AnswersWith l.text prefix (goal.F-post g l.linebreak_handler) → IsTracked prefix l.is_in_table l.text l.at (l.from ≡ 0);
+      → label_behind l.is_in_table (known_as l.characters l.solid (string_bytes l.written ++ part l.text l.from l.at)) (left_at prefix l.text l.at)
+      ≡ label_at prefix l.is_in_table l.text;
+  tracked : (prefix : List ℕ → Option ℕ)
+      → AnswersWith l.text prefix (goal.F-post g l.linebreak_handler) → IsTracked prefix l.is_in_table l.text l.at (l.from ≡ 0);
 }
 
 abbrev pub decreases-loop-at : goal.decreases-loop-at

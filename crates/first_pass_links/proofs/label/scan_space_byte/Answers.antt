@@ -21,15 +21,19 @@ returns-then-not-ends_line-clause-some g c = (omega arith, after g (goal.at.retu
 
 pub returns-then-not-ends_line-clause-reads : goal.returns-then-not-ends_line-clause-reads
 returns-then-not-ends_line-clause-reads g c =
-    λ h a. left-byte h c.args.bytes.now c.args.at c.requires.within (ap (ends_line (get_or c.args.bytes.now c.args.at 0)) (sym c.rest_of-behind.ensures.value) ∙ sym c.ends_line.ensures ∙ c.if-not-ends_line.true)
+    λ h a. left-byte h c.args.bytes.now c.args.at c.requires.within
+    (ap (ends_line (get_or c.args.bytes.now c.args.at 0)) (sym c.rest_of-behind.ensures.value) ∙ sym c.ends_line.ensures ∙ c.if-not-ends_line.true)
 
 -- the prefix is a part of the bytes after the line end
 prefix_place : (g : Over) (c : In-Some g) → IsCharBoundary c.args.bytes.now (c.args.at + 1 + c.in-Some.prefix)
 prefix_place g c =
     let e = c.rest_of-behind.ensures.value in
-    let b : IsCharBoundary c.args.bytes.now (c.args.at + 1) = IsCharBoundary-after_ascii c.args.bytes.now c.args.at c.requires.text c.requires.within (white_is_ascii _ c.requires.white).0 in
+    let b : IsCharBoundary c.args.bytes.now (c.args.at + 1) =
+    IsCharBoundary-after_ascii c.args.bytes.now c.args.at c.requires.text c.requires.within (white_is_ascii _ c.requires.white).0 in
     let u : IsUtf8 c.rest_of-behind.result.now = subst IsUtf8 (sym e) (IsUtf8-drop c.args.bytes.now (c.args.at + 1) c.requires.text b) in
-    place_behind c.args.bytes.now (c.args.at + 1) c.in-Some.prefix b.0 (subst (λ xs. IsCharBoundary xs c.in-Some.prefix) e (c.requires.places c.rest_of-behind.result c.in-Some.prefix (c.args.at + 1) b e (subst (λ o. g.F.Fn.post c.args.linebreak_handler.now (c.rest_of-behind.result, tt) (Ok o)) c.in-Some.is c.in_ok-prefix.ensures) u))
+    place_behind c.args.bytes.now (c.args.at + 1) c.in-Some.prefix b.0
+    (subst (λ xs. IsCharBoundary xs c.in-Some.prefix) e (c.requires.places c.rest_of-behind.result c.in-Some.prefix (c.args.at + 1) b e
+    (subst (λ o. g.F.Fn.post c.args.linebreak_handler.now (c.rest_of-behind.result, tt) (Ok o)) c.in-Some.is c.in_ok-prefix.ensures) u))
 
 pub overflow_add-result-in-Some-2 : goal.overflow_add-result-in-Some-2
 overflow_add-result-in-Some-2 g c = let p = (prefix_place g (goal.at.overflow_add-result-in-Some-2 g c).In-Some).0 in omega arith
@@ -41,13 +45,17 @@ pub returns-in-Some-clause-reads : goal.returns-in-Some-clause-reads
 returns-in-Some-clause-reads g c =
     λ h a. left-end h c.args.bytes.now c.args.at c.in-Some.prefix c.requires.within
     (ap (ends_line (get_or c.args.bytes.now c.args.at 0)) (sym c.rest_of-behind.ensures.value) ∙ sym c.ends_line.ensures ∙ c.if-not-ends_line.false)
-    (ap h (sym c.rest_of-behind.ensures.value) ∙ a c.rest_of-behind.result c.in_ok-prefix.field-0 (c.args.at + 1) (behind_white c.args.bytes.now c.args.at c.requires.text c.requires.within c.requires.white) c.rest_of-behind.ensures.value c.in_ok-prefix.ensures ∙ c.in-Some.is)
+    (ap h (sym c.rest_of-behind.ensures.value) ∙ a c.rest_of-behind.result c.in_ok-prefix.field-0 (c.args.at + 1)
+    (behind_white c.args.bytes.now c.args.at c.requires.text c.requires.within c.requires.white) c.rest_of-behind.ensures.value c.in_ok-prefix.ensures
+    ∙ c.in-Some.is)
 
 pub returns-in-None-clause-none : goal.returns-in-None-clause-none
 returns-in-None-clause-none g c =
     λ e h a. left-stop h c.args.bytes.now c.args.at c.requires.within
     (ap (ends_line (get_or c.args.bytes.now c.args.at 0)) (sym c.rest_of-behind.ensures.value) ∙ sym c.ends_line.ensures ∙ c.if-not-ends_line.false)
-    (ap h (sym c.rest_of-behind.ensures.value) ∙ a c.rest_of-behind.result c.in_ok-prefix.field-0 (c.args.at + 1) (behind_white c.args.bytes.now c.args.at c.requires.text c.requires.within c.requires.white) c.rest_of-behind.ensures.value c.in_ok-prefix.ensures ∙ c.in-None.is)
+    (ap h (sym c.rest_of-behind.ensures.value) ∙ a c.rest_of-behind.result c.in_ok-prefix.field-0 (c.args.at + 1)
+    (behind_white c.args.bytes.now c.args.at c.requires.text c.requires.within c.requires.white) c.rest_of-behind.ensures.value c.in_ok-prefix.ensures
+    ∙ c.in-None.is)
 
 -- the function errs
 pub returns-in_err-prefix-clause-err : goal.returns-in_err-prefix-clause-err

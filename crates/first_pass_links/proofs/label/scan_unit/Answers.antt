@@ -5,14 +5,16 @@ use Rattle.first_pass_links.proofs.label.scan_unit.Goals as goal
 
 pub returns-in-Some-clause-some : goal.returns-in-Some-clause-some
 returns-in-Some-clause-some g c =
-    subst (IsUnit c.args.bytes.now c.args.at) (sym c.space_unit.ensures) (space_is_unit c.args.bytes.now c.args.at c.in-Some.next c.in-Some.characters (rw c.in-Some.is at c.in_ok-next.ensures.some) (sym c.is_ascii_white.ensures ∙ c.if-is_ascii_white.true))
+    subst (IsUnit c.args.bytes.now c.args.at) (sym c.space_unit.ensures) (space_is_unit c.args.bytes.now c.args.at c.in-Some.next c.in-Some.characters
+    (rw c.in-Some.is at c.in_ok-next.ensures.some) (sym c.is_ascii_white.ensures ∙ c.if-is_ascii_white.true))
 
 pub returns-in-Some-clause-reads : goal.returns-in-Some-clause-reads
 returns-in-Some-clause-reads g c =
     let ends = rw c.in-Some.is at c.in_ok-next.ensures.some in
     let stops = rw c.in-Some.is at c.in_ok-next.ensures.ends in
     let reads = rw c.in-Some.is at c.in_ok-next.ensures.reads in
-    λ h a. subst (Reads h c.args.in_table c.args.bytes.now c.args.at) (sym c.space_unit.ensures) (run_reads h c.args.in_table c.args.bytes.now c.args.at c.in-Some.next c.in-Some.characters c.requires.within (reads h a) ends.some ends.lone stops)
+    λ h a. subst (Reads h c.args.in_table c.args.bytes.now c.args.at) (sym c.space_unit.ensures)
+    (run_reads h c.args.in_table c.args.bytes.now c.args.at c.in-Some.next c.in-Some.characters c.requires.within (reads h a) ends.some ends.lone stops)
 
 pub returns-in-None-clause-none : goal.returns-in-None-clause-none
 returns-in-None-clause-none g c =
@@ -20,13 +22,16 @@ returns-in-None-clause-none g c =
 
 pub returns-then-bytes-at-eq92-clause-some : goal.returns-then-bytes-at-eq92-clause-some
 returns-then-bytes-at-eq92-clause-some g c =
-    subst (IsUnit c.args.bytes.now c.args.at) (sym c.backslash_unit.ensures) (backslash_is_unit c.args.in_table c.args.bytes.now c.args.at c.requires.within c.if-bytes-at-eq92.true c.requires.text).kind
+    subst (IsUnit c.args.bytes.now c.args.at) (sym c.backslash_unit.ensures)
+    (backslash_is_unit c.args.in_table c.args.bytes.now c.args.at c.requires.within c.if-bytes-at-eq92.true c.requires.text).kind
 
 pub returns-then-bytes-at-eq92-clause-reads : goal.returns-then-bytes-at-eq92-clause-reads
 returns-then-bytes-at-eq92-clause-reads g c =
-    λ h a. subst (Reads h c.args.in_table c.args.bytes.now c.args.at) (sym c.backslash_unit.ensures) ((backslash_is_unit c.args.in_table c.args.bytes.now c.args.at c.requires.within c.if-bytes-at-eq92.true c.requires.text).reads h)
+    λ h a. subst (Reads h c.args.in_table c.args.bytes.now c.args.at) (sym c.backslash_unit.ensures)
+    ((backslash_is_unit c.args.in_table c.args.bytes.now c.args.at c.requires.within c.if-bytes-at-eq92.true c.requires.text).reads h)
 
 pub returns-clause-reads : goal.returns-clause-reads
 returns-clause-reads g c =
     λ h a. subst (Reads h c.args.in_table c.args.bytes.now c.args.at) (sym c.kept_unit.ensures)
-    (byte_reads h c.args.in_table c.args.bytes.now c.args.at _ c.requires.within (sym c.is_ascii_white.ensures ∙ c.if-is_ascii_white.false) c.requires.no_bracket (differs _ 92 c.if-bytes-at-eq92.false) c.begun_characters.ensures)
+    (byte_reads h c.args.in_table c.args.bytes.now c.args.at _ c.requires.within
+    (sym c.is_ascii_white.ensures ∙ c.if-is_ascii_white.false) c.requires.no_bracket (differs _ 92 c.if-bytes-at-eq92.false) c.begun_characters.ensures)

@@ -8,11 +8,16 @@ use Rattle.first_pass_links.proofs.label.write_unit.Goals.{In_ok-push_str-2}
 pub returns-then-unit-clause-bytes : goal.returns-then-unit-clause-bytes
 returns-then-unit-clause-bytes c = unit_kept c.args.text.now _ c.args.from c.args.at c.args.unit c.requires.read c.requires.unit c.if-unit.true
 
-written : (c : In_ok-push_str-2) → string_bytes c.push_str-2.new.self ≡ (string_bytes c.args.written.now ++ part c.args.text.now c.args.from c.args.unit.kept) ++ (if c.args.unit.space then 32 ∷ [] else [])
-written c = c.in_ok-push_str-2.ensures.bytes ∙ ap (λ xs. string_bytes c.push_str.new.self ++ xs) c.replacement.ensures ∙ ap (λ xs. xs ++ (if c.args.unit.space then 32 ∷ [] else [])) (c.in_ok-push_str.ensures.bytes ∙ ap (λ xs. string_bytes c.args.written.now ++ xs) c.range.ensures.value)
+written : (c : In_ok-push_str-2) → string_bytes c.push_str-2.new.self
+    ≡ (string_bytes c.args.written.now ++ part c.args.text.now c.args.from c.args.unit.kept) ++ (if c.args.unit.space then 32 ∷ [] else [])
+written c = c.in_ok-push_str-2.ensures.bytes
+    ∙ ap (λ xs. string_bytes c.push_str.new.self ++ xs) c.replacement.ensures ∙ ap (λ xs. xs ++ (if c.args.unit.space then 32 ∷ [] else []))
+    (c.in_ok-push_str.ensures.bytes ∙ ap (λ xs. string_bytes c.args.written.now ++ xs) c.range.ensures.value)
 
 pub returns-clause-read : goal.returns-clause-read
-returns-clause-read c = subst (λ xs. IsRead c.args.text.now xs c.args.unit.resumed c.args.unit.next) (sym (written c)) (unit_read c.args.text.now _ c.args.from c.args.at c.args.unit c.requires.read c.requires.unit c.if-unit.false)
+returns-clause-read c = subst (λ xs. IsRead c.args.text.now xs c.args.unit.resumed c.args.unit.next) (sym (written c))
+    (unit_read c.args.text.now _ c.args.from c.args.at c.args.unit c.requires.read c.requires.unit c.if-unit.false)
 
 pub returns-clause-bytes : goal.returns-clause-bytes
-returns-clause-bytes c = ap (λ xs. xs ++ part c.args.text.now c.args.unit.resumed c.args.unit.next) (written c) ∙ unit_changed c.args.text.now _ c.args.from c.args.at c.args.unit c.requires.read c.requires.unit
+returns-clause-bytes c = ap (λ xs. xs ++ part c.args.text.now c.args.unit.resumed c.args.unit.next) (written c)
+    ∙ unit_changed c.args.text.now _ c.args.from c.args.at c.args.unit c.requires.read c.requires.unit

@@ -10,12 +10,15 @@ pub loop-i-init : goal.loop-i-init
 loop-i-init c = taken_none c.args.options c.args.tree.now.nodes c.args.tree.now.spine c.args.line_start.now
 
 pub index-requires : goal.index-requires
-index-requires c = place_within c.args.tree.now.nodes c.args.tree.now.spine _ c.loop-i.i c.is_forest.ensures.opened c.walk_spine-spine.ensures c.loop-i-test.true
+index-requires c =
+    place_within c.args.tree.now.nodes c.args.tree.now.spine _ c.loop-i.i c.is_forest.ensures.opened c.walk_spine-spine.ensures c.loop-i-test.true
 
-none_longer : (c : Then-not-takes_prefix) → (m : ℕ) → c.loop-i.i < m → m ≤ length c.args.tree.now.spine → after (path_in c.args.options c.args.tree.now.nodes (outer m c.args.tree.now.spine)) c.args.line_start.now ≡ None
+none_longer : (c : Then-not-takes_prefix) → (m : ℕ) → c.loop-i.i < m → m ≤ length c.args.tree.now.spine
+    → after (path_in c.args.options c.args.tree.now.nodes (outer m c.args.tree.now.spine)) c.args.line_start.now ≡ None
 none_longer c =
     stops c.args.options c.args.tree.now.nodes c.args.tree.now.spine c.loop-i.i (record { 0 = 0 }) c.args.line_start.now
-    (node_taken c.args.options c.args.tree.now.nodes c.args.tree.now.spine _ c.loop-i.i c.index.result.now c.args.line_start.now c.loop-i.line_start c.walk_spine-spine.ensures c.loop-i-test.true c.index.ensures c.loop-i.invariant
+    (node_taken c.args.options c.args.tree.now.nodes c.args.tree.now.spine _ c.loop-i.i c.index.result.now c.args.line_start.now c.loop-i.line_start
+    c.walk_spine-spine.ensures c.loop-i-test.true c.index.ensures c.loop-i.invariant
     ∙ (isnt_taken _ c.takes_prefix.result c.loop-i.line_start c.takes_prefix.new.line_start c.if-not-takes_prefix.true c.takes_prefix.ensures).0)
 
 pub returns-then-not-takes_prefix-clause-stops : goal.returns-then-not-takes_prefix-clause-stops
@@ -25,11 +28,13 @@ pub returns-then-not-takes_prefix-clause-front : goal.returns-then-not-takes_pre
 returns-then-not-takes_prefix-clause-front c =
     let b = in_spine c.args.tree.now.spine _ c.loop-i.i c.walk_spine-spine.ensures c.loop-i-test.true in
     (isnt_taken _ c.takes_prefix.result c.loop-i.line_start c.takes_prefix.new.line_start c.if-not-takes_prefix.true c.takes_prefix.ensures).1
-    ∙ sym (front_is c.args.options c.args.tree.now.nodes c.args.tree.now.spine c.loop-i.i c.args.line_start.now c.loop-i.line_start (omega arith) c.loop-i.invariant (none_longer c))
+    ∙ sym (front_is c.args.options c.args.tree.now.nodes c.args.tree.now.spine c.loop-i.i c.args.line_start.now c.loop-i.line_start
+    (omega arith) c.loop-i.invariant (none_longer c))
 
 pub loop-i-preserved : goal.loop-i-preserved
 loop-i-preserved c =
-    node_taken c.args.options c.args.tree.now.nodes c.args.tree.now.spine _ c.loop-i.i c.index.result.now c.args.line_start.now c.loop-i.line_start c.walk_spine-spine.ensures c.loop-i-test.true c.index.ensures c.loop-i.invariant
+    node_taken c.args.options c.args.tree.now.nodes c.args.tree.now.spine _ c.loop-i.i c.index.result.now c.args.line_start.now c.loop-i.line_start
+    c.walk_spine-spine.ensures c.loop-i-test.true c.index.ensures c.loop-i.invariant
     ∙ is_taken _ c.takes_prefix.result c.loop-i.line_start c.takes_prefix.new.line_start c.if-not-takes_prefix.false c.takes_prefix.ensures
 
 pub returns-clause-front : goal.returns-clause-front
@@ -37,4 +42,5 @@ returns-clause-front c =
     let n = ap length c.walk_spine-spine.ensures ∙ length-reverse c.args.tree.now.spine in
     let e = c.loop-i-test.false in
     let all : c.loop-i.i ≤ length c.args.tree.now.spine = subst (λ k. c.loop-i.i ≤ k) n c.loop-i.auto.i-end in
-    sym (front_is c.args.options c.args.tree.now.nodes c.args.tree.now.spine c.loop-i.i c.args.line_start.now c.loop-i.line_start all c.loop-i.invariant (λ m low high. absurd (omega arith)))
+    sym (front_is c.args.options c.args.tree.now.nodes c.args.tree.now.spine c.loop-i.i c.args.line_start.now c.loop-i.line_start all c.loop-i.invariant
+    (λ m low high. absurd (omega arith)))

@@ -13,4 +13,5 @@ returns-then-is_at_inert-clause-rest c =
     sym (inert_all c.args.line_start.now (c.is_at_inert.ensures.owed c.if-is_at_inert.true) (c.is_at_inert.ensures.inert c.if-is_at_inert.true))
 
 pub returns-clause-rest : goal.returns-clause-rest
-returns-clause-rest c = c.scan_all_space.ensures ∙ ap (λ (r : Rest). after_columns (indent r) r) c.scan_space_upto-columns.ensures.rest ∙ all_after 4 c.args.line_start.now
+returns-clause-rest c =
+    c.scan_all_space.ensures ∙ ap (λ (r : Rest). after_columns (indent r) r) c.scan_space_upto-columns.ensures.rest ∙ all_after 4 c.args.line_start.now

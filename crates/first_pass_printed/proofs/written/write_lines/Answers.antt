@@ -11,4 +11,5 @@ pub returns-clause-front : goal.returns-clause-front
 returns-clause-front g c =
     let contents = g.W.Write.contents in
     on_err_then c.write_links.result (λ front. front_behind _ _ _ _ _ c.in_ok-write_nodes.ensures.ok
-    (subst (λ links. AppendsFront (contents c.write_nodes.new.output) (contents c.write_links.new.output) (link_lines links)) c.refdefs.ensures front)) c.write_links.ensures.front
+    (subst (λ links. AppendsFront (contents c.write_nodes.new.output) (contents c.write_links.new.output) (link_lines links)) c.refdefs.ensures front))
+    c.write_links.ensures.front

@@ -8,7 +8,8 @@ use Rattle.first_pass_printed.proofs.LinkLines.{first_link, next_link, none_held
 use Rattle.first_pass_printed.proofs.written.write_links.Goals as goal
 
 pub loop-label-init : goal.loop-label-init
-loop-label-init g c = ([], first_link _ _ _ c.new-held.ensures.items (c.into_iter-label-iterator.ensures.into_iter_gives ∙ c.iter-label-items.ensures.entries), Appends-nil _)
+loop-label-init g c =
+    ([], first_link _ _ _ c.new-held.ensures.items (c.into_iter-label-iterator.ensures.into_iter_gives ∙ c.iter-label-items.ensures.entries), Appends-nil _)
 
 pub returns-in_err-append_link-clause-front : goal.returns-in_err-append_link-clause-front
 returns-in_err-append_link-clause-front g c =
@@ -27,7 +28,8 @@ pub loop-label-preserved-then-len-ge-PIECE : goal.loop-label-preserved-then-len-
 loop-label-preserved-then-len-ge-PIECE g c =
     let (done, split, appended) = c.loop-label.invariant in
     let lines = c.append_link.new.line.items in
-    let line = next_link _ _ c.next.new.self (c.in-Some.label.now, c.in-Some.definition.now) done _ lines c.in-Some.ensures.steps c.in_ok-append_link.ensures split in (
+    let line =
+    next_link _ _ c.next.new.self (c.in-Some.label.now, c.in-Some.definition.now) done _ lines c.in-Some.ensures.steps c.in_ok-append_link.ensures split in (
       done ++ lines,
       none_held _ _ (done ++ lines) _ c.clear.ensures.items line,
       Appends-trans _ _ _ _ _ appended (subst (Appends _ _) c.as_slice.ensures.value c.in_ok-write_whole.ensures.ok),

@@ -7,4 +7,5 @@ use Rattle.first_pass_printed.proofs.written.write_nodes.Given as goal
 
 -- the lines so far are written or held
 abbrev pub invariant-loop-node : goal.invariant-loop-node
-invariant-loop-node g l = (done : List ℕ) × (done ++ l.held.items ≡ flat_map (node_line (names_of l.allocs)) (take l.node-index l.nodes)) × Appends (g.W.Write.contents l.initial.output) (g.W.Write.contents l.output) done
+invariant-loop-node g l = (done : List ℕ) × (done ++ l.held.items ≡ flat_map (node_line (names_of l.allocs)) (take l.node-index l.nodes))
+    × Appends (g.W.Write.contents l.initial.output) (g.W.Write.contents l.output) done

@@ -9,7 +9,8 @@ use Rattle.first_pass_open.specs.Path.{path_of}
 use Rattle.first_pass_names.specs.TableEntries.{names_of}
 use Rattle.first_pass_names.proofs.NameLemmas.{extends_both}
 use Rattle.first_pass_raw.specs.RawBlocks.{AppendsRaw, behind_line_at}
-use Rattle.first_pass_raw.proofs.IndentedLemmas.{first_at, first_is, first_boundary, so_far_first, so_far_next, so_far_stop, kept_child, next_read, next_rest, opened_last, just_opened, code_open, code_added}
+use Rattle.first_pass_raw.proofs.IndentedLemmas.{first_at, first_is, first_boundary, so_far_first, so_far_next, so_far_stop, kept_child, next_read, next_rest}
+use Rattle.first_pass_raw.proofs.IndentedLemmas.{opened_last, just_opened, code_open, code_added}
 use Rattle.first_pass_grammar.specs.RawLines.{range_text}
 use Rattle.first_pass_raw.proofs.indented_code.parse_indented_code_block.Goals as goal
 
@@ -17,13 +18,16 @@ pub lines-init : goal.lines-init
 lines-init c =
     let e = c.in_ok-next.ensures.«end» in
     let opened : Forest Item = opened_block c.args.tree.now c.args.start_ix IndentCodeBlock in
-    let line = subst (λ (f : Forest Item). AppendsRaw range_text c.args.text.now (names_of c.append_line.new.allocs) c.args.remaining_space c.args.start_ix c.in_ok-next.next f c.append_line.new.tree) c.in_ok-open_block.ensures c.in_ok-next.ensures.line in
+    let line = subst (λ (f : Forest Item).
+    AppendsRaw range_text c.args.text.now (names_of c.append_line.new.allocs) c.args.remaining_space c.args.start_ix c.in_ok-next.next f c.append_line.new.tree)
+    c.in_ok-open_block.ensures c.in_ok-next.ensures.line in
     record {
       boundary = first_boundary c.args.text.now c.args.start_ix c.in_ok-next.next c.utf8.text c.requires.boundary c.requires.code e;
       from = omega arith;
       named = c.in_ok-next.ensures.names;
       same_entries = c.in_ok-next.ensures.entries;
-      read = λ p at o. so_far_first c.args.text.now c.args.options (names_of c.append_line.new.allocs) p opened c.append_line.new.tree c.args.start_ix c.args.remaining_space c.in_ok-next.next c.cur.result at o c.requires.code
+      read = λ p at o. so_far_first c.args.text.now c.args.options (names_of c.append_line.new.allocs) p opened c.append_line.new.tree c.args.start_ix
+          c.args.remaining_space c.in_ok-next.next c.cur.result at o c.requires.code
           (joins_none-fresh opened refl) e line c.cur.ensures;
     }
 
@@ -35,7 +39,8 @@ lines-preserved c =
     let forest = subst (IsForest {T = Item}) c.in_ok-open_block.ensures c.is_forest-2.ensures in
     let first = i.read (first_at text c.args.start_ix c.args.remaining_space) (first_is text c.args.start_ix c.args.remaining_space) refl in
     let goes = sym (next_rest _ _ _ _ _ _ _ _ _ c.indented_line.result first forest c.indented_line.ensures.value) ∙ c.in-Some.is in
-    let read = next_read text (path_of c.args.options opened) c.lines.next _ c.in_ok-next-2.next c.in-Some.line_start c.utf8.text i.boundary goes c.in-Some.ensures.place c.bytes_scanned.ensures c.in_ok-next-2.ensures.«end» in
+    let read = next_read text (path_of c.args.options opened) c.lines.next _ c.in_ok-next-2.next c.in-Some.line_start c.utf8.text i.boundary goes
+    c.in-Some.ensures.place c.bytes_scanned.ensures c.in_ok-next-2.ensures.«end» in
     let later : c.lines.next < c.in_ok-next-2.next = read.1 in
     let from : behind_line_at text c.args.start_ix ≤ c.lines.next = i.from in
     record {
@@ -43,9 +48,12 @@ lines-preserved c =
       from = omega arith;
       named = extends_both _ _ _ c.in_ok-next-2.ensures.names i.named;
       same_entries = c.in_ok-next-2.ensures.entries ∙ i.same_entries;
-      read = λ p at o. so_far_next text c.args.options (names_of c.lines.allocs) (names_of c.append_line-in-Some.new.allocs) p opened c.lines.tree c.append_line-in-Some.new.tree c.lines.next c.in_ok-next-2.next _ _ c.lines.kept
-          c.lines.blank c.in-Some.line_start c.utf8.text i.boundary (joins_none-fresh opened refl) (i.read p at o) goes c.in-Some.ensures.place c.in_ok-next-2.ensures.names
-          c.remaining_space.ensures.value c.bytes_scanned.ensures c.in_ok-next-2.ensures.line c.in_ok-next-2.ensures.«end» c.is_some-blank.result c.kept_line-kept.result
+      read = λ p at o. so_far_next text c.args.options (names_of c.lines.allocs)
+          (names_of c.append_line-in-Some.new.allocs) p opened c.lines.tree c.append_line-in-Some.new.tree c.lines.next c.in_ok-next-2.next _ _ c.lines.kept
+          c.lines.blank c.in-Some.line_start c.utf8.text i.boundary (joins_none-fresh opened refl)
+          (i.read p at o) goes c.in-Some.ensures.place c.in_ok-next-2.ensures.names
+          c.remaining_space.ensures.value c.bytes_scanned.ensures c.in_ok-next-2.ensures.line c.in_ok-next-2.ensures.«end» c.is_some-blank.result
+          c.kept_line-kept.result
           (c.is_some-blank.ensures ∙ ap is_some (c.scan_blank_line.ensures.value ∙ ap blank_len c.left.ensures)) c.kept_line-kept.ensures;
     }
 
@@ -57,7 +65,8 @@ lines-smaller c =
     let forest = subst (IsForest {T = Item}) c.in_ok-open_block.ensures c.is_forest-2.ensures in
     let first = i.read (first_at text c.args.start_ix c.args.remaining_space) (first_is text c.args.start_ix c.args.remaining_space) refl in
     let goes = sym (next_rest _ _ _ _ _ _ _ _ _ c.indented_line.result first forest c.indented_line.ensures.value) ∙ c.in-Some.is in
-    let read = next_read text (path_of c.args.options opened) c.lines.next _ c.in_ok-next-2.next c.in-Some.line_start c.utf8.text i.boundary goes c.in-Some.ensures.place c.bytes_scanned.ensures c.in_ok-next-2.ensures.«end» in
+    let read = next_read text (path_of c.args.options opened) c.lines.next _ c.in_ok-next-2.next c.in-Some.line_start c.utf8.text i.boundary goes
+    c.in-Some.ensures.place c.bytes_scanned.ensures c.in_ok-next-2.ensures.«end» in
     let later : c.lines.next < c.in_ok-next-2.next = read.1 in
     let within : c.in_ok-next-2.next ≤ length text = c.in_ok-next-2.ensures.within in
     omega arith
@@ -76,7 +85,8 @@ close_block-requires c =
     let forest = subst (IsForest {T = Item}) c.in_ok-open_block.ensures c.is_forest-2.ensures in
     let first = c.lines.invariant.read (first_at text c.args.start_ix c.args.remaining_space) (first_is text c.args.start_ix c.args.remaining_space) refl in
     let stops = sym (next_rest _ _ _ _ _ _ _ _ _ c.indented_line.result first forest c.indented_line.ensures.value) ∙ c.in_default.is in
-    let all = so_far_stop _ _ _ _ _ _ _ _ _ (opened_last opened (just_opened c.args.tree.now opened c.args.start_ix refl)) first c.cut_behind.new.tree stops c.cut_behind.ensures in
+    let all = so_far_stop _ _ _ _ _ _ _ _ _
+    (opened_last opened (just_opened c.args.tree.now opened c.args.start_ix refl)) first c.cut_behind.new.tree stops c.cut_behind.ensures in
     code_open _ _ _ _ c.args.tree.now opened c.cut_behind.new.tree c.args.start_ix _ _ _ refl all
 
 pub returns-clause-block : goal.returns-clause-block
@@ -85,5 +95,7 @@ returns-clause-block c p at o =
     let forest = subst (IsForest {T = Item}) c.in_ok-open_block.ensures c.is_forest-2.ensures in
     let s = c.lines.invariant.read p at o in
     let stops = sym (next_rest _ _ _ _ _ _ _ _ _ c.indented_line.result s forest c.indented_line.ensures.value) ∙ c.in_default.is in
-    let all = so_far_stop _ _ _ _ _ _ _ _ _ (opened_last opened (just_opened c.args.tree.now opened c.args.start_ix refl)) s c.cut_behind.new.tree stops c.cut_behind.ensures in
-    code_added _ _ _ p c.args.tree.now opened c.cut_behind.new.tree c.args.start_ix _ _ _ refl all c.close_block.new.tree c.is_forest.ensures at.offset_is c.close_block.ensures
+    let all = so_far_stop _ _ _ _ _ _ _ _ _
+    (opened_last opened (just_opened c.args.tree.now opened c.args.start_ix refl)) s c.cut_behind.new.tree stops c.cut_behind.ensures in
+    code_added _ _ _ p c.args.tree.now opened c.cut_behind.new.tree c.args.start_ix _ _ _ refl all c.close_block.new.tree c.is_forest.ensures at.offset_is
+    c.close_block.ensures

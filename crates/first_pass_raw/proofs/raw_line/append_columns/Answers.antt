@@ -6,7 +6,8 @@ use Rattle.first_pass_raw.proofs.raw_line.append_columns.Goals as goal
 
 pub returns-clause-items : goal.returns-clause-items
 returns-clause-items c =
-    columns_appended (names_of c.args.allocs.now) (names_of c.allocate_cow.new.self) (Borrowed c.range.result) c.in_ok-ix.ix c.args.columns c.args.at c.args.tree.now c.append.new.self
+    columns_appended (names_of c.args.allocs.now) (names_of c.allocate_cow.new.self)
+    (Borrowed c.range.result) c.in_ok-ix.ix c.args.columns c.args.at c.args.tree.now c.append.new.self
     c.if-columns-eq0.false c.requires c.range.ensures.value c.in_ok-ix.ensures.names c.in_ok-ix.ensures.index c.in_ok-append.ensures.ok
 
 pub returns-then-columns-eq0-clause-names : goal.returns-then-columns-eq0-clause-names

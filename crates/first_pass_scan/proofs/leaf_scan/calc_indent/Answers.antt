@@ -5,7 +5,8 @@ use Rattle.first_pass_scan.proofs.leaf_scan.calc_indent.Goals.{then-width-eq0-vi
 
 pub returns-after-loop-at : goal.returns-after-loop-at
 returns-after-loop-at c =
-    front-longest c.args.bytes.now c.args.max c.loop-at.at c.loop-at.columns _ c.loop-at.invariant.front c.loop-at.invariant.few (λ h w e some. absurd (omega arith))
+    front-longest c.args.bytes.now c.args.max c.loop-at.at c.loop-at.columns _ c.loop-at.invariant.front c.loop-at.invariant.few
+    (λ h w e some. absurd (omega arith))
 
 pub returns-then-width-eq0 : goal.returns-then-width-eq0
 returns-then-width-eq0 c =

@@ -11,7 +11,8 @@ loop-at-preserved c =
     let e : false ≡ closes_metadata byte (drop c.loop-at.at text) = cc in
     record {
       within = c.next_line-at.ensures.within;
-      rest = ap (closing_line_from byte text) c.next_line-at.ensures.value ∙ sym (closing_line-further byte text c.loop-at.at (omega arith) (sym e)) ∙ c.loop-at.invariant.rest;
+      rest = ap (closing_line_from byte text) c.next_line-at.ensures.value ∙ sym (closing_line-further byte text c.loop-at.at (omega arith) (sym e))
+          ∙ c.loop-at.invariant.rest;
     }
 
 pub returns-then-is_some : goal.returns-then-is_some

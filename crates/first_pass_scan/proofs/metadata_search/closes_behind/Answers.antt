@@ -16,4 +16,5 @@ returns-clause-value c =
 
 pub returns-2-clause-value : goal.returns-2-clause-value
 returns-2-clause-value c =
-    ap (λ k. nat_lt k (length c.args.text.now)) c.scan_closing_line-at.ensures ∙ any_line-behind c.args.byte c.args.text.now c.args.line c.next_line-from.result c.next_line-from.ensures.value
+    ap (λ k. nat_lt k (length c.args.text.now)) c.scan_closing_line-at.ensures
+    ∙ any_line-behind c.args.byte c.args.text.now c.args.line c.next_line-from.result c.next_line-from.ensures.value

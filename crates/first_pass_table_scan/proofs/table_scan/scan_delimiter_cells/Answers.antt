@@ -9,7 +9,8 @@ returns-in_default c =
     let rest : List ℕ = c.loop-column.rest.now in
     let n : ℕ = c.cell_len-end.result in
     let e : None ≡ delimiter_cell (take n rest) = grind arith in
-    sym (sym c.loop-column.invariant.same ∙ ap (found_before c.loop-column.columns.items) (cells-refused rest n c.cell_len-end.ensures.value c.cell_len-end.ensures.within e))
+    sym (sym c.loop-column.invariant.same
+    ∙ ap (found_before c.loop-column.columns.items) (cells-refused rest n c.cell_len-end.ensures.value c.cell_len-end.ensures.within e))
 
 pub returns-then-end-rest : goal.returns-then-end-rest
 returns-then-end-rest c =
@@ -21,7 +22,10 @@ returns-then-end-rest c =
     ap Some p ∙ found-last rest n c.loop-column.columns.items x c.cell_len-end.ensures.value c.if-end-rest.true e ∙ c.loop-column.invariant.same
 
 pub loop-column-init : goal.loop-column-init
-loop-column-init c = record { within = omega arith; same = ap (λ xs. found_before xs (delimiter_cells c.args.bytes.now)) c.new-columns.ensures.items ∙ found-none (delimiter_cells c.args.bytes.now) }
+loop-column-init c = record {
+  within = omega arith;
+  same = ap (λ xs. found_before xs (delimiter_cells c.args.bytes.now)) c.new-columns.ensures.items ∙ found-none (delimiter_cells c.args.bytes.now);
+}
 
 pub loop-column-preserved : goal.loop-column-preserved
 loop-column-preserved c =
@@ -34,5 +38,6 @@ loop-column-preserved c =
     let d : delimiter_cells c.rest_of-rest.result.now ≡ delimiter_cells (drop (n + 1) rest) = ap delimiter_cells c.rest_of-rest.ensures.value in
     record {
       within = (let old = c.loop-column.invariant.within in omega (arith, c.rest_of-rest.ensures.whole));
-      same = ap (λ xs. found_before xs (delimiter_cells c.rest_of-rest.result.now)) p ∙ ap (found_before (c.loop-column.columns.items ++ x ∷ [])) d ∙ found-more rest n c.loop-column.columns.items x c.cell_len-end.ensures.value (omega arith) e ∙ c.loop-column.invariant.same;
+      same = ap (λ xs. found_before xs (delimiter_cells c.rest_of-rest.result.now)) p ∙ ap (found_before (c.loop-column.columns.items ++ x ∷ [])) d
+          ∙ found-more rest n c.loop-column.columns.items x c.cell_len-end.ensures.value (omega arith) e ∙ c.loop-column.invariant.same;
     }

@@ -20,10 +20,12 @@ loop-at-preserved c =
     let new = c.if-is_open_pipe in
     elim c.if-is_open_pipe.branch [
       | then-is_open_pipe w ↦
-          (let s = step-open row old.at old.before new.before old.pipes old.end new.pipes new.end c.loop-at-test.true w.before-is w.pipes-is w.end-is (sym c.is_open_pipe.ensures ∙ w.if-is_open_pipe.true) old.invariant.pipes old.invariant.ending in
+          (let s = step-open row old.at old.before new.before old.pipes old.end new.pipes new.end c.loop-at-test.true w.before-is w.pipes-is w.end-is
+          (sym c.is_open_pipe.ensures ∙ w.if-is_open_pipe.true) old.invariant.pipes old.invariant.ending in
           record { pipes = s.0; ending = s.1 })
       | else-is_open_pipe w ↦
-          (let s = step-other row old.at old.before new.before old.pipes old.end new.pipes new.end c.loop-at-test.true w.before-is w.pipes-is w.end-is (sym c.is_open_pipe.ensures ∙ w.if-is_open_pipe.false) old.invariant.pipes old.invariant.ending in
+          (let s = step-other row old.at old.before new.before old.pipes old.end new.pipes new.end c.loop-at-test.true w.before-is w.pipes-is w.end-is
+          (sym c.is_open_pipe.ensures ∙ w.if-is_open_pipe.false) old.invariant.pipes old.invariant.ending in
           record { pipes = s.0; ending = s.1 })
     ]
 

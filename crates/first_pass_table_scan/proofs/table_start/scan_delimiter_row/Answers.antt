@@ -13,7 +13,8 @@ returns-then-not-can_begin_delimiters c =
     let s : Rest = c.scan_space.new.self in
     let here = c.copy-row.ensures in
     let few : nat_le 4 (indent r) ≡ false = ap (λ q. nat_le 4 (indent q)) (sym here) ∙ sym c.scan_space.ensures.value ∙ c.if-scan_space.false in
-    let look = ap (λ bs. begins pipe bs || begins hyphen bs || begins colon bs) (sym c.left.ensures) ∙ sym c.can_begin_delimiters.ensures ∙ c.if-not-can_begin_delimiters.true in
+    let look = ap (λ bs. begins pipe bs || begins hyphen bs || begins colon bs) (sym c.left.ensures) ∙ sym c.can_begin_delimiters.ensures
+    ∙ c.if-not-can_begin_delimiters.true in
     row_of-refused r s (c.scan_space.ensures.rest ∙ ap (after_columns 4) here) few look
 
 pub returns-then-is_empty : goal.returns-then-is_empty
@@ -24,7 +25,8 @@ returns-then-is_empty c =
     let few : nat_le 4 (indent r) ≡ false = ap (λ q. nat_le 4 (indent q)) (sym here) ∙ sym c.scan_space.ensures.value ∙ c.if-scan_space.false in
     let read = c.in_ok-columns.ensures.value ∙ ap table_head c.left-2.ensures in
     let none : length c.in_ok-columns.columns.items ≡ 0 = grind (arith, nat_tests) in
-    sym (row_of-few r s (c.scan_space.ensures.rest ∙ ap (after_columns 4) here) few ∙ head-empty s.left c.in_ok-columns.field-0-0 c.in_ok-columns.columns.items read none)
+    sym (row_of-few r s (c.scan_space.ensures.rest ∙ ap (after_columns 4) here) few
+    ∙ head-empty s.left c.in_ok-columns.field-0-0 c.in_ok-columns.columns.items read none)
 
 pub returns : goal.returns
 returns c =
@@ -34,4 +36,5 @@ returns c =
     let few : nat_le 4 (indent r) ≡ false = ap (λ q. nat_le 4 (indent q)) (sym here) ∙ sym c.scan_space.ensures.value ∙ c.if-scan_space.false in
     let read = c.in_ok-columns.ensures.value ∙ ap table_head c.left-2.ensures in
     let some : ¬ (length c.in_ok-columns.columns.items ≡ 0) = grind (arith, nat_tests) in
-    sym (row_of-few r s (c.scan_space.ensures.rest ∙ ap (after_columns 4) here) few ∙ head-read s.left c.in_ok-columns.field-0-0 c.in_ok-columns.columns.items read some)
+    sym (row_of-few r s (c.scan_space.ensures.rest ∙ ap (after_columns 4) here) few
+    ∙ head-read s.left c.in_ok-columns.field-0-0 c.in_ok-columns.columns.items read some)

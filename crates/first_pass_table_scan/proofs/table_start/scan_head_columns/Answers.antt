@@ -9,22 +9,26 @@ use Rattle.first_pass_table_scan.proofs.table_start.scan_head_columns.Goals as g
 pub returns-then-first-row : goal.returns-then-first-row
 returns-then-first-row c =
     let bs : List ℕ = c.args.bytes.now in
-    head-unmarked bs (take c.content_len.result bs) c.cell_len-first.result (ap (λ n. take n bs) c.content_len.ensures.value) c.cell_len-first.ensures.value c.if-first-row.true
+    head-unmarked bs (take c.content_len.result bs) c.cell_len-first.result
+    (ap (λ n. take n bs) c.content_len.ensures.value) c.cell_len-first.ensures.value c.if-first-row.true
 
 pub returns-then-end-eq0 : goal.returns-then-end-eq0
 returns-then-end-eq0 c =
     let bs : List ℕ = c.args.bytes.now in
-    head-escaped bs (take c.content_len.result bs) c.count_pipes-pipes.result.1 (ap (λ n. take n bs) c.content_len.ensures.value) c.count_pipes-pipes.ensures.end c.if-end-eq0.true
+    head-escaped bs (take c.content_len.result bs) c.count_pipes-pipes.result.1
+    (ap (λ n. take n bs) c.content_len.ensures.value) c.count_pipes-pipes.ensures.end c.if-end-eq0.true
 
 last-pipe : (c : goal.Else-end-eq0) → last_pipe_behind 0 (take_while is_content c.args.bytes.now) ≡ Some (c.count_pipes-pipes.result.1 - 1)
 last-pipe c =
     let bs : List ℕ = c.args.bytes.now in
-    last-found bs (take c.content_len.result bs) c.count_pipes-pipes.result.1 (ap (λ n. take n bs) c.content_len.ensures.value) c.count_pipes-pipes.ensures.end c.if-end-eq0.false
+    last-found bs (take c.content_len.result bs) c.count_pipes-pipes.result.1
+    (ap (λ n. take n bs) c.content_len.ensures.value) c.count_pipes-pipes.ensures.end c.if-end-eq0.false
 
 pub count_header_cols-requires-clause-some : goal.count_header_cols-requires-clause-some
 count_header_cols-requires-clause-some c =
     let bs : List ℕ = c.args.bytes.now in
-    counted-some bs (take c.content_len.result bs) c.count_pipes-pipes.result.0 (c.count_pipes-pipes.result.1 - 1) (ap (λ n. take n bs) c.content_len.ensures.value) c.count_pipes-pipes.ensures.pipes (last-pipe c)
+    counted-some bs (take c.content_len.result bs) c.count_pipes-pipes.result.0 (c.count_pipes-pipes.result.1 - 1)
+    (ap (λ n. take n bs) c.content_len.ensures.value) c.count_pipes-pipes.ensures.pipes (last-pipe c)
 
 pub count_header_cols-requires-clause-within : goal.count_header_cols-requires-clause-within
 count_header_cols-requires-clause-within c =
@@ -34,11 +38,13 @@ count_header_cols-requires-clause-within c =
 pub count_header_cols-requires-clause-counted : goal.count_header_cols-requires-clause-counted
 count_header_cols-requires-clause-counted c =
     let bs : List ℕ = c.args.bytes.now in
-    counted-to-last bs (take c.content_len.result bs) c.count_pipes-pipes.result.0 (c.count_pipes-pipes.result.1 - 1) (ap (λ n. take n bs) c.content_len.ensures.value) c.count_pipes-pipes.ensures.pipes (last-pipe c)
+    counted-to-last bs (take c.content_len.result bs) c.count_pipes-pipes.result.0 (c.count_pipes-pipes.result.1 - 1)
+    (ap (λ n. take n bs) c.content_len.ensures.value) c.count_pipes-pipes.ensures.pipes (last-pipe c)
 
 pub returns : goal.returns
 returns c =
     let bs : List ℕ = c.args.bytes.now in
     let last : ℕ = c.count_pipes-pipes.result.1 - 1 in
     let same : last - 0 ≡ last = omega arith in
-    c.count_header_cols.ensures ∙ ap (header_columns bs) same ∙ sym (head-some bs last (last-found bs (take c.content_len.result bs) c.count_pipes-pipes.result.1 (ap (λ n. take n bs) c.content_len.ensures.value) c.count_pipes-pipes.ensures.end c.if-end-eq0.false))
+    c.count_header_cols.ensures ∙ ap (header_columns bs) same ∙ sym (head-some bs last (last-found bs (take c.content_len.result bs)
+    c.count_pipes-pipes.result.1 (ap (λ n. take n bs) c.content_len.ensures.value) c.count_pipes-pipes.ensures.end c.if-end-eq0.false))

@@ -14,7 +14,8 @@ close_block-requires c =
     let g = c.args.tree.now in
     let opened = c.in_ok-open_block.ensures in
     let cell = c.in_ok-end.ensures.cell in
-    let filled = appended_cell_alone cell (joins_none-fresh c.open_block.new.tree (ap (λ (f : Forest Item). f.current) opened)) ∙ ap (λ v. chained v cell.tokens) opened in
+    let filled =
+    appended_cell_alone cell (joins_none-fresh c.open_block.new.tree (ap (λ (f : Forest Item). f.current) opened)) ∙ ap (λ v. chained v cell.tokens) opened in
     still_open g c.append_cell.new.tree (begun_item c.args.start TableCell) cell.tokens (record { 0 = length g.nodes }) refl filled
 
 pub returns-clause-cell : goal.returns-clause-cell
@@ -22,7 +23,8 @@ returns-clause-cell c =
     let g = c.args.tree.now in
     let opened = c.in_ok-open_block.ensures in
     let cell = c.in_ok-end.ensures.cell in
-    let filled = appended_cell_alone cell (joins_none-fresh c.open_block.new.tree (ap (λ (f : Forest Item). f.current) opened)) ∙ ap (λ v. chained v cell.tokens) opened in
+    let filled =
+    appended_cell_alone cell (joins_none-fresh c.open_block.new.tree (ap (λ (f : Forest Item). f.current) opened)) ∙ ap (λ v. chained v cell.tokens) opened in
     record {
       tokens = cell.tokens;
       cell = cell.cell;

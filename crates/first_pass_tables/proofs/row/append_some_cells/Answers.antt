@@ -38,7 +38,8 @@ returns-in-Some-clause-cells c =
           c.loop-count.invariant.read (content_found text bytes c.rest_of.result.now at cell c.scan_whitespace_no_nl.result same
           c.cell_start-cell.ensures.value c.rest_of.ensures.value c.scan_whitespace_no_nl.ensures.value)
           (omega arith) (omega arith)
-          (end_found text bytes c.rest_of-in-loop-count.result.now from c.scan_eol.result same c.rest_of-in-loop-count.ensures.value c.scan_eol.ensures.value ∙ c.in-Some.is);
+          (end_found text bytes c.rest_of-in-loop-count.result.now from c.scan_eol.result same c.rest_of-in-loop-count.ensures.value c.scan_eol.ensures.value
+          ∙ c.in-Some.is);
       first = λ ended. cc;
     }
 
@@ -63,9 +64,11 @@ one_read c =
     c.loop-count.count cell from (spot c.in_ok-at.at c.append_table_cell.new.braces) c.args.tree.now
     c.loop-count.tree c.append_table_cell.new.tree c.in_ok-at.ensures.names c.loop-count.invariant.read
     (c.cell_start-cell.ensures.value ∙ ap (λ (bs : List ℕ). cell_start bs at) same)
-    (content_found text bytes c.rest_of.result.now at cell c.scan_whitespace_no_nl.result same c.cell_start-cell.ensures.value c.rest_of.ensures.value c.scan_whitespace_no_nl.ensures.value)
+    (content_found text bytes c.rest_of.result.now at cell c.scan_whitespace_no_nl.result same c.cell_start-cell.ensures.value c.rest_of.ensures.value
+    c.scan_whitespace_no_nl.ensures.value)
     (omega arith) (omega arith)
-    (end_found text bytes c.rest_of-in-loop-count.result.now from c.scan_eol.result same c.rest_of-in-loop-count.ensures.value c.scan_eol.ensures.value ∙ c.in_default.is)
+    (end_found text bytes c.rest_of-in-loop-count.result.now from c.scan_eol.result same c.rest_of-in-loop-count.ensures.value c.scan_eol.ensures.value
+    ∙ c.in_default.is)
     c.in_ok-at.ensures.cell
 
 pub loop-count-smaller : goal.loop-count-smaller

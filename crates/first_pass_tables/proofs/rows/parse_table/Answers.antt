@@ -17,7 +17,9 @@ use Rattle.first_pass_tables.proofs.rows.parse_table.Goals as goal
 pub append_body-requires-clause-table : goal.append_body-requires-clause-table
 append_body-requires-clause-table c =
     let h = c.in_ok-missing.ensures.head in
-    same_table c.args.tree.now c.append_head_row.new.tree (at_depth (length c.args.tree.now.spine + 1) (row_block TableHead c.args.table_cols c.args.head_start h.cells h.row_end)) (ap (λ (f : Forest Item). f.nodes) h.tree_is) (ap (λ (f : Forest Item). f.spine) h.tree_is)
+    same_table c.args.tree.now c.append_head_row.new.tree
+    (at_depth (length c.args.tree.now.spine + 1) (row_block TableHead c.args.table_cols c.args.head_start h.cells h.row_end))
+    (ap (λ (f : Forest Item). f.nodes) h.tree_is) (ap (λ (f : Forest Item). f.spine) h.tree_is)
     (open_are_in c.args.tree.now.nodes c.args.tree.now.spine c.is_forest.ensures.opened) c.requires.table
 
 pub returns-clause-rows : goal.returns-clause-rows

@@ -13,7 +13,8 @@ use Rattle.first_pass_tables.proofs.text.append_table.Goals as goal
 pub parse_table-requires-clause-body : goal.parse_table-requires-clause-body
 parse_table-requires-clause-body c =
     let text = c.args.source.text.now in
-    let body_is = body_at text c.as_bytes-bytes.result.now c.args.start c.next_line.result c.next_line-body.result c.as_bytes-bytes.ensures.value c.next_line.ensures.value c.next_line-body.ensures.value in
+    let body_is = body_at text c.as_bytes-bytes.result.now c.args.start c.next_line.result c.next_line-body.result c.as_bytes-bytes.ensures.value
+    c.next_line.ensures.value c.next_line-body.ensures.value in
     let utf8 = subst IsUtf8 c.as_bytes-bytes.ensures.value c.as_bytes-bytes.ensures.utf8 in
     subst (IsCharBoundary text) (sym body_is) (line_bounds text _ utf8 (line_bounds text c.args.start utf8 c.requires.boundary))
 
@@ -21,7 +22,8 @@ pub parse_table-requires-clause-open : goal.parse_table-requires-clause-open
 parse_table-requires-clause-open c = opened_alone c.args.tree.now c.open_block.new.tree c.args.start c.in_ok-index.index c.in_ok-open_block.ensures
 
 pub parse_table-requires-clause-table : goal.parse_table-requires-clause-table
-parse_table-requires-clause-table c = subst (λ (f : Forest Item). in_table f.nodes f.spine ≡ true) (sym c.in_ok-open_block.ensures) (opened_table c.args.tree.now c.args.start c.in_ok-index.index)
+parse_table-requires-clause-table c = subst (λ (f : Forest Item). in_table f.nodes f.spine ≡ true) (sym c.in_ok-open_block.ensures)
+    (opened_table c.args.tree.now c.args.start c.in_ok-index.index)
 
 -- what is named once the table's rows are read continues its alignments
 grown_table : (c : goal.In_ok-next) → Extends (names_of c.parse_table.new.allocs) (names_of c.allocate_alignment.new.self)
@@ -44,7 +46,8 @@ returns-clause-names c =
 pub returns-clause-block : goal.returns-clause-block
 returns-clause-block c = λ marker.
     let text = c.args.source.text.now in
-    let body_is = body_at text c.as_bytes-bytes.result.now c.args.start c.next_line.result c.next_line-body.result c.as_bytes-bytes.ensures.value c.next_line.ensures.value c.next_line-body.ensures.value in
+    let body_is = body_at text c.as_bytes-bytes.result.now c.args.start c.next_line.result c.next_line-body.result c.as_bytes-bytes.ensures.value
+    c.next_line.ensures.value c.next_line-body.ensures.value in
     let old = c.args.tree.now in
     let names = names_of c.parse_table.new.allocs in
     let ix = c.in_ok-index.index in
@@ -61,7 +64,8 @@ returns-clause-block c = λ marker.
 pub returns-clause-fits : goal.returns-clause-fits
 returns-clause-fits c = λ from low.
     let text = c.args.source.text.now in
-    let body_is = body_at text c.as_bytes-bytes.result.now c.args.start c.next_line.result c.next_line-body.result c.as_bytes-bytes.ensures.value c.next_line.ensures.value c.next_line-body.ensures.value in
+    let body_is = body_at text c.as_bytes-bytes.result.now c.args.start c.next_line.result c.next_line-body.result c.as_bytes-bytes.ensures.value
+    c.next_line.ensures.value c.next_line-body.ensures.value in
     let utf8 = subst IsUtf8 c.as_bytes-bytes.ensures.value c.as_bytes-bytes.ensures.utf8 in
     let old = c.args.tree.now in
     let names = names_of c.parse_table.new.allocs in

@@ -19,11 +19,15 @@ returns-clause-cut c f chain bare is =
     let options = c.args.source.options in
     let start : ℕ = c.args.start in
     let bs : List ℕ = chain_bytes text start chain in
-    let ends : c.min-end.result ≡ min (chain_end start chain) (length text) = c.min-end.ensures ∙ ap (λ n. min n (length text)) (c.chain_end.ensures f chain bare is) in
+    let ends : c.min-end.result ≡ min (chain_end start chain) (length text) =
+    c.min-end.ensures ∙ ap (λ n. min n (length text)) (c.chain_end.ensures f chain bare is) in
     let same : slice_range text start c.min-end.result ≡ bs = ap (slice_range text start) ends ∙ clipped text start (chain_end start chain) in
     let content = c.in_ok-content_end.ensures.content ∙ ap (λ xs. start + length (before_attributes options xs)) same in
-    let given : option_map attributes_in c.in_ok-content_end.attributes ≡ heading_attributes_of options bs = c.in_ok-content_end.ensures.attributes ∙ ap (heading_attributes_of options) same in
-    let named : (more : Names) → Extends more (names_of c.name_attributes.new.allocs) → NamesAttributes more c.in_ok-index.index (heading_attributes_of options bs) = λ more e. subst (NamesAttributes more c.in_ok-index.index) given (c.in_ok-index.ensures.named more e) in
+    let given : option_map attributes_in c.in_ok-content_end.attributes ≡ heading_attributes_of options bs =
+    c.in_ok-content_end.ensures.attributes ∙ ap (heading_attributes_of options) same in
+    let named : (more : Names)
+    → Extends more (names_of c.name_attributes.new.allocs) → NamesAttributes more c.in_ok-index.index (heading_attributes_of options bs) =
+    λ more e. subst (NamesAttributes more c.in_ok-index.index) given (c.in_ok-index.ensures.named more e) in
     elim c.if-is_some.branch [
       | then-is_some w ↦
           let some : is_some c.in_ok-content_end.attributes ≡ true = sym c.is_some.ensures ∙ w.if-is_some.true in
@@ -44,6 +48,7 @@ returns-clause-few c =
     let old : Forest Item = c.args.tree.now in
     let few = λ (f : Forest Item). length f.nodes ≤ length old.nodes in
     elim c.if-is_some.branch [
-      | then-is_some w ↦ subst few (sym (w.tree-is ∙ w.truncate_siblings.ensures)) (siblings_fewer old (c.in_ok-content_end.content_end - w.white_at_cut.result))
+      | then-is_some w ↦
+          subst few (sym (w.tree-is ∙ w.truncate_siblings.ensures)) (siblings_fewer old (c.in_ok-content_end.content_end - w.white_at_cut.result))
       | else-is_some w ↦ subst few (sym w.tree-is) (omega arith)
     ]

@@ -6,14 +6,16 @@ use Rattle.first_pass_items.specs.Bytes.{left_brace}
 use Rattle.first_pass_items.specs.OptionWords.{has, heading_attributes}
 use Rattle.first_pass_attributes.specs.AttributeBlocks.{inside_block}
 use Rattle.first_pass_grammar.specs.Headings.{heading_attributes_of}
-use Rattle.first_pass_text.proofs.AttributeEnds.{none_between, length_between, no_braces, empty_braces, before_none, given_none, content_before, given_not, given_some, brace_boundary}
+use Rattle.first_pass_text.proofs.AttributeEnds.{none_between, length_between, no_braces, empty_braces, before_none, given_none, content_before, given_not}
+use Rattle.first_pass_text.proofs.AttributeEnds.{given_some, brace_boundary}
 use Rattle.first_pass_text.proofs.attributes.extract_and_parse_heading_attribute_block.Goals as goal
 
 pub returns-then-header_end-header_start-clause-attributes :
     goal.returns-then-header_end-header_start-clause-attributes
 returns-then-header_end-header_start-clause-attributes c =
     let options = c.args.source.options in
-    sym (ap (heading_attributes_of options) (none_between c.args.source.text.now c.args.header_start c.args.header_end c.if-header_end-header_start.true) ∙ given_none options [] (empty_braces options))
+    sym (ap (heading_attributes_of options) (none_between c.args.source.text.now c.args.header_start c.args.header_end c.if-header_end-header_start.true)
+    ∙ given_none options [] (empty_braces options))
 
 pub returns-then-not-contains-clause-content : goal.returns-then-not-contains-clause-content
 returns-then-not-contains-clause-content c =
@@ -36,10 +38,13 @@ range-block-requires-clause-start_boundary c some =
     let e = c.extract_attribute_block_content_from_header_text-length in
     let text : List ℕ = c.args.source.text.now in
     let bs : List ℕ = slice_range c.as_bytes.result.now c.args.header_start c.args.header_end in
-    let is : bs ≡ slice_range text c.args.header_start c.args.header_end = ap (λ (xs : List ℕ). slice_range xs c.args.header_start c.args.header_end) c.as_bytes.ensures.value in
-    let places = subst (λ (o : Option (Range ℕ)). IfSome o (λ r. (r.start ≡ e.result.0 + 1) × (r.start ≤ r.«end») × (r.«end» < length bs))) c.in-Some.is e.ensures.places in
+    let is : bs ≡ slice_range text c.args.header_start c.args.header_end =
+    ap (λ (xs : List ℕ). slice_range xs c.args.header_start c.args.header_end) c.as_bytes.ensures.value in
+    let places =
+    subst (λ (o : Option (Range ℕ)). IfSome o (λ r. (r.start ≡ e.result.0 + 1) × (r.start ≤ r.«end») × (r.«end» < length bs))) c.in-Some.is e.ensures.places in
     let opens = subst (λ (o : Option (Range ℕ)). IfSome o (λ r. slice_index bs e.result.0 ≡ left_brace)) c.in-Some.is e.ensures.opens in
-    brace_boundary text bs c.args.header_start c.args.header_end e.result.0 c.in-Some.inside.start (subst IsUtf8 c.as_bytes.ensures.value c.as_bytes.ensures.utf8) is c.requires.to
+    brace_boundary text bs c.args.header_start c.args.header_end e.result.0 c.in-Some.inside.start
+    (subst IsUtf8 c.as_bytes.ensures.value c.as_bytes.ensures.utf8) is c.requires.to
     (omega (arith, places.0, places.1, places.2)) opens places.0
 
 pub returns-in-None-clause-content : goal.returns-in-None-clause-content
@@ -47,14 +52,17 @@ returns-in-None-clause-content c =
     let options = c.args.source.options in
     let e = c.extract_attribute_block_content_from_header_text-length in
     let on : has options heading_attributes ≡ true = sym (c.contains.ensures tt) ∙ c.if-not-contains.false in
-    content_before options c.args.source.text.now c.as_bytes.result.now c.args.header_start c.args.header_end e.result.0 on c.as_bytes.ensures.value e.ensures.before
+    content_before options c.args.source.text.now c.as_bytes.result.now c.args.header_start c.args.header_end e.result.0 on c.as_bytes.ensures.value
+    e.ensures.before
 
 pub returns-in-None-clause-attributes : goal.returns-in-None-clause-attributes
 returns-in-None-clause-attributes c =
     let options = c.args.source.options in
     let e = c.extract_attribute_block_content_from_header_text-length in
     let on : has options heading_attributes ≡ true = sym (c.contains.ensures tt) ∙ c.if-not-contains.false in
-    let none = subst (λ (o : Option (Range ℕ)). option_map (λ (r : Range ℕ). (r.start, r.«end»)) o ≡ inside_block (slice_range c.as_bytes.result.now c.args.header_start c.args.header_end)) c.in-None.is e.ensures.inside in
+    let none = subst (λ (o : Option (Range ℕ)).
+    option_map (λ (r : Range ℕ). (r.start, r.«end»)) o ≡ inside_block (slice_range c.as_bytes.result.now c.args.header_start c.args.header_end)) c.in-None.is
+    e.ensures.inside in
     sym (given_not options (slice_range c.args.source.text.now c.args.header_start c.args.header_end) on
     (none ∙ ap (λ (xs : List ℕ). inside_block (slice_range xs c.args.header_start c.args.header_end)) c.as_bytes.ensures.value))
 
@@ -63,7 +71,8 @@ returns-in_ok-attributes-in-Some-clause-content c =
     let options = c.args.source.options in
     let e = c.extract_attribute_block_content_from_header_text-length in
     let on : has options heading_attributes ≡ true = sym (c.contains.ensures tt) ∙ c.if-not-contains.false in
-    content_before options c.args.source.text.now c.as_bytes.result.now c.args.header_start c.args.header_end e.result.0 on c.as_bytes.ensures.value e.ensures.before
+    content_before options c.args.source.text.now c.as_bytes.result.now c.args.header_start c.args.header_end e.result.0 on c.as_bytes.ensures.value
+    e.ensures.before
 
 pub returns-in_ok-attributes-in-Some-clause-attributes : goal.returns-in_ok-attributes-in-Some-clause-attributes
 returns-in_ok-attributes-in-Some-clause-attributes c =
@@ -71,7 +80,9 @@ returns-in_ok-attributes-in-Some-clause-attributes c =
     let e = c.extract_attribute_block_content_from_header_text-length in
     let on : has options heading_attributes ≡ true = sym (c.contains.ensures tt) ∙ c.if-not-contains.false in
     let text : List ℕ = c.args.source.text.now in
-    let found = subst (λ (o : Option (Range ℕ)). option_map (λ (r : Range ℕ). (r.start, r.«end»)) o ≡ inside_block (slice_range c.as_bytes.result.now c.args.header_start c.args.header_end)) c.in-Some.is e.ensures.inside in
+    let found = subst (λ (o : Option (Range ℕ)).
+    option_map (λ (r : Range ℕ). (r.start, r.«end»)) o ≡ inside_block (slice_range c.as_bytes.result.now c.args.header_start c.args.header_end)) c.in-Some.is
+    e.ensures.inside in
     given_some options text c.args.header_start c.args.header_end (slice_range text c.args.header_start c.args.header_end) c.range-block.result.now
     (c.in-Some.inside.start, c.in-Some.inside.«end») c.in_ok-attributes-in-Some.attributes on refl c.requires.to
     (found ∙ ap (λ (xs : List ℕ). inside_block (slice_range xs c.args.header_start c.args.header_end)) c.as_bytes.ensures.value)

@@ -13,7 +13,8 @@ pub index-requires : goal.index-requires
 index-requires c = open_node_in c.args.tree.now c.args.node_ix c.is_forest.ensures c.requires.open
 
 pub set_body-requires : goal.set_body-requires
-set_body-requires c = open_node_in c.cut_attributes.new.tree c.args.node_ix c.is_forest-2.ensures (ap (λ s. slice_get s 0) c.in_ok-index.ensures.open ∙ c.requires.open)
+set_body-requires c =
+    open_node_in c.cut_attributes.new.tree c.args.node_ix c.is_forest-2.ensures (ap (λ s. slice_get s 0) c.in_ok-index.ensures.open ∙ c.requires.open)
 
 pub returns-clause-heading : goal.returns-clause-heading
 returns-clause-heading c =
@@ -21,12 +22,14 @@ returns-clause-heading c =
     record {
       index = c.in_ok-index.index;
       cut = c.cut_attributes.new.tree;
-      cuts = subst (λ (o : Option Item). IfSome o (λ x. CutsBlock d x.start c.args.broken c.args.tree.now c.cut_attributes.new.tree c.in_ok-index.index)) (sym c.index.ensures) c.in_ok-index.ensures.cut;
+      cuts = subst (λ (o : Option Item). IfSome o (λ x. CutsBlock d x.start c.args.broken c.args.tree.now c.cut_attributes.new.tree c.in_ok-index.index))
+          (sym c.index.ensures) c.in_ok-index.ensures.cut;
       tree_is = c.set_body.ensures;
     }
 
 pub returns-clause-few : goal.returns-clause-few
 returns-clause-few c =
     let cut : Forest Item = c.cut_attributes.new.tree in
-    let same = ap (λ (f : Forest Item). length f.nodes) c.set_body.ensures ∙ length-modify cut.nodes c.args.node_ix.0 (λ (x : Item). record x { body = Heading c.args.level c.in_ok-index.index }) in
+    let same = ap (λ (f : Forest Item). length f.nodes) c.set_body.ensures
+    ∙ length-modify cut.nodes c.args.node_ix.0 (λ (x : Item). record x { body = Heading c.args.level c.in_ok-index.index }) in
     subst (λ n. n ≤ length c.args.tree.now.nodes) (sym same) c.in_ok-index.ensures.few

@@ -6,7 +6,8 @@ use Rattle.first_pass_text.proofs.KeptBytes.{kept_counted}
 use Rattle.first_pass_text.proofs.heading.kept_len.Goals as goal
 
 -- by the counts at the end
-kept_by : (text : List ℕ) (t o n : ℕ) → t ≡ length text - suffix_len is_put_aside text → o ≡ t - suffix_len (λ b. b == 35) (take t text) → n ≡ suffix_len (λ b. b == 32) (take o text)
+kept_by : (text : List ℕ) (t o n : ℕ)
+    → t ≡ length text - suffix_len is_put_aside text → o ≡ t - suffix_len (λ b. b == 35) (take t text) → n ≡ suffix_len (λ b. b == 32) (take o text)
     → kept_len text ≡ (if (o == 0) || nat_lt 0 n then o - n else t)
 kept_by text t o n e f g = rw (g, f, e) (kept_counted text)
 
@@ -18,18 +19,22 @@ choose_kept : (t o n : ℕ) → (o ≡ 0 → ⊥) → n ≤ 0 → (if (o == 0) |
 choose_kept t o n h k = grind (arith, nat_tests, h, k)
 
 -- the counts in the code
-counted : (text front front' : List ℕ) (a b n : ℕ) → a ≡ suffix_len is_put_aside text → front ≡ take (length text - a) text → b ≡ suffix_len (λ b. b == 35) front
+counted : (text front front' : List ℕ) (a b n : ℕ)
+    → a ≡ suffix_len is_put_aside text → front ≡ take (length text - a) text → b ≡ suffix_len (λ b. b == 35) front
     → front' ≡ take (length text - a - b) text → n ≡ suffix_len (λ b. b == 32) front'
     → kept_len text ≡ (if (length text - a - b == 0) || nat_lt 0 n then length text - a - b - n else length text - a)
 counted text front front' a b n e f g h k =
-    kept_by text (length text - a) (length text - a - b) n (ap (λ z. length text - z) e) (ap (λ z. length text - a - z) (g ∙ ap (suffix_len (λ b. b == 35)) f)) (k ∙ ap (suffix_len (λ b. b == 32)) h)
+    kept_by text (length text - a) (length text - a - b) n (ap (λ z. length text - z) e) (ap (λ z. length text - a - z) (g ∙ ap (suffix_len (λ b. b == 35)) f))
+    (k ∙ ap (suffix_len (λ b. b == 32)) h)
 
 pub returns-then-spaces-gt0-clause-value : goal.returns-then-spaces-gt0-clause-value
 returns-then-spaces-gt0-clause-value c =
-    sym (counted c.args.text.now _ _ _ _ _ c.trailing_aside.ensures.value c.front_of.ensures c.trailing_run.ensures.value c.front_of-2.ensures c.trailing_run-spaces.ensures.value
+    sym (counted c.args.text.now _ _ _ _ _ c.trailing_aside.ensures.value c.front_of.ensures c.trailing_run.ensures.value c.front_of-2.ensures
+    c.trailing_run-spaces.ensures.value
     ∙ choose_taken _ _ _ (elim c.if-spaces-gt0.either [ inl h ↦ inl h | inr h ↦ inr h.1 ]))
 
 pub returns-else-spaces-gt0-clause-value : goal.returns-else-spaces-gt0-clause-value
 returns-else-spaces-gt0-clause-value c =
-    sym (counted c.args.text.now _ _ _ _ _ c.trailing_aside.ensures.value c.front_of.ensures c.trailing_run.ensures.value c.front_of-2.ensures c.trailing_run-spaces.ensures.value
+    sym (counted c.args.text.now _ _ _ _ _ c.trailing_aside.ensures.value c.front_of.ensures c.trailing_run.ensures.value c.front_of-2.ensures
+    c.trailing_run-spaces.ensures.value
     ∙ choose_kept _ _ _ c.if-spaces-gt0.false.0 c.if-spaces-gt0.false.1)

@@ -19,7 +19,8 @@ use Rattle.first_pass_text.proofs.heading.parse_atx_heading.Goals as goal
 pub heading_text-requires-clause-opened : goal.heading_text-requires-clause-opened
 heading_text-requires-clause-opened c =
     let x : Item = record { start = c.args.start; «end» = 0; body = Heading c.args.atx_level c.in_ok-index.index } in
-    just_pushed c.args.tree.now c.append.new.self c.push.new.self x c.in_ok-heading_ix.heading_ix c.in_ok-append.ensures.ok c.in_ok-heading_ix.ensures.index c.in_ok-heading_ix.ensures.ok
+    just_pushed c.args.tree.now c.append.new.self c.push.new.self x c.in_ok-heading_ix.heading_ix c.in_ok-append.ensures.ok c.in_ok-heading_ix.ensures.index
+    c.in_ok-heading_ix.ensures.ok
 
 pub close_block-requires : goal.close_block-requires
 close_block-requires c =
@@ -50,9 +51,11 @@ returns-clause-block c =
     let read : c.if-is_some.read_to ≡ (if is_some c.in_ok-content_end.attributes then c.in_ok-content_end.content_end else length text) =
     elim c.if-is_some.branch [
       | then-is_some w ↦ w.read_to-is ∙ ap (λ t. if t then c.in_ok-content_end.content_end else length text) (sym w.if-is_some.true ∙ c.is_some.ensures)
-      | else-is_some w ↦ w.read_to-is ∙ ap length bytes ∙ ap (λ t. if t then c.in_ok-content_end.content_end else length text) (sym w.if-is_some.false ∙ c.is_some.ensures)
+      | else-is_some w ↦
+          w.read_to-is ∙ ap length bytes ∙ ap (λ t. if t then c.in_ok-content_end.content_end else length text) (sym w.if-is_some.false ∙ c.is_some.ensures)
     ] in
-    let (chain, tree_is, heads) = heading_read text options (names_of c.name_attributes.new.allocs) (names_of c.heading_text.new.allocs) start c.in_ok-content_end.content_end c.if-is_some.read_to c.in_ok-content_end.attributes c.in_ok-index.index
+    let (chain, tree_is, heads) = heading_read text options (names_of c.name_attributes.new.allocs)
+    (names_of c.heading_text.new.allocs) start c.in_ok-content_end.content_end c.if-is_some.read_to c.in_ok-content_end.attributes c.in_ok-index.index
     c.kept_len-kept.result (take c.if-is_some.read_to text) c.push.new.self c.heading_text.new.tree
     (c.in_ok-content_end.ensures.content ∙ ap (λ xs. start + length (before_attributes options xs)) between)
     (c.in_ok-content_end.ensures.attributes ∙ ap (heading_attributes_of options) between)
@@ -64,15 +67,18 @@ returns-clause-block c =
     record {
       index = c.in_ok-index.index;
       chain = chain;
-      line = λ more e. subst (λ k. IsHeading (document text options more) k c.in_ok-index.index chain c.next_line-end.result) begins (heads more e c.next_line-end.result ends);
-      tree_is = block_closed g c.heading_text.new.tree x chain ix at (tree_is ∙ ap (λ f. chained f chain) opened) c.close_block.new.tree c.next_line-end.result c.close_block.ensures;
+      line = λ more e. subst (λ k. IsHeading (document text options more) k c.in_ok-index.index chain c.next_line-end.result) begins
+          (heads more e c.next_line-end.result ends);
+      tree_is = block_closed g c.heading_text.new.tree x chain ix at
+          (tree_is ∙ ap (λ f. chained f chain) opened) c.close_block.new.tree c.next_line-end.result c.close_block.ensures;
       end_is = ends ∙ ap (line_end_at text) begins ∙ heading_line_end text c.args.start c.args.atx_level c.requires.within c.requires.heading;
     }
 
 pub returns-clause-fits : goal.returns-clause-fits
 returns-clause-fits c from behind starts =
     let u = subst IsUtf8 c.as_bytes-bytes.ensures.value c.as_bytes-bytes.ensures.utf8 in
-    heading_fits c.args.source.text.now c.args.source.options (names_of c.heading_text.new.allocs) c.args.start c.args.atx_level c.args.tree.now c.close_block.new.tree c.next_line-end.result u starts
+    heading_fits c.args.source.text.now c.args.source.options
+    (names_of c.heading_text.new.allocs) c.args.start c.args.atx_level c.args.tree.now c.close_block.new.tree c.next_line-end.result u starts
     c.requires.heading (returns-clause-block c) from behind
 
 pub returns-clause-names : goal.returns-clause-names

@@ -1,4 +1,5 @@
-use Rattle.std.proofs.Common.{Result, Ok, Err, OnErr, ◌≡◌, ℕ, ◌+◌, min, nat_lt, ◌&&◌, ◌||◌, not, Bool, true, false, IsCharBoundary, List, drop, is_some, refl, sym, ap, subst, ◌∙◌, arith, if◌then◌else◌}
+use Rattle.std.proofs.Common.{Result, Ok, Err, OnErr, ◌≡◌, ℕ, ◌+◌, min, nat_lt, ◌&&◌, ◌||◌, not, Bool, true, false, IsCharBoundary, List, drop, is_some, refl}
+use Rattle.std.proofs.Common.{sym, ap, subst, ◌∙◌, arith, if◌then◌else◌}
 use Rattle.std.proofs.lemmas.Bool.Decides.{nat_tests}
 use Rattle.first_pass_lines.specs.Lines.{at_line_end}
 use Rattle.first_pass_lines.specs.Rest.{Rest, indent}
@@ -67,7 +68,8 @@ ends_is : (c : After-bytes_scanned) → (if nat_lt c.scan_indentation-columns.re
     (drop (c.args.start + c.bytes_scanned.result) c.args.source.text.now) else at_line_end
     (drop (c.args.start + c.bytes_scanned.result) c.args.source.text.now))
     ≡ interrupts (around_it c) c.args.whole c.args.rest.now
-ends_is c = interrupts_at (around_it c) c.args.whole c.args.rest.now c.scan_indentation-columns.result (drop (c.args.start + c.bytes_scanned.result) c.args.source.text.now)
+ends_is c = interrupts_at (around_it c) c.args.whole c.args.rest.now c.scan_indentation-columns.result
+    (drop (c.args.start + c.bytes_scanned.result) c.args.source.text.now)
     (c.scan_indentation-columns.ensures.columns ∙ ap (λ r. min 4 (indent r)) c.copy-text.ensures)
     (ap (λ n. drop n c.args.source.text.now) (offset_is c) ∙ sym (text_at c).left)
 
@@ -100,9 +102,11 @@ on_err (Ok x) p = tt
 on_err (Err e) p = p
 
 -- it errs where a table may begin
-err_at : (around : Context) (r : Rest) (columns : ℕ) (bs : List ℕ) → columns ≡ min 4 (indent r) → bs ≡ (all_taken r).left → (nat_lt columns 4 && may_head around bs) ≡ true →
+err_at : (around : Context) (r : Rest) (columns : ℕ) (bs : List ℕ)
+    → columns ≡ min 4 (indent r) → bs ≡ (all_taken r).left → (nat_lt columns 4 && may_head around bs) ≡ true →
     (nat_lt (indent r) 4 && may_head around (all_taken r).left) ≡ true
-err_at around r columns bs e f h = ap (λ t. t && may_head around (all_taken r).left) (sym (few columns (indent r) e)) ∙ ap (λ xs. nat_lt columns 4 && may_head around xs) (sym f) ∙ h
+err_at around r columns bs e f h =
+    ap (λ t. t && may_head around (all_taken r).left) (sym (few columns (indent r) e)) ∙ ap (λ xs. nat_lt columns 4 && may_head around xs) (sym f) ∙ h
 
 pub returns-in_err-scan_paragraph_end-clause-err : goal.returns-in_err-scan_paragraph_end-clause-err
 returns-in_err-scan_paragraph_end-clause-err c =

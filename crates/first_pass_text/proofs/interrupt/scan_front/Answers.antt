@@ -9,7 +9,9 @@ pub returns-clause-place : goal.returns-clause-place
 returns-clause-place c =
     let text = c.args.source.text.now in
     let start = c.args.start in
-    let read = front_read _ _ _ start (path_of c.args.source.options c.args.tree.now) _ _ c.as_bytes.ensures.value c.rest_of.ensures.value c.new-line_start.ensures
+    let read =
+    front_read _ _ _ start (path_of c.args.source.options c.args.tree.now) _ _ c.as_bytes.ensures.value c.rest_of.ensures.value c.new-line_start.ensures
     c.scan_containers-kept.ensures.front in
-    subst (λ r. IsPlaceOf text (place_at start r)) (sym read) (front_keeps text start (path_of c.args.source.options c.args.tree.now) (line_rest (drop start text))
+    subst (λ r. IsPlaceOf text (place_at start r)) (sym read)
+    (front_keeps text start (path_of c.args.source.options c.args.tree.now) (line_rest (drop start text))
     (subst IsUtf8 c.as_bytes.ensures.value c.as_bytes.ensures.utf8) (line_is_place text start c.requires)).0

@@ -9,12 +9,14 @@ use Rattle.first_pass_text.proofs.interrupt.scan_prefixes.Goals as goal
 
 pub returns-clause-columns : goal.returns-clause-columns
 returns-clause-columns c =
-    let line = c.scan_containers-kept.ensures.front ∙ ap (front (path_of c.args.source.options c.args.tree.now)) (c.new-line_start.ensures ∙ ap line_rest c.requires.bytes) in
+    let line = c.scan_containers-kept.ensures.front
+    ∙ ap (front (path_of c.args.source.options c.args.tree.now)) (c.new-line_start.ensures ∙ ap line_rest c.requires.bytes) in
     c.scan_indentation-columns.ensures.columns ∙ ap (λ r. min 4 (indent r)) line
 
 pub returns-clause-behind : goal.returns-clause-behind
 returns-clause-behind c =
-    let line = c.scan_containers-kept.ensures.front ∙ ap (front (path_of c.args.source.options c.args.tree.now)) (c.new-line_start.ensures ∙ ap line_rest c.requires.bytes) in
+    let line = c.scan_containers-kept.ensures.front
+    ∙ ap (front (path_of c.args.source.options c.args.tree.now)) (c.new-line_start.ensures ∙ ap line_rest c.requires.bytes) in
     ap (place_at c.args.start) (c.scan_indentation-columns.ensures.rest ∙ ap all_taken line)
 
 pub returns-clause-place : goal.returns-clause-place

@@ -21,16 +21,22 @@ lines-init c = record {
 
 next_stands : (c : goal.In_ok-next) → IsCharBoundary c.args.source.text.now c.in_ok-next.next
 next_stands c =
-    next_boundary (document c.args.source.text.now c.args.source.options no_names) c.lines.ix c.in_ok-next.next c.lines.braces c.in_ok-next.line_break c.in_ok-next.ensures.utf8 c.lines.invariant.read.boundary
-    (same_end c.args.source.text.now c.args.source.text.now c.args.source.options c.args.source.options (spot c.lines.ix c.lines.braces) (c.in_ok-next.next, c.in_ok-next.line_break) refl refl c.in_ok-next.ensures.ends)
+    next_boundary (document c.args.source.text.now c.args.source.options no_names) c.lines.ix c.in_ok-next.next c.lines.braces c.in_ok-next.line_break
+    c.in_ok-next.ensures.utf8 c.lines.invariant.read.boundary
+    (same_end c.args.source.text.now c.args.source.text.now c.args.source.options c.args.source.options (spot c.lines.ix c.lines.braces)
+    (c.in_ok-next.next, c.in_ok-next.line_break) refl refl c.in_ok-next.ensures.ends)
 
 pub scan_next_line-requires : goal.scan_next_line-requires
 scan_next_line-requires c = next_stands c
 
 pub lines-smaller : goal.lines-smaller
 lines-smaller c =
-    let more = so_far_next (names_of c.lines.allocs) (names_of c.append_line.new.self) c.append_line.new.braces c.args.source.text.now c.args.source.text.now c.args.source.text.now c.args.source.options c.args.source.options c.args.start (spot c.lines.ix c.lines.braces) c.in_ok-next.next c.in-More.at c.args.tree.now c.lines.tree c.append_line.new.tree c.append_item.new.tree c.in_ok-next.line_break _ _ refl refl refl refl
-    (open_are_in c.args.tree.now.nodes c.args.tree.now.spine c.is_forest.ensures.opened) c.scan_next_line.ensures.utf8 c.lines.invariant.read c.requires.apart c.in_ok-next.ensures.names c.in_ok-next.ensures.line c.in_ok-next.ensures.ends c.in_ok-at.ensures.value c.in-More.is c.in_ok-at.ensures.place c.in_ok-append_item-in-More.ensures in
+    let more = so_far_next (names_of c.lines.allocs) (names_of c.append_line.new.self) c.append_line.new.braces c.args.source.text.now c.args.source.text.now
+    c.args.source.text.now c.args.source.options c.args.source.options c.args.start (spot c.lines.ix c.lines.braces) c.in_ok-next.next c.in-More.at
+    c.args.tree.now c.lines.tree c.append_line.new.tree c.append_item.new.tree c.in_ok-next.line_break _ _ refl refl refl refl
+    (open_are_in c.args.tree.now.nodes c.args.tree.now.spine c.is_forest.ensures.opened) c.scan_next_line.ensures.utf8 c.lines.invariant.read c.requires.apart
+    c.in_ok-next.ensures.names c.in_ok-next.ensures.line c.in_ok-next.ensures.ends c.in_ok-at.ensures.value c.in-More.is c.in_ok-at.ensures.place
+    c.in_ok-append_item-in-More.ensures in
     let within : c.in-More.at ≤ length c.args.source.text.now = more.0.boundary.0 in
     let later : c.lines.ix < c.in-More.at = more.1 in
     omega arith
@@ -38,25 +44,42 @@ lines-smaller c =
 pub lines-preserved : goal.lines-preserved
 lines-preserved c = record {
   read =
-      (so_far_next (names_of c.lines.allocs) (names_of c.append_line.new.self) c.append_line.new.braces c.args.source.text.now c.args.source.text.now c.args.source.text.now c.args.source.options c.args.source.options c.args.start (spot c.lines.ix c.lines.braces) c.in_ok-next.next c.in-More.at c.args.tree.now c.lines.tree c.append_line.new.tree c.append_item.new.tree c.in_ok-next.line_break _ _ refl refl refl refl
-      (open_are_in c.args.tree.now.nodes c.args.tree.now.spine c.is_forest.ensures.opened) c.scan_next_line.ensures.utf8 c.lines.invariant.read c.requires.apart c.in_ok-next.ensures.names c.in_ok-next.ensures.line c.in_ok-next.ensures.ends c.in_ok-at.ensures.value c.in-More.is c.in_ok-at.ensures.place c.in_ok-append_item-in-More.ensures).0;
-  grown = extends_both (names_of c.append_line.new.self) (names_of c.lines.allocs) (names_of c.args.allocs.now) c.in_ok-next.ensures.names c.lines.invariant.grown;
+      (so_far_next (names_of c.lines.allocs) (names_of c.append_line.new.self) c.append_line.new.braces c.args.source.text.now c.args.source.text.now
+      c.args.source.text.now c.args.source.options c.args.source.options c.args.start (spot c.lines.ix c.lines.braces) c.in_ok-next.next c.in-More.at
+      c.args.tree.now c.lines.tree c.append_line.new.tree c.append_item.new.tree c.in_ok-next.line_break _ _ refl refl refl refl
+      (open_are_in c.args.tree.now.nodes c.args.tree.now.spine c.is_forest.ensures.opened) c.scan_next_line.ensures.utf8 c.lines.invariant.read c.requires.apart
+      c.in_ok-next.ensures.names c.in_ok-next.ensures.line c.in_ok-next.ensures.ends c.in_ok-at.ensures.value c.in-More.is c.in_ok-at.ensures.place
+      c.in_ok-append_item-in-More.ensures).0;
+  grown =
+      extends_both (names_of c.append_line.new.self) (names_of c.lines.allocs) (names_of c.args.allocs.now) c.in_ok-next.ensures.names c.lines.invariant.grown;
   entries = c.in_ok-next.ensures.entries ∙ c.lines.invariant.entries;
 }
 
 pub returns-in-Underline-clause-lines : goal.returns-in-Underline-clause-lines
 returns-in-Underline-clause-lines c =
-    so_far_stop (names_of c.lines.allocs) (names_of c.append_line.new.self) c.append_line.new.braces c.args.source.text.now c.args.source.text.now c.args.source.text.now c.args.source.options c.args.source.options c.args.start (spot c.lines.ix c.lines.braces) c.in_ok-next.next c.args.tree.now c.lines.tree c.append_line.new.tree c.in_ok-next.line_break _ _ refl refl refl refl
-    (open_are_in c.args.tree.now.nodes c.args.tree.now.spine c.is_forest.ensures.opened) c.scan_next_line.ensures.utf8 c.lines.invariant.read c.requires.apart c.in_ok-next.ensures.names c.in_ok-next.ensures.line c.in_ok-next.ensures.ends (omega (arith, c.is_short.ensures))
-    (underlined_by _ _ _ _ _ c.in_ok-at.ensures.value c.in-Underline.is) (subst (λ t. IsCharBoundary t c.in_ok-next.next) refl (next_boundary (document c.args.source.text.now c.args.source.options no_names) c.lines.ix c.in_ok-next.next c.lines.braces c.in_ok-next.line_break c.in_ok-next.ensures.utf8 c.lines.invariant.read.boundary
-    (same_end c.args.source.text.now c.args.source.text.now c.args.source.options c.args.source.options (spot c.lines.ix c.lines.braces) (c.in_ok-next.next, c.in_ok-next.line_break) refl refl c.in_ok-next.ensures.ends)))
+    so_far_stop (names_of c.lines.allocs) (names_of c.append_line.new.self) c.append_line.new.braces c.args.source.text.now
+    c.args.source.text.now c.args.source.text.now c.args.source.options c.args.source.options c.args.start
+    (spot c.lines.ix c.lines.braces) c.in_ok-next.next c.args.tree.now c.lines.tree c.append_line.new.tree c.in_ok-next.line_break _ _ refl refl refl refl
+    (open_are_in c.args.tree.now.nodes c.args.tree.now.spine c.is_forest.ensures.opened) c.scan_next_line.ensures.utf8 c.lines.invariant.read c.requires.apart
+    c.in_ok-next.ensures.names c.in_ok-next.ensures.line c.in_ok-next.ensures.ends (omega (arith, c.is_short.ensures))
+    (underlined_by _ _ _ _ _ c.in_ok-at.ensures.value c.in-Underline.is) (subst (λ t. IsCharBoundary t c.in_ok-next.next) refl
+    (next_boundary (document c.args.source.text.now c.args.source.options no_names) c.lines.ix c.in_ok-next.next c.lines.braces c.in_ok-next.line_break
+    c.in_ok-next.ensures.utf8 c.lines.invariant.read.boundary
+    (same_end c.args.source.text.now c.args.source.text.now c.args.source.options c.args.source.options (spot c.lines.ix c.lines.braces)
+    (c.in_ok-next.next, c.in_ok-next.line_break) refl refl c.in_ok-next.ensures.ends)))
 
 pub returns-in-Other-clause-lines : goal.returns-in-Other-clause-lines
 returns-in-Other-clause-lines c =
-    so_far_stop (names_of c.lines.allocs) (names_of c.append_line.new.self) c.append_line.new.braces c.args.source.text.now c.args.source.text.now c.args.source.text.now c.args.source.options c.args.source.options c.args.start (spot c.lines.ix c.lines.braces) c.in_ok-next.next c.args.tree.now c.lines.tree c.append_line.new.tree c.in_ok-next.line_break _ _ refl refl refl refl
-    (open_are_in c.args.tree.now.nodes c.args.tree.now.spine c.is_forest.ensures.opened) c.scan_next_line.ensures.utf8 c.lines.invariant.read c.requires.apart c.in_ok-next.ensures.names c.in_ok-next.ensures.line c.in_ok-next.ensures.ends (omega (arith, c.is_short.ensures))
-    (stops_by _ _ _ _ c.in_ok-at.ensures.value c.in-Other.is) (subst (λ t. IsCharBoundary t c.in_ok-next.next) refl (next_boundary (document c.args.source.text.now c.args.source.options no_names) c.lines.ix c.in_ok-next.next c.lines.braces c.in_ok-next.line_break c.in_ok-next.ensures.utf8 c.lines.invariant.read.boundary
-    (same_end c.args.source.text.now c.args.source.text.now c.args.source.options c.args.source.options (spot c.lines.ix c.lines.braces) (c.in_ok-next.next, c.in_ok-next.line_break) refl refl c.in_ok-next.ensures.ends)))
+    so_far_stop (names_of c.lines.allocs) (names_of c.append_line.new.self) c.append_line.new.braces c.args.source.text.now
+    c.args.source.text.now c.args.source.text.now c.args.source.options c.args.source.options c.args.start
+    (spot c.lines.ix c.lines.braces) c.in_ok-next.next c.args.tree.now c.lines.tree c.append_line.new.tree c.in_ok-next.line_break _ _ refl refl refl refl
+    (open_are_in c.args.tree.now.nodes c.args.tree.now.spine c.is_forest.ensures.opened) c.scan_next_line.ensures.utf8 c.lines.invariant.read c.requires.apart
+    c.in_ok-next.ensures.names c.in_ok-next.ensures.line c.in_ok-next.ensures.ends (omega (arith, c.is_short.ensures))
+    (stops_by _ _ _ _ c.in_ok-at.ensures.value c.in-Other.is) (subst (λ t. IsCharBoundary t c.in_ok-next.next) refl
+    (next_boundary (document c.args.source.text.now c.args.source.options no_names) c.lines.ix c.in_ok-next.next c.lines.braces c.in_ok-next.line_break
+    c.in_ok-next.ensures.utf8 c.lines.invariant.read.boundary
+    (same_end c.args.source.text.now c.args.source.text.now c.args.source.options c.args.source.options (spot c.lines.ix c.lines.braces)
+    (c.in_ok-next.next, c.in_ok-next.line_break) refl refl c.in_ok-next.ensures.ends)))
 
 pub returns-in-Underline-clause-names : goal.returns-in-Underline-clause-names
 returns-in-Underline-clause-names c =

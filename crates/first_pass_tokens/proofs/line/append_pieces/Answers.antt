@@ -11,14 +11,16 @@ use Rattle.first_pass_tokens.proofs.line.append_pieces.Goals as goal
 use Rattle.first_pass_tokens.proofs.line.append_pieces.Goals.{In_default, In-Some}
 
 -- the content is read up to the next special place
-upto_special : (c : In-Some) → IsRead c.loop-at.texts.items (content_in c.args.whole.now c.args.text.now c.args.content c.args.braces.now) c.args.tree.now c.loop-at.tree c.loop-at.pending (spot c.in-Some.at c.loop-at.braces)
+upto_special : (c : In-Some) → IsRead c.loop-at.texts.items (content_in c.args.whole.now c.args.text.now c.args.content c.args.braces.now) c.args.tree.now
+    c.loop-at.tree c.loop-at.pending (spot c.in-Some.at c.loop-at.braces)
 upto_special c =
     let found = c.in-Some.ensures.found in
     read_upto c.loop-at.from c.in-Some.at c.loop-at.braces c.loop-at.invariant.read found.from (omega (arith, found.within))
     (λ k low high. sym (c.requires.marks _ (omega (arith, c.type_inv.text k))) ∙ found.least k low high)
 
 -- and up to the text's end, where none is left
-upto_end : (c : In_default) → IsRead c.loop-at.texts.items (content_in c.args.whole.now c.args.text.now c.args.content c.args.braces.now) c.args.tree.now c.loop-at.tree c.loop-at.pending (spot (length c.args.text.now) c.loop-at.braces)
+upto_end : (c : In_default) → IsRead c.loop-at.texts.items (content_in c.args.whole.now c.args.text.now c.args.content c.args.braces.now) c.args.tree.now
+    c.loop-at.tree c.loop-at.pending (spot (length c.args.text.now) c.loop-at.braces)
 upto_end c =
     read_upto c.loop-at.from _ c.loop-at.braces c.loop-at.invariant.read c.loop-at.invariant.read.read.within (omega arith)
     (λ k low high. sym (c.requires.marks _ (omega (arith, c.type_inv.text k))) ∙ c.in_default.ensures.none k low high)
@@ -41,7 +43,8 @@ loop-at-preserved c =
     let is = subst (λ f. Becomes texts c.loop-at.braces f piece.piece) here piece.ensures.becomes in
     let more = piece.ensures.more in
     record {
-      read = read_piece piece.piece (read_more more (upto_special (goal.at.loop-at-preserved c).In-Some)) (sym (c.ends_at.ensures c.args.whole.now c.args.braces.now) ∙ c.if-ends_at.false)
+      read = read_piece piece.piece (read_more more (upto_special (goal.at.loop-at-preserved c).In-Some))
+          (sym (c.ends_at.ensures c.args.whole.now c.args.braces.now) ∙ c.if-ends_at.false)
           is (omega (arith, c.special_found-found.ensures.fits, piece.ensures.size))
           (becomes_solid _ _ z.text at _ piece.piece piece.ensures.becomes c.special_found-found.ensures.ends)
           c.in_ok-append_piece.ensures.tree c.in_ok-append_piece.ensures.pending

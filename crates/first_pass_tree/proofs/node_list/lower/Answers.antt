@@ -6,7 +6,8 @@ use Rattle.first_pass_tree.proofs.node_list.lower.Goals as goal
 
 pub loop-next-preserved : goal.loop-next-preserved
 loop-next-preserved c = record {
-  same = map_from-next shallower c.loop-next.nodes.items c.loop-next.next c.index_mut-node.result.now (omega arith) c.index_mut-node.ensures.value ∙ c.loop-next.invariant.same;
+  same = map_from-next shallower c.loop-next.nodes.items c.loop-next.next c.index_mut-node.result.now (omega arith) c.index_mut-node.ensures.value
+      ∙ c.loop-next.invariant.same;
   deep = lower-keeps c.loop-next.nodes.items c.loop-next.next _ c.loop-next.invariant.deep;
 }
 

@@ -5,7 +5,8 @@ use Rattle.first_pass_tree.proofs.node_list.raise.Goals as goal
 
 pub loop-next-preserved : goal.loop-next-preserved
 loop-next-preserved c = record {
-  same = map_from-next deeper c.loop-next.nodes.items c.loop-next.next c.index_mut-node.result.now (omega arith) c.index_mut-node.ensures.value ∙ c.loop-next.invariant.same;
+  same = map_from-next deeper c.loop-next.nodes.items c.loop-next.next c.index_mut-node.result.now (omega arith) c.index_mut-node.ensures.value
+      ∙ c.loop-next.invariant.same;
   small = raise-keeps c.loop-next.nodes.items c.loop-next.next _ c.loop-next.invariant.small;
 }
 

@@ -9,4 +9,7 @@ returns-then-nodes-end c = sibling-some _ _ _ _ c.requires c.deeper_end-end.ensu
 pub returns-else-end-nodes : goal.returns-else-end-nodes
 returns-else-end-nodes c =
     sibling-none _ _ _ _ c.requires c.deeper_end-end.ensures
-    (λ p. elim c.else-end-nodes.branch [ else-end-nodes-via-then-end-nodes+else-nodes-end w ↦ w.if-nodes-end.false | else-end-nodes-via-else-end-nodes w ↦ absurd (omega (arith, w.if-end-nodes.false)) ])
+    (λ p. elim c.else-end-nodes.branch [
+      | else-end-nodes-via-then-end-nodes+else-nodes-end w ↦ w.if-nodes-end.false
+      | else-end-nodes-via-else-end-nodes w ↦ absurd (omega (arith, w.if-end-nodes.false))
+    ])

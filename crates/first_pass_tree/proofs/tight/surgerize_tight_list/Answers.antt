@@ -46,4 +46,5 @@ loop-at-preserved c =
     let n = c.inner_list-inner in
     let w = n.ensures.within in
     let t = c.tighten_between.ensures f (n.ensures.tree ∙ c.loop-at.invariant.tight) in
-    walk_next f c.loop-at.tree c.tighten_between.new.tree c.tighten.new.tree _ _ _ n.result.place n.result.past c.requires c.depth_at-list_depth.ensures c.loop-at.invariant (omega arith) w.1 w.2 n.ensures.deeper t c.tighten.ensures
+    walk_next f c.loop-at.tree c.tighten_between.new.tree c.tighten.new.tree _ _ _ n.result.place n.result.past c.requires c.depth_at-list_depth.ensures
+    c.loop-at.invariant (omega arith) w.1 w.2 n.ensures.deeper t c.tighten.ensures

@@ -8,13 +8,15 @@ use Rattle.first_pass_tree.proofs.tight.tighten.Goals as goal
 pub returns-then-depth_at-list_depth-ne2 : goal.returns-then-depth_at-list_depth-ne2
 returns-then-depth_at-list_depth-ne2 c =
     let f = c.args.tree.now in
-    let two = not_two_deeper c.depth_at.result (slice_index (depths f.nodes) c.args.ix.0) c.args.list_depth c.depth_at.ensures c.if-depth_at-list_depth-ne2.true in
+    let two =
+    not_two_deeper c.depth_at.result (slice_index (depths f.nodes) c.args.ix.0) c.args.list_depth c.depth_at.ensures c.if-depth_at-list_depth-ne2.true in
     with_nodes f f _ (sym (node_stays c.args.list_depth c.args.ix.0 f.nodes two)) refl refl
 
 pub returns-in-Paragraph : goal.returns-in-Paragraph
 returns-in-Paragraph c =
     let f = c.args.tree.now in
-    let two = two_deeper c.depth_at.result (slice_index (depths f.nodes) c.args.ix.0) c.args.list_depth c.depth_at.ensures c.requires.deeper c.if-depth_at-list_depth-ne2.false in
+    let two = two_deeper c.depth_at.result
+    (slice_index (depths f.nodes) c.args.ix.0) c.args.list_depth c.depth_at.ensures c.requires.deeper c.if-depth_at-list_depth-ne2.false in
     let is = body_of f c.args.ix c.index.result.now c.index.ensures ∙ ap (λ b. Some b) c.in-Paragraph.is in
     c.set_body.ensures ∙ with_nodes f _ _ (sym (node_tight c.args.list_depth c.args.ix.0 f.nodes Paragraph TightParagraph two is refl)) refl refl
 
@@ -22,6 +24,9 @@ pub returns-in_default : goal.returns-in_default
 returns-in_default c =
     let f = c.args.tree.now in
     let b = c.index.result.now.body in
-    let two = two_deeper c.depth_at.result (slice_index (depths f.nodes) c.args.ix.0) c.args.list_depth c.depth_at.ensures c.requires.deeper c.if-depth_at-list_depth-ne2.false in
+    let two = two_deeper c.depth_at.result
+    (slice_index (depths f.nodes) c.args.ix.0) c.args.list_depth c.depth_at.ensures c.requires.deeper c.if-depth_at-list_depth-ne2.false in
     let is = body_of f c.args.ix c.index.result.now c.index.ensures in
-    with_nodes f f _ (sym (node_tight c.args.list_depth c.args.ix.0 f.nodes b b two is (other_tight b c.in_default.not-Paragraph) ∙ tight_same_body f.nodes c.args.ix.0 b is)) refl refl
+    with_nodes f f _
+    (sym (node_tight c.args.list_depth c.args.ix.0 f.nodes b b two is (other_tight b c.in_default.not-Paragraph) ∙ tight_same_body f.nodes c.args.ix.0 b is))
+    refl refl

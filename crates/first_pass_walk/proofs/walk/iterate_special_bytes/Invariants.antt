@@ -6,7 +6,8 @@ use Rattle.first_pass_walk.proofs.walk.iterate_special_bytes.Given as goal
 abbrev pub invariant-loop-at : goal.invariant-loop-at
 invariant-loop-at g l =
     goal.F-IsAlwaysCallable g l.callback
-    × ((skips : List ℕ) (answer : _) (last : _) → Walks (λ f k b i h. goal.F-step g f k b i h) (record { lut = l.lut; bytes = l.bytes }) skips (l.from, l.callback) (answer, last)
+    × ((skips : List ℕ) (answer : _) (last : _)
+    → Walks (λ f k b i h. goal.F-step g f k b i h) (record { lut = l.lut; bytes = l.bytes }) skips (l.from, l.callback) (answer, last)
     → (all : List ℕ) × Walks (λ f k b i h. goal.F-step g f k b i h) (record { lut = l.lut; bytes = l.bytes }) all (l.fn.ix, l.fn.callback) (answer, last))
 
 abbrev pub decreases-loop-at : goal.decreases-loop-at

@@ -9,7 +9,8 @@ pub returns : goal.returns
 returns c =
     let v = chunk c.args.at 16 c.args.bytes.now in
     let long = length-chunk c.args.at 16 c.args.bytes.now c.requires in
-    let no_letter = joined (λ a b. cond (leb a b) 255 0) _ _ v (splat_is v 16 26 long) (joined _ _ _ v (zip2_splat {Y = ℕ} _ v 16 32 long) (splat_is v 16 97 long)) in
+    let no_letter =
+    joined (λ a b. cond (leb a b) 255 0) _ _ v (splat_is v 16 26 long) (joined _ _ _ v (zip2_splat {Y = ℕ} _ v 16 32 long) (splat_is v 16 97 long)) in
     let stops = joined bit_and _ _ v no_letter (zip2_splat {Y = ℕ} _ v 16 32 long) in
     run_in is_word_byte c.args.bytes.now c.args.at 16 _ _ c.requires (omega arith) c.type_inv.bytes c.first_set.ensures _
     (joined bit_and _ _ v stops (zip2_splat {Y = ℕ} _ v 16 128 long)) refl

@@ -15,7 +15,8 @@ returns-clause-boundary c = λ whole.
     let cell = c.in_ok-stop.ensures.cell.cell in
     subst (λ t. IsCharBoundary t c.in_ok-stop.stop) e (cell_end_place (subst (λ t. c.args.start ≤ length t) (sym e) c.requires.start) cell)
 
-both_ends : (text : List ℕ) (start : ℕ) (end : Option ℕ) → IfSome end (λ e. (start ≤ e) × (e ≤ length text)) → IfSome end (λ e. IsCharBoundary text e) → IfSome end (λ e. (start ≤ e) × IsCharBoundary text e)
+both_ends : (text : List ℕ) (start : ℕ) (end : Option ℕ)
+    → IfSome end (λ e. (start ≤ e) × (e ≤ length text)) → IfSome end (λ e. IsCharBoundary text e) → IfSome end (λ e. (start ≤ e) × IsCharBoundary text e)
 both_ends text start None h b = tt
 both_ends text start (Some e) h b = (h.0, b)
 
@@ -31,7 +32,8 @@ returns-clause-order c = λ ends boundary at low o.
     let before = o.later in
     let e : ℕ = reached old.empty_item at in
     let low' : e ≤ at = before in
-    let to = ordered_cell text options self.braces c.args.start c.args.end old.tree new.tree stop e c.in_ok-stop.ensures.utf8 (both_ends text c.args.start c.args.end c.requires.end ends) boundary c.is_forest.ensures h (omega arith) o.ordered in
+    let to = ordered_cell text options self.braces c.args.start c.args.end old.tree new.tree stop e c.in_ok-stop.ensures.utf8
+    (both_ends text c.args.start c.args.end c.requires.end ends) boundary c.is_forest.ensures h (omega arith) o.ordered in
     ordered_none text new stop refl to.within to
 
 pub returns-clause-few : goal.returns-clause-few

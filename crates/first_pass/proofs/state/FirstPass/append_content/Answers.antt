@@ -15,11 +15,14 @@ pub returns-clause-boundary : goal.returns-clause-boundary
 returns-clause-boundary c = λ whole boundary.
     let text = c.args.self.now.source.text.now in
     let options = c.args.self.now.source.options in
-    let ends = subst (λ (t : Option ℕ). EndsLine (record { options = options; whole = text; text = text_upto text t; start = c.args.start; row = false; braces = c.args.self.now.braces }) c.in_ok-line.line)
+    let ends = subst (λ (t : Option ℕ). EndsLine
+    (record { options = options; whole = text; text = text_upto text t; start = c.args.start; row = false; braces = c.args.self.now.braces }) c.in_ok-line.line)
     whole c.in_ok-line.ensures.ends in
-    next_boundary (document text c.args.self.now.source.options no_names) c.args.start c.in_ok-line.line.0 c.args.self.now.braces c.in_ok-line.line.1 c.in_ok-line.ensures.utf8 boundary ends
+    next_boundary (document text c.args.self.now.source.options no_names) c.args.start c.in_ok-line.line.0 c.args.self.now.braces c.in_ok-line.line.1
+    c.in_ok-line.ensures.utf8 boundary ends
 
-both_ends : (text : List ℕ) (start : ℕ) (end : Option ℕ) → IfSome end (λ e. (start ≤ e) × (e ≤ length text)) → IfSome end (λ e. IsCharBoundary text e) → IfSome end (λ e. (start ≤ e) × IsCharBoundary text e)
+both_ends : (text : List ℕ) (start : ℕ) (end : Option ℕ)
+    → IfSome end (λ e. (start ≤ e) × (e ≤ length text)) → IfSome end (λ e. IsCharBoundary text e) → IfSome end (λ e. (start ≤ e) × IsCharBoundary text e)
 both_ends text start None h b = tt
 both_ends text start (Some e) h b = (h.0, b)
 
@@ -35,7 +38,8 @@ returns-clause-order c = λ ends boundary at low o.
     let before = o.later in
     let e : ℕ = reached old.empty_item at in
     let low' : e ≤ at = before in
-    let to = ordered_line (document text options no_names) self.braces c.args.start c.args.end old.tree new.tree answer.0 answer.1 e c.in_ok-line.ensures.utf8 (both_ends text c.args.start c.args.end c.requires.end ends) boundary c.is_forest.ensures h (omega arith) o.ordered in
+    let to = ordered_line (document text options no_names) self.braces c.args.start c.args.end old.tree new.tree answer.0 answer.1 e c.in_ok-line.ensures.utf8
+    (both_ends text c.args.start c.args.end c.requires.end ends) boundary c.is_forest.ensures h (omega arith) o.ordered in
     ordered_none text new answer.0 refl to.within to
 
 pub returns-clause-few : goal.returns-clause-few

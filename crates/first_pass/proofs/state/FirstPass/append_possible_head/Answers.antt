@@ -12,7 +12,8 @@ use Rattle.first_pass.proofs.state.FirstPass.append_possible_head.Goals as goal
 pub returns-clause-names : goal.returns-clause-names
 returns-clause-names c =
     extends_both (names_of c.allocate_alignment.new.self) (names_of (allocs_of c.append_content.new.self)) (names_of (allocs_of c.args.self.now))
-    (extends_alignments (names_of (allocs_of c.append_content.new.self)) (names_of c.allocate_alignment.new.self) c.in-Some.alignments.items c.in_ok-index.ensures.names)
+    (extends_alignments (names_of (allocs_of c.append_content.new.self))
+    (names_of c.allocate_alignment.new.self) c.in-Some.alignments.items c.in_ok-index.ensures.names)
     c.in_ok-next.ensures.names
 
 pub returns-clause-boundary : goal.returns-clause-boundary

@@ -13,4 +13,5 @@ by_result (Err e) text r q start ch index is = tt
 
 pub returns-clause-order : goal.returns-clause-order
 returns-clause-order c =
-    by_result c.continue_list.result c.args.self.now.source.text.now c.args.self.now.reading c.continue_list.new.self c.args.start c.args.ch c.args.index c.continue_list.ensures
+    by_result c.continue_list.result c.args.self.now.source.text.now c.args.self.now.reading c.continue_list.new.self c.args.start c.args.ch c.args.index
+    c.continue_list.ensures

@@ -17,12 +17,15 @@ returns-clause-order c =
     let text = c.args.text.now in
     let tree = c.set_end.new.self in
     ordered_none text (remembered tree None false) 0 refl (omega arith)
-    (ordered_first text tree c.root-root.result c.utf8.text c.root-root.ensures.value (c.set_end.ensures ∙ ap (λ f. with_end_at f c.root-root.result (length text)) c.in_ok-tree.ensures))
+    (ordered_first text tree c.root-root.result c.utf8.text c.root-root.ensures.value
+    (c.set_end.ensures ∙ ap (λ f. with_end_at f c.root-root.result (length text)) c.in_ok-tree.ensures))
 
 pub returns-clause-named : goal.returns-clause-named
 returns-clause-named c =
-    first_named _ c.set_end.new.self c.root-root.result (length c.args.text.now) (c.set_end.ensures ∙ ap (λ f. with_end_at f c.root-root.result (length c.args.text.now)) c.in_ok-tree.ensures)
+    first_named _ c.set_end.new.self c.root-root.result (length c.args.text.now)
+    (c.set_end.ensures ∙ ap (λ f. with_end_at f c.root-root.result (length c.args.text.now)) c.in_ok-tree.ensures)
 
 pub returns-clause-whole : goal.returns-clause-whole
 returns-clause-whole c =
-    first_whole _ c.set_end.new.self c.root-root.result (length c.args.text.now) (c.set_end.ensures ∙ ap (λ f. with_end_at f c.root-root.result (length c.args.text.now)) c.in_ok-tree.ensures)
+    first_whole _ c.set_end.new.self c.root-root.result (length c.args.text.now)
+    (c.set_end.ensures ∙ ap (λ f. with_end_at f c.root-root.result (length c.args.text.now)) c.in_ok-tree.ensures)

@@ -24,17 +24,21 @@ returns-in_default-clause-boundary c =
 pub returns-in_ok-next-in-Leaf-clause-later : goal.returns-in_ok-next-in-Leaf-clause-later
 returns-in_ok-next-in-Leaf-clause-later c =
     let e = c.in_ok-next-in-Leaf.ensures.read in
-    line_later c.args.self.now.source.text.now c.args.start_ix _ _ c.requires.within (c.in_ok-open_containers.ensures.same_end ∙ c.in-Some.ensures.same_end) e.later e.boundary
+    line_later c.args.self.now.source.text.now c.args.start_ix _ _ c.requires.within
+    (c.in_ok-open_containers.ensures.same_end ∙ c.in-Some.ensures.same_end) e.later e.boundary
 
 pub returns-in_ok-next-in-TaskText-clause-later : goal.returns-in_ok-next-in-TaskText-clause-later
 returns-in_ok-next-in-TaskText-clause-later c =
     let e = c.in_ok-next-in-TaskText.ensures.read in
-    line_later c.args.self.now.source.text.now c.args.start_ix _ _ c.requires.within (c.in_ok-open_containers.ensures.same_end ∙ c.in-Some.ensures.same_end) e.later e.boundary
+    line_later c.args.self.now.source.text.now c.args.start_ix _ _ c.requires.within
+    (c.in_ok-open_containers.ensures.same_end ∙ c.in-Some.ensures.same_end) e.later e.boundary
 
 -- the line ends after the empty item
-item_end : (c : goal.After-drop-place-inside-in-NextLine-1) → c.in-NextLine.next ≡ c.args.start_ix + line_len (drop c.args.start_ix c.args.self.now.source.text.now)
+item_end : (c : goal.After-drop-place-inside-in-NextLine-1)
+    → c.in-NextLine.next ≡ c.args.start_ix + line_len (drop c.args.start_ix c.args.self.now.source.text.now)
 item_end c =
-    subst (λ o. IsBehind o c.open_containers.new.reading c.open_containers.new.place.rest (line_end c.in-Some.place)) c.in-NextLine.is c.in_ok-open_containers.ensures.behind
+    subst (λ o. IsBehind o c.open_containers.new.reading c.open_containers.new.place.rest (line_end c.in-Some.place)) c.in-NextLine.is
+    c.in_ok-open_containers.ensures.behind
     ∙ c.in-Some.ensures.same_end
 
 next_boundary : (c : goal.After-drop-place-inside-in-NextLine-1) → IsCharBoundary c.args.self.now.source.text.now c.in-NextLine.next
@@ -43,7 +47,8 @@ next_boundary c =
     subst (IsCharBoundary text) (sym (item_end c)) (line_end_boundary text c.args.start_ix c.enter_line.ensures.utf8 c.requires.boundary c.requires.within)
 
 pub returns-in-NextLine-clause-later : goal.returns-in-NextLine-clause-later
-returns-in-NextLine-clause-later c = line_later c.args.self.now.source.text.now c.args.start_ix _ c.in-NextLine.next c.requires.within (item_end c) (omega arith) (next_boundary c)
+returns-in-NextLine-clause-later c =
+    line_later c.args.self.now.source.text.now c.args.start_ix _ c.in-NextLine.next c.requires.within (item_end c) (omega arith) (next_boundary c)
 
 pub returns-in-NextLine-clause-boundary : goal.returns-in-NextLine-clause-boundary
 returns-in-NextLine-clause-boundary c = next_boundary c
@@ -51,12 +56,15 @@ returns-in-NextLine-clause-boundary c = next_boundary c
 pub parse_tagged-requires-clause-boundary : goal.parse_tagged-requires-clause-boundary
 parse_tagged-requires-clause-boundary c =
     let text = c.args.self.now.source.text.now in
-    let behind = subst (λ o. IsBehind o c.open_containers.new.reading c.open_containers.new.place.rest (line_end c.in-Some.place)) c.in-Tag.is c.in_ok-open_containers.ensures.behind in
-    subst (IsCharBoundary text) (sym (behind.0 ∙ c.in-Some.ensures.same_end)) (line_end_boundary text c.args.start_ix c.enter_line.ensures.utf8 c.requires.boundary c.requires.within)
+    let behind = subst (λ o. IsBehind o c.open_containers.new.reading c.open_containers.new.place.rest (line_end c.in-Some.place)) c.in-Tag.is
+    c.in_ok-open_containers.ensures.behind in
+    subst (IsCharBoundary text) (sym (behind.0 ∙ c.in-Some.ensures.same_end))
+    (line_end_boundary text c.args.start_ix c.enter_line.ensures.utf8 c.requires.boundary c.requires.within)
 
 pub returns-in_ok-next-in-Tag-clause-later : goal.returns-in_ok-next-in-Tag-clause-later
 returns-in_ok-next-in-Tag-clause-later c =
-    let behind = subst (λ o. IsBehind o c.open_containers.new.reading c.open_containers.new.place.rest (line_end c.in-Some.place)) c.in-Tag.is c.in_ok-open_containers.ensures.behind in
+    let behind = subst (λ o. IsBehind o c.open_containers.new.reading c.open_containers.new.place.rest (line_end c.in-Some.place)) c.in-Tag.is
+    c.in_ok-open_containers.ensures.behind in
     let e = c.in_ok-next-in-Tag.ensures.read in
     line_later c.args.self.now.source.text.now c.args.start_ix _ _ c.requires.within (behind.0 ∙ c.in-Some.ensures.same_end) e.later e.boundary
 
@@ -74,19 +82,22 @@ returns-in_ok-next-in-Leaf-clause-order c =
 pub returns-in_ok-next-in-TaskText-clause-order : goal.returns-in_ok-next-in-TaskText-clause-order
 returns-in_ok-next-in-TaskText-clause-order c =
     let e = c.in-Some.ensures in
-    λ ordered. c.in_ok-next-in-TaskText.ensures.read.order (ordered_entered c.args.self.now.source.text.now _ c.open_containers.new.reading c.args.start_ix c.in-Some.place c.open_containers.new.place _ _
+    λ ordered. c.in_ok-next-in-TaskText.ensures.read.order
+    (ordered_entered c.args.self.now.source.text.now _ c.open_containers.new.reading c.args.start_ix c.in-Some.place c.open_containers.new.place _ _
     e.same_line c.requires.boundary e.place c.in_ok-open_containers.ensures.order c.in-TaskText.is (e.order ordered))
 
 pub returns-in-NextLine-clause-order : goal.returns-in-NextLine-clause-order
 returns-in-NextLine-clause-order c =
     let e = c.in-Some.ensures in
-    λ ordered. inl (ordered_entered c.args.self.now.source.text.now _ c.open_containers.new.reading c.args.start_ix c.in-Some.place c.open_containers.new.place _ _
+    λ ordered.
+    inl (ordered_entered c.args.self.now.source.text.now _ c.open_containers.new.reading c.args.start_ix c.in-Some.place c.open_containers.new.place _ _
     e.same_line c.requires.boundary e.place c.in_ok-open_containers.ensures.order c.in-NextLine.is (e.order ordered))
 
 pub returns-in_ok-next-in-Tag-clause-order : goal.returns-in_ok-next-in-Tag-clause-order
 returns-in_ok-next-in-Tag-clause-order c =
     let e = c.in-Some.ensures in
-    λ ordered. c.in_ok-next-in-Tag.ensures.read.order (ordered_entered c.args.self.now.source.text.now _ c.open_containers.new.reading c.args.start_ix c.in-Some.place c.open_containers.new.place _ _
+    λ ordered. c.in_ok-next-in-Tag.ensures.read.order
+    (ordered_entered c.args.self.now.source.text.now _ c.open_containers.new.reading c.args.start_ix c.in-Some.place c.open_containers.new.place _ _
     e.same_line c.requires.boundary e.place c.in_ok-open_containers.ensures.order c.in-Tag.is (e.order ordered))
 
 pub returns-in_ok-next-in-TaskText-clause-few : goal.returns-in_ok-next-in-TaskText-clause-few
@@ -98,7 +109,8 @@ returns-in_ok-next-in-TaskText-clause-few c =
     let marker = c.in-TaskText.marker in
     let before = c.enter_line.new.reading.tree.nodes in
     let opened = c.open_containers.new.reading.tree.nodes in
-    let g : GrowsText text c.in-Some.place.line before opened marker (offset p) = subst (GrowsBehind text c.in-Some.place.line before opened (offset p)) c.in-TaskText.is c.in_ok-open_containers.ensures.few in
+    let g : GrowsText text c.in-Some.place.line before opened marker (offset p) =
+    subst (GrowsBehind text c.in-Some.place.line before opened (offset p)) c.in-TaskText.is c.in_ok-open_containers.ensures.few in
     let none = c.enter_line.ensures.none_added in
     let later = c.in_ok-next-in-TaskText.ensures.read.later in
     let here = place_before_end p in
@@ -225,13 +237,15 @@ pub returns-in_ok-next-in-Leaf-clause-whole : goal.returns-in_ok-next-in-Leaf-cl
 returns-in_ok-next-in-Leaf-clause-whole c =
     let names = names_of c.args.self.now.allocs in
     let e = c.in_ok-open_containers.ensures in
-    λ named h. c.in_ok-next-in-Leaf.ensures.read.whole (e.named names (c.enter_line.ensures.named names named)) (e.whole names (c.enter_line.ensures.whole names h))
+    λ named h. c.in_ok-next-in-Leaf.ensures.read.whole (e.named names (c.enter_line.ensures.named names named))
+    (e.whole names (c.enter_line.ensures.whole names h))
 
 pub returns-in_ok-next-in-TaskText-clause-whole : goal.returns-in_ok-next-in-TaskText-clause-whole
 returns-in_ok-next-in-TaskText-clause-whole c =
     let names = names_of c.args.self.now.allocs in
     let e = c.in_ok-open_containers.ensures in
-    λ named h. c.in_ok-next-in-TaskText.ensures.read.whole (e.named names (c.enter_line.ensures.named names named)) (e.whole names (c.enter_line.ensures.whole names h))
+    λ named h. c.in_ok-next-in-TaskText.ensures.read.whole (e.named names (c.enter_line.ensures.named names named))
+    (e.whole names (c.enter_line.ensures.whole names h))
 
 pub returns-in-NextLine-clause-whole : goal.returns-in-NextLine-clause-whole
 returns-in-NextLine-clause-whole c =
@@ -242,4 +256,5 @@ pub returns-in_ok-next-in-Tag-clause-whole : goal.returns-in_ok-next-in-Tag-clau
 returns-in_ok-next-in-Tag-clause-whole c =
     let names = names_of c.args.self.now.allocs in
     let e = c.in_ok-open_containers.ensures in
-    λ named h. c.in_ok-next-in-Tag.ensures.read.whole (e.named names (c.enter_line.ensures.named names named)) (e.whole names (c.enter_line.ensures.whole names h))
+    λ named h. c.in_ok-next-in-Tag.ensures.read.whole (e.named names (c.enter_line.ensures.named names named))
+    (e.whole names (c.enter_line.ensures.whole names h))

@@ -41,7 +41,8 @@ returns c =
     let e = c.in_ok-next.ensures in
     let i = columns_keep text 4 p c.requires.utf8 c.requires.place in
     let there = read_to (after_columns 4) _ p _ _ c.offset.ensures c.scan_space_upto.ensures.rest c.place.view_is in
-    let owed = c.remaining_space-owed.ensures.value ∙ ap (λ (r : Rest). r.owed) c.scan_space_upto.ensures.rest ∙ ap (λ (z : Place). (after_columns 4 z.rest).owed) c.place.view_is in
+    let owed = c.remaining_space-owed.ensures.value ∙ ap (λ (r : Rest). r.owed) c.scan_space_upto.ensures.rest
+    ∙ ap (λ (z : Place). (after_columns 4 z.rest).owed) c.place.view_is in
     let ends = ap (behind_line_at text) there ∙ ap (λ bs. offset q + line_len bs) (sym i.left) ∙ columns_line_end 4 p in
     let low = offset_later text p.line p.rest q.rest c.requires.place i (columns_shorter 4 p.rest) in
     let later = e.boundary.0 in

@@ -21,7 +21,8 @@ use Rattle.first_pass.specs.declared.state.FirstPass.{FirstPass}
 use Rattle.first_pass.specs.declared.definition.RunEnd.TheVariants.{NextLine, Paragraph}
 use Rattle.first_pass.specs.Runs.{RunSoFar, ReadsRun}
 use Rattle.first_pass.proofs.RunLemmas.{run_begun, run_flows, run_ends, run_goes_on, defined_none, text_at}
-use Rattle.first_pass.proofs.DefinitionLemmas.{behind_boundary, none_here, found_here, one_more, stops_by, goes_by, rest_there, stops_at, rest_at, line_is_there, answered}
+use Rattle.first_pass.proofs.DefinitionLemmas.{behind_boundary, none_here, found_here, one_more, stops_by, goes_by, rest_there, stops_at, rest_at}
+use Rattle.first_pass.proofs.DefinitionLemmas.{line_is_there, answered}
 use Rattle.first_pass.proofs.state.FirstPass.parse_definitions.Goals as goal
 use Rattle.first_pass.proofs.state.FirstPass.parse_definitions.Goals.{After-rest_of}
 
@@ -49,7 +50,8 @@ returns-clause-run c = λ p line at i.
     let same : tables now.allocs ≡ tables c.parse_refdef_total.new.self.allocs = ap (λ (z : FirstPass). tables z.allocs) (sym e.unchanged) in
     subst (λ z. ReadsRun text around nested p (tables first.allocs) z (Paragraph c.loop-size.at)) same
     (run_flows text around nested p r.0 c.loop-size.at (tables first.allocs) (tables now.allocs) (sym r.2)
-    (λ plain. defined_none text around r.0 r.3.stands (ap (λ n. reference_at false around (drop n text)) r.2 ∙ subst (λ z. reference_at z around (drop c.loop-size.at text) ≡ None) plain none)) r.3)
+    (λ plain. defined_none text around r.0 r.3.stands
+    (ap (λ n. reference_at false around (drop n text)) r.2 ∙ subst (λ z. reference_at z around (drop c.loop-size.at text) ≡ None) plain none)) r.3)
 
 pub scan_next_line_or_lazy_continuation-requires : goal.scan_next_line_or_lazy_continuation-requires
 scan_next_line_or_lazy_continuation-requires c =
@@ -63,11 +65,13 @@ scan_next_line_or_lazy_continuation-requires c =
     let next = c.next_line-next.result in
     let text_is = ap (λ (z : FirstPass). z.source.text.now) e.unchanged ∙ ap (λ (z : Source). z.text.now) inv.same_source in
     let bytes_are : c.as_bytes-bytes.result.now ≡ text = c.as_bytes-bytes.ensures.value ∙ text_is in
-    let next_is : next ≡ at + size + line_len (drop (at + size) text) = c.next_line-next.ensures.value ∙ ap (λ bs. at + size + line_len (drop (at + size) bs)) bytes_are in
+    let next_is : next ≡ at + size + line_len (drop (at + size) text) =
+    c.next_line-next.ensures.value ∙ ap (λ bs. at + size + line_len (drop (at + size) bs)) bytes_are in
     let fits = subst (λ z. IfSome z (λ found. (0 < found.0) × IsCharBoundary now.source.text.now (at + found.0))) c.in-Some.is e.fits in
     let ends : IsCharBoundary text (at + size) = subst (λ (z : Source). IsCharBoundary z.text.now (at + size)) inv.same_source fits.1 in
     let there : IsCharBoundary text next = subst (IsCharBoundary text) (sym next_is) (behind_boundary text (at + size) c.requires.utf8 ends) in
-    subst (λ t. IsRestOf t c.rest_of.result.now) (sym text_is) (rest_there text c.rest_of.result.now next there (c.rest_of.ensures.value ∙ ap (drop next) bytes_are))
+    subst (λ t. IsRestOf t c.rest_of.result.now) (sym text_is)
+    (rest_there text c.rest_of.result.now next there (c.rest_of.ensures.value ∙ ap (drop next) bytes_are))
 
 pub returns-clause-written : goal.returns-clause-written
 returns-clause-written c = λ h.
@@ -108,7 +112,8 @@ returns-in_default-rest-clause-run c = λ p line begins i.
     let next = c.next_line-next.result in
     let text_is = ap (λ (z : FirstPass). z.source.text.now) e.unchanged ∙ ap (λ (z : Source). z.text.now) inv.same_source in
     let bytes_are : c.as_bytes-bytes.result.now ≡ text = c.as_bytes-bytes.ensures.value ∙ text_is in
-    let next_is : next ≡ at + size + line_len (drop (at + size) text) = c.next_line-next.ensures.value ∙ ap (λ bs. at + size + line_len (drop (at + size) bs)) bytes_are in
+    let next_is : next ≡ at + size + line_len (drop (at + size) text) =
+    c.next_line-next.ensures.value ∙ ap (λ bs. at + size + line_len (drop (at + size) bs)) bytes_are in
     let fits = subst (λ z. IfSome z (λ found. (0 < found.0) × IsCharBoundary now.source.text.now (at + found.0))) c.in-Some.is e.fits in
     let ends : IsCharBoundary text (at + size) = subst (λ (z : Source). IsCharBoundary z.text.now (at + size)) inv.same_source fits.1 in
     let around = context_in first in
@@ -116,17 +121,20 @@ returns-in_default-rest-clause-run c = λ p line begins i.
     let found : ℕ × CowStr × LinkDef = (size, c.in-Some.label, c.in-Some.definition) in
     let w = found_here first now at c.in_ok-size.field-0 found inv.same_source inv.same_reading e.value c.in-Some.is in
     let f = c.in_ok-rest.ensures in
-    let told_is = c.in_ok-define_link.ensures.tables ∙ ap (λ (z : FirstPass). told (tables z.allocs) (link_entry (c.in-Some.label, c.in-Some.definition) ∷ [])) e.unchanged in
+    let told_is =
+    c.in_ok-define_link.ensures.tables ∙ ap (λ (z : FirstPass). told (tables z.allocs) (link_entry (c.in-Some.label, c.in-Some.definition) ∷ [])) e.unchanged in
     let path_is = ap context_in e.unchanged ∙ ap (λ (z : Source). context_of z.options now.reading.tree) inv.same_source
     ∙ ap (λ (z : Reading). context_of first.source.options z.tree) inv.same_reading in
     let rest_is : c.rest_of.result.now ≡ drop next text = c.rest_of.ensures.value ∙ ap (drop next) bytes_are in
     let said = answered (context_in c.parse_refdef_total.new.self) around c.rest_of.result.now (drop next text) c.in_ok-rest.rest path_is rest_is f.value in
     let allocs_are : c.define_link.new.self ≡ c.scan_next_line_or_lazy_continuation.new.self.allocs = ap (λ (z : FirstPass). z.allocs) (sym f.unchanged) in
     let r = inv.so_far p line begins i in
-    let one = one_more text around nested r.0 at w.0 found (tables now.allocs) (tables c.define_link.new.self) c.requires.utf8 r.3.stands r.2 w.1 w.2 fits.0 ends told_is in
+    let one = one_more text around nested r.0 at w.0 found (tables now.allocs)
+    (tables c.define_link.new.self) c.requires.utf8 r.3.stands r.2 w.1 w.2 fits.0 ends told_is in
     let stops = stops_by (stops_at around (drop next text)) (rest_at around (drop next text)) c.in_ok-rest.rest said c.in_default-rest.is in
     subst (λ (z : Allocations). ReadsRun text around nested p (tables first.allocs) (tables z) (NextLine c.loop-size.line next)) allocs_are
-    (run_ends text around nested p r.0 (at + size) c.loop-size.line next (tables first.allocs) (tables now.allocs) (tables c.define_link.new.self) next_is (sym r.1) (λ within. stops) r.3 one)
+    (run_ends text around nested p r.0 (at + size) c.loop-size.line next (tables first.allocs) (tables now.allocs) (tables c.define_link.new.self) next_is
+    (sym r.1) (λ within. stops) r.3 one)
 
 pub loop-size-preserved : goal.loop-size-preserved
 loop-size-preserved c =
@@ -140,7 +148,8 @@ loop-size-preserved c =
     let next = c.next_line-next.result in
     let text_is = ap (λ (z : FirstPass). z.source.text.now) e.unchanged ∙ ap (λ (z : Source). z.text.now) inv.same_source in
     let bytes_are : c.as_bytes-bytes.result.now ≡ text = c.as_bytes-bytes.ensures.value ∙ text_is in
-    let next_is : next ≡ at + size + line_len (drop (at + size) text) = c.next_line-next.ensures.value ∙ ap (λ bs. at + size + line_len (drop (at + size) bs)) bytes_are in
+    let next_is : next ≡ at + size + line_len (drop (at + size) text) =
+    c.next_line-next.ensures.value ∙ ap (λ bs. at + size + line_len (drop (at + size) bs)) bytes_are in
     let fits = subst (λ z. IfSome z (λ found. (0 < found.0) × IsCharBoundary now.source.text.now (at + found.0))) c.in-Some.is e.fits in
     let ends : IsCharBoundary text (at + size) = subst (λ (z : Source). IsCharBoundary z.text.now (at + size)) inv.same_source fits.1 in
     let around = context_in first in
@@ -148,7 +157,8 @@ loop-size-preserved c =
     let found : ℕ × CowStr × LinkDef = (size, c.in-Some.label, c.in-Some.definition) in
     let w = found_here first now at c.in_ok-size.field-0 found inv.same_source inv.same_reading e.value c.in-Some.is in
     let f = c.in_ok-rest.ensures in
-    let told_is = c.in_ok-define_link.ensures.tables ∙ ap (λ (z : FirstPass). told (tables z.allocs) (link_entry (c.in-Some.label, c.in-Some.definition) ∷ [])) e.unchanged in
+    let told_is =
+    c.in_ok-define_link.ensures.tables ∙ ap (λ (z : FirstPass). told (tables z.allocs) (link_entry (c.in-Some.label, c.in-Some.definition) ∷ [])) e.unchanged in
     let path_is = ap context_in e.unchanged ∙ ap (λ (z : Source). context_of z.options now.reading.tree) inv.same_source
     ∙ ap (λ (z : Reading). context_of first.source.options z.tree) inv.same_reading in
     let rest_is : c.rest_of.result.now ≡ drop next text = c.rest_of.ensures.value ∙ ap (drop next) bytes_are in
@@ -158,21 +168,25 @@ loop-size-preserved c =
     let within = line_is_there text around next goes.0 in
     let begins : IsCharBoundary text next = subst (IsCharBoundary text) (sym next_is) (behind_boundary text (at + size) c.requires.utf8 ends) in
     let there = (text_place text next around.path c.requires.utf8 begins).0 in
-    let here : offset (text_at text around.path next) ≡ next + c.bytes_scanned.result = ap (λ (z : Rest). next + z.taken) (sym goes.1) ∙ ap (λ n. next + n) (sym c.bytes_scanned.ensures) in
+    let here : offset (text_at text around.path next) ≡ next + c.bytes_scanned.result =
+    ap (λ (z : Rest). next + z.taken) (sym goes.1) ∙ ap (λ n. next + n) (sym c.bytes_scanned.ensures) in
     record {
       same_source = ap (λ (z : FirstPass). z.source) f.unchanged ∙ ap (λ (z : FirstPass). z.source) e.unchanged ∙ inv.same_source;
       same_reading = ap (λ (z : FirstPass). z.reading) f.unchanged ∙ ap (λ (z : FirstPass). z.reading) e.unchanged ∙ inv.same_reading;
-      same_names = ap (λ (z : FirstPass). names_of z.allocs) f.unchanged ∙ c.in_ok-define_link.ensures.names ∙ ap (λ (z : FirstPass). names_of z.allocs) e.unchanged ∙ inv.same_names;
+      same_names = ap (λ (z : FirstPass). names_of z.allocs) f.unchanged ∙ c.in_ok-define_link.ensures.names
+          ∙ ap (λ (z : FirstPass). names_of z.allocs) e.unchanged ∙ inv.same_names;
       written = λ h. subst (λ (z : Allocations). AreWritten text (refdefs_of z)) allocs_are
           (one_more_written (goal.at.loop-size-preserved c).After-rest_of h);
       boundary = subst (IsCharBoundary text) here there.boundary;
       so_far = λ p line first_at i.
           let r = inv.so_far p line first_at i in
-          let one = one_more text around nested r.0 at w.0 found (tables now.allocs) (tables c.define_link.new.self) c.requires.utf8 r.3.stands r.2 w.1 w.2 fits.0 ends told_is in (
+          let one = one_more text around nested r.0 at w.0 found (tables now.allocs)
+          (tables c.define_link.new.self) c.requires.utf8 r.3.stands r.2 w.1 w.2 fits.0 ends told_is in (
             text_at text around.path next,
             refl,
             here,
             subst (λ (z : Allocations). RunSoFar text around nested p (text_at text around.path next) (tables first.allocs) (tables z)) allocs_are
-                (run_goes_on text around nested p r.0 (at + size) next (tables first.allocs) (tables now.allocs) (tables c.define_link.new.self) c.requires.utf8 next_is within goes.0 r.3 one),
+                (run_goes_on text around nested p r.0 (at + size) next (tables first.allocs) (tables now.allocs)
+                (tables c.define_link.new.self) c.requires.utf8 next_is within goes.0 r.3 one),
           );
     }

@@ -17,7 +17,8 @@ invariant-loop-size l = record {
   boundary : IsCharBoundary l.fn.self.source.text.now l.at;
   so_far : (p : Place) → p.line ≡ l.fn.line → offset p ≡ l.fn.at → IsPlaceOf l.fn.self.source.text.now p
       → (q : Place) × (q.line ≡ l.line) × (offset q ≡ l.at)
-      × RunSoFar l.fn.self.source.text.now (context_in l.fn.self) (in_table l.fn.self.reading.tree.nodes l.fn.self.reading.tree.spine) p q (tables l.fn.self.allocs) (tables l.self.allocs);
+      × RunSoFar l.fn.self.source.text.now (context_in l.fn.self) (in_table l.fn.self.reading.tree.nodes l.fn.self.reading.tree.spine) p q
+      (tables l.fn.self.allocs) (tables l.self.allocs);
 }
 
 abbrev pub decreases-loop-size : goal.decreases-loop-size

@@ -6,10 +6,13 @@ use Rattle.first_pass.proofs.state.FirstPass.parse_html_block_type_1_to_5.Goals 
 
 pub returns-clause-fits : goal.returns-clause-fits
 returns-clause-fits c =
-    to_end_between c.args.self.now.source.text.now c.args.self.now.source.options _ c.args.self.now.reading.tree c.parse_html_block_type_1_to_5.new.tree c.args.start_ix c.in_ok-next.next c.in_ok-next.ensures.utf8 c.requires.boundary c.in_ok-next.ensures.boundary.1.0 c.args.html_end_tag.now _ c.in_ok-next.ensures.block
+    to_end_between c.args.self.now.source.text.now c.args.self.now.source.options _ c.args.self.now.reading.tree c.parse_html_block_type_1_to_5.new.tree
+    c.args.start_ix c.in_ok-next.next c.in_ok-next.ensures.utf8 c.requires.boundary c.in_ok-next.ensures.boundary.1.0 c.args.html_end_tag.now _
+    c.in_ok-next.ensures.block
 
 pub returns-clause-order : goal.returns-clause-order
 returns-clause-order c = λ at low o.
     let old : Reading = c.args.self.now.reading in
     let new : Reading = record old { tree = c.parse_html_block_type_1_to_5.new.tree; empty_item = None } in
-    block_ordered c.args.self.now.source.text.now old new at c.args.start_ix c.in_ok-next.next o low (returns-clause-fits c) c.in_ok-next.ensures.boundary.1.0 refl
+    block_ordered c.args.self.now.source.text.now old new at c.args.start_ix c.in_ok-next.next o low
+    (returns-clause-fits c) c.in_ok-next.ensures.boundary.1.0 refl

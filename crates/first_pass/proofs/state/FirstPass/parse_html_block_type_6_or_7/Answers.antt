@@ -15,7 +15,8 @@ pub returns-clause-fits : goal.returns-clause-fits
 returns-clause-fits c = λ p i from low.
     let self = c.args.self.now in
     let e = c.in_ok-next.ensures in
-    to_blank_between self.source.text.now self.source.options (names_of c.parse_html_block_type_6_or_7.new.allocs) self.reading.tree c.parse_html_block_type_6_or_7.new.tree c.args.start_ix c.in_ok-next.next e.utf8 c.requires.boundary e.boundary.1.0
+    to_blank_between self.source.text.now self.source.options (names_of c.parse_html_block_type_6_or_7.new.allocs) self.reading.tree
+    c.parse_html_block_type_6_or_7.new.tree c.args.start_ix c.in_ok-next.next e.utf8 c.requires.boundary e.boundary.1.0
     c.max.result p i (e.block p i) from low
 
 pub returns-clause-order : goal.returns-clause-order
@@ -29,9 +30,12 @@ returns-clause-order c = λ at low o.
     let p = first_at text c.args.start_ix 0 in
     let i = first_is text c.args.start_ix 0 in
     let block = e.block p i in
-    let path : path_of self.source.options new.tree ≡ path_of self.source.options old.tree = ap (path_of self.source.options) block.tree_is ∙ path_added self.source.options old.tree block.items c.is_forest.ensures in
+    let path : path_of self.source.options new.tree ≡ path_of self.source.options old.tree =
+    ap (path_of self.source.options) block.tree_is ∙ path_added self.source.options old.tree block.items c.is_forest.ensures in
     let ends = to_blank_ends text self.source.options names old.tree new.tree c.args.start_ix c.in_ok-next.next e.utf8 c.requires.boundary e.boundary.1.0 p i in
-    ordered_stopped self.source.options text new (path_of self.source.options old.tree) (html_to_blank text (path_of self.source.options old.tree) p) c.in_ok-next.next e.boundary.1 refl path (html_stops (length text) (path_of self.source.options old.tree) p (lines_from text (behind_line_at text (offset p)))) block.left_is
+    ordered_stopped self.source.options text new
+    (path_of self.source.options old.tree) (html_to_blank text (path_of self.source.options old.tree) p) c.in_ok-next.next e.boundary.1 refl path
+    (html_stops (length text) (path_of self.source.options old.tree) p (lines_from text (behind_line_at text (offset p)))) block.left_is
     (block_ordered text old new at c.args.start_ix _ o low (returns-clause-fits c p i) ends.0 refl)
 
 pub returns-clause-few : goal.returns-clause-few
@@ -40,5 +44,6 @@ returns-clause-few c = λ from low apart.
     let e = c.in_ok-next.ensures in
     let p = first_at self.source.text.now c.args.start_ix 0 in
     let i = first_is self.source.text.now c.args.start_ix 0 in
-    to_blank_few self.source.text.now self.source.options (names_of c.parse_html_block_type_6_or_7.new.allocs) self.reading.tree c.parse_html_block_type_6_or_7.new.tree c.args.start_ix c.in_ok-next.next e.utf8 c.requires.boundary e.boundary.1.0
+    to_blank_few self.source.text.now self.source.options (names_of c.parse_html_block_type_6_or_7.new.allocs) self.reading.tree
+    c.parse_html_block_type_6_or_7.new.tree c.args.start_ix c.in_ok-next.next e.utf8 c.requires.boundary e.boundary.1.0
     c.max.result p i (e.block p i) from low apart

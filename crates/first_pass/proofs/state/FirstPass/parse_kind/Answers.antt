@@ -47,7 +47,8 @@ returns-in-Blank c =
     let old : Reading = self.reading in
     let next = c.next_line.result in
     let i = all_keep text p.line p.rest c.requires.utf8 c.requires.place in
-    let ends : next ≡ line_end p = c.next_line.ensures.value ∙ ap (λ t. line_end_at t c.args.at) c.as_bytes.ensures.value ∙ ap (line_end_at text) c.requires.found.at_is ∙ line_end_of text p i in
+    let ends : next ≡ line_end p = c.next_line.ensures.value ∙ ap (λ t. line_end_at t c.args.at) c.as_bytes.ensures.value
+    ∙ ap (line_end_at text) c.requires.found.at_is ∙ line_end_of text p i in
     let last = subst (IsCharBoundary text) (sym ends) (place_end text p c.requires.utf8 c.requires.place) in
     let from = line_or old.tree p.line (offset p) in
     let below : from ≤ offset p = line_or-below old.tree p.line (offset p) (omega arith) in
@@ -61,8 +62,10 @@ returns-in-Blank c =
         later = omega arith;
         boundary = last;
         ready = λ names more ready. let d = document text self.source.options names in
-            subst (λ q. Ready d (tables self.allocs) q (lines_from text next)) (sym c.read_blank_line.ensures) (subst (λ n. Ready d (tables self.allocs) (blank_read old) (lines_from text n)) (sym ends)
-            (ready_blank_leaf d (tables self.allocs) old p (lines_from text (line_end p)) (subst (IsKind self.source.options p.rest) (ap kind_of c.in-Blank.is) c.requires.found.kind) c.requires.no_empty ready));
+            subst (λ q. Ready d (tables self.allocs) q (lines_from text next)) (sym c.read_blank_line.ensures)
+            (subst (λ n. Ready d (tables self.allocs) (blank_read old) (lines_from text n)) (sym ends)
+            (ready_blank_leaf d (tables self.allocs) old p (lines_from text (line_end p))
+            (subst (IsKind self.source.options p.rest) (ap kind_of c.in-Blank.is) c.requires.found.kind) c.requires.no_empty ready));
         named = λ h. subst (AreReadNamed (names_of self.allocs)) (sym c.read_blank_line.ensures) (blank_named (names_of self.allocs) old h);
         written = λ h. h;
         order = λ o. inl (subst (λ (q : Reading). IsOrderedAt text q next) (sym c.read_blank_line.ensures)
@@ -76,7 +79,8 @@ pub parse_html_block_type_6_or_7-requires : goal.parse_html_block_type_6_or_7-re
 parse_html_block_type_6_or_7-requires c = record {
   boundary = found_boundary _ _ _ c.requires.utf8 c.requires.place c.requires.found.at_is;
   owed = omega arith;
-  indent = (columns_are _ _ c.requires.found.columns_are (subst (Says c.args.place.rest) (ap kind_of c.in-HtmlToBlank.is) (kind_says c.args.self.now.source.options c.args.place.rest (kind_of c.args.found) c.requires.found.kind))).1;
+  indent = (columns_are _ _ c.requires.found.columns_are (subst (Says c.args.place.rest) (ap kind_of c.in-HtmlToBlank.is)
+      (kind_says c.args.self.now.source.options c.args.place.rest (kind_of c.args.found) c.requires.found.kind))).1;
 }
 
 pub returns-in_ok-next-in-HtmlToBlank : goal.returns-in_ok-next-in-HtmlToBlank
@@ -119,15 +123,18 @@ returns-in_ok-next-in-HtmlToBlank c =
         later = omega arith;
         boundary = e.boundary.1;
         ready = λ names more ready. subst (λ z. Ready (document text options names) z after.reading (lines_from text next)) (sym (ap told_by e.entries))
-            (ready_kind text options (tables self.allocs) (names_of after.allocs) names old after.reading.tree p HtmlToBlank false next c.is_forest.ensures kind refl more block c.requires.no_empty ready after.reading.empty_item after.reading.blank none blank);
+            (ready_kind text options (tables self.allocs) (names_of after.allocs) names old after.reading.tree p HtmlToBlank false next c.is_forest.ensures kind
+            refl more block c.requires.no_empty ready after.reading.empty_item after.reading.blank none blank);
         named = λ h. block_added (names_of after.allocs) (names_of self.allocs) q.tree after.reading.tree block.items e.names block.tree_is
-            (kind_named text options (names_of after.allocs) p HtmlToBlank false q.tree after.reading.tree next block) (list_finished_named (names_of self.allocs) p.line old h);
+            (kind_named text options (names_of after.allocs) p HtmlToBlank false q.tree after.reading.tree next block)
+            (list_finished_named (names_of self.allocs) p.line old h);
         written = written_stay text self.allocs after.allocs e.entries;
         order = λ o. e.order at (omega arith) (subst (λ (r : Reading). IsOrderedAt text r at) (sym rem)
             (ordered_none text q at (list_finished_none p.line old) begins.0
             (ordered_finished text old p.line (offset p) p.line at (omega arith) (omega arith) (inl (refl, o.0)) begins.0 begins c.requires.no_empty o.1)));
         whole = λ h k. block_whole (names_of after.allocs) (names_of self.allocs) q.tree after.reading.tree block.items e.names block.tree_is
-            (kind_whole text options (names_of after.allocs) p HtmlToBlank false q.tree after.reading.tree next c.requires.place block) (list_finished_named (names_of self.allocs) p.line old h) (list_finished_whole (names_of self.allocs) p.line old k);
+            (kind_whole text options (names_of after.allocs) p HtmlToBlank false q.tree after.reading.tree next c.requires.place block)
+            (list_finished_named (names_of self.allocs) p.line old h) (list_finished_whole (names_of self.allocs) p.line old k);
       };
       few = omega arith;
     }
@@ -170,6 +177,7 @@ returns-in_ok-next-in-Marked c =
       boundary = e.boundary;
       fits = e.fits;
     } in
-    let w = leaf_read self new p (marked_kind leaf) next c.requires.place c.requires.no_empty c.is_forest.ensures (subst (IsKind options p.rest) (ap kind_of c.in-Marked.is) c.requires.found.kind) (marked_some leaf) (marked_other leaf)
+    let w = leaf_read self new p (marked_kind leaf) next c.requires.place c.requires.no_empty c.is_forest.ensures
+    (subst (IsKind options p.rest) (ap kind_of c.in-Marked.is) c.requires.found.kind) (marked_some leaf) (marked_other leaf)
     (subst (λ (r : Reading). AddsLeaf (record self { reading = r }) new p (marked_kind leaf) next) rem adds) in
     record { read = w.read; few = w.few }

@@ -61,11 +61,13 @@ parse_fenced_code_block-requires c =
     let i = all_keep text c.args.place.line c.args.place.rest c.requires.utf8 c.requires.place in
     record {
       boundary = found_boundary _ _ _ c.requires.utf8 c.requires.place c.requires.found.at_is;
-      fence = ap (λ n. code_fence (drop n text)) c.requires.found.at_is ∙ ap code_fence (sym i.left) ∙ (found_says _ _ _ _ _ _ c.in-FencedCode.is c.requires.found).0;
+      fence = ap (λ n. code_fence (drop n text)) c.requires.found.at_is ∙ ap code_fence (sym i.left)
+          ∙ (found_says _ _ _ _ _ _ c.in-FencedCode.is c.requires.found).0;
     }
 
 pub returns-in_ok-next-in-IndentedCode : goal.returns-in_ok-next-in-IndentedCode
-returns-in_ok-next-in-IndentedCode c = subst (λ k. AddsLeaf c.args.self.now c.parse_code.new.self c.args.place k c.in_ok-next-in-IndentedCode.next) (sym (ap marked_kind c.in-IndentedCode.is)) c.in_ok-next-in-IndentedCode.ensures
+returns-in_ok-next-in-IndentedCode c = subst (λ k. AddsLeaf c.args.self.now c.parse_code.new.self c.args.place k c.in_ok-next-in-IndentedCode.next)
+    (sym (ap marked_kind c.in-IndentedCode.is)) c.in_ok-next-in-IndentedCode.ensures
 
 pub returns-in_ok-next-in-Metadata : goal.returns-in_ok-next-in-Metadata
 returns-in_ok-next-in-Metadata c =
@@ -76,8 +78,10 @@ returns-in_ok-next-in-Metadata c =
     let e = c.in_ok-next-in-Metadata.ensures in
     let f = c.requires.found in
     let i = all_keep self.source.text.now p.line p.rest c.requires.utf8 c.requires.place in
-    leaf_added self new p c.args.at next c.requires.utf8 c.requires.place f.at_is (Metadata c.in-Metadata.byte) (marked_kind c.args.leaf) (ap marked_kind c.in-Metadata.is) c.requires.not_blank e.source e.names e.entries e.reading e.boundary e.fits
-    (metadata_added self.source.text.now self.source.options (names_of new.allocs) p self.reading.tree new.reading.tree c.args.at next f.at_is i c.in-Metadata.byte e.block)
+    leaf_added self new p c.args.at next c.requires.utf8 c.requires.place f.at_is (Metadata c.in-Metadata.byte) (marked_kind c.args.leaf)
+    (ap marked_kind c.in-Metadata.is) c.requires.not_blank e.source e.names e.entries e.reading e.boundary e.fits
+    (metadata_added self.source.text.now self.source.options
+    (names_of new.allocs) p self.reading.tree new.reading.tree c.args.at next f.at_is i c.in-Metadata.byte e.block)
 
 pub returns-in_ok-next-in-HtmlToEnd : goal.returns-in_ok-next-in-HtmlToEnd
 returns-in_ok-next-in-HtmlToEnd c =
@@ -94,9 +98,13 @@ returns-in_ok-next-in-HtmlToEnd c =
     let tag = c.in-HtmlToEnd.«end».now in
     let tag_is : html_end (drop 1 (all_taken p.rest).left) ≡ Some tag = subst (HasEnd (all_taken p.rest).left) c.in-HtmlToEnd.is f.«end» in
     let lines : Extent = html_to_end text (path_of options old) tag (unindented p) in
-    leaf_added self new p c.args.at next c.requires.utf8 c.requires.place f.at_is HtmlToEnd (marked_kind c.args.leaf) (ap marked_kind c.in-HtmlToEnd.is) c.requires.not_blank e.source e.names e.entries e.reading e.boundary e.fits
-    (html_end_added text options (names_of new.allocs) p old new.reading.tree c.args.at next f.at_is i tag c.args.columns tag_is (columns_are _ _ f.columns_are (found_says _ _ _ _ _ _ c.in-HtmlToEnd.is f)).0
-    (subst (λ k. AddsRaw (document text options (names_of new.allocs)) (λ d. IsHtml d c.args.at k lines.places lines.«end») lines.left old new.reading.tree next) (zero-max c.args.columns)
+    leaf_added self new p c.args.at next c.requires.utf8 c.requires.place f.at_is HtmlToEnd (marked_kind c.args.leaf)
+    (ap marked_kind c.in-HtmlToEnd.is) c.requires.not_blank e.source e.names e.entries e.reading e.boundary e.fits
+    (html_end_added text options (names_of new.allocs) p old new.reading.tree c.args.at next f.at_is i tag c.args.columns tag_is
+    (columns_are _ _ f.columns_are (found_says _ _ _ _ _ _ c.in-HtmlToEnd.is f)).0
+    (subst
+    (λ k. AddsRaw (document text options (names_of new.allocs)) (λ d. IsHtml d c.args.at k lines.places lines.«end») lines.left old new.reading.tree next)
+    (zero-max c.args.columns)
     (e.block (unindented p) (is_here text options (names_of new.allocs) p old new.reading.tree c.args.at next f.at_is i))))
 
 pub returns-in_ok-next-in-ThematicBreak : goal.returns-in_ok-next-in-ThematicBreak
@@ -112,9 +120,11 @@ returns-in_ok-next-in-ThematicBreak c =
     let i = all_keep text p.line p.rest c.requires.utf8 c.requires.place in
     let ends = rule_end p c.args.at size (found_says _ _ _ _ _ _ c.in-ThematicBreak.is f) f.at_is in
     let last = subst (IsCharBoundary text) (sym ends) (place_end text p c.requires.utf8 c.requires.place) in
-    text_added self new p c.args.at next c.requires.utf8 c.requires.place f.at_is (ThematicBreak size) (marked_kind c.args.leaf) (ap marked_kind c.in-ThematicBreak.is) c.requires.not_blank e.source
+    text_added self new p c.args.at next c.requires.utf8 c.requires.place f.at_is (ThematicBreak size) (marked_kind c.args.leaf)
+    (ap marked_kind c.in-ThematicBreak.is) c.requires.not_blank e.source
     (extends_equal (names_of new.allocs) (names_of self.allocs) (ap names_of e.allocs)) (ap entries e.allocs) e.reading (e.behind ∙ ends)
-    (λ from low. subst (λ n. AddsBetween text from n self.reading.tree new.reading.tree) (sym e.behind) (e.fits from low (found_boundary text p c.args.at c.requires.utf8 c.requires.place f.at_is) last))
+    (λ from low. subst (λ n. AddsBetween text from n self.reading.tree new.reading.tree) (sym e.behind)
+    (e.fits from low (found_boundary text p c.args.at c.requires.utf8 c.requires.place f.at_is) last))
     (rule_added text self.source.options (names_of new.allocs) p self.reading.tree new.reading.tree c.args.at next f.at_is i size (e.behind ∙ ends) e.block)
 
 pub returns-in_ok-next-in-AtxHeading : goal.returns-in_ok-next-in-AtxHeading
@@ -128,7 +138,8 @@ returns-in_ok-next-in-AtxHeading c =
     let f = c.requires.found in
     let i = all_keep text p.line p.rest c.requires.utf8 c.requires.place in
     let ends = e.block.end_is ∙ ends_here text self.source.options (names_of new.allocs) p self.reading.tree new.reading.tree c.args.at next f.at_is i in
-    text_added self new p c.args.at next c.requires.utf8 c.requires.place f.at_is (AtxHeading c.in-AtxHeading.level) (marked_kind c.args.leaf) (ap marked_kind c.in-AtxHeading.is) c.requires.not_blank e.source e.names e.entries e.reading ends
+    text_added self new p c.args.at next c.requires.utf8 c.requires.place f.at_is (AtxHeading c.in-AtxHeading.level) (marked_kind c.args.leaf)
+    (ap marked_kind c.in-AtxHeading.is) c.requires.not_blank e.source e.names e.entries e.reading ends
     (λ from low. e.fits from low (found_boundary text p c.args.at c.requires.utf8 c.requires.place f.at_is))
     (heading_added text self.source.options (names_of new.allocs) p self.reading.tree new.reading.tree c.args.at next f.at_is i c.in-AtxHeading.level e.block)
 
@@ -143,5 +154,7 @@ returns-in_ok-next-in-FencedCode c =
     let e = c.in_ok-next-in-FencedCode.ensures in
     let f = c.requires.found in
     let i = all_keep self.source.text.now p.line p.rest c.requires.utf8 c.requires.place in
-    leaf_added self new p c.args.at next c.requires.utf8 c.requires.place f.at_is (FencedCode count byte) (marked_kind c.args.leaf) (ap marked_kind c.in-FencedCode.is) c.requires.not_blank e.source e.names e.entries e.reading e.boundary e.fits
-    (fenced_added self.source.text.now self.source.options (names_of new.allocs) p self.reading.tree new.reading.tree c.args.at next f.at_is i count byte c.args.columns (columns_are _ _ f.columns_are (found_says _ _ _ _ _ _ c.in-FencedCode.is f).1).0 e.block)
+    leaf_added self new p c.args.at next c.requires.utf8 c.requires.place f.at_is (FencedCode count byte) (marked_kind c.args.leaf)
+    (ap marked_kind c.in-FencedCode.is) c.requires.not_blank e.source e.names e.entries e.reading e.boundary e.fits
+    (fenced_added self.source.text.now self.source.options (names_of new.allocs) p self.reading.tree new.reading.tree c.args.at next f.at_is i count byte
+    c.args.columns (columns_are _ _ f.columns_are (found_says _ _ _ _ _ _ c.in-FencedCode.is f).1).0 e.block)

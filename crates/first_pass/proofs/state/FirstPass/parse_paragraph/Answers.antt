@@ -8,4 +8,5 @@ returns-clause-order c = λ inside at stands o.
     let old : Reading = c.args.self.now.reading in
     let new : Reading = record old { tree = c.parse_paragraph.new.tree; empty_item = None } in
     let e = c.in_ok-next.ensures in
-    text_ordered c.args.self.now.source.text.now old new at c.args.start_ix c.in_ok-next.next c.args.tasklist_marker o stands (e.fits inside) e.block.boundary.0 refl
+    text_ordered c.args.self.now.source.text.now old new at c.args.start_ix c.in_ok-next.next c.args.tasklist_marker o stands
+    (e.fits inside) e.block.boundary.0 refl

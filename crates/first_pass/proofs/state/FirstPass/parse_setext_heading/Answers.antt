@@ -11,9 +11,11 @@ returns-in_default-clause-names c = extends_none (names_of (allocs_of c.args.sel
 
 pub returns-in_default-clause-order : goal.returns-in_default-clause-order
 returns-in_default-clause-order c l by holds =
-    open_ordered (document (source_text c.args.self.now) (source_options c.args.self.now) no_names) (subst IsUtf8 c.as_bytes.ensures.value c.as_bytes.ensures.utf8) (tree_of c.args.self.now) c.args.node_ix l holds
+    open_ordered (document (source_text c.args.self.now) (source_options c.args.self.now) no_names)
+    (subst IsUtf8 c.as_bytes.ensures.value c.as_bytes.ensures.utf8) (tree_of c.args.self.now) c.args.node_ix l holds
 
 pub returns-clause-order : goal.returns-clause-order
 returns-clause-order c l by holds =
-    underlined_ordered (document (source_text c.args.self.now) (source_options c.args.self.now) no_names) (subst IsUtf8 c.as_bytes.ensures.value c.as_bytes.ensures.utf8) (tree_of c.args.self.now) c.args.node_ix l holds
+    underlined_ordered (document (source_text c.args.self.now) (source_options c.args.self.now) no_names)
+    (subst IsUtf8 c.as_bytes.ensures.value c.as_bytes.ensures.utf8) (tree_of c.args.self.now) c.args.node_ix l holds
     (names_of c.make_heading.new.allocs) c.in-Some.level c.args.has_trailing_content c.make_heading.new.tree by c.in_ok-make_heading.ensures.heading

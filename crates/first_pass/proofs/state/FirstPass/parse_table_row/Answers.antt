@@ -26,4 +26,5 @@ returns-clause-few c = λ from low apart.
     let new = c.parse_table_row.new.tree in
     let e = c.in_ok-row.ensures in
     row_count d.text old new from c.args.ix c.in_ok-row.row
-    (line_row_none d c.args.row_cells c.args.ix (open_table old c.args.missing_empty_cells.now self.braces) (open_table new c.parse_table_row.new.missing_empty_cells c.parse_table_row.new.braces) c.in_ok-row.row e.row) (e.fits from low) apart
+    (line_row_none d c.args.row_cells c.args.ix (open_table old c.args.missing_empty_cells.now self.braces)
+    (open_table new c.parse_table_row.new.missing_empty_cells c.parse_table_row.new.braces) c.in_ok-row.row e.row) (e.fits from low) apart

@@ -66,14 +66,20 @@ returns c =
         ready = λ names more ready. let d = document text options names in
             subst (λ z. Ready d z new.reading (lines_from text next)) (sym (ap told_by e.entries))
             (subst (λ o. Ready d (tables self.allocs) (remembered new.reading.tree o new.reading.blank) (lines_from text next)) (c.requires.no_empty ∙ sym none)
-            (subst (λ b. Ready d (tables self.allocs) (remembered new.reading.tree self.reading.empty_item b) (lines_from text next)) (sym (ap (λ (r : Reading). r.blank) e.reading))
-            (ready_text d (tables self.allocs) old new.reading.tree p at next c.args.marker e.block.items there i (e.block.is_text names more) e.block.tree_is c.requires.no_empty ready)));
+            (subst (λ b. Ready d (tables self.allocs) (remembered new.reading.tree self.reading.empty_item b) (lines_from text next))
+            (sym (ap (λ (r : Reading). r.blank) e.reading))
+            (ready_text d (tables self.allocs) old new.reading.tree p at next c.args.marker e.block.items there i
+            (e.block.is_text names more) e.block.tree_is c.requires.no_empty ready)));
         named = λ h. block_added (names_of new.allocs) (names_of self.allocs) old.tree new.reading.tree e.block.items e.names e.block.tree_is
-            (text_named (document text options (names_of new.allocs)) _ (unindented p) (Some c.args.marker) _ _ (task_has_none c.args.marker.body c.requires.marker) (e.block.is_text (names_of new.allocs) (extends_none (names_of new.allocs)) (unindented p) i (sym there))) h;
+            (text_named (document text options (names_of new.allocs)) _
+            (unindented p) (Some c.args.marker) _ _ (task_has_none c.args.marker.body c.requires.marker)
+            (e.block.is_text (names_of new.allocs) (extends_none (names_of new.allocs)) (unindented p) i (sym there))) h;
         written = written_stay text self.allocs new.allocs e.entries;
         order = λ o. inl (ordered_block text self.reading.tree new.reading o.from next (fits o.from o.stands) e.block.boundary.0 none o.ordered);
         whole = λ h k. block_whole (names_of new.allocs) (names_of self.allocs) old.tree new.reading.tree e.block.items e.names e.block.tree_is
-            (added_text_whole (document text options (names_of new.allocs)) _ (unindented p) (Some c.args.marker) _ _ i (task_shows c.args.marker.body c.requires.marker) (e.block.is_text (names_of new.allocs) (extends_none (names_of new.allocs)) (unindented p) i (sym there))) h k;
+            (added_text_whole (document text options (names_of new.allocs)) _ (unindented p) (Some c.args.marker) _ _ i
+            (task_shows c.args.marker.body c.requires.marker)
+            (e.block.is_text (names_of new.allocs) (extends_none (names_of new.allocs)) (unindented p) i (sym there))) h k;
       };
       few = λ from stands apart. block_count text from next self.reading.tree new.reading.tree (fits from stands) apart;
     }

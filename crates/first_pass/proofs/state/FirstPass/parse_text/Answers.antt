@@ -29,8 +29,10 @@ returns-in-NextLine c =
     let e = c.in_ok-line.ensures in
     let i = all_keep text p.line p.rest c.requires.utf8 c.requires.place in
     let nested = in_table r.tree.nodes r.tree.spine in
-    let run = subst (ReadsRun text (context_in self) nested (unindented p) (tables self.allocs) (tables mid.allocs)) c.in-NextLine.is (e.run (unindented p) (ap (λ (q : Place). q.line) (sym c.place.view_is)) (sym c.requires.at) i) in
-    let w = run_line self mid _ p nested c.in-NextLine.line c.in-NextLine.next c.requires.utf8 c.requires.place c.requires.no_empty c.is_forest.ensures c.requires.kind refl e.source e.names e.written run refl refl
+    let run = subst (ReadsRun text (context_in self) nested (unindented p) (tables self.allocs) (tables mid.allocs)) c.in-NextLine.is
+    (e.run (unindented p) (ap (λ (q : Place). q.line) (sym c.place.view_is)) (sym c.requires.at) i) in
+    let w = run_line self mid _ p nested c.in-NextLine.line c.in-NextLine.next c.requires.utf8 c.requires.place c.requires.no_empty c.is_forest.ensures
+    c.requires.kind refl e.source e.names e.written run refl refl
     (c.finish_list.ensures ∙ ap (list_finished c.in-NextLine.line) e.reading) in
     record { read = w.read; few = w.few }
 
@@ -41,7 +43,8 @@ parse_paragraph-requires-clause-boundary c =
     let p = c.args.place in
     let e = c.in_ok-line.ensures in
     let i = all_keep text p.line p.rest c.requires.utf8 c.requires.place in
-    let run = subst (ReadsRun text (context_in self) (in_table self.reading.tree.nodes self.reading.tree.spine) (unindented p) (tables self.allocs) (tables c.parse_definitions.new.self.allocs)) c.in-Paragraph.is
+    let run = subst (ReadsRun text (context_in self) (in_table self.reading.tree.nodes self.reading.tree.spine) (unindented p) (tables self.allocs)
+    (tables c.parse_definitions.new.self.allocs)) c.in-Paragraph.is
     (e.run (unindented p) (ap (λ (q : Place). q.line) (sym c.place.view_is)) (sym c.requires.at) i) in
     subst (λ (z : Source). IsCharBoundary z.text.now c.in-Paragraph.text) (sym e.source) (subst (IsCharBoundary text) (sym run.says) run.stands.boundary)
 
@@ -65,10 +68,13 @@ returns c =
     let done : c.finish_list-in-Paragraph.new.self ≡ list_finished at r = c.finish_list-in-Paragraph.ensures ∙ ap (list_finished at) e.reading in
     let block : AddsText (document text options (names_of new.allocs)) at None (list_finished at r).tree new.reading.tree next =
     subst (λ (z : Reading). AddsText (document text options (names_of new.allocs)) at None z.tree new.reading.tree next) done
-    (subst (λ (z : Source). AddsText (document z.text.now z.options (names_of new.allocs)) at None c.finish_list-in-Paragraph.new.self.tree new.reading.tree next) e.source f.block) in
+    (subst
+    (λ (z : Source). AddsText (document z.text.now z.options (names_of new.allocs)) at None c.finish_list-in-Paragraph.new.self.tree new.reading.tree next)
+    e.source f.block) in
     let fits : (from : ℕ) → from ≤ at → AddsBetween text from next (list_finished at r).tree new.reading.tree =
     λ from before. subst (λ (z : Reading). AddsBetween text from next z.tree new.reading.tree) done
     (subst (λ (z : Source). AddsBetween z.text.now from next c.finish_list-in-Paragraph.new.self.tree new.reading.tree) e.source (f.fits tt from before)) in
-    let w = run_text self mid new p nested at next c.requires.utf8 c.requires.place c.requires.no_empty c.is_forest.ensures c.requires.kind refl e.source e.names e.written run f.source f.names f.entries
+    let w = run_text self mid new p nested at next c.requires.utf8 c.requires.place c.requires.no_empty c.is_forest.ensures c.requires.kind refl e.source
+    e.names e.written run f.source f.names f.entries
     (f.reading ∙ ap (λ (z : Reading). with_block z new.reading.tree) done) block fits in
     record { read = w.read; few = w.few }

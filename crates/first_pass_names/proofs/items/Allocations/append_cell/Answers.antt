@@ -5,4 +5,5 @@ use Rattle.first_pass_names.proofs.items.Allocations.append_cell.Goals as goal
 
 pub returns-clause-names : goal.returns-clause-names
 returns-clause-names c =
-    more_extends (names_of (record c.args.self.now { texts = c.append_cell.new.texts })) (names_of c.args.self.now) c.append_cell.result refl refl c.append_cell.ensures.more
+    more_extends (names_of (record c.args.self.now { texts = c.append_cell.new.texts }))
+    (names_of c.args.self.now) c.append_cell.result refl refl c.append_cell.ensures.more

@@ -12,7 +12,8 @@ use Rattle.first_pass_names.proofs.items.Allocations.link_at.Goals as goal
 pub returns-in_default : goal.returns-in_default
 returns-in_default c =
     let bs : List ℕ = c.args.text.now in
-    link_none (refdefs_of c.args.self.now) bs (label_at (λ further. Some 0) false bs) refl (subst (IsReadAs (label_at (λ further. Some 0) false bs)) c.in_default.is c.in_ok-size.ensures)
+    link_none (refdefs_of c.args.self.now) bs (label_at (λ further. Some 0) false bs) refl
+    (subst (IsReadAs (label_at (λ further. Some 0) false bs)) c.in_default.is c.in_ok-size.ensures)
 
 pub returns-in-Some-2 : goal.returns-in-Some-2
 returns-in-Some-2 c =

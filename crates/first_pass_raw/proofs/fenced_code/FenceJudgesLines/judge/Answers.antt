@@ -8,4 +8,5 @@ returns-clause-place c = taken_columns c.args.text.now c.args.self.now.indent c.
 
 pub returns-clause-next : goal.returns-clause-next
 returns-clause-next c =
-    c.requires.next ∙ sym (ap (λ r. line_end (place_at c.args.start r)) c.scan_space_upto.ensures.rest ∙ columns_line_end c.args.self.now.indent (place_at c.args.start c.args.line_start.now))
+    c.requires.next ∙ sym (ap (λ r. line_end (place_at c.args.start r)) c.scan_space_upto.ensures.rest
+    ∙ columns_line_end c.args.self.now.indent (place_at c.args.start c.args.line_start.now))

@@ -6,4 +6,5 @@ use Rattle.first_pass_scan.proofs.line_start.LineStart.scan_all_space.Goals as g
 pub loop-preserved : goal.loop-preserved
 loop-preserved c =
     let r = c.loop.self in
-    all-more r c.take_column.new.self (taken-yes (next_column r) r c.take_column.new.self c.take_column.result c.take_column.ensures c.loop-test.true) ∙ c.loop.invariant
+    all-more r c.take_column.new.self (taken-yes (next_column r) r c.take_column.new.self c.take_column.result c.take_column.ensures c.loop-test.true)
+    ∙ c.loop.invariant

@@ -6,7 +6,8 @@ use Rattle.first_pass_scan.proofs.line_start.LineStart.scan_content_indent.Goals
 
 pub returns-then-is_at_plain : goal.returns-then-is_at_plain
 returns-then-is_at_plain c =
-    rw (plain_content c.args.width c.args.self.now (c.is_at_plain.ensures.owed c.if-is_at_plain.true) (c.is_at_plain.ensures.plain c.if-is_at_plain.true)) (refl, refl)
+    rw (plain_content c.args.width c.args.self.now (c.is_at_plain.ensures.owed c.if-is_at_plain.true) (c.is_at_plain.ensures.plain c.if-is_at_plain.true))
+    (refl, refl)
 
 pub returns : goal.returns
 returns c =

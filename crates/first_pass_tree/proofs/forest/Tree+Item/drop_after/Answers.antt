@@ -14,8 +14,11 @@ invariant_of-self c =
     let w : at < length ns = q.within in
     let d : c.len.result + 1 ≡ get_or (depths ns) at 0 = omega (arith, q.depth, length-reverse c.self.inside.spine.items) in
     let e : c.deeper_end-end.result ≡ end_of (depths ns) at =
-    c.deeper_end-end.ensures ∙ ap (λ (v : List (ℕ × Item)). run_end (depths v) (c.len.result + 1) (at + 1)) c.deref.ensures.value ∙ ap (λ v. run_end (depths ns) v (at + 1)) d in
+    c.deeper_end-end.ensures ∙ ap (λ (v : List (ℕ × Item)). run_end (depths v) (c.len.result + 1) (at + 1)) c.deref.ensures.value
+    ∙ ap (λ v. run_end (depths ns) v (at + 1)) d in
     record {
       forest = rw (c.truncate.ensures.items, e) (kept_after-is _ c.args.ix q c.self.invariant.forest);
-      known = subtrees-cut ns c.truncate.new.self.items c.deeper_end-end.result _ (rw e (run-within ns (get_or (depths ns) at 0) (at + 1) (omega arith))) c.truncate.ensures.items (subtrees-first (depths c.self.inside.nodes.items) (length c.self.inside.nodes.items) _ _ _ c.cut_to.ensures c.self.invariant.known);
+      known = subtrees-cut ns c.truncate.new.self.items c.deeper_end-end.result _
+          (rw e (run-within ns (get_or (depths ns) at 0) (at + 1) (omega arith))) c.truncate.ensures.items
+          (subtrees-first (depths c.self.inside.nodes.items) (length c.self.inside.nodes.items) _ _ _ c.cut_to.ensures c.self.invariant.known);
     }

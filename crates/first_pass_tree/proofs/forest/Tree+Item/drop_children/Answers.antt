@@ -21,5 +21,6 @@ invariant_of-self c =
     let w = open-within _ c.args.ix q c.self.invariant.forest in
     record {
       forest = rw c.truncate.ensures.items (childless-is _ c.args.ix q c.self.invariant.forest);
-      known = subtrees-cut c.self.inside.nodes.items c.truncate.new.self.items (c.args.ix.0 + 1) _ (omega arith) c.truncate.ensures.items (subtrees-first (depths c.self.inside.nodes.items) (length c.self.inside.nodes.items) _ _ _ c.cut_to.ensures c.self.invariant.known);
+      known = subtrees-cut c.self.inside.nodes.items c.truncate.new.self.items (c.args.ix.0 + 1) _ (omega arith) c.truncate.ensures.items
+          (subtrees-first (depths c.self.inside.nodes.items) (length c.self.inside.nodes.items) _ _ _ c.cut_to.ensures c.self.invariant.known);
     }

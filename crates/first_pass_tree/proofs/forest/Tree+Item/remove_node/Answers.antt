@@ -14,5 +14,6 @@ invariant_of-self-2 c =
     record {
       forest = rw c.truncate.ensures.items
           (closed-is _ c.in_ok-emptied.emptied (reverse rest) e c.self.invariant.forest);
-      known = subtrees-cut ns c.truncate.new.self.items (c.in_ok-emptied.emptied.0 + 1) _ (omega arith) c.truncate.ensures.items (subtrees-first (depths ns) (length ns) _ _ _ c.cut_to.ensures c.self.invariant.known);
+      known = subtrees-cut ns c.truncate.new.self.items (c.in_ok-emptied.emptied.0 + 1) _ (omega arith) c.truncate.ensures.items
+          (subtrees-first (depths ns) (length ns) _ _ _ c.cut_to.ensures c.self.invariant.known);
     }

@@ -27,6 +27,8 @@ invariant_of-self c =
     let cur = c.last_child-self-inside.ensures ∙ ap (last_from c.first_place-first.result (c.len-depth.result + 1)) c.deref-2.ensures.value in
     let w = open-last (depths ns) (reverse c.self.inside.spine.items) c.self.invariant.forest.opened in
     record {
-      forest = subst (λ (v : Forest Item). IsForest v) (sym (siblings-by f c.args.end _ _ _ _ p d c.cut_nodes.ensures cur)) (cut_siblings-is f c.args.end c.self.invariant.forest);
-      known = subtrees-joined ns c.cut_nodes.new.nodes.items _ c.first_place-first.result _ (omega (arith, w.within, length-map ns (λ n. n.0))) c.cut_nodes.ensures (subtrees-first (depths ns) (length ns) _ _ _ c.cut_to.ensures c.self.invariant.known);
+      forest = subst (λ (v : Forest Item). IsForest v) (sym (siblings-by f c.args.end _ _ _ _ p d c.cut_nodes.ensures cur))
+          (cut_siblings-is f c.args.end c.self.invariant.forest);
+      known = subtrees-joined ns c.cut_nodes.new.nodes.items _ c.first_place-first.result _ (omega (arith, w.within, length-map ns (λ n. n.0)))
+          c.cut_nodes.ensures (subtrees-first (depths ns) (length ns) _ _ _ c.cut_to.ensures c.self.invariant.known);
     }

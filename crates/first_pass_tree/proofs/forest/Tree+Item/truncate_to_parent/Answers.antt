@@ -18,6 +18,9 @@ invariant_of-self c =
     let r = c.last_of_depth.ensures ∙ ap (λ (v : List (ℕ × Item)). last_before (depths v) (c.len-depth.result + 1) (length v)) c.deref-2.ensures.value in
     let w : c.args.ix.0 < length ns = q.within in
     record {
-      forest = subst (λ (v : Forest Item). IsForest v) (sym (moved-by f c.args.ix _ _ _ _ d i e c.lower.ensures r)) (moved_out-is f c.args.ix q c.self.invariant.forest);
-      known = subtrees-changed ns c.lower.new.nodes.items shallower c.deeper_end-end.result _ (omega (arith, run-within ns (c.len-depth.result + 1 + 1) (c.args.ix.0 + 1) (omega arith))) c.lower.ensures (subtrees-first (depths ns) (length ns) _ _ _ c.cut_to.ensures c.self.invariant.known);
+      forest = subst (λ (v : Forest Item). IsForest v) (sym (moved-by f c.args.ix _ _ _ _ d i e c.lower.ensures r))
+          (moved_out-is f c.args.ix q c.self.invariant.forest);
+      known = subtrees-changed ns c.lower.new.nodes.items shallower c.deeper_end-end.result _
+          (omega (arith, run-within ns (c.len-depth.result + 1 + 1) (c.args.ix.0 + 1) (omega arith))) c.lower.ensures
+          (subtrees-first (depths ns) (length ns) _ _ _ c.cut_to.ensures c.self.invariant.known);
     }

@@ -36,7 +36,8 @@ returns c =
     let i = c.loop-kept.invariant in
     let s : within_first c.args.count (reverse (take k xs)) ≡ reverse (take k xs) = elim c.loop-kept-test.branch [
       | then-loop-kept-test+else-count-index w ↦ (
-          let p : (get_or xs (k - 1) w.index.result.now).past ≤ c.args.count = subst (λ (x : Subtree). x.past ≤ c.args.count) w.index.ensures w.if-count-index.false in
+          let p : (get_or xs (k - 1) w.index.result.now).past ≤ c.args.count =
+          subst (λ (x : Subtree). x.past ≤ c.args.count) w.index.ensures w.if-count-index.false in
           first-stop c.args.count k (k - 1) xs w.index.result.now (omega arith) (omega (arith, i.within)) p
           )
       | else-loop-kept-test w ↦ (
