@@ -21,7 +21,7 @@ use Rattle.first_pass_lines.proofs.LineFacts.{line_len-some}
 use Rattle.first_pass_lines.proofs.PlaceFacts.{place_length}
 use Rattle.first_pass_grammar.specs.Derivation.{list_flags}
 use Rattle.first_pass_grammar.specs.Kinds.{Kind, Blank, is_blank_rest, first_kind, IsKindBy, IsKind}
-use Rattle.first_pass_grammar.specs.Skeleton.{task_by, task_behind}
+use Rattle.first_pass_grammar.specs.Openers.{task_by, task_behind}
 use Rattle.first_pass_grammar.specs.Counting.{own, own_nodes}
 use Rattle.first_pass_grammar.specs.Order.{GrowsBy}
 use Rattle.first_pass_grammar.proofs.OwnNodes.{alike_first, alike_tightened, own_first, own_ended, own_changed, own_one, own_added}

@@ -20,7 +20,7 @@ use Rattle.first_pass_grammar.specs.Containers.{at_rest, has_columns, prefix, af
 use Rattle.first_pass_grammar.specs.Kinds.{Blank, all_taken, is_blank_rest, item_at}
 use Rattle.first_pass_grammar.specs.Leaves.{Document}
 use Rattle.first_pass_grammar.specs.Blocks.{BlankLine}
-use Rattle.first_pass_grammar.specs.Skeleton.{From, Line, Inside, Blanks, OpensLeaf, OpensAs, OpensQuote, OpensFrom, Opens, is_blank_behind, next_is_blank}
+use Rattle.first_pass_grammar.specs.Skeleton.{From, Line, Inside, Blanks, OpensLeaf, OpensAs, Opens, is_blank_behind, next_is_blank}
 use Rattle.first_pass_grammar.specs.Skeleton.{end_before}
 use Rattle.first_pass_grammar.specs.Derivation.{Tables, node_of}
 use Rattle.first_pass_grammar.specs.Completion.{Frame, InContainer, InList, containers_of, AreBelow}
@@ -37,6 +37,8 @@ use Rattle.first_pass_tree.proofs.BodyLemmas.{body-changed, body-other, not_chan
 use Rattle.first_pass.proofs.PopLemmas.{pop_container}
 use Rattle.first_pass.proofs.StateLemmas.{ready_plain, after_zero, popped_is, same_path, closed_containers}
 use Rattle.first_pass_items.specs.declared.option_set.Options.{Options}
+use Rattle.first_pass_grammar.specs.Skeleton.{OpensBy}
+use Rattle.first_pass_grammar.proofs.OpenerFacts.{start_none}
 
 -- Columns change nothing of whether a line is blank.
 some_mapped : (o : Option ℕ) (f : ℕ → ℕ) → is_some (option_map f o) ≡ is_some o
@@ -154,11 +156,10 @@ no_item r h = no_item_by (nat_lt (indent r) 4) r h
 -- a blank line at a place
 pub opens_blank : (d : Document) (path : List Container) (p : Place) (lines : List Place)
     → is_blank_rest p.rest ≡ true → Opens d path p lines (OpensLeaf BlankLine Line lines)
-unfolding OpensFrom OpensAs
+unfolding OpensBy OpensAs
 opens_blank d path p lines h =
-    subst (λ o. OpensFrom d path p lines o (OpensLeaf BlankLine Line lines)) (sym (no_item p.rest h))
-    (subst (λ o. OpensQuote d path p lines (option_map (at_rest p) o) (OpensLeaf BlankLine Line lines)) (sym (no_quote p.rest h))
-    (Blank, blank_kind d.options p.rest h, refl))
+    subst (λ o. OpensBy d path p lines o (OpensLeaf BlankLine Line lines)) (sym (start_none d.options p (no_item p.rest h) (no_quote p.rest h)))
+    (Blank, blank_kind d.options p.rest h, refl)
 
 -- inside a line that all open containers continue
 pub ready_enter : (d : Document) (defined : Tables) (f : Forest Item) (run : Bool) (line : Place) (lines : List Place) (r : Rest)

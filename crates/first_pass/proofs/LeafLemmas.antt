@@ -1,7 +1,6 @@
 -- A leaf block read at a place where no container begins.
 use Rattle.std.proofs.Common.{◌≡◌, inl, inr, ℕ, suc, ◌+◌, Bool, false, is_some, if◌then◌else◌, List, [], ◌∷◌, ◌++◌, append-nil, length, map, Option, Some, None}
 use Rattle.std.proofs.Common.{refl, sym, ap, subst, ◌∙◌, arith}
-use Rattle.std.specs.Option.{option_map}
 use Rattle.first_pass_items.specs.declared.item.Item.{Item}
 use Rattle.first_pass_items.specs.declared.item.ItemBody.{ItemBody}
 use Rattle.first_pass_items.specs.declared.item.ItemBody.TheVariants.{BlockQuote as BlockQuoteBody, List as ListBody}
@@ -10,7 +9,7 @@ use Rattle.first_pass_tree.specs.declared.tree_index.TreeIndex.{TreeIndex}
 use Rattle.first_pass_tree.specs.Forest.{Forest, IsForest, added, at_depth}
 use Rattle.first_pass_lines.specs.Lines.{level_number, line_len}
 use Rattle.first_pass_scan.specs.LeafLines.{hrule_len}
-use Rattle.first_pass_lines.specs.Rest.{Rest, indent}
+use Rattle.first_pass_lines.specs.Rest.{indent}
 use Rattle.first_pass_lines.specs.Places.{Place, offset, line_end, IsPlaceOf}
 use Rattle.first_pass_lines.proofs.PlaceFacts.{columns_line_end}
 use Rattle.first_pass_grammar.specs.Derivation.{Tables, told}
@@ -20,14 +19,14 @@ use Rattle.first_pass_grammar.specs.Rows.{is_paragraph}
 use Rattle.std.proofs.lemmas.Bool.{true≢false}
 use Rattle.first_pass_grammar.specs.declared.kind.Container.{Container}
 use Rattle.first_pass_grammar.specs.declared.kind.Container.TheVariants.{BlockQuote}
-use Rattle.first_pass_grammar.specs.Containers.{Context, at_rest, prefix}
+use Rattle.first_pass_grammar.specs.Containers.{Context, prefix}
 use Rattle.first_pass_grammar.specs.Kinds.{Kind, Blank, ThematicBreak, AtxHeading, LinkDefinitions, Paragraph, unindented, item_at, IsKind}
 use Rattle.first_pass_grammar.specs.Names.{Names, Extends}
 use Rattle.first_pass_items.specs.declared.option_set.Options.{Options}
 use Rattle.first_pass_grammar.specs.Leaves.{Document, document, around, IsHeading, heading_text_at, rule_block, heading_block}
 use Rattle.first_pass_grammar.specs.Blocks.{BlankLine, LeafBlock, Block, run_block, flowing_block, block_at, leaf_block}
 use Rattle.first_pass_grammar.specs.Skeleton.{OpensBeyond, OpensRun, Line, Inside, At, ALeafAlone, IsFirst, Opening, OpensLeaf, OpensText, OpensAs}
-use Rattle.first_pass_grammar.specs.Skeleton.{OpensBlockAt, OpensQuote, OpensFrom, Opens}
+use Rattle.first_pass_grammar.specs.Skeleton.{OpensBlockAt, Opens}
 use Rattle.first_pass_grammar.specs.Tables.{taking}
 use Rattle.first_pass_grammar.specs.Texts.{IsText}
 use Rattle.first_pass_grammar.specs.Completion.{lines_from, Frame, containers_of, AreBelow}
@@ -51,6 +50,8 @@ use Rattle.first_pass.proofs.OpenerLemmas.{depth_of}
 use Rattle.first_pass.proofs.EnterLemmas.{ready_blank}
 use Rattle.first_pass.proofs.TagLemmas.{finishes_nothing, quote_counts}
 use Rattle.first_pass_items.specs.declared.item.BlockQuoteKind.{BlockQuoteKind}
+use Rattle.first_pass_grammar.specs.Skeleton.{OpensBy}
+use Rattle.first_pass_grammar.proofs.OpenerFacts.{start_none}
 
 -- The line of a text ends where its line ends.
 pub line_end_of : (text : List ℕ) (p : Place) → IsPlaceOf text (unindented p) → line_end_at text (offset (unindented p)) ≡ line_end p
@@ -62,10 +63,9 @@ line_end_of text p i =
 -- where no container begins, what the kind of the place says
 no_container : (d : Document) (path : List Container) (p : Place) (lines : List Place) (k : Kind) (o : Opening) → item_at p.rest ≡ None
     → prefix (BlockQuote None) p.rest ≡ None → IsKind d.options p.rest k → OpensAs d path p lines (kind_in (around d path) p k) o → Opens d path p lines o
-unfolding OpensFrom
+unfolding OpensBy
 no_container d path p lines k o no_item none kind opens =
-    subst (λ i. OpensFrom d path p lines i o) (sym no_item)
-    (subst (λ (q : Option Rest). OpensQuote d path p lines (option_map (at_rest p) q) o) (sym none) (k, kind, opens))
+    subst (λ q. OpensBy d path p lines q o) (sym (start_none d.options p no_item none)) (k, kind, opens)
 
 -- a block ends any list at the place that it says
 block_away : (b : Option ItemBody) (at : ℕ) (block : LeafBlock) (left : List Place)

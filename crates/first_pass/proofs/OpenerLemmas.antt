@@ -21,8 +21,10 @@ use Rattle.first_pass_grammar.specs.Containers.{at_rest, prefix}
 use Rattle.first_pass_grammar.specs.Kinds.{is_blank_rest, quote_start, item_at}
 use Rattle.first_pass_grammar.specs.Leaves.{Document, around}
 use Rattle.first_pass_grammar.specs.OpenOrder.{is_in_item}
-use Rattle.first_pass_grammar.specs.Skeleton.{From, Line, Inside, Blanks, Opening, OpensNode, next_is_blank, item_head, task_behind, behind_task, behind_marker}
-use Rattle.first_pass_grammar.specs.Skeleton.{task_alone, item_opening, quote_head, tag_behind, behind_tag, quote_opening, OpensQuote, OpensFrom, Opens}
+use Rattle.first_pass_grammar.specs.Skeleton.{From, Line, Inside, Blanks, Opening, OpensNode, next_is_blank, behind_marker}
+use Rattle.first_pass_grammar.specs.Openers.{item_head, task_behind}
+use Rattle.first_pass_grammar.specs.Skeleton.{task_alone, behind_tag, Opens}
+use Rattle.first_pass_grammar.specs.Openers.{quote_head, tag_behind}
 use Rattle.first_pass_grammar.specs.Derivation.{Tables, node_of, list_flags}
 use Rattle.first_pass_grammar.specs.Completion.{lines_from, Frame, InContainer, InList, containers_of, AreBelow, IsPlain}
 use Rattle.first_pass_grammar.proofs.Finishes.{CompletesAt}
@@ -43,6 +45,9 @@ use Rattle.first_pass_tree.proofs.BodyLemmas.{body-other}
 use Rattle.first_pass.proofs.ListLemmas.{open_flags}
 use Rattle.first_pass.proofs.FinishLemmas.{EndsListAt, ready_finished, loose_is, loose_frame, loosened_spine}
 use Rattle.first_pass_items.specs.declared.option_set.Options.{Options}
+use Rattle.first_pass_grammar.specs.Skeleton.{OpensBy, opening_of, At, TextOf}
+use Rattle.first_pass_grammar.specs.Openers.{item_start, quote_begun}
+use Rattle.first_pass_grammar.proofs.OpenerFacts.{start_item, start_quote}
 
 or_false : (a : Bool) → (a || false) ≡ a
 or_false true = refl
@@ -75,11 +80,11 @@ quote_away (Some b) p kind behind inside = tt
 
 opens_quote : (d : Document) (path : List Container) (p : Place) (lines : List Place) (r : Rest)
     → item_at p.rest ≡ None → prefix (BlockQuote None) p.rest ≡ Some r
-    → Opens d path p lines (quote_opening (around d path) p (at_rest p r) lines (tag_behind d.options r))
-unfolding OpensFrom
+    → Opens d path p lines (opening_of d path p lines (quote_begun p (tag_behind d.options r) r))
+unfolding OpensBy
 opens_quote d path p lines r none is =
-    let opening : Opening = quote_opening (around d path) p (at_rest p r) lines (tag_behind d.options r) in
-    subst (λ o. OpensFrom d path p lines o opening) (sym none) (subst (λ o. OpensQuote d path p lines (option_map (at_rest p) o) opening) (sym is) refl)
+    let opening : Opening = opening_of d path p lines (quote_begun p (tag_behind d.options r) r) in
+    subst (λ o. OpensBy d path p lines o opening) (sym (start_quote d.options p r none is)) refl
 
 -- what a block quote is once it is opened
 quote_body : (f : Forest Item) (start : ℕ) (kind : Option BlockQuoteKind)
@@ -136,7 +141,7 @@ ready_quote d defined r p lines inside forest no_item is no_tag none ready =
     let q : Reading = begun (quote_start p) (BlockQuoteBody None) (list_finished p.line r) in
     let path : List Container = path_of d.options r.tree in
     let opens =
-    subst (λ t. Opens d path p lines (quote_opening (around d path) p (at_rest p inside) lines t)) no_tag (opens_quote d path p lines inside no_item is) in
+    subst (λ t. Opens d path p lines (opening_of d path p lines (quote_begun p t inside))) no_tag (opens_quote d path p lines inside no_item is) in
     let begun_is = quote_is_open d defined r p lines lines None (Inside (at_rest p inside)) forest opens none ready in
     subst (λ t. ReadyAt d defined q.tree t (Inside (at_rest p inside)) lines) (sym begun_is.blank) begun_is.ready
 
@@ -150,7 +155,7 @@ ready_tagged d defined r p lines inside kind forest no_item is tag none ready =
     let path : List Container = path_of d.options r.tree in
     let from : From × List Place = behind_tag (around d (BlockQuote (Some kind) ∷ path)) lines in
     let opens =
-    subst (λ t. Opens d path p lines (quote_opening (around d path) p (at_rest p inside) lines t)) tag (opens_quote d path p lines inside no_item is) in
+    subst (λ t. Opens d path p lines (opening_of d path p lines (quote_begun p t inside))) tag (opens_quote d path p lines inside no_item is) in
     let begun_is = quote_is_open d defined r p lines from.1 (Some kind) from.0 forest opens none ready in
     record {
       kind = Some kind;
@@ -345,18 +350,29 @@ pub item_absent : (o : Option ((ℕ × ℕ × ℕ) × Rest)) (found : Option Lis
 item_absent None found old new e h = (refl, h.1)
 item_absent (Some item) found old new e h = (let z : None ≡ Some (marker_of item.0) = sym e ∙ h.0 in cc)
 
+-- what an item opens whose marker has this byte, number and indent, with what stands after the marker
+abbrev item_opening : Document → List Container → Place → List Place → ℕ × ℕ × ℕ → Option Item × Rest → Opening
+item_opening d path p lines item task = opening_of d path p lines (item_start p item task)
+
 opens_item : (d : Document) (path : List Container) (p : Place) (lines : List Place) (item : (ℕ × ℕ × ℕ) × Rest)
     → item_at p.rest ≡ Some item → Opens d path p lines (item_opening d path p lines (item.0.0, item.0.1, item.0.2) (task_behind d.options p.line item.1))
-unfolding OpensFrom
+unfolding OpensBy
 opens_item d path p lines item is =
-    subst (λ o. OpensFrom d path p lines o (item_opening d path p lines (item.0.0, item.0.1, item.0.2) (task_behind d.options p.line item.1))) (sym is) refl
+    let opening : Opening = item_opening d path p lines (item.0.0, item.0.1, item.0.2) (task_behind d.options p.line item.1) in
+    subst (λ o. OpensBy d path p lines o opening) (sym (start_item d.options p item is)) refl
+
+-- where blocks continue after the markers of an item
+abbrev pub behind_task : Option Item → Place → From
+behind_task None p = Inside p
+behind_task (Some marker) p = At p (TextOf marker)
 
 -- what the markers open
 inside_by : (d : Document) (path : List Container) (p : Place) (lines : List Place) (byte number columns : ℕ) (marker : Option Item) (rest : Rest)
     → is_blank_rest rest ≡ false
     → item_opening d path p lines (byte, number, columns) (marker, rest)
     ≡ OpensNode (item_head p byte number columns) (behind_task marker (at_rest p rest)) lines
-inside_by d path p lines byte number columns marker rest h = rw h refl
+inside_by d path p lines byte number columns None rest h = rw h refl
+inside_by d path p lines byte number columns (Some x) rest h = rw h refl
 
 item_body : (g : Forest Item) (start columns : ℕ)
     → body_at (g.nodes ++ (length g.spine + 1, node_of start 0 (ListItemBody columns)) ∷ []) (length g.nodes) ≡ Some (ListItemBody columns)

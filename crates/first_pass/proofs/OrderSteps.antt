@@ -18,7 +18,7 @@ use Rattle.first_pass_lines.proofs.PlaceFacts.{place_length, columns_keep, colum
 use Rattle.first_pass_grammar.specs.declared.kind.Container.TheVariants.{BlockQuote}
 use Rattle.first_pass_grammar.specs.Containers.{prefix}
 use Rattle.first_pass_grammar.specs.Kinds.{all_taken, unindented}
-use Rattle.first_pass_grammar.specs.Skeleton.{task_by, task_behind}
+use Rattle.first_pass_grammar.specs.Openers.{task_by, task_behind}
 use Rattle.first_pass_grammar.specs.Derivation.{node_of}
 use Rattle.first_pass_grammar.specs.OpenOrder.{IsOrderedTo}
 use Rattle.first_pass_open.specs.OpenBlock.{with_child}

@@ -18,6 +18,7 @@ pub mod LinesLeft
 pub mod MoreNames
 pub mod NamedItems
 pub mod NoIndex
+pub mod OpenerFacts
 pub mod OpeningsFound
 pub mod Orders
 pub mod OwnNodes

@@ -6,7 +6,6 @@ use Rattle.std.proofs.lemmas.List.{length-drop}
 use Rattle.std.proofs.lemmas.List.Sums.{prefix_len-le-length}
 use Rattle.std.proofs.lemmas.Option.{none-some, same_Some}
 use Rattle.first_pass_items.specs.declared.item.Item.{Item}
-use Rattle.first_pass_items.specs.declared.item.BlockQuoteKind.{BlockQuoteKind}
 use Rattle.first_pass_items.specs.declared.option_set.Options.{Options}
 use Rattle.first_pass_items.specs.OptionWords.{has, tasklists}
 use Rattle.first_pass_lines.specs.Lines.{is_content}
@@ -16,16 +15,22 @@ use Rattle.first_pass_lines.proofs.PlaceFacts.{columns_shorter, quote_shorter}
 use Rattle.first_pass_scan.specs.Markers.{item_of, task_of}
 use Rattle.first_pass_scan.proofs.MarkerPlaces.{IsMarked, item-marked, task-marked}
 use Rattle.first_pass_grammar.specs.declared.kind.Container.{Container}
-use Rattle.first_pass_grammar.specs.declared.kind.Container.TheVariants.{BlockQuote, ListItem}
+use Rattle.first_pass_grammar.specs.declared.kind.Container.TheVariants.{BlockQuote}
 use Rattle.first_pass_grammar.specs.Names.{Names}
-use Rattle.first_pass_grammar.specs.Containers.{Context, context, at_rest, prefix, front}
-use Rattle.first_pass_grammar.specs.Kinds.{Paragraph, all_taken, unindented, is_blank_rest, quote_inside, item_at, ends_tag}
+use Rattle.first_pass_grammar.specs.Containers.{Context, at_rest, prefix, front}
+use Rattle.first_pass_grammar.specs.Kinds.{Paragraph, all_taken, unindented, item_at, ends_tag}
 use Rattle.first_pass_grammar.specs.Leaves.{Document, document}
 use Rattle.first_pass_grammar.specs.Blocks.{leaf_block, Head}
 use Rattle.first_pass_grammar.specs.Skeleton.{From, Line, At, May, Anything, ALeafAlone, TextOf, MarkAlone, Inside, behind_marker, Opening, OpensNode}
-use Rattle.first_pass_grammar.specs.Skeleton.{next_is_blank, item_head, task_by, task_behind, behind_task, task_alone, item_opening, quote_head, tag_behind}
-use Rattle.first_pass_grammar.specs.Skeleton.{behind_tag, quote_opening, OpensQuote, OpensFrom, Opens, OpensIf}
+use Rattle.first_pass_grammar.specs.Skeleton.{next_is_blank, task_alone}
+use Rattle.first_pass_grammar.specs.Openers.{task_by, task_behind}
+use Rattle.first_pass_grammar.specs.Skeleton.{behind_tag, Opens, OpensIf}
 use Rattle.first_pass_grammar.proofs.KindsFound.{IsShorter, leads_alone, leads_leaf, reach, Shrinks, Leads, leads_text, leads_block}
+use Rattle.first_pass_grammar.specs.Openers.{AfterMarker, OnLine, TaskText, LineEnds, TagAlone, Start, start_at}
+use Rattle.first_pass_grammar.specs.Skeleton.{OpensBy, opening_by, opening_of, without_indent}
+use Rattle.first_pass_grammar.specs.Blocks.{opened}
+use Rattle.first_pass_grammar.proofs.OpenerFacts.{start_cases}
+use Rattle.first_pass_grammar.specs.Leaves.{around}
 
 -- after a marker less is left
 mapped_to : {A B : Type 0} (f : A → B) (o : Option A) (y : B) → option_map f o ≡ Some y → (x : A) × (o ≡ Some x) × (f x ≡ y)
@@ -70,23 +75,24 @@ task_if false r task h = absurd (none-some task h)
 task_shorter : (options : Options) (line : ℕ) (r : Rest) → length (task_behind options line r).1.left ≤ length r.left
 task_shorter options line r = task_shorter_by line r (if has options tasklists then task_of r else None) (task_if (has options tasklists) r)
 
-quote_inside_shorter : (p inside : Place) → quote_inside p ≡ Some inside → length inside.rest.left < length p.rest.left
+quote_shorter_by : (r inside : Rest) → prefix (BlockQuote None) r ≡ Some inside → length inside.left < length r.left
 unfolding prefix
-quote_inside_shorter p inside h =
-    let place = mapped_to (at_rest p) (prefix (BlockQuote None) p.rest) inside h in
-    let marker = mapped_to (after_columns 1) (past_quote (after_columns 3 p.rest)) place.0 place.1 in
-    let three = columns_shorter 3 p.rest in
+quote_shorter_by r inside h =
+    let marker = mapped_to (after_columns 1) (past_quote (after_columns 3 r)) inside h in
+    let three = columns_shorter 3 r in
     let one = columns_shorter 1 marker.0 in
-    let quote = quote_shorter (after_columns 3 p.rest) marker.0 marker.1 in
-    let same : length place.0.left ≡ length (after_columns 1 marker.0).left = ap (λ (q : Rest). length q.left) (sym marker.2) in
-    let there : length inside.rest.left ≡ length place.0.left = ap (λ (q : Place). length q.rest.left) (sym place.2) in
+    let quote = quote_shorter (after_columns 3 r) marker.0 marker.1 in
+    let same : length inside.left ≡ length (after_columns 1 marker.0).left = ap (λ (q : Rest). length q.left) (sym marker.2) in
     omega arith
 
--- list items
-behind_reach : (marker : Option Item) (p : Place) → reach (behind_task marker p) ≤ suc (length p.rest.left)
-behind_reach None p = omega arith
-behind_reach (Some marker) p = omega arith
+-- what is left after a container's marker is shorter
+start_shorter : (options : Options) (p : Place) (s : Start) → start_at options p ≡ Some s → length s.rest.left < length p.rest.left
+start_shorter options p =
+    start_cases options p (λ s. length s.rest.left < length p.rest.left)
+    (λ item is. let less = item_shorter p.rest item is in let task = task_shorter options p.line item.1 in omega arith)
+    (λ r none is. quote_shorter_by p.rest r is)
 
+-- after a container's marker
 marker_reach : (blanks : Option ℕ) → reach (behind_marker blanks) ≤ 0
 marker_reach None = omega arith
 marker_reach (Some e) = omega arith
@@ -103,21 +109,7 @@ either_shrinks most lines false o o' h k = k
 node_shrinks : (most : ℕ) (lines : List Place) (head : Head) (inside : From) → reach inside ≤ most → Shrinks most lines (OpensNode head inside lines)
 node_shrinks most lines head inside h = (omega arith, inl h)
 
-item_shrinks : (d : Document) (most : ℕ) (path : List Container) (p : Place) (lines : List Place) (item : ℕ × ℕ × ℕ) (task : Option Item × Rest)
-    → suc (length task.1.left) ≤ most → Shrinks most lines (item_opening d path p lines item task)
-item_shrinks d most path p lines (byte, number, columns) (marker, r) h =
-    let q : Place = at_rest p r in
-    let blanks : Option ℕ = Some (start_of (length d.text) lines) in
-    let alone = alone_reach marker q blanks in
-    let next = alone_reach marker q None in
-    let behind = behind_reach marker q in
-    either_shrinks most lines (is_blank_rest r) _ _
-    (either_shrinks most lines (next_is_blank (ListItem columns ∷ path) lines) _ _
-    (node_shrinks most lines (item_head p byte number 0) (task_alone marker q blanks) (omega arith))
-    (node_shrinks most lines (item_head p byte number columns) (task_alone marker q None) (omega arith)))
-    (node_shrinks most lines (item_head p byte number columns) (behind_task marker q) (omega arith))
-
--- block quotes
+-- after a block quote's tag
 abbrev IsBehind : ℕ → List Place → From × List Place → Type 0
 IsBehind most lines (inside, behind) = IsShorter most lines inside behind
 
@@ -130,37 +122,34 @@ tag_shrinks : (most : ℕ) (c : Context) (lines : List Place) → IsBehind most 
 tag_shrinks most c [] = (omega arith, inl (omega arith))
 tag_shrinks most c (line ∷ lines) = tag_shrinks_by most line (unindented (at_rest line (front c.path line.rest))) lines (ends_tag c line.rest)
 
-quote_shrinks : (most : ℕ) (c : Context) (p inside : Place) (lines : List Place) (kind : Option BlockQuoteKind)
-    → suc (length inside.rest.left) ≤ most → Shrinks most lines (quote_opening c p inside lines kind)
-quote_shrinks most c p inside lines None h = node_shrinks most lines (quote_head p None) (Inside inside) h
-quote_shrinks most c p inside lines (Some kind) h = tag_shrinks most (context c.options (BlockQuote (Some kind) ∷ c.path)) lines
+start_shrinks : (d : Document) (most : ℕ) (path : List Container) (head : Head) (inside : Place) (lines : List Place) (after : AfterMarker)
+    → suc (length inside.rest.left) ≤ most → Shrinks most lines (opening_by d path head inside lines after)
+start_shrinks d most path head inside lines OnLine h = node_shrinks most lines head (Inside inside) h
+start_shrinks d most path head inside lines (TaskText marker) h = node_shrinks most lines head (At inside (TextOf marker)) h
+start_shrinks d most path head inside lines (LineEnds marker) h =
+    let blanks : Option ℕ = Some (start_of (length d.text) lines) in
+    let alone = alone_reach marker inside blanks in
+    let next = alone_reach marker inside None in
+    either_shrinks most lines (next_is_blank (opened head.opener ∷ path) lines) _ _
+    (node_shrinks most lines (record head { opener = without_indent head.opener }) (task_alone marker inside blanks) (omega arith))
+    (node_shrinks most lines head (task_alone marker inside None) (omega arith))
+start_shrinks d most path head inside lines TagAlone h = tag_shrinks most (around d (opened head.opener ∷ path)) lines
 
 -- what opens at a place
-leads_quote : (text : List ℕ) (options : Options) (names : Names) (path : List Container) (p : Place) (lines : List Place) (o : Option Place)
-    → ((inside : Place) → o ≡ Some inside → length inside.rest.left < length p.rest.left)
-    → Leads names (length p.rest.left) lines (λ later x. OpensQuote (document text options later) path p lines o x)
-leads_quote text options names path p lines None less = leads_block text options names (length p.rest.left) path p lines
-leads_quote text options names path p lines (Some inside) less =
-    let kind : Option BlockQuoteKind = tag_behind options inside.rest in
-    let shorter = less inside refl in
-    leads_alone (quote_opening (context options path) p inside lines kind) (λ later. refl)
-    (quote_shrinks (length p.rest.left) (context options path) p inside lines kind (omega arith))
-
-leads_from : (text : List ℕ) (options : Options) (names : Names) (path : List Container) (p : Place) (lines : List Place)
-    (o : Option ((ℕ × ℕ × ℕ) × Rest)) → ((item : (ℕ × ℕ × ℕ) × Rest) → o ≡ Some item → length item.1.left < length p.rest.left)
-    → Leads names (length p.rest.left) lines (λ later x. OpensFrom (document text options later) path p lines o x)
-unfolding OpensFrom
-leads_from text options names path p lines None less = leads_quote text options names path p lines (quote_inside p) (quote_inside_shorter p)
-leads_from text options names path p lines (Some item) less =
+leads_by : (text : List ℕ) (options : Options) (names : Names) (path : List Container) (p : Place) (lines : List Place) (o : Option Start)
+    → ((s : Start) → o ≡ Some s → length s.rest.left < length p.rest.left)
+    → Leads names (length p.rest.left) lines (λ later x. OpensBy (document text options later) path p lines o x)
+unfolding OpensBy
+leads_by text options names path p lines None less = leads_block text options names (length p.rest.left) path p lines
+leads_by text options names path p lines (Some s) less =
     let d : Document = document text options names in
-    let task : Option Item × Rest = task_behind options p.line item.1 in
-    let shorter = less item refl in
-    let behind = task_shorter options p.line item.1 in
-    leads_alone (item_opening d path p lines item.0 task) (λ later. refl) (item_shrinks d (length p.rest.left) path p lines item.0 task (omega arith))
+    let shorter = less s refl in
+    leads_alone (opening_of d path p lines s) (λ later. refl)
+    (start_shrinks d (length p.rest.left) path s.head (at_rest p s.rest) lines s.after (omega arith))
 
 pub leads_any : (text : List ℕ) (options : Options) (names : Names) (path : List Container) (p : Place) (lines : List Place)
     → Leads names (length p.rest.left) lines (λ later x. Opens (document text options later) path p lines x)
-leads_any text options names path p lines = leads_from text options names path p lines (item_at p.rest) (item_shorter p.rest)
+leads_any text options names path p lines = leads_by text options names path p lines (start_at options p) (start_shorter options p)
 
 pub leads_if : (text : List ℕ) (options : Options) (names : Names) (path : List Container) (may : May) (p : Place) (lines : List Place)
     → Leads names (length p.rest.left) lines (λ later x. OpensIf (document text options later) path may p lines x)

@@ -14,10 +14,10 @@ use Rattle.first_pass_scan.proofs.MarkerPlaces.{IsMarked, item-marked, task-mark
 use Rattle.first_pass_grammar.specs.declared.kind.Container.{Container}
 use Rattle.first_pass_grammar.specs.declared.kind.Container.TheVariants.{BlockQuote, ListItem, FootnoteDefinition}
 use Rattle.first_pass_grammar.specs.Containers.{at_rest, has_columns, prefix, after, or_shorter, front, taken}
-use Rattle.first_pass_grammar.specs.Kinds.{all_taken, unindented, quote_inside, item_at}
+use Rattle.first_pass_grammar.specs.Kinds.{all_taken, unindented, item_at}
 use Rattle.first_pass_grammar.specs.CodeBlocks.{code_place, code_by, code_lines}
 use Rattle.first_pass_grammar.specs.Extents.{Extent, Verdict, GoesOn, IsLast, Closes, Stops, extent_by, extent}
-use Rattle.first_pass_grammar.specs.Skeleton.{task_by, task_behind}
+use Rattle.first_pass_grammar.specs.Openers.{task_by, task_behind}
 
 -- what is left there is the text from its offset on; and so at each of these places
 abbrev pub IsAt : List ℕ → Place → Type 0
@@ -138,8 +138,8 @@ pub at_taken : (text : List ℕ) (path : List Container) (line q : Place) → ta
 at_taken text path line q h i = taken_by text line q (after path line.rest) (after_follows path line.rest) h i
 
 -- inside a block quote
-pub at_quote : (text : List ℕ) (p inside : Place) → quote_inside p ≡ Some inside → IsAt text p → IsAt text inside
-at_quote text p inside h i = taken_by text p inside (prefix (BlockQuote None) p.rest) (prefix_follows (BlockQuote None) p.rest) h i
+pub at_quote : (text : List ℕ) (p : Place) (inside : Rest) → prefix (BlockQuote None) p.rest ≡ Some inside → IsAt text p → IsAt text (at_rest p inside)
+at_quote text p inside h i = at_behind text p.line p.rest inside (prefix_follows (BlockQuote None) p.rest inside h) i
 
 -- after the marker of an item, and of a task
 marked_follows : (r s : Rest) → IsMarked r s → Follows r s

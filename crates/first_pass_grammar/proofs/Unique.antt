@@ -14,11 +14,10 @@ use Rattle.first_pass_lines.specs.Rest.{Rest, indent}
 use Rattle.first_pass_lines.specs.Places.{Place, offset, lines_at, start_of, moved_columns}
 use Rattle.first_pass_links.specs.Escapes.{unescaped}
 use Rattle.first_pass_grammar.specs.declared.kind.Container.{Container}
-use Rattle.first_pass_grammar.specs.declared.kind.Container.TheVariants.{BlockQuote, ListItem}
 use Rattle.first_pass_grammar.specs.Names.{Names, Named, read_nodes}
-use Rattle.first_pass_grammar.specs.Containers.{Context, context, at_rest, after, front}
+use Rattle.first_pass_grammar.specs.Containers.{Context, at_rest, after, front}
 use Rattle.first_pass_grammar.specs.Kinds.{Kind, Blank, IndentedCode, Metadata, HtmlToEnd, HtmlToBlank, ThematicBreak, AtxHeading, FencedCode, LinkDefinitions}
-use Rattle.first_pass_grammar.specs.Kinds.{Paragraph, unindented, is_blank_rest, quote_inside, item_at, first_kind, IsKindBy, IsKind, ends_tag}
+use Rattle.first_pass_grammar.specs.Kinds.{Paragraph, unindented, is_blank_rest, first_kind, IsKindBy, IsKind, ends_tag}
 use Rattle.first_pass_grammar.specs.Headings.{heading_attributes_of}
 use Rattle.first_pass_grammar.specs.Leaves.{Document, document, around, line_bytes, heading_text_at, heading_block}
 use Rattle.first_pass_grammar.specs.CodeBlocks.{code_lines, without_blanks, last_end, IsIndentedCode, metadata_lines, metadata_kind, IsMetadata, fenced_lines}
@@ -31,9 +30,10 @@ use Rattle.std.proofs.lemmas.Bool.{true≢false}
 use Rattle.std.proofs.lemmas.Option.{none-some, same_Some}
 use Rattle.first_pass_grammar.specs.Blocks.{leaf_block, Head, opened, Skeleton, Nil, Then, Node}
 use Rattle.first_pass_grammar.specs.Skeleton.{OpensBeyond, OpensRun, From, Line, Blanks, At, Anything, ALeafAlone, TextOf, MarkAlone, behind_marker, Opening}
-use Rattle.first_pass_grammar.specs.Skeleton.{OpensLeaf, OpensNode, OpensText, OpensExtent, OpensAs, OpensBlockAt, is_blank_behind, next_is_blank, item_head}
-use Rattle.first_pass_grammar.specs.Skeleton.{task_by, task_behind, behind_task, task_alone, item_opening, tag_behind, behind_tag, quote_opening, OpensQuote}
-use Rattle.first_pass_grammar.specs.Skeleton.{OpensFrom, Opens, OpensAt, Begins, Ends, behind_first, end_before, IsFirst, IsSequence}
+use Rattle.first_pass_grammar.specs.Skeleton.{OpensLeaf, OpensNode, OpensText, OpensExtent, OpensAs, OpensBlockAt, is_blank_behind, next_is_blank}
+use Rattle.first_pass_grammar.specs.Skeleton.{task_alone, behind_tag}
+use Rattle.first_pass_grammar.specs.Openers.{task_by, task_behind, tag_behind}
+use Rattle.first_pass_grammar.specs.Skeleton.{Opens, OpensAt, Begins, Ends, behind_first, end_before, IsFirst, IsSequence}
 use Rattle.first_pass_grammar.specs.Derivation.{Tables, no_tables, told, node_of, Derives}
 use Rattle.first_pass_grammar.proofs.NoIndex.{HasNoIndex, read_alone}
 use Rattle.first_pass_grammar.specs.RawLines.{range_text, range_html}
@@ -43,6 +43,10 @@ use Rattle.first_pass_grammar.proofs.LinesAlike.{one_heading}
 use Rattle.first_pass_grammar.proofs.TablesAlike.{one_text}
 use Rattle.first_pass_grammar.specs.Before.{nothing}
 use Rattle.first_pass_grammar.proofs.RowsAlike.{forest_alike, definitions_alike}
+use Rattle.first_pass_grammar.specs.Openers.{AfterMarker, OnLine, TaskText, LineEnds, TagAlone, Start, after_task, after_quote, start_at}
+use Rattle.first_pass_grammar.specs.Skeleton.{OpensBy, opening_by, without_indent}
+use Rattle.first_pass_grammar.proofs.OpenerFacts.{start_cases}
+use Rattle.first_pass_items.specs.OptionWords.{tasklists}
 
 -- a place is of one kind
 one_kind_by : (r : Rest) (first : Option Kind) (k k' : Kind) → IsKindBy r first k → IsKindBy r first k' → k ≡ k'
@@ -219,10 +223,6 @@ task_free : (line : ℕ) (r : Rest) (o : Option (Bool × Rest)) → IfSome (task
 task_free line r None = tt
 task_free line r (Some task) = refl
 
-behind_free : (marker : Option Item) (p : Place) → IfSome marker HasNoIndex → HoldsNoIndex (behind_task marker p)
-behind_free None p h = tt
-behind_free (Some marker) p h = h
-
 marker_free : (blanks : Option ℕ) → HoldsNoIndex (behind_marker blanks)
 marker_free None = tt
 marker_free (Some e) = tt
@@ -235,16 +235,6 @@ unless_opens : (t : Bool) (o o' : Opening) → OpensFree o → OpensFree o' → 
 unless_opens true o o' h k = h
 unless_opens false o o' h k = k
 
-item_free : (d : Document) (path : List Container) (p : Place) (lines : List Place) (byte number columns : ℕ) (task : Option Item × Rest)
-    → IfSome task.0 HasNoIndex → OpensFree (item_opening d path p lines (byte, number, columns) task)
-item_free d path p lines byte number columns (marker, r) h =
-    let blanks : Option ℕ = Some (start_of (length d.text) lines) in
-    unless_opens (is_blank_rest r) _ _
-    (unless_opens (next_is_blank (ListItem columns ∷ path) lines) (OpensNode (item_head p byte number 0) (task_alone marker (at_rest p r) blanks) lines)
-    (OpensNode (item_head p byte number columns) (task_alone marker (at_rest p r) None) lines)
-    (alone_free marker (at_rest p r) blanks h) (alone_free marker (at_rest p r) None h))
-    (behind_free marker (at_rest p r) h)
-
 first_free : (t : Bool) (x y : From × List Place) → HoldsNoIndex x.0 → HoldsNoIndex y.0 → HoldsNoIndex (if◌then◌else◌ {A = From × List Place} t x y).0
 first_free true x y h k = h
 first_free false x y h k = k
@@ -254,29 +244,52 @@ tag_free c [] = tt
 tag_free c (line ∷ lines) =
     first_free (ends_tag c line.rest) (Line, line ∷ lines) (At (unindented (at_rest line (front c.path line.rest))) ALeafAlone, lines) tt tt
 
-quote_free : (c : Context) (p inside : Place) (lines : List Place) (kind : Option BlockQuoteKind) → OpensFree (quote_opening c p inside lines kind)
-quote_free c p inside lines None = tt
-quote_free c p inside lines (Some kind) = tag_free (context c.options (BlockQuote (Some kind) ∷ c.path)) lines
+-- after the marker of a container no item with an index stands
+abbrev AfterFree : AfterMarker → Type 0
+AfterFree OnLine = Unit {0}
+AfterFree (TaskText marker) = HasNoIndex marker
+AfterFree (LineEnds marker) = IfSome marker HasNoIndex
+AfterFree TagAlone = Unit {0}
 
-opens_quote : (d : Document) (n : Names) (path : List Container) (p : Place) (lines : List Place) (q : Option Place) (o o' : Opening)
-    → OpensQuote d path p lines q o → OpensQuote (with_names d n) path p lines q o' → AlikeOpening d.names n o o'
-opens_quote d n path p lines (Some inside) o o' e f =
-    alike_by d.names n o o' _ _ e f (node_alike d.names n _ (quote_free (around d path) p inside lines (tag_behind d.options inside.rest)))
-opens_quote d n path p lines None o o' e f = opens_block d n path p lines o o' e f
+task_after_free : (t : Bool) (marker : Option Item) → IfSome marker HasNoIndex → AfterFree (if t then LineEnds marker else after_task marker)
+task_after_free true marker h = h
+task_after_free false None h = tt
+task_after_free false (Some marker) h = h
 
-opens_from : (d : Document) (n : Names) (path : List Container) (p : Place) (lines : List Place) (i : Option ((ℕ × ℕ × ℕ) × Rest)) (o o' : Opening)
-    → OpensFrom d path p lines i o → OpensFrom (with_names d n) path p lines i o' → AlikeOpening d.names n o o'
-unfolding OpensFrom
-opens_from d n path p lines (Some item) o o' e f =
-    alike_by d.names n o o' _ _ e f
-    (node_alike d.names n _ (item_free d path p lines item.0.0 item.0.1 item.0.2 (task_behind d.options p.line item.1)
-    (task_free p.line item.1 (if has d.options 16 then task_of item.1 else None))))
-opens_from d n path p lines None o o' e f = opens_quote d n path p lines (quote_inside p) o o' e f
+quote_after_free : (kind : Option BlockQuoteKind) → AfterFree (after_quote kind)
+quote_after_free None = tt
+quote_after_free (Some kind) = tt
+
+start_free : (options : Options) (p : Place) (s : Start) → start_at options p ≡ Some s → AfterFree s.after
+start_free options p =
+    start_cases options p (λ s. AfterFree s.after)
+    (λ item is. task_after_free (is_blank_rest (task_behind options p.line item.1).1) (task_behind options p.line item.1).0
+    (task_free p.line item.1 (if has options tasklists then task_of item.1 else None)))
+    (λ r none is. quote_after_free (tag_behind options r))
+
+opening_free : (d : Document) (path : List Container) (head : Head) (inside : Place) (lines : List Place) (after : AfterMarker) → AfterFree after
+    → OpensFree (opening_by d path head inside lines after)
+opening_free d path head inside lines OnLine h = tt
+opening_free d path head inside lines (TaskText marker) h = h
+opening_free d path head inside lines (LineEnds marker) h =
+    let blanks : Option ℕ = Some (start_of (length d.text) lines) in
+    unless_opens (next_is_blank (opened head.opener ∷ path) lines)
+    (OpensNode (record head { opener = without_indent head.opener }) (task_alone marker inside blanks) lines)
+    (OpensNode head (task_alone marker inside None) lines)
+    (alone_free marker inside blanks h) (alone_free marker inside None h)
+opening_free d path head inside lines TagAlone h = tag_free (around d (opened head.opener ∷ path)) lines
+
+opens_by : (d : Document) (n : Names) (path : List Container) (p : Place) (lines : List Place) (q : Option Start) (o o' : Opening)
+    → ((s : Start) → q ≡ Some s → AfterFree s.after) → OpensBy d path p lines q o → OpensBy (with_names d n) path p lines q o' → AlikeOpening d.names n o o'
+unfolding OpensBy
+opens_by d n path p lines (Some s) o o' free e f =
+    alike_by d.names n o o' _ _ e f (node_alike d.names n _ (opening_free d path s.head (at_rest p s.rest) lines s.after (free s refl)))
+opens_by d n path p lines None o o' free e f = opens_block d n path p lines o o' e f
 
 -- a place opens one thing, read alike
 pub one_opening : (d : Document) (n : Names) (path : List Container) (p : Place) (lines : List Place) (o o' : Opening)
     → Opens d path p lines o → Opens (with_names d n) path p lines o' → AlikeOpening d.names n o o'
-one_opening d n path p lines o o' e f = opens_from d n path p lines (item_at p.rest) o o' e f
+one_opening d n path p lines o o' e f = opens_by d n path p lines (start_at d.options p) o o' (start_free d.options p) e f
 
 opens_at : (d : Document) (n : Names) (path : List Container) (from : From) (p : Place) (lines : List Place) (o o' : Opening) → HoldsNoIndex from
     → OpensAt d path from p lines o → OpensAt (with_names d n) path from p lines o' → AlikeOpening d.names n o o'

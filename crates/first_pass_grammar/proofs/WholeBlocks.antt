@@ -15,11 +15,10 @@ use Rattle.first_pass_items.specs.OptionWords.{has, tasklists}
 use Rattle.first_pass_tokens.specs.Braces.{no_braces}
 use Rattle.first_pass_tokens.specs.LineTokens.{spot}
 use Rattle.first_pass_grammar.specs.declared.kind.Container.{Container}
-use Rattle.first_pass_grammar.specs.declared.kind.Container.TheVariants.{BlockQuote, ListItem}
 use Rattle.first_pass_grammar.specs.Names.{Names}
-use Rattle.first_pass_grammar.specs.Containers.{Context, context, at_rest, front}
+use Rattle.first_pass_grammar.specs.Containers.{Context, at_rest, front}
 use Rattle.first_pass_grammar.specs.Kinds.{Kind, Blank, IndentedCode, Metadata, HtmlToEnd, HtmlToBlank, ThematicBreak, AtxHeading, FencedCode, LinkDefinitions}
-use Rattle.first_pass_grammar.specs.Kinds.{Paragraph, unindented, is_blank_rest, quote_inside, item_at, ends_tag}
+use Rattle.first_pass_grammar.specs.Kinds.{Paragraph, unindented, is_blank_rest, ends_tag}
 use Rattle.first_pass_grammar.specs.Leaves.{Document, around, heading_text_at, block_with, TextLines}
 use Rattle.first_pass_grammar.specs.CodeBlocks.{fence_judge, metadata_judge, metadata_kind}
 use Rattle.first_pass_grammar.specs.Extents.{in_containers}
@@ -32,8 +31,10 @@ use Rattle.first_pass_grammar.specs.Tables.{filled, Taken, most_filled, IsTable}
 use Rattle.first_pass_grammar.specs.Texts.{IsPlainText, IsText, IsUnderlined, text_children, heading_children, plain_text, underline_first}
 use Rattle.first_pass_grammar.specs.Blocks.{Leaf, BlankLine, Block, opened, Skeleton, Nil, Then, Node}
 use Rattle.first_pass_grammar.specs.Skeleton.{OpensBeyond, OpensRun, From, Line, Blanks, At, May, Anything, ALeafAlone, TextOf, MarkAlone, behind_marker}
-use Rattle.first_pass_grammar.specs.Skeleton.{Opening, OpensLeaf, OpensNode, OpensText, OpensAs, OpensBlockAt, next_is_blank, item_head, task_by, task_behind}
-use Rattle.first_pass_grammar.specs.Skeleton.{behind_task, task_alone, item_opening, tag_behind, behind_tag, quote_opening, OpensQuote, OpensFrom, OpensIf}
+use Rattle.first_pass_grammar.specs.Skeleton.{Opening, OpensLeaf, OpensNode, OpensText, OpensAs, OpensBlockAt, next_is_blank}
+use Rattle.first_pass_grammar.specs.Openers.{task_by, task_behind}
+use Rattle.first_pass_grammar.specs.Skeleton.{task_alone, behind_tag, OpensIf}
+use Rattle.first_pass_grammar.specs.Openers.{tag_behind}
 use Rattle.first_pass_grammar.specs.Skeleton.{OpensAt, Begins, behind_first, IsFirst, IsSequence}
 use Rattle.first_pass_grammar.specs.WholeTables.{Mark, marks, table_marks, AreFull, AreWholeTables}
 use Rattle.first_pass_grammar.proofs.EachToken.{AreEach, heading_each, range_text_each, range_html_each, raw_lines_each, lines_each, children_each}
@@ -42,6 +43,10 @@ use Rattle.first_pass_grammar.proofs.PlacesKept.{IsAt, AreAt, at_unindented, at_
 use Rattle.first_pass_grammar.proofs.LinesLeft.{BeyondAt, run_at, text_left}
 use Rattle.first_pass_grammar.proofs.TableMarks.{ShowsNothing, text_shows, tokens_show, raw_shows, block_shows, table_shows}
 use Rattle.first_pass_items.specs.declared.item.HeadingLevel.{HeadingLevel}
+use Rattle.first_pass_grammar.specs.Openers.{AfterMarker, OnLine, TaskText, LineEnds, TagAlone, Start, after_task, after_quote, start_at}
+use Rattle.first_pass_grammar.specs.Skeleton.{OpensBy, Opens, opening_by, without_indent}
+use Rattle.first_pass_grammar.specs.Blocks.{Head}
+use Rattle.first_pass_grammar.proofs.OpenerFacts.{start_cases}
 
 -- nodes that show nothing
 pub whole_none : (names : Names) (nodes : List (ℕ × Item)) → marks names nodes ≡ [] → AreWholeTables names nodes
@@ -191,10 +196,6 @@ module _ (d : Document) (full : HeadsAreFull d) where
   task_plain line r None = tt
   task_plain line r (Some task) = λ names depth start end. refl
 
-  behind_plain : (marker : Option Item) (p : Place) → ShownBy marker → IsAt d.text p → PlainFrom d.text (behind_task marker p)
-  behind_plain None p h i = (i, tt)
-  behind_plain (Some marker) p h i = (i, h)
-
   marker_plain : (blanks : Option ℕ) → PlainFrom d.text (behind_marker blanks)
   marker_plain None = tt
   marker_plain (Some e) = tt
@@ -206,16 +207,6 @@ module _ (d : Document) (full : HeadsAreFull d) where
   unless_opens : (t : Bool) (o o' : Opening) → WholeOpening d o → WholeOpening d o' → WholeOpening d (if t then o else o')
   unless_opens true o o' h k = h
   unless_opens false o o' h k = k
-
-  item_opens : (path : List Container) (p : Place) (lines : List Place) (byte number columns : ℕ) (task : Option Item × Rest) → ShownBy task.0
-      → IsAt d.text (at_rest p task.1) → AreAt d.text lines → WholeOpening d (item_opening d path p lines (byte, number, columns) task)
-  item_opens path p lines byte number columns (marker, r) plain i h =
-      let blanks : Option ℕ = Some (start_of (length d.text) lines) in
-      unless_opens (is_blank_rest r) _ _
-      (unless_opens (next_is_blank (ListItem columns ∷ path) lines) (OpensNode (item_head p byte number 0) (task_alone marker (at_rest p r) blanks) lines)
-      (OpensNode (item_head p byte number columns) (task_alone marker (at_rest p r) None) lines)
-      (alone_plain marker (at_rest p r) blanks plain i, h) (alone_plain marker (at_rest p r) None plain i, h))
-      (behind_plain marker (at_rest p r) plain i, h)
 
   -- what a block quote opens
   tag_by : (t : Bool) (a b : From × List Place) → PlainFrom d.text a.0 × AreAt d.text a.1 → PlainFrom d.text b.0 × AreAt d.text b.1
@@ -229,29 +220,58 @@ module _ (d : Document) (full : HeadsAreFull d) where
       tag_by (ends_tag c line.rest) (Line, line ∷ lines) (At (unindented (at_rest line (front c.path line.rest))) ALeafAlone, lines) (tt, h)
       ((at_front d.text c.path line h.0, tt), h.1)
 
-  quote_opens : (c : Context) (p inside : Place) (lines : List Place) (kind : Option BlockQuoteKind) → IsAt d.text inside → AreAt d.text lines
-      → WholeOpening d (quote_opening c p inside lines kind)
-  quote_opens c p inside lines None i h = ((i, tt), h)
-  quote_opens c p inside lines (Some kind) i h = tag_opens (context c.options (BlockQuote (Some kind) ∷ c.path)) lines h
+  -- after the marker of a container stands nothing that a table shows
+  abbrev AfterPlain : AfterMarker → Type 0
+  AfterPlain OnLine = Unit {0}
+  AfterPlain (TaskText marker) = ShownBy (Some marker)
+  AfterPlain (LineEnds marker) = ShownBy marker
+  AfterPlain TagAlone = Unit {0}
 
-  opens_quote : (path : List Container) (p : Place) (lines : List Place) (q : Option Place) (o : Opening) → quote_inside p ≡ q → IsAt d.text p
-      → AreAt d.text lines → OpensQuote d path p lines q o → WholeOpening d o
-  opens_quote path p lines (Some inside) o is i h e =
-      subst (WholeOpening d) (sym e) (quote_opens (around d path) p inside lines (tag_behind d.options inside.rest) (at_quote d.text p inside is i) h)
-  opens_quote path p lines None o is i h e = opens_block path p lines o i h e
+  task_after_plain : (t : Bool) (marker : Option Item) → ShownBy marker → AfterPlain (if t then LineEnds marker else after_task marker)
+  task_after_plain true marker h = h
+  task_after_plain false None h = tt
+  task_after_plain false (Some marker) h = h
 
-  opens_from : (path : List Container) (p : Place) (lines : List Place) (item : Option ((ℕ × ℕ × ℕ) × Rest)) (o : Opening) → item_at p.rest ≡ item
-      → IsAt d.text p → AreAt d.text lines → OpensFrom d path p lines item o → WholeOpening d o
-  unfolding OpensFrom
-  opens_from path p lines (Some item) o is i h e =
-      subst (WholeOpening d) (sym e)
-      (item_opens path p lines item.0.0 item.0.1 item.0.2 (task_behind d.options p.line item.1)
-      (task_plain p.line item.1 (if has d.options tasklists then task_of item.1 else None)) (at_item d.text d.options p item is i) h)
-  opens_from path p lines None o is i h e = opens_quote path p lines (quote_inside p) o refl i h e
+  quote_after_plain : (kind : Option BlockQuoteKind) → AfterPlain (after_quote kind)
+  quote_after_plain None = tt
+  quote_after_plain (Some kind) = tt
+
+  abbrev IsPlainStart : Place → Start → Type 0
+  IsPlainStart p s = AfterPlain s.after × IsAt d.text (at_rest p s.rest)
+
+  start_plain : (p : Place) → IsAt d.text p → (s : Start) → start_at d.options p ≡ Some s → IsPlainStart p s
+  start_plain p i =
+      start_cases d.options p (IsPlainStart p)
+      (λ item is. (
+        task_after_plain (is_blank_rest (task_behind d.options p.line item.1).1) (task_behind d.options p.line item.1).0
+            (task_plain p.line item.1 (if has d.options tasklists then task_of item.1 else None)),
+        at_item d.text d.options p item is i,
+      ))
+      (λ r none is. (quote_after_plain (tag_behind d.options r), at_quote d.text p r is i))
+
+  opening_whole : (path : List Container) (head : Head) (inside : Place) (lines : List Place) (after : AfterMarker) → AfterPlain after
+      → IsAt d.text inside → AreAt d.text lines → WholeOpening d (opening_by d path head inside lines after)
+  opening_whole path head inside lines OnLine plain i h = ((i, tt), h)
+  opening_whole path head inside lines (TaskText marker) plain i h = ((i, plain), h)
+  opening_whole path head inside lines (LineEnds marker) plain i h =
+      let blanks : Option ℕ = Some (start_of (length d.text) lines) in
+      unless_opens (next_is_blank (opened head.opener ∷ path) lines)
+      (OpensNode (record head { opener = without_indent head.opener }) (task_alone marker inside blanks) lines)
+      (OpensNode head (task_alone marker inside None) lines)
+      (alone_plain marker inside blanks plain i, h) (alone_plain marker inside None plain i, h)
+  opening_whole path head inside lines TagAlone plain i h = tag_opens (around d (opened head.opener ∷ path)) lines h
+
+  opens_by : (path : List Container) (p : Place) (lines : List Place) (q : Option Start) (o : Opening) → ((s : Start) → q ≡ Some s → IsPlainStart p s)
+      → IsAt d.text p → AreAt d.text lines → OpensBy d path p lines q o → WholeOpening d o
+  unfolding OpensBy
+  opens_by path p lines (Some s) o plain i h e =
+      let now = plain s refl in
+      subst (WholeOpening d) (sym e) (opening_whole path s.head (at_rest p s.rest) lines s.after now.0 now.1 h)
+  opens_by path p lines None o plain i h e = opens_block path p lines o i h e
 
   opens_any : (path : List Container) (p : Place) (lines : List Place) (o : Opening) → IsAt d.text p → AreAt d.text lines
-      → OpensFrom d path p lines (item_at p.rest) o → WholeOpening d o
-  opens_any path p lines o i h e = opens_from path p lines (item_at p.rest) o refl i h e
+      → Opens d path p lines o → WholeOpening d o
+  opens_any path p lines o i h e = opens_by path p lines (start_at d.options p) o (start_plain p i) i h e
 
   opens_if : (path : List Container) (may : May) (p : Place) (lines : List Place) (o : Opening) → PlainMay may → IsAt d.text p → AreAt d.text lines
       → OpensIf d path may p lines o → WholeOpening d o

@@ -5,15 +5,13 @@ use Rattle.first_pass_items.specs.declared.option_set.Options.{Options}
 use Rattle.first_pass_items.specs.OptionWords.{has, yaml_style_metadata_blocks, pluses_delimited_metadata_blocks}
 use Rattle.first_pass_html.specs.Starts.{html_end, begins_block_tag}
 use Rattle.first_pass_html.specs.Tags.{BeginsTagLine}
-use Rattle.std.specs.Option.{option_map}
 use Rattle.first_pass_items.specs.Bytes.{less_than, greater_than}
 use Rattle.first_pass_lines.specs.Lines.{at_line_end, begins, blank_len, atx_level}
 use Rattle.first_pass_scan.specs.LeafLines.{hrule_len, code_fence, metadata_byte, setext_underline}
 use Rattle.first_pass_lines.specs.Rest.{Rest, indent, after_columns}
 use Rattle.first_pass_lines.specs.Places.{Place, offset, moved_columns}
 use Rattle.first_pass_scan.specs.Markers.{is_bullet, listitem, item_of}
-use Rattle.first_pass_grammar.specs.declared.kind.Container.TheVariants.{BlockQuote}
-use Rattle.first_pass_grammar.specs.Containers.{Context, at_rest, prefix, after, front}
+use Rattle.first_pass_grammar.specs.Containers.{Context, at_rest, after, front}
 use Rattle.first_pass_grammar.specs.TableHeads.{table_interrupts}
 use Rattle.first_pass_grammar.specs.declared.kind.Container.{Container}
 
@@ -106,10 +104,6 @@ IsKindBy r None kind =
 -- the kind of the block that begins where this is left of a line, and no container begins
 abbrev pub IsKind : Options → Rest → Kind → Type 0
 IsKind options r kind = IsKindBy r (first_kind options r) kind
-
--- the place inside a block quote that begins here, where one does: what begins it is what continues it (CommonMark 5.1)
-abbrev pub quote_inside : Place → Option Place
-quote_inside p = option_map (at_rest p) (prefix (BlockQuote None) p.rest)
 
 -- where a block quote begins: at its `>`, after at most three columns (CommonMark 5.1)
 abbrev pub quote_start : Place → ℕ

@@ -16,6 +16,7 @@ pub mod LinkRuns
 pub mod LinkTables
 pub mod Names
 pub mod OpenOrder
+pub mod Openers
 pub mod Order
 pub mod RawLines
 pub mod Rows

@@ -1,23 +1,17 @@
 -- Sequences of blocks, and the blocks in them (CommonMark 3.1).
 use Rattle.std.specs.Prelude.{◌≡◌, ℕ, Bool, true, false, Option, Some, None, List, [], ◌∷◌, length, drop, if◌then◌else◌}
 use Rattle.first_pass_items.specs.declared.item.Item.{Item}
-use Rattle.first_pass_items.specs.declared.item.BlockQuoteKind.{BlockQuoteKind}
 use Rattle.first_pass_items.specs.declared.item.HeadingIndex.{HeadingIndex}
-use Rattle.first_pass_items.specs.declared.item.ItemBody.TheVariants.{TaskListMarker}
-use Rattle.first_pass_items.specs.declared.option_set.Options.{Options}
-use Rattle.first_pass_items.specs.OptionWords.{has, tasklists, gfm}
 use Rattle.first_pass_lines.specs.Lines.{level_number}
-use Rattle.first_pass_scan.specs.Markers.{task_of, past_tag}
 use Rattle.first_pass_lines.specs.Rest.{Rest, indent}
-use Rattle.first_pass_lines.specs.Places.{Place, place_at, offset, start_of, moved_columns}
+use Rattle.first_pass_lines.specs.Places.{Place, offset, start_of, moved_columns}
 use Rattle.first_pass_grammar.specs.declared.kind.Container.{Container}
-use Rattle.first_pass_grammar.specs.declared.kind.Container.TheVariants.{BlockQuote, ListItem}
-use Rattle.first_pass_grammar.specs.Blocks.{Leaf, BlankLine, Block, leaf_block, QuoteMarker, ItemMarker, Head, opened, run_block, flowing_block, Skeleton, Nil}
-use Rattle.first_pass_grammar.specs.Blocks.{Then, Node}
-use Rattle.first_pass_grammar.specs.Containers.{Context, context, at_rest, after, front, taken, next_goes_on}
+use Rattle.first_pass_grammar.specs.Blocks.{Leaf, BlankLine, Block, leaf_block, Opener, QuoteMarker, ItemMarker, Head, opened, run_block, flowing_block}
+use Rattle.first_pass_grammar.specs.Blocks.{Skeleton, Nil, Then, Node}
+use Rattle.first_pass_grammar.specs.Openers.{AfterMarker, OnLine, TaskText, LineEnds, TagAlone, Start, start_at}
+use Rattle.first_pass_grammar.specs.Containers.{Context, at_rest, after, front, taken, next_goes_on}
 use Rattle.first_pass_grammar.specs.Kinds.{Kind, Blank, IndentedCode, Metadata, HtmlToEnd, HtmlToBlank, ThematicBreak, AtxHeading, FencedCode, LinkDefinitions}
-use Rattle.first_pass_grammar.specs.Kinds.{Paragraph, all_taken, unindented, is_blank_rest, quote_inside, quote_start, item_at, IsKind, ends_tag}
-use Rattle.std.specs.Option.{option_map}
+use Rattle.first_pass_grammar.specs.Kinds.{Paragraph, all_taken, unindented, is_blank_rest, IsKind, ends_tag}
 use Rattle.first_pass_html.specs.Starts.{html_end}
 use Rattle.first_pass_grammar.specs.CodeBlocks.{code_lines, last_is_blank, IsIndentedCode, metadata_lines, IsMetadata, fenced_lines, IsFencedCode}
 use Rattle.first_pass_grammar.specs.Extents.{Extent}
@@ -121,46 +115,23 @@ abbrev pub next_is_blank : List Container → List Place → Bool
 next_is_blank path [] = false
 next_is_blank path (line ∷ lines) = is_blank_behind (after path line.rest)
 
--- a list item starts where the reading of its line had come before its indentation (this project)
-abbrev pub item_head : Place → ℕ → ℕ → ℕ → Head
-item_head p byte number columns = record { opener = ItemMarker byte number columns; line = p.line; start = offset p }
-
-abbrev pub task_by : ℕ → Rest → Option (Bool × Rest) → Option Item × Rest
-task_by line r None = (None, r)
-task_by line r (Some task) = (Some (record { start = offset (place_at line r); «end» = offset (place_at line task.1); body = TaskListMarker task.0 }), task.1)
-
--- the task list item marker that stands here after an item's own, in the line that begins at an offset, where one does and the option is on; and
--- what is left of the line (GFM 5.3)
-abbrev pub task_behind : Options → ℕ → Rest → Option Item × Rest
-task_behind options line r = task_by line r (if has options tasklists then task_of r else None)
-
--- where blocks continue after the markers of an item
-abbrev pub behind_task : Option Item → Place → From
-behind_task None p = Inside p
-behind_task (Some marker) p = At p (TextOf marker)
-
--- the same where nothing is after them on their line
+-- where blocks continue where nothing is left of a container's line after its marker, but perhaps that of a task: at the next line, or, with an offset, in an
+-- item that takes blank lines alone
 abbrev pub task_alone : Option Item → Place → Option ℕ → From
 task_alone None p blanks = behind_marker blanks
 task_alone (Some marker) p blanks = At p (MarkAlone marker blanks)
 
--- The item whose marker has this byte, number and indent. An item may begin with one blank line, that of its marker; where the next is blank too, the item
--- takes blank lines alone, and its indent is 0 (CommonMark 5.2).
-abbrev pub item_opening : Document → List Container → Place → List Place → ℕ × ℕ × ℕ → Option Item × Rest → Opening
-item_opening d path p lines (byte, number, columns) (marker, r) =
-    if is_blank_rest r
-    then (if next_is_blank (ListItem columns ∷ path) lines
-    then OpensNode (item_head p byte number 0) (task_alone marker (at_rest p r) (Some (start_of (length d.text) lines))) lines
-    else OpensNode (item_head p byte number columns) (task_alone marker (at_rest p r) None) lines)
-    else OpensNode (item_head p byte number columns) (behind_task marker (at_rest p r)) lines
+-- what opens a container that takes blank lines alone: an item's indent is 0
+abbrev pub without_indent : Opener → Opener
+without_indent (QuoteMarker kind) = QuoteMarker kind
+without_indent (ItemMarker byte number columns) = ItemMarker byte number 0
 
--- a block quote starts at its `>` (this project)
-abbrev pub quote_head : Place → Option BlockQuoteKind → Head
-quote_head p kind = record { opener = QuoteMarker kind; line = p.line; start = quote_start p }
-
--- the kind that a tag which stands here gives a block quote, where one does and the option is on (GitHub's alerts)
-abbrev pub tag_behind : Options → Rest → Option BlockQuoteKind
-tag_behind options r = option_map (λ tag. tag.0) (if has options gfm then past_tag r else None)
+-- An item may begin with one blank line, that of its marker; where the next is blank too, it takes blank lines alone (CommonMark 5.2).
+abbrev pub empty_opening : Document → List Container → Head → Place → List Place → Option Item → Opening
+empty_opening d path head inside lines marker =
+    if next_is_blank (opened head.opener ∷ path) lines
+    then OpensNode (record head { opener = without_indent head.opener }) (task_alone marker inside (Some (start_of (length d.text) lines))) lines
+    else OpensNode head (task_alone marker inside None) lines
 
 -- Where blocks continue after the line of a block quote's tag, of which this is the path, and the lines then: the next line is read as any other, or
 -- belongs to the quote, and a leaf begins after its columns (this project).
@@ -168,23 +139,25 @@ abbrev pub behind_tag : Context → List Place → From × List Place
 behind_tag c [] = (Line, [])
 behind_tag c (line ∷ lines) = if ends_tag c line.rest then (Line, line ∷ lines) else (At (unindented (at_rest line (front c.path line.rest))) ALeafAlone, lines)
 
--- The block quote inside which a place is, after its marker and with a tag there or none.
-abbrev pub quote_opening : Context → Place → Place → List Place → Option BlockQuoteKind → Opening
-quote_opening c p inside lines None = OpensNode (quote_head p None) (Inside inside) lines
-quote_opening c p inside lines (Some kind) =
-    let from : From × List Place = behind_tag (context c.options (BlockQuote (Some kind) ∷ c.path)) lines in OpensNode (quote_head p (Some kind)) from.0 from.1
+-- what a container opens inside which a place is, by what stands after its marker
+abbrev pub opening_by : Document → List Container → Head → Place → List Place → AfterMarker → Opening
+opening_by d path head inside lines OnLine = OpensNode head (Inside inside) lines
+opening_by d path head inside lines (TaskText marker) = OpensNode head (At inside (TextOf marker)) lines
+opening_by d path head inside lines (LineEnds marker) = empty_opening d path head inside lines marker
+opening_by d path head inside lines TagAlone =
+    let from : From × List Place = behind_tag (around d (opened head.opener ∷ path)) lines in OpensNode head from.0 from.1
 
--- What begins at a place: a list item where one does, else a block quote where one does, else what the kind of the place says.
-abbrev pub OpensQuote : Document → List Container → Place → List Place → Option Place → Opening → Type 0
-OpensQuote d path p lines (Some inside) opening = opening ≡ quote_opening (around d path) p inside lines (tag_behind d.options inside.rest)
-OpensQuote d path p lines None opening = OpensBlockAt d path p lines opening
+-- what the container opens that begins at a place
+abbrev pub opening_of : Document → List Container → Place → List Place → Start → Opening
+opening_of d path p lines s = opening_by d path s.head (at_rest p s.rest) lines s.after
 
-unfoldable pub OpensFrom : Document → List Container → Place → List Place → Option ((ℕ × ℕ × ℕ) × Rest) → Opening → Type 0
-OpensFrom d path p lines (Some item) opening = opening ≡ item_opening d path p lines item.0 (task_behind d.options p.line item.1)
-OpensFrom d path p lines None opening = OpensQuote d path p lines (quote_inside p) opening
+-- What begins at a place: a container where one does, else what the kind of the place says.
+unfoldable pub OpensBy : Document → List Container → Place → List Place → Option Start → Opening → Type 0
+OpensBy d path p lines (Some s) opening = opening ≡ opening_of d path p lines s
+OpensBy d path p lines None opening = OpensBlockAt d path p lines opening
 
 abbrev pub Opens : Document → List Container → Place → List Place → Opening → Type 0
-Opens d path p lines opening = OpensFrom d path p lines (item_at p.rest) opening
+Opens d path p lines opening = OpensBy d path p lines (start_at d.options p) opening
 
 -- What begins where blocks continue: where no container may, what the kind of the place says; after a task list item marker a text; or the marker
 -- alone, in the place of a text.

@@ -24,7 +24,7 @@ use Rattle.first_pass_grammar.specs.declared.kind.Container.{Container}
 use Rattle.first_pass_grammar.specs.declared.kind.Container.TheVariants.{BlockQuote, ListItem, FootnoteDefinition}
 use Rattle.first_pass_grammar.specs.Containers.{has_columns, prefix, after, or_shorter, front}
 use Rattle.first_pass_grammar.specs.Kinds.{all_taken, unindented, item_at}
-use Rattle.first_pass_grammar.specs.Skeleton.{task_by, task_behind}
+use Rattle.first_pass_grammar.specs.Openers.{task_by, task_behind}
 
 all_by : (k : ℕ) (r : Rest) (o : Option Rest)
     → next_column r ≡ o → ((s : Rest) → after_columns (indent (after_columns k s)) (after_columns k s) ≡ after_columns (indent s) s)

@@ -11,7 +11,8 @@ use Rattle.first_pass_grammar.specs.declared.kind.Container.TheVariants.{BlockQu
 use Rattle.first_pass_grammar.specs.Containers.{prefix}
 use Rattle.first_pass_grammar.specs.Kinds.{item_at, is_blank_rest, quote_start}
 use Rattle.first_pass_grammar.specs.Leaves.{document}
-use Rattle.first_pass_grammar.specs.Skeleton.{Inside, task_behind}
+use Rattle.first_pass_grammar.specs.Skeleton.{Inside}
+use Rattle.first_pass_grammar.specs.Openers.{task_behind}
 use Rattle.first_pass_grammar.specs.Completion.{lines_from}
 use Rattle.first_pass_text.specs.Appends.{line_end_at}
 use Rattle.first_pass_lists.specs.Closing.{remembered, is_list, begun, list_finished, list_continued}

@@ -1,0 +1,77 @@
+-- Which container begins at a place, and what stands after its marker (CommonMark 5.1, 5.2).
+use Rattle.std.specs.Prelude.{ℕ, Bool, Option, Some, None, if◌then◌else◌}
+use Rattle.std.specs.Option.{option_map, option_or}
+use Rattle.first_pass_items.specs.declared.item.Item.{Item}
+use Rattle.first_pass_items.specs.declared.item.BlockQuoteKind.{BlockQuoteKind}
+use Rattle.first_pass_items.specs.declared.item.ItemBody.TheVariants.{TaskListMarker}
+use Rattle.first_pass_items.specs.declared.option_set.Options.{Options}
+use Rattle.first_pass_items.specs.OptionWords.{has, tasklists, gfm}
+use Rattle.first_pass_lines.specs.Rest.{Rest}
+use Rattle.first_pass_lines.specs.Places.{Place, place_at, offset}
+use Rattle.first_pass_scan.specs.Markers.{task_of, past_tag}
+use Rattle.first_pass_grammar.specs.declared.kind.Container.TheVariants.{BlockQuote}
+use Rattle.first_pass_grammar.specs.Blocks.{QuoteMarker, ItemMarker, Head}
+use Rattle.first_pass_grammar.specs.Containers.{prefix}
+use Rattle.first_pass_grammar.specs.Kinds.{is_blank_rest, quote_start, item_at}
+
+-- What stands after a container's marker on its line: blocks; the text of a task, after the task's marker; nothing, or such a marker alone; or the tag of a
+-- block quote (CommonMark 5.2, GFM 5.3, GitHub's alerts).
+pub data AfterMarker : Type 0 where
+  OnLine : AfterMarker
+  TaskText : Item → AfterMarker
+  LineEnds : Option Item → AfterMarker
+  TagAlone : AfterMarker
+
+-- a container that begins at a place: how it begins, what stands after its marker, and what is left of the line there
+pub record Start : Type 0 where
+  pub head : Head
+  pub after : AfterMarker
+  pub rest : Rest
+
+-- a list item starts where the reading of its line had come before its indentation (this project)
+abbrev pub item_head : Place → ℕ → ℕ → ℕ → Head
+item_head p byte number columns = record { opener = ItemMarker byte number columns; line = p.line; start = offset p }
+
+abbrev pub task_by : ℕ → Rest → Option (Bool × Rest) → Option Item × Rest
+task_by line r None = (None, r)
+task_by line r (Some task) = (Some (record { start = offset (place_at line r); «end» = offset (place_at line task.1); body = TaskListMarker task.0 }), task.1)
+
+-- the task list item marker that stands here after an item's own, in the line that begins at an offset, where one does and the option is on; and
+-- what is left of the line (GFM 5.3)
+abbrev pub task_behind : Options → ℕ → Rest → Option Item × Rest
+task_behind options line r = task_by line r (if has options tasklists then task_of r else None)
+
+-- what stands after an item's marker, with the marker of a task or without one
+abbrev pub after_task : Option Item → AfterMarker
+after_task None = OnLine
+after_task (Some marker) = TaskText marker
+
+abbrev pub after_item : Option Item → Rest → AfterMarker
+after_item marker r = if is_blank_rest r then LineEnds marker else after_task marker
+
+-- the list item whose marker has this byte, number and indent
+abbrev pub item_start : Place → ℕ × ℕ × ℕ → Option Item × Rest → Start
+item_start p (byte, number, columns) (marker, r) = record { head = item_head p byte number columns; after = after_item marker r; rest = r }
+
+-- a block quote starts at its `>` (this project)
+abbrev pub quote_head : Place → Option BlockQuoteKind → Head
+quote_head p kind = record { opener = QuoteMarker kind; line = p.line; start = quote_start p }
+
+-- the kind that a tag which stands here gives a block quote, where one does and the option is on (GitHub's alerts)
+abbrev pub tag_behind : Options → Rest → Option BlockQuoteKind
+tag_behind options r = option_map (λ tag. tag.0) (if has options gfm then past_tag r else None)
+
+-- what stands after a block quote's marker, with a tag there or none
+abbrev pub after_quote : Option BlockQuoteKind → AfterMarker
+after_quote None = OnLine
+after_quote (Some kind) = TagAlone
+
+-- the block quote, with a tag there or none
+abbrev pub quote_begun : Place → Option BlockQuoteKind → Rest → Start
+quote_begun p kind r = record { head = quote_head p kind; after = after_quote kind; rest = r }
+
+-- the container that begins at a place: a list item where one does, else a block quote where one does (CommonMark 5.1, 5.2)
+unfoldable pub start_at : Options → Place → Option Start
+start_at options p =
+    option_or (option_map (λ item. item_start p item.0 (task_behind options p.line item.1)) (item_at p.rest))
+    (option_map (λ r. quote_begun p (tag_behind options r) r) (prefix (BlockQuote None) p.rest))
