@@ -22,6 +22,7 @@ pub mod RowsOrdered
 pub mod ReadyWhole
 pub mod RuleLemmas
 pub mod RunLemmas
+pub mod StartLemmas
 pub mod StateLemmas
 pub mod TagLemmas
 pub mod TextLemmas

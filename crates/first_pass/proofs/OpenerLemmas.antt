@@ -36,7 +36,7 @@ use Rattle.first_pass_lists.specs.Closing.{list_kept, begun, list_continued, emp
 use Rattle.first_pass_lists.specs.declared.list.ListMarker.{ListMarker}
 use Rattle.first_pass_lists.specs.declared.reading.Reading.{Reading}
 use Rattle.first_pass_open.specs.Path.{container_of, with_container, path_in, path_of}
-use Rattle.first_pass.specs.Opening.{marker_of, task_text, IsOpenedAt, ReadyIn, ReadyTagged}
+use Rattle.first_pass.specs.Opening.{task_text, IsOpenedAt, ReadyIn, ReadyTagged}
 use Rattle.first_pass.specs.State.{frame_of, AreOpen, ReadyAt, ReadyBeforeLine, ReadyInItem, ReadyEmpty, Ready}
 use Rattle.first_pass_open.proofs.PathLemmas.{get_front}
 use Rattle.first_pass.proofs.EnterLemmas.{path_below}
@@ -48,6 +48,7 @@ use Rattle.first_pass_items.specs.declared.option_set.Options.{Options}
 use Rattle.first_pass_grammar.specs.Skeleton.{OpensBy, opening_of, At, TextOf}
 use Rattle.first_pass_grammar.specs.Openers.{item_start, quote_begun}
 use Rattle.first_pass_grammar.proofs.OpenerFacts.{start_item, start_quote}
+use Rattle.first_pass.specs.Starts.{marker_of}
 
 or_false : (a : Bool) → (a || false) ≡ a
 or_false true = refl

@@ -5,5 +5,6 @@ pub mod Opening
 pub mod Ordered
 pub mod Progress
 pub mod Runs
+pub mod Starts
 pub mod State
 pub mod Views

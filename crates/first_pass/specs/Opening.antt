@@ -18,11 +18,16 @@ use Rattle.first_pass_grammar.specs.Completion.{lines_from, IsPlain}
 use Rattle.first_pass.specs.declared.containers.Behind.{Behind}
 use Rattle.first_pass.specs.declared.containers.Behind.TheVariants.{Leaf as BehindLeaf, TaskText, NextLine, Tag}
 use Rattle.first_pass_lists.specs.Closing.{top_body, is_list}
-use Rattle.first_pass_lists.specs.declared.list.ListMarker.{ListMarker}
 use Rattle.first_pass_lists.specs.declared.reading.Reading.{Reading}
 use Rattle.first_pass_open.specs.Path.{context_of}
 use Rattle.first_pass_items.specs.declared.item.BlockQuoteKind.{BlockQuoteKind}
 use Rattle.first_pass_items.specs.declared.item.ItemBody.TheVariants.{BlockQuote as BlockQuoteBody}
+use Rattle.std.specs.Prelude.{IsCharBoundary}
+use Rattle.first_pass_lines.specs.Places.{offset, line_end, IsPlaceOf}
+use Rattle.first_pass_grammar.specs.Names.{Names, AreNamed}
+use Rattle.first_pass_grammar.specs.WholeTables.{HasWholeTables}
+use Rattle.first_pass_grammar.specs.Leaves.{document}
+use Rattle.first_pass_open.specs.declared.source.Source.{Source}
 use Rattle.first_pass.specs.State.{Ready, ReadyAt}
 
 -- a task list item marker is remembered, with its paragraph at a place in the line, in what is no list
@@ -58,10 +63,6 @@ IsBehind BehindLeaf q r e = (item_at r ≡ None) × (prefix (BlockQuote None) r 
 IsBehind (TaskText marker) q r e = (is_task_marker marker.body ≡ true) × (q.empty_item ≡ None) × (is_in_item q.tree ≡ true)
 IsBehind (NextLine next) q r e = next ≡ e
 IsBehind (Tag next) q r e = (next ≡ e) × (q.empty_item ≡ None)
-
--- the marker of a list item, of which these are the byte, the number and the indent
-abbrev pub marker_of : ℕ × ℕ × ℕ → ListMarker
-marker_of m = record { byte = m.0; number = m.1; indent = m.2 }
 
 -- the text of a task, where an item is one
 abbrev pub task_text : Option Item → Option Behind
@@ -126,3 +127,18 @@ GrowsBehind text line old new at (Tag next) = GrowsBy line next old new
 abbrev pub GrowsIn : List ℕ → ℕ → List (ℕ × Item) → List (ℕ × Item) → ℕ → Option Behind → Type 0
 GrowsIn text line old new at None = GrowsBy line at old new
 GrowsIn text line old new at (Some behind) = GrowsBehind text line old new at behind
+
+-- Containers were opened from a place in a line on, and the rest of the line is read from another: what the pass remembers begins a derivation there if it did
+-- before, is in order if it was, and grew by at most four nodes for each byte; each index that names an entry still does, and whole tables stay whole.
+pub record OpensOn (source : Source) (old new : Reading) (p q : Place) (answer : Option Behind) : Type 0 where
+  pub place : IsPlaceOf source.text.now q
+  pub same_line : q.line ≡ p.line
+  pub same_end : line_end q ≡ line_end p
+  pub ready : (names : Names) (defined : Tables)
+      → ReadyAt (document source.text.now source.options names) defined old.tree old.blank (Inside p) (lines_from source.text.now (line_end p))
+      → ReadyIn (document source.text.now source.options names) defined new q (line_end p) answer
+  pub order : IsCharBoundary source.text.now p.line → IsOrderedTo source.text.now old.tree (line_or old.tree p.line (offset p))
+      → OrderedIn source.text.now new q.line (offset q) answer
+  pub few : (first : List (ℕ × Item)) → GrowsBy p.line (offset p) first old.tree.nodes → GrowsIn source.text.now p.line first new.tree.nodes (offset q) answer
+  pub named : (names : Names) → AreNamed names old.tree.nodes → AreNamed names new.tree.nodes
+  pub whole : (names : Names) → HasWholeTables names old.tree → HasWholeTables names new.tree

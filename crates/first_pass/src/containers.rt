@@ -1,43 +1,34 @@
 //! The open containers, and how far a line continues them (CommonMark 5).
 
-ghost use Rattle.std.specs.Prelude.{◌≡◌, ℕ, ◌+◌, ◌<◌, ◌≤◌, List, length, drop, Some, None, true, false, MatchOption, IfOk, IfSome, OnOk, IsUtf8, IsCharBoundary};
-ghost use Rattle.first_pass_lines.specs.Rest.{after_columns};
+ghost use Rattle.std.specs.Prelude.{◌≡◌, ℕ, ◌+◌, ◌<◌, ◌≤◌, List, length, drop, Some, None, false, MatchOption, IfOk, IfSome, OnOk, IsUtf8, IsCharBoundary};
 ghost use Rattle.first_pass_lines.specs.Places.{Place, offset, line_end, start_of, IsPlaceOf};
+ghost use Rattle.first_pass_items.specs.declared.option_set.Options.{Options};
 ghost use Rattle.first_pass_grammar.specs.Derivation.{Tables};
 ghost use Rattle.first_pass_grammar.specs.Names.{Names, AreNamed};
 ghost use Rattle.first_pass_grammar.specs.WholeTables.{HasWholeTables};
 ghost use Rattle.first_pass_grammar.specs.Leaves.{Document, document};
-ghost use Rattle.first_pass_grammar.specs.declared.kind.Container.TheVariants.{BlockQuote, ListItem};
-ghost use Rattle.first_pass_grammar.specs.Containers.{prefix, after, at_rest, front};
-ghost use Rattle.first_pass_grammar.specs.Kinds.{item_at};
 ghost use Rattle.first_pass_tree.specs.declared.tree_index.TreeIndex.{TreeIndex};
-ghost use Rattle.first_pass_open.specs.Path.{container_of, prefix_of, path_in, path_of, outer};
+ghost use Rattle.first_pass_open.specs.Path.{path_in, outer};
 ghost use Rattle.first_pass_lines.specs.Lines.{line_len};
 ghost use Rattle.first_pass_grammar.specs.Skeleton.{Inside};
-ghost use Rattle.first_pass_grammar.specs.Openers.{task_behind, tag_behind};
 ghost use Rattle.first_pass_grammar.specs.Completion.{lines_from};
 ghost use Rattle.first_pass.specs.State.{NoMore, Ready, ReadyAt};
-ghost use Rattle.first_pass.specs.Opening.{IsOpenedAt, ReadyIn, IsBehind, marker_of, task_text, ReadyBehind, line_or, OrderedIn, OrderedBehind, GrowsIn, GrowsBehind};
+ghost use Rattle.first_pass.specs.Opening.{IsOpenedAt, IsBehind, OpensOn};
+ghost use Rattle.first_pass.specs.Starts.{start_opened, behind_marker};
 ghost use Rattle.first_pass_grammar.specs.Counting.{own_nodes};
-ghost use Rattle.first_pass_grammar.specs.Order.{GrowsBy};
 ghost use Rattle.first_pass.specs.Ordered.{IsOrderedAt, IsOrderedFrom};
 ghost use Rattle.first_pass_grammar.specs.OpenOrder.{IsOrderedTo};
 
-use bitflags::Flags;
-use first_pass_items::item::{BlockQuoteKind, Item, ItemBody};
-use first_pass_items::option_set::Options;
+use crate::openers::{AfterMarker, Opener, Start, start_at};
+use first_pass_items::item::Item;
 use first_pass_lines::lines::scan_blank_line;
 use first_pass_lines::places::{next_line, rest_of};
-use first_pass_lists::list::ListMarker;
 use first_pass_lists::reading::Reading;
 pub use first_pass_open::containers::scan_containers;
-use first_pass_open::containers::scan_quote;
-use first_pass_open::indentation::scan_indentation;
 use first_pass_open::place::Place;
 use first_pass_open::source::Source;
 use first_pass_scan::line_start::LineStart;
 use first_pass_text::paragraph::append_item;
-use first_pass_tree::forest::Tree;
 use std::alloc::AllocError;
 
 // What is after the containers that begin in a line.
@@ -131,26 +122,10 @@ pub(crate) fn open_containers<'a>(
     requires utf8 { IsUtf8 source.text.now }
     requires place { IsPlaceOf source.text.now place.old }
     requires no_empty { reading.old.empty_item ≡ None }
-    ensures place { OnOk result (IsPlaceOf source.entry.text.now place.new) }
-    ensures same_line { OnOk result (place.new.line ≡ place.old.line) }
-    ensures same_end { OnOk result (line_end place.new ≡ line_end place.old) }
     ensures behind { IfOk result (λ answer. IsBehind answer reading.new place.new.rest
         (line_end place.old)) }
-    ensures ready { IfOk result (λ answer. (names : Names) (defined : Tables) →
-        ReadyAt (document source.entry.text.now source.entry.options names) defined reading.old.tree reading.old.blank
-        (Inside place.old) (lines_from source.entry.text.now (line_end place.old))
-        → ReadyBehind (document source.entry.text.now source.entry.options names) defined reading.new place.new
-        (line_end place.old) answer) }
-    ensures order { IfOk result (λ answer. IsCharBoundary source.entry.text.now place.old.line
-        → IsOrderedTo source.entry.text.now reading.old.tree
-        (line_or reading.old.tree place.old.line (offset place.old))
-        → OrderedBehind source.entry.text.now reading.new place.new.line (offset place.new) answer) }
-    ensures few { IfOk result (λ answer. GrowsBehind source.entry.text.now place.old.line reading.old.tree.nodes
-        reading.new.tree.nodes (offset place.new) answer) }
-    ensures named { OnOk result ((names : Names) → AreNamed names reading.old.tree.nodes
-        → AreNamed names reading.new.tree.nodes) }
-    ensures whole { OnOk result ((names : Names) → HasWholeTables names reading.old.tree
-        → HasWholeTables names reading.new.tree) }
+    ensures kept { IfOk result (λ answer.
+        OpensOn source.entry reading.old reading.new place.old place.new (Some answer)) }
 {
     loop {
         if let Some(behind) = open_container(reading, source, place)? {
@@ -169,116 +144,61 @@ fn open_container<'a>(
     requires utf8 { IsUtf8 source.text.now }
     requires place { IsPlaceOf source.text.now place.old }
     requires no_empty { reading.old.empty_item ≡ None }
-    ensures place { OnOk result (IsPlaceOf source.entry.text.now place.new) }
-    ensures same_line { OnOk result (place.new.line ≡ place.old.line) }
-    ensures same_end { OnOk result (line_end place.new ≡ line_end place.old) }
     ensures opened { IfOk result (λ answer. IsOpenedAt answer reading.new place.old.rest place.new.rest
         (line_end place.old)) }
-    ensures ready { IfOk result (λ answer. (names : Names) (defined : Tables) →
-        ReadyAt (document source.entry.text.now source.entry.options names) defined reading.old.tree reading.old.blank
-        (Inside place.old) (lines_from source.entry.text.now (line_end place.old))
-        → ReadyIn (document source.entry.text.now source.entry.options names) defined reading.new place.new
-        (line_end place.old) answer) }
-    ensures order { IfOk result (λ answer. IsCharBoundary source.entry.text.now place.old.line
-        → IsOrderedTo source.entry.text.now reading.old.tree
-        (line_or reading.old.tree place.old.line (offset place.old))
-        → OrderedIn source.entry.text.now reading.new place.new.line (offset place.new) answer) }
-    ensures few { IfOk result (λ answer. (first : List (ℕ × Item))
-        → GrowsBy place.old.line (offset place.old) first reading.old.tree.nodes
-        → GrowsIn source.entry.text.now place.old.line first reading.new.tree.nodes (offset place.new) answer) }
-    ensures named { OnOk result ((names : Names) → AreNamed names reading.old.tree.nodes
-        → AreNamed names reading.new.tree.nodes) }
-    ensures whole { OnOk result ((names : Names) → HasWholeTables names reading.old.tree
-        → HasWholeTables names reading.new.tree) }
+    ensures kept { IfOk result (λ answer.
+        OpensOn source.entry reading.old reading.new place.old place.new answer) }
 {
     reading.tree.is_forest();
-    source.is_short();
-    let before = place.offset();
-    if let Some(item) = scan_item(&mut place.rest) {
-        reading.open_item(before, item)?;
-        let marker = scan_task(source, place);
-        if scan_blank_line(place.left()).is_none() {
-            return Ok(behind_marker(marker));
-        }
+    let Some(start) = start_at(source, place) else {
+        return Ok(Some(Behind::Leaf));
+    };
+    open_start(reading, source, place, start)?;
+    Ok(behind_start(source, place, start.after))
+}
+
+// Opens a container that begins in the line of a place, the one after its marker: with the list that it needs, and
+// with the marker of a task that stands alone in it.
+#[inline(always)]
+fn open_start<'a>(
+    reading: &mut Reading,
+    source: Source<'a>,
+    place: &Place<'a>,
+    start: Start,
+) -> Result<(), AllocError>
+    requires { IsPlaceOf source.text.now place.now }
+    ensures { OnOk result (reading.new ≡ start_opened place.now.line start (line_end place.now) reading.old) }
+{
+    match start.opener {
+        Opener::Item(marker) => reading.open_item(start.start, marker)?,
+        Opener::Quote(kind) => reading.open_quote(place.line, start.start, kind)?,
+    }
+    if let AfterMarker::LineEnds(marker) = start.after {
         append_item(&mut reading.tree, marker)?;
-        let next = next_line(source.text.as_bytes(), place.offset());
-        reading.empty_item = Some(next);
-        return Ok(Some(Behind::NextLine(next)));
+        reading.empty_item = Some(line_over(source, place));
     }
-    if let Some(quote) = scan_quote(&mut place.rest) {
-        let tag = scan_tag(source.options, &place.rest);
-        reading.open_quote(place.line, place.line + quote, tag)?;
-        if tag.is_none() {
-            return Ok(None);
-        }
-        let next = next_line(source.text.as_bytes(), place.offset());
-        return Ok(Some(Behind::Tag(next)));
-    }
-    Ok(Some(Behind::Leaf))
+    Ok(())
 }
 
-// The text of a task after an item's marker, where it is a task.
-fn behind_marker(marker: Option<Item>) -> Option<Behind>
-    ensures { result ≡ task_text marker }
+// What is after a container whose marker is taken, at a place.
+#[inline(always)]
+fn behind_start<'a>(source: Source<'a>, place: &Place<'a>, after: AfterMarker) -> Option<Behind>
+    requires { IsPlaceOf source.text.now place.now }
+    ensures { result ≡ behind_marker after (line_end place.now) }
 {
-    match marker {
-        Some(marker) => Some(Behind::TaskText(marker)),
-        None => None,
+    match after {
+        AfterMarker::OnLine => None,
+        AfterMarker::TaskText(marker) => Some(Behind::TaskText(marker)),
+        AfterMarker::LineEnds(_) => Some(Behind::NextLine(line_over(source, place))),
+        AfterMarker::TagAlone => Some(Behind::Tag(line_over(source, place))),
     }
 }
 
-// The kind that a tag here gives a block quote, where one is there and the option is on.
-fn scan_tag<'a>(options: Options, line_start: &LineStart<'a>) -> Option<BlockQuoteKind>
-    ensures { result ≡ tag_behind options line_start.now }
+// Where the line of a place is over: the offset at which the next one begins.
+fn line_over<'a>(source: Source<'a>, place: &Place<'a>) -> usize
+    requires { IsPlaceOf source.text.now place.now }
+    ensures { result ≡ line_end place.now }
 {
-    if !options.contains(Options::ENABLE_GFM) {
-        return None;
-    }
-    line_start.copy().scan_blockquote_tag()
-}
-
-// Takes the task list item marker after an item's own, where one is there and the option is on, and returns it; else
-// takes nothing.
-fn scan_task<'a>(source: Source<'a>, place: &mut Place<'a>) -> Option<Item>
-    requires utf8 { IsUtf8 source.text.now }
-    requires place { IsPlaceOf source.text.now place.old }
-    ensures marker { result ≡ (task_behind source.entry.options place.old.line place.old.rest).0 }
-    ensures place { place.new
-        ≡ at_rest place.old (task_behind source.entry.options place.old.line place.old.rest).1 }
-{
-    if !source.options.contains(Options::ENABLE_TASKLISTS) {
-        return None;
-    }
     source.is_short();
-    let start = place.offset();
-    let checked = place.rest.scan_task_list_marker()?;
-    Some(Item {
-        start,
-        end: place.offset(),
-        body: ItemBody::TaskListMarker(checked),
-    })
-}
-
-// Takes the list item marker here and the columns before it, where an item begins at under four columns, and
-// returns it; takes nothing where none does.
-#[tactic(auto, unfolding(first_pass_grammar::specs::Kinds::item_at))]
-fn scan_item<'a>(line_start: &mut LineStart<'a>) -> Option<ListMarker>
-    ensures { MatchOption (item_at line_start.old) ((result ≡ None) × (line_start.new ≡ line_start.old))
-        (λ item. (result ≡ Some (marker_of item.0)) × (line_start.new ≡ item.1)) }
-{
-    if line_start.is_at_inert() {
-        return None;
-    }
-    let mut next = line_start.copy();
-    let columns = scan_indentation(&mut next);
-    if columns >= 4 {
-        return None;
-    }
-    let (byte, number, indent) = next.scan_list_marker_with_indent(columns)?;
-    *line_start = next;
-    Some(ListMarker {
-        byte,
-        number,
-        indent,
-    })
+    next_line(source.text.as_bytes(), place.offset())
 }

@@ -10,6 +10,7 @@ mod laws;
 mod leaf;
 mod line;
 mod list;
+mod openers;
 pub mod pass;
 mod raw;
 mod state;

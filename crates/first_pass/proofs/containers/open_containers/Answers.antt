@@ -1,40 +1,34 @@
-use Rattle.std.proofs.Common.{◌≡◌, ℕ, Some, sym, subst}
-use Rattle.first_pass_lines.specs.Places.{offset, line_end}
-use Rattle.first_pass_grammar.specs.Leaves.{document}
-use Rattle.first_pass_grammar.specs.Skeleton.{Inside}
-use Rattle.first_pass_grammar.specs.Completion.{lines_from}
-use Rattle.first_pass_grammar.specs.Order.{GrowsBy}
-use Rattle.first_pass.specs.State.{ReadyAt}
-use Rattle.first_pass.specs.Opening.{ReadyIn, ReadyBehind, GrowsIn}
+use Rattle.std.proofs.Common.{ℕ, Option, Some, None, subst}
+use Rattle.first_pass_lines.specs.Places.{line_end}
+use Rattle.first_pass.specs.declared.containers.Behind.{Behind}
+use Rattle.first_pass.specs.Opening.{IsBehind, IsOpenedAt, OpensOn}
+use Rattle.first_pass.proofs.StartLemmas.{opens_none, opens_both}
 use Rattle.first_pass.proofs.containers.open_containers.Goals as goal
 
-pub returns-in-Some-clause-ready : goal.returns-in-Some-clause-ready
-returns-in-Some-clause-ready c = λ names defined ready.
-    let text = c.args.source.text.now in
-    let d = document text c.args.source.options names in
+pub loop-behind-init : goal.loop-behind-init
+loop-behind-init c = record { no_empty = c.requires.no_empty; kept = opens_none c.args.source c.args.reading.now c.args.place.now c.requires.place }
+
+pub loop-behind-preserved : goal.loop-behind-preserved
+loop-behind-preserved c =
     let l = c.loop-behind in
-    let e = l.invariant.same_end in
-    let p = c.open_container.new.place in
-    let before =
-    subst (λ (n : ℕ). ReadyAt d defined l.reading.tree l.reading.blank (Inside l.place) (lines_from text n)) (sym e) (l.invariant.ready names defined ready) in
-    let is : c.in_ok-behind.field-0 ≡ Some c.in-Some.behind = cc in
-    subst (λ (n : ℕ). ReadyBehind d defined c.open_container.new.reading p n c.in-Some.behind) e
-    (subst (λ o. ReadyIn d defined c.open_container.new.reading p (line_end l.place) o) is (c.in_ok-behind.ensures.ready names defined before))
+    let new = c.open_container.new in
+    record {
+      no_empty = (subst (λ (o : Option Behind). IsOpenedAt o new.reading l.place.rest new.place.rest (line_end l.place)) c.in_default.is
+          c.in_ok-behind.ensures.opened).1;
+      kept = opens_both c.args.source c.args.reading.now l.reading new.reading c.args.place.now l.place new.place None l.invariant.kept
+          (subst (λ (o : Option Behind). OpensOn c.args.source l.reading new.reading l.place new.place o) c.in_default.is c.in_ok-behind.ensures.kept);
+    }
 
-pub returns-in-Some-clause-few : goal.returns-in-Some-clause-few
-returns-in-Some-clause-few c =
+pub returns-in-Some-clause-behind : goal.returns-in-Some-clause-behind
+returns-in-Some-clause-behind c =
     let l = c.loop-behind in
-    let first = c.args.reading.now.tree.nodes in
-    let is : c.in_ok-behind.field-0 ≡ Some c.in-Some.behind = cc in
-    let grows : GrowsIn c.args.source.text.now l.place.line first c.open_container.new.reading.tree.nodes
-    (offset c.open_container.new.place) c.in_ok-behind.field-0 =
-    c.in_ok-behind.ensures.few first (subst (λ n. GrowsBy n (offset l.place) first l.reading.tree.nodes) (sym l.invariant.same_line) l.invariant.few) in
-    subst (λ n. GrowsIn c.args.source.text.now n first c.open_container.new.reading.tree.nodes (offset c.open_container.new.place) (Some c.in-Some.behind))
-    l.invariant.same_line
-    (subst (GrowsIn c.args.source.text.now l.place.line first c.open_container.new.reading.tree.nodes (offset c.open_container.new.place)) is grows)
+    let new = c.open_container.new in
+    subst (λ (n : ℕ). IsBehind c.in-Some.behind new.reading new.place.rest n) l.invariant.kept.same_end
+    (subst (λ (o : Option Behind). IsOpenedAt o new.reading l.place.rest new.place.rest (line_end l.place)) c.in-Some.is c.in_ok-behind.ensures.opened)
 
-pub returns-in-Some-clause-named : goal.returns-in-Some-clause-named
-returns-in-Some-clause-named c = λ names h. c.in_ok-behind.ensures.named names (c.loop-behind.invariant.named names h)
-
-pub returns-in-Some-clause-whole : goal.returns-in-Some-clause-whole
-returns-in-Some-clause-whole c = λ names h. c.in_ok-behind.ensures.whole names (c.loop-behind.invariant.whole names h)
+pub returns-in-Some-clause-kept : goal.returns-in-Some-clause-kept
+returns-in-Some-clause-kept c =
+    let l = c.loop-behind in
+    let new = c.open_container.new in
+    opens_both c.args.source c.args.reading.now l.reading new.reading c.args.place.now l.place new.place (Some c.in-Some.behind) l.invariant.kept
+    (subst (λ (o : Option Behind). OpensOn c.args.source l.reading new.reading l.place new.place o) c.in-Some.is c.in_ok-behind.ensures.kept)

@@ -25,13 +25,13 @@ pub returns-in_ok-next-in-Leaf-clause-later : goal.returns-in_ok-next-in-Leaf-cl
 returns-in_ok-next-in-Leaf-clause-later c =
     let e = c.in_ok-next-in-Leaf.ensures.read in
     line_later c.args.self.now.source.text.now c.args.start_ix _ _ c.requires.within
-    (c.in_ok-open_containers.ensures.same_end ∙ c.in-Some.ensures.same_end) e.later e.boundary
+    (c.in_ok-open_containers.ensures.kept.same_end ∙ c.in-Some.ensures.same_end) e.later e.boundary
 
 pub returns-in_ok-next-in-TaskText-clause-later : goal.returns-in_ok-next-in-TaskText-clause-later
 returns-in_ok-next-in-TaskText-clause-later c =
     let e = c.in_ok-next-in-TaskText.ensures.read in
     line_later c.args.self.now.source.text.now c.args.start_ix _ _ c.requires.within
-    (c.in_ok-open_containers.ensures.same_end ∙ c.in-Some.ensures.same_end) e.later e.boundary
+    (c.in_ok-open_containers.ensures.kept.same_end ∙ c.in-Some.ensures.same_end) e.later e.boundary
 
 -- the line ends after the empty item
 item_end : (c : goal.After-drop-place-inside-in-NextLine-1)
@@ -72,11 +72,11 @@ pub returns-in_ok-next-in-Leaf-clause-order : goal.returns-in_ok-next-in-Leaf-cl
 returns-in_ok-next-in-Leaf-clause-order c =
     let text = c.args.self.now.source.text.now in
     let e = c.in-Some.ensures in
-    let line = c.in_ok-open_containers.ensures.same_line ∙ e.same_line in
+    let line = c.in_ok-open_containers.ensures.kept.same_line ∙ e.same_line in
     λ ordered. c.in_ok-next-in-Leaf.ensures.read.order (
       subst (IsCharBoundary text) (sym line) c.requires.boundary,
       ordered_entered text _ c.open_containers.new.reading c.args.start_ix c.in-Some.place c.open_containers.new.place _ _
-          e.same_line c.requires.boundary e.place c.in_ok-open_containers.ensures.order c.in-Leaf.is (e.order ordered),
+          e.same_line c.requires.boundary e.place c.in_ok-open_containers.ensures.kept.order c.in-Leaf.is (e.order ordered),
     )
 
 pub returns-in_ok-next-in-TaskText-clause-order : goal.returns-in_ok-next-in-TaskText-clause-order
@@ -84,21 +84,21 @@ returns-in_ok-next-in-TaskText-clause-order c =
     let e = c.in-Some.ensures in
     λ ordered. c.in_ok-next-in-TaskText.ensures.read.order
     (ordered_entered c.args.self.now.source.text.now _ c.open_containers.new.reading c.args.start_ix c.in-Some.place c.open_containers.new.place _ _
-    e.same_line c.requires.boundary e.place c.in_ok-open_containers.ensures.order c.in-TaskText.is (e.order ordered))
+    e.same_line c.requires.boundary e.place c.in_ok-open_containers.ensures.kept.order c.in-TaskText.is (e.order ordered))
 
 pub returns-in-NextLine-clause-order : goal.returns-in-NextLine-clause-order
 returns-in-NextLine-clause-order c =
     let e = c.in-Some.ensures in
     λ ordered.
     inl (ordered_entered c.args.self.now.source.text.now _ c.open_containers.new.reading c.args.start_ix c.in-Some.place c.open_containers.new.place _ _
-    e.same_line c.requires.boundary e.place c.in_ok-open_containers.ensures.order c.in-NextLine.is (e.order ordered))
+    e.same_line c.requires.boundary e.place c.in_ok-open_containers.ensures.kept.order c.in-NextLine.is (e.order ordered))
 
 pub returns-in_ok-next-in-Tag-clause-order : goal.returns-in_ok-next-in-Tag-clause-order
 returns-in_ok-next-in-Tag-clause-order c =
     let e = c.in-Some.ensures in
     λ ordered. c.in_ok-next-in-Tag.ensures.read.order
     (ordered_entered c.args.self.now.source.text.now _ c.open_containers.new.reading c.args.start_ix c.in-Some.place c.open_containers.new.place _ _
-    e.same_line c.requires.boundary e.place c.in_ok-open_containers.ensures.order c.in-Tag.is (e.order ordered))
+    e.same_line c.requires.boundary e.place c.in_ok-open_containers.ensures.kept.order c.in-Tag.is (e.order ordered))
 
 pub returns-in_ok-next-in-TaskText-clause-few : goal.returns-in_ok-next-in-TaskText-clause-few
 returns-in_ok-next-in-TaskText-clause-few c =
@@ -110,7 +110,7 @@ returns-in_ok-next-in-TaskText-clause-few c =
     let before = c.enter_line.new.reading.tree.nodes in
     let opened = c.open_containers.new.reading.tree.nodes in
     let g : GrowsText text c.in-Some.place.line before opened marker (offset p) =
-    subst (GrowsBehind text c.in-Some.place.line before opened (offset p)) c.in-TaskText.is c.in_ok-open_containers.ensures.few in
+    subst (GrowsBehind text c.in-Some.place.line before opened (offset p)) c.in-TaskText.is (c.in_ok-open_containers.ensures.kept.few _ (omega arith)) in
     let none = c.enter_line.ensures.none_added in
     let later = c.in_ok-next-in-TaskText.ensures.read.later in
     let here = place_before_end p in
@@ -132,22 +132,22 @@ returns-in_default-clause-named c = c.enter_line.ensures.named (names_of c.args.
 pub returns-in_ok-next-in-Leaf-clause-named : goal.returns-in_ok-next-in-Leaf-clause-named
 returns-in_ok-next-in-Leaf-clause-named c =
     let names = names_of c.args.self.now.allocs in
-    λ h. c.in_ok-next-in-Leaf.ensures.read.named (c.in_ok-open_containers.ensures.named names (c.enter_line.ensures.named names h))
+    λ h. c.in_ok-next-in-Leaf.ensures.read.named (c.in_ok-open_containers.ensures.kept.named names (c.enter_line.ensures.named names h))
 
 pub returns-in_ok-next-in-TaskText-clause-named : goal.returns-in_ok-next-in-TaskText-clause-named
 returns-in_ok-next-in-TaskText-clause-named c =
     let names = names_of c.args.self.now.allocs in
-    λ h. c.in_ok-next-in-TaskText.ensures.read.named (c.in_ok-open_containers.ensures.named names (c.enter_line.ensures.named names h))
+    λ h. c.in_ok-next-in-TaskText.ensures.read.named (c.in_ok-open_containers.ensures.kept.named names (c.enter_line.ensures.named names h))
 
 pub returns-in-NextLine-clause-named : goal.returns-in-NextLine-clause-named
 returns-in-NextLine-clause-named c =
     let names = names_of c.args.self.now.allocs in
-    λ h. c.in_ok-open_containers.ensures.named names (c.enter_line.ensures.named names h)
+    λ h. c.in_ok-open_containers.ensures.kept.named names (c.enter_line.ensures.named names h)
 
 pub returns-in_ok-next-in-Tag-clause-named : goal.returns-in_ok-next-in-Tag-clause-named
 returns-in_ok-next-in-Tag-clause-named c =
     let names = names_of c.args.self.now.allocs in
-    λ h. c.in_ok-next-in-Tag.ensures.read.named (c.in_ok-open_containers.ensures.named names (c.enter_line.ensures.named names h))
+    λ h. c.in_ok-next-in-Tag.ensures.read.named (c.in_ok-open_containers.ensures.kept.named names (c.enter_line.ensures.named names h))
 
 pub returns-in_default-clause-written : goal.returns-in_default-clause-written
 returns-in_default-clause-written c = λ h. h
@@ -193,8 +193,8 @@ returns-in_ok-next-in-Leaf-clause-ready c =
     λ more x h.
     let d : Document = document self.source.text.now self.source.options more in
     let opened = opened_ready d (tables self.allocs) c.enter_line.new.reading after _ p q _ _ c.in-Some.ensures.same_end c.in-Leaf.is
-    (opens.ready more (tables self.allocs)) (c.in-Some.ensures.ready more (tables self.allocs) h) in
-    let here = subst (λ (n : ℕ). ReadyAt d (tables self.allocs) after.tree after.blank (Inside q) (lines_from d.text n)) (sym opens.same_end) opened in
+    (opens.kept.ready more (tables self.allocs)) (c.in-Some.ensures.ready more (tables self.allocs) h) in
+    let here = subst (λ (n : ℕ). ReadyAt d (tables self.allocs) after.tree after.blank (Inside q) (lines_from d.text n)) (sym opens.kept.same_end) opened in
     c.in_ok-next-in-Leaf.ensures.read.ready more x (inl (none.0, none.1, here))
 
 pub returns-in_ok-next-in-TaskText-clause-ready : goal.returns-in_ok-next-in-TaskText-clause-ready
@@ -207,8 +207,8 @@ returns-in_ok-next-in-TaskText-clause-ready c =
     λ more x h.
     let d : Document = document self.source.text.now self.source.options more in
     let opened = opened_ready d (tables self.allocs) c.enter_line.new.reading after _ p q _ _ c.in-Some.ensures.same_end c.in-TaskText.is
-    (opens.ready more (tables self.allocs)) (c.in-Some.ensures.ready more (tables self.allocs) h) in
-    let here = subst (λ (n : ℕ). ReadyText d (tables self.allocs) after c.in-TaskText.marker q (lines_from d.text n)) (sym opens.same_end) opened in
+    (opens.kept.ready more (tables self.allocs)) (c.in-Some.ensures.ready more (tables self.allocs) h) in
+    let here = subst (λ (n : ℕ). ReadyText d (tables self.allocs) after c.in-TaskText.marker q (lines_from d.text n)) (sym opens.kept.same_end) opened in
     c.in_ok-next-in-TaskText.ensures.read.ready more x here
 
 pub returns-in-NextLine-clause-ready : goal.returns-in-NextLine-clause-ready
@@ -217,7 +217,7 @@ returns-in-NextLine-clause-ready c =
     λ more x h.
     let d : Document = document self.source.text.now self.source.options more in
     opened_ready d (tables self.allocs) c.enter_line.new.reading c.open_containers.new.reading _ c.in-Some.place c.open_containers.new.place _ _
-    c.in-Some.ensures.same_end c.in-NextLine.is (c.in_ok-open_containers.ensures.ready more (tables self.allocs))
+    c.in-Some.ensures.same_end c.in-NextLine.is (c.in_ok-open_containers.ensures.kept.ready more (tables self.allocs))
     (c.in-Some.ensures.ready more (tables self.allocs) h)
 
 pub returns-in_ok-next-in-Tag-clause-ready : goal.returns-in_ok-next-in-Tag-clause-ready
@@ -226,7 +226,7 @@ returns-in_ok-next-in-Tag-clause-ready c =
     λ more x h.
     let d : Document = document self.source.text.now self.source.options more in
     let opened = opened_ready d (tables self.allocs) c.enter_line.new.reading c.open_containers.new.reading _ c.in-Some.place c.open_containers.new.place _ _
-    c.in-Some.ensures.same_end c.in-Tag.is (c.in_ok-open_containers.ensures.ready more (tables self.allocs))
+    c.in-Some.ensures.same_end c.in-Tag.is (c.in_ok-open_containers.ensures.kept.ready more (tables self.allocs))
     (c.in-Some.ensures.ready more (tables self.allocs) h) in
     c.in_ok-next-in-Tag.ensures.read.ready more x opened
 
@@ -236,25 +236,25 @@ returns-in_default-clause-whole c = λ named. c.enter_line.ensures.whole (names_
 pub returns-in_ok-next-in-Leaf-clause-whole : goal.returns-in_ok-next-in-Leaf-clause-whole
 returns-in_ok-next-in-Leaf-clause-whole c =
     let names = names_of c.args.self.now.allocs in
-    let e = c.in_ok-open_containers.ensures in
+    let e = c.in_ok-open_containers.ensures.kept in
     λ named h. c.in_ok-next-in-Leaf.ensures.read.whole (e.named names (c.enter_line.ensures.named names named))
     (e.whole names (c.enter_line.ensures.whole names h))
 
 pub returns-in_ok-next-in-TaskText-clause-whole : goal.returns-in_ok-next-in-TaskText-clause-whole
 returns-in_ok-next-in-TaskText-clause-whole c =
     let names = names_of c.args.self.now.allocs in
-    let e = c.in_ok-open_containers.ensures in
+    let e = c.in_ok-open_containers.ensures.kept in
     λ named h. c.in_ok-next-in-TaskText.ensures.read.whole (e.named names (c.enter_line.ensures.named names named))
     (e.whole names (c.enter_line.ensures.whole names h))
 
 pub returns-in-NextLine-clause-whole : goal.returns-in-NextLine-clause-whole
 returns-in-NextLine-clause-whole c =
     let names = names_of c.args.self.now.allocs in
-    λ named h. c.in_ok-open_containers.ensures.whole names (c.enter_line.ensures.whole names h)
+    λ named h. c.in_ok-open_containers.ensures.kept.whole names (c.enter_line.ensures.whole names h)
 
 pub returns-in_ok-next-in-Tag-clause-whole : goal.returns-in_ok-next-in-Tag-clause-whole
 returns-in_ok-next-in-Tag-clause-whole c =
     let names = names_of c.args.self.now.allocs in
-    let e = c.in_ok-open_containers.ensures in
+    let e = c.in_ok-open_containers.ensures.kept in
     λ named h. c.in_ok-next-in-Tag.ensures.read.whole (e.named names (c.enter_line.ensures.named names named))
     (e.whole names (c.enter_line.ensures.whole names h))

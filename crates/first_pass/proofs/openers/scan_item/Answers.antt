@@ -1,6 +1,6 @@
 use Rattle.std.proofs.Common.{refl}
 use Rattle.first_pass_open.proofs.PlainLemmas.{inert_item_at}
-use Rattle.first_pass.proofs.containers.scan_item.Goals as goal
+use Rattle.first_pass.proofs.openers.scan_item.Goals as goal
 
 pub returns-then-is_at_inert : goal.returns-then-is_at_inert
 returns-then-is_at_inert c =

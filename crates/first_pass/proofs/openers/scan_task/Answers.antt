@@ -1,7 +1,7 @@
 use Rattle.std.proofs.Common.{arith}
 use Rattle.first_pass_open.proofs.PlaceLemmas.{task_keeps, task_found}
 use Rattle.first_pass.proofs.LineLemmas.{same_place}
-use Rattle.first_pass.proofs.containers.scan_task.Goals as goal
+use Rattle.first_pass.proofs.openers.scan_task.Goals as goal
 
 pub offset-requires : goal.offset-requires
 offset-requires c =
