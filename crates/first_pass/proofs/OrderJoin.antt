@@ -22,8 +22,8 @@ use Rattle.first_pass_grammar.specs.Order.{in_item, below, beyond, IsLead, Fits}
 use Rattle.first_pass_grammar.specs.OpenOrder.{laid_open, open_item, FitsOpen, IsOrderedTo}
 use Rattle.first_pass_grammar.proofs.Orders.{beside, ended_at, laid_open-beside, length-places, fits-order, fits-later, extents-ended}
 use Rattle.first_pass_lists.specs.declared.reading.Reading.{Reading}
-use Rattle.first_pass.specs.Ordered.{reached, IsOrderedAt}
-use Rattle.first_pass.proofs.OrderLemmas.{ordered_later, ordered_appended, ordered_none}
+use Rattle.first_pass_blocks.specs.Ordered.{reached, IsOrderedAt}
+use Rattle.first_pass_blocks.proofs.OrderLemmas.{ordered_later, ordered_appended, ordered_none}
 use Rattle.first_pass_items.specs.declared.option_set.Options.{Options}
 
 -- a row's last node, with what is below it, and those before it

@@ -30,8 +30,8 @@ use Rattle.first_pass_text.specs.Between.{StandsBefore}
 use Rattle.first_pass_text.specs.CutTexts.{BecomesHeading, CutsBlock, cut_chain}
 use Rattle.first_pass_text.proofs.OrderParagraph.{TextInOrder, text_is_in_order, chain_end_place}
 use Rattle.first_pass_text.proofs.OrderPlain.{cut_marker, kept_place, marked_end}
-use Rattle.first_pass.specs.Ordered.{HoldsText}
-use Rattle.first_pass.proofs.OrderLemmas.{ordered_appended, ordered_later, ordered_same, extents-body}
+use Rattle.first_pass.specs.Holds.{HoldsText}
+use Rattle.first_pass_blocks.proofs.OrderLemmas.{ordered_appended, ordered_later, ordered_same, extents-body}
 
 -- a chain after
 chain_ordered : (text : List ℕ) (f : Forest Item) (from to : ℕ) (chain : List Item) → AreInOrder text from to chain → to ≤ length text → IsOrderedTo text f from

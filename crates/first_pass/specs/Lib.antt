@@ -1,10 +1,4 @@
-pub mod Adding
-pub mod Completed
+pub mod Holds
+pub mod Kept
 pub mod Lines
-pub mod Opening
-pub mod Ordered
-pub mod Progress
-pub mod Runs
-pub mod Starts
-pub mod State
 pub mod Views

@@ -9,25 +9,30 @@ use Rattle.first_pass_open.specs.declared.source.Source.{Source}
 use Rattle.first_pass_lists.specs.declared.reading.Reading.{Reading}
 use Rattle.first_pass_grammar.specs.Containers.{Context}
 use Rattle.first_pass_open.specs.Path.{context_of}
+use Rattle.first_pass_blocks.specs.declared.state.BlockPass.{BlockPass}
 use Rattle.first_pass.specs.declared.state.FirstPass.{FirstPass}
 
+-- the pass over blocks in it
+abbrev pub pass_of : FirstPass → BlockPass
+pass_of pass = pass.pass
+
 abbrev pub source_of : FirstPass → Source
-source_of pass = pass.source
+source_of pass = pass.pass.source
 
 abbrev pub source_text : FirstPass → List ℕ
-source_text pass = pass.source.text.now
+source_text pass = pass.pass.source.text.now
 
 abbrev pub source_options : FirstPass → Options
-source_options pass = pass.source.options
+source_options pass = pass.pass.source.options
 
 abbrev pub reading_of : FirstPass → Reading
-reading_of pass = pass.reading
+reading_of pass = pass.pass.reading
 
 abbrev pub tree_of : FirstPass → Forest Item
-tree_of pass = pass.reading.tree
+tree_of pass = pass.pass.reading.tree
 
 abbrev pub allocs_of : FirstPass → Allocations
-allocs_of pass = pass.allocs
+allocs_of pass = pass.pass.allocs
 
 -- the brace contexts that a line which is read by itself begins with (this project)
 abbrev pub braces_of : FirstPass → MathBraces
@@ -35,7 +40,7 @@ braces_of pass = pass.braces
 
 -- what a line is read in by it
 abbrev pub context_in : FirstPass → Context
-context_in pass = context_of pass.source.options pass.reading.tree
+context_in pass = context_of pass.pass.source.options pass.pass.reading.tree
 
 -- what is remembered with another tree
 abbrev pub with_tree : Reading → Forest Item → Reading

@@ -9,13 +9,13 @@ ghost use Rattle.first_pass_scan.specs.LeafLines.{setext_underline};
 ghost use Rattle.first_pass_attributes.specs.Attributes.{attributes_in};
 ghost use Rattle.first_pass_grammar.specs.Headings.{before_attributes, heading_attributes_of};
 ghost use Rattle.first_pass_grammar.specs.Leaves.{document, TextLines};
-ghost use Rattle.first_pass_grammar.specs.Names.{Extends};
 ghost use Rattle.first_pass_grammar.specs.OpenOrder.{IsOrderedTo};
 ghost use Rattle.first_pass_grammar.specs.Texts.{by_backslash};
-ghost use Rattle.first_pass_names.specs.TableEntries.{entries, names_of, no_names};
+ghost use Rattle.first_pass_names.specs.TableEntries.{names_of, no_names};
 ghost use Rattle.first_pass_text.specs.CutTexts.{BecomesHeading};
-ghost use Rattle.first_pass.specs.Ordered.{HoldsText};
-ghost use Rattle.first_pass.specs.Views.{allocs_of, reading_of, source_of, source_options, source_text, tree_of, with_tree};
+ghost use Rattle.first_pass.specs.Holds.{HoldsText};
+ghost use Rattle.first_pass.specs.Kept.{KeepsNames};
+ghost use Rattle.first_pass.specs.Views.{allocs_of, reading_of, source_options, source_text, tree_of, with_tree};
 
 use crate::state::FirstPass;
 use first_pass_attributes::attrs::HeadingAttributes;
@@ -43,8 +43,8 @@ impl<'a> FirstPass<'a> {
             (source_options self.now) (slice_range (source_text self.now) header_start header_end)) }
     {
         let answer = attributes::extract_and_parse_heading_attribute_block(
-            self.alloc,
-            self.source,
+            self.pass.alloc,
+            self.pass.source,
             header_start,
             header_end,
         )?;
@@ -68,9 +68,7 @@ impl<'a> FirstPass<'a> {
         requires place { ix ≤ length (source_text self.old) }
         requires open { slice_get (tree_of self.old).spine 0 ≡ Some node_ix }
         requires start { IfSome (item_at (tree_of self.old) node_ix) (λ x. x.start ≤ length (source_text self.old)) }
-        ensures source { OnOk result (source_of self.new ≡ source_of self.old) }
-        ensures names { OnOk result (Extends (names_of (allocs_of self.new)) (names_of (allocs_of self.old))) }
-        ensures entries { OnOk result (entries (allocs_of self.new) ≡ entries (allocs_of self.old)) }
+        ensures kept { OnOk result (KeepsNames self.old self.new) }
         ensures reading { OnOk result (reading_of self.new ≡ with_tree (reading_of self.old) (tree_of self.new)) }
         ensures value { IfOk result (λ next. next
             ≡ option_map (λ underline. ix + underline.0) (setext_underline (drop ix (source_text self.old)))) }
@@ -85,15 +83,16 @@ impl<'a> FirstPass<'a> {
             node_ix l
             → IsOrderedTo (source_text self.old) (tree_of self.new) (start_of (length (source_text self.old)) l.left)) }
     {
-        let bytes = rest_of(self.source.text.as_bytes(), ix);
+        let pass = &mut self.pass;
+        let bytes = rest_of(pass.source.text.as_bytes(), ix);
         let Some((length, level)) = scan_setext_heading(bytes) else {
             return Ok(None);
         };
         attributes::make_heading(
-            self.alloc,
-            self.source,
-            &mut self.reading.tree,
-            &mut self.allocs,
+            pass.alloc,
+            pass.source,
+            &mut pass.reading.tree,
+            &mut pass.allocs,
             node_ix,
             level,
             has_trailing_content,

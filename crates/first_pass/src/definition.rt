@@ -1,21 +1,19 @@
 //! Link reference definitions, as calls of the pass.
 
-ghost use Rattle.std.specs.Prelude.{◌≡◌, ℕ, ◌+◌, ◌-◌, ◌<◌, ◌≤◌, length, take, drop, None, IfOk, IfSome, IsSomeAnd, MatchOption, OnOk, OnErr, IsUtf8, IsCharBoundary, true, false};
+ghost use Rattle.std.specs.Prelude.{◌≡◌, ◌+◌, ◌-◌, ◌<◌, take, drop, None, IfOk, IfSome, IsSomeAnd, MatchOption, OnErr, IsCharBoundary, true, false};
 ghost use Rattle.std.specs.List.{list_any};
 ghost use Rattle.std.specs.Option.{option_map};
 ghost use Rattle.first_pass_items.specs.CowText.{text_of};
 ghost use Rattle.first_pass_lines.specs.Lines.{is_line_end};
-ghost use Rattle.first_pass_lines.specs.Places.{Place, offset, IsPlaceOf};
+ghost use Rattle.first_pass_lines.specs.Places.{offset};
 ghost use Rattle.first_pass_links.specs.Labels.{label_at};
 ghost use Rattle.first_pass_links.specs.Texts.{Borrows};
 ghost use Rattle.first_pass_tree.specs.Forest.{in_table};
 ghost use Rattle.first_pass_grammar.specs.Definitions.{prefix_crossed, space_at, title_at, target_at, reference_at};
-ghost use Rattle.first_pass_names.specs.TableEntries.{tables, names_of, refdefs_of};
 ghost use Rattle.first_pass_text.specs.Rests.{IsRestOf};
-ghost use Rattle.first_pass_definitions.specs.Found.{IsTarget, IsReference, BorrowsLabel, AreWritten};
+ghost use Rattle.first_pass_definitions.specs.Found.{IsTarget, IsReference, BorrowsLabel};
 ghost use Rattle.first_pass_definitions.specs.Memory.{LabelAsks, TargetAsks, ReferenceAsks, space_asks, title_asks};
-ghost use Rattle.first_pass.specs.Runs.{ReadsRun};
-ghost use Rattle.first_pass.specs.Views.{allocs_of, context_in, reading_of, source_of, source_text, tree_of};
+ghost use Rattle.first_pass.specs.Views.{context_in, source_text, tree_of};
 
 use crate::state::FirstPass;
 use first_pass_definitions::{label, reference, space, target, title};
@@ -24,16 +22,6 @@ use first_pass_labels::label_key::LabelKey;
 use first_pass_labels::label_table::LinkDef;
 use first_pass_lines::places::{next_line, rest_of};
 use std::alloc::AllocError;
-
-/// What stands after link definitions.
-#[derive(Clone, Copy)]
-pub(crate) enum RunEnd {
-    /// Nothing of their run: the last of them is in the line that begins at the first offset, and the next line begins
-    /// at the second.
-    NextLine(usize, usize),
-    /// Text of a paragraph, which begins at an offset.
-    Paragraph(usize),
-}
 
 impl<'a> FirstPass<'a> {
     /// The link reference definition that begins at the offset `start` into the text: how many bytes it has, its label
@@ -60,7 +48,12 @@ impl<'a> FirstPass<'a> {
         ensures err { OnErr result (ReferenceAsks (in_table (tree_of self.old).nodes (tree_of self.old).spine)
             (context_in self.old) (drop start (source_text self.old))) }
     {
-        reference::parse_refdef_total(self.alloc, self.source, &self.reading.tree, start)
+        reference::parse_refdef_total(
+            self.pass.alloc,
+            self.pass.source,
+            &self.pass.reading.tree,
+            start,
+        )
     }
 
     /// The label after the `[` that stands before the offset `start` into the text: how many bytes it has from there
@@ -85,7 +78,12 @@ impl<'a> FirstPass<'a> {
         ensures err { OnErr result (LabelAsks (context_in self.now)
             (in_table (tree_of self.now).nodes (tree_of self.now).spine) (drop start (source_text self.now))) }
     {
-        label::parse_refdef_label(self.alloc, self.source, &self.reading.tree, start)
+        label::parse_refdef_label(
+            self.pass.alloc,
+            self.pass.source,
+            &self.pass.reading.tree,
+            start,
+        )
     }
 
     /// What a definition has after its colon, before the offset `start` into the text: white space, a destination, and
@@ -110,9 +108,9 @@ impl<'a> FirstPass<'a> {
             (context_in self.now) (drop start (source_text self.now))) }
     {
         target::scan_refdef(
-            self.alloc,
-            self.source,
-            &self.reading.tree,
+            self.pass.alloc,
+            self.pass.source,
+            &self.pass.reading.tree,
             span_start,
             start,
         )
@@ -136,7 +134,12 @@ impl<'a> FirstPass<'a> {
         ensures err { OnErr result (space_asks (context_in self.now) (drop i (source_text self.now)) ≡ true) }
     {
         let _ = bytes;
-        space::scan_refdef_space(self.alloc, self.source, &self.reading.tree, i)
+        space::scan_refdef_space(
+            self.pass.alloc,
+            self.pass.source,
+            &self.pass.reading.tree,
+            i,
+        )
     }
 
     /// The title that `text` begins with, all that the whole text has from a place on: how many bytes it has, what
@@ -157,39 +160,11 @@ impl<'a> FirstPass<'a> {
             list_any is_line_end (text_of found.1) ≡ false → Borrows (text_of found.1) found.1)) }
         ensures err { OnErr result (title_asks (context_in self.now) text.now ≡ true) }
     {
-        title::scan_refdef_title(self.alloc, self.source, &self.reading.tree, text)
-    }
-
-    // Reads the link definitions that begin at the offset `at`, in the line that begins at `line`, as many as there
-    // are, and puts them into the table beside the tree.
-    pub(crate) fn parse_definitions(&mut self, line: usize, at: usize) -> Result<RunEnd, AllocError>
-        requires utf8 { IsUtf8 (source_text self.old) }
-        requires boundary { IsCharBoundary (source_text self.old) at }
-        ensures source { OnOk result (source_of self.new ≡ source_of self.old) }
-        ensures reading { OnOk result (reading_of self.new ≡ reading_of self.old) }
-        ensures names { OnOk result (names_of (allocs_of self.new) ≡ names_of (allocs_of self.old)) }
-        ensures written { OnOk result (AreWritten (source_text self.old) (refdefs_of (allocs_of self.old))
-            → AreWritten (source_text self.old) (refdefs_of (allocs_of self.new))) }
-        ensures run { IfOk result (λ behind. (p : Place) → p.line ≡ line → offset p ≡ at
-            → IsPlaceOf (source_text self.old) p
-            → ReadsRun (source_text self.old) (context_in self.old)
-            (in_table (tree_of self.old).nodes (tree_of self.old).spine) p (tables (allocs_of self.old))
-            (tables (allocs_of self.new)) behind) }
-    {
-        self.source.is_short();
-        let mut line = line;
-        let mut at = at;
-        while let Some((size, label, definition)) = self.parse_refdef_total(at)? {
-            self.allocs.define_link(label, definition)?;
-            let bytes = self.source.text.as_bytes();
-            let next = next_line(bytes, at + size);
-            let rest = self.scan_next_line_or_lazy_continuation(rest_of(bytes, next))?;
-            let Some(rest) = rest else {
-                return Ok(RunEnd::NextLine(line, next));
-            };
-            line = next;
-            at = next + rest.bytes_scanned();
-        }
-        Ok(RunEnd::Paragraph(at))
+        title::scan_refdef_title(
+            self.pass.alloc,
+            self.pass.source,
+            &self.pass.reading.tree,
+            text,
+        )
     }
 }

@@ -12,10 +12,10 @@ ghost use Rattle.first_pass.specs.Views.{context_in, source_text, tree_of};
 
 use crate::state::FirstPass;
 use bitflags::Flags;
+use first_pass_blocks::definition::scan_next_line_or_lazy_continuation;
 use first_pass_items::option_set::Options;
-use first_pass_lines::lines::scan_blank_line;
 use first_pass_scan::line_start::LineStart;
-use first_pass_text::interrupt::{scan_line_behind_tag, scan_paragraph_interrupt_no_table};
+use first_pass_text::interrupt::scan_paragraph_interrupt_no_table;
 use first_pass_text::table_start::interrupts_as_table;
 use std::alloc::AllocError;
 
@@ -37,20 +37,26 @@ impl<'a> FirstPass<'a> {
         ensures err { OnErr result (may_head (context_in self.now) text.now ≡ true) }
     {
         if scan_paragraph_interrupt_no_table(
-            self.alloc,
+            self.pass.alloc,
             text,
             current_container,
-            self.source.options.contains(Options::ENABLE_FOOTNOTES),
-            self.source
+            self.pass.source.options.contains(Options::ENABLE_FOOTNOTES),
+            self.pass
+                .source
                 .options
                 .contains(Options::ENABLE_DEFINITION_LIST),
-            &self.reading.tree,
+            &self.pass.reading.tree,
             tree_position,
         )? {
             return Ok(true);
         }
-        let options = self.source.options;
-        interrupts_as_table(self.alloc, options, &self.reading.tree, text.as_bytes())
+        let options = self.pass.source.options;
+        interrupts_as_table(
+            self.pass.alloc,
+            options,
+            &self.pass.reading.tree,
+            text.as_bytes(),
+        )
     }
 
     /// Enters the line that `bytes` begin with, all that the text has from the line on: a line that continues a
@@ -70,13 +76,11 @@ impl<'a> FirstPass<'a> {
             else Some (all_taken line))) }
         ensures err { OnErr result (line_may_head (context_in self.old) (line_rest bytes.now) ≡ true) }
     {
-        let line = scan_line_behind_tag(self.alloc, self.source, bytes, &self.reading.tree)?;
-        let Some(rest) = line else {
-            return Ok(None);
-        };
-        if scan_blank_line(rest.left()).is_some() {
-            return Ok(None);
-        }
-        Ok(Some(rest))
+        scan_next_line_or_lazy_continuation(
+            self.pass.alloc,
+            self.pass.source,
+            bytes,
+            &self.pass.reading.tree,
+        )
     }
 }

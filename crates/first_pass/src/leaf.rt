@@ -3,15 +3,15 @@
 ghost use Rattle.std.specs.Prelude.{◌≡◌, ℕ, ◌+◌, ◌≤◌, drop, Some, false, length, IfOk, IfSome, OnOk, IsCharBoundary};
 ghost use Rattle.first_pass_lines.specs.Lines.{atx_level as atx_level_of};
 ghost use Rattle.first_pass_tree.specs.Forest.{added, is_text};
-ghost use Rattle.first_pass_names.specs.TableEntries.{entries, names_of};
-ghost use Rattle.first_pass_grammar.specs.Names.{Extends};
+ghost use Rattle.first_pass_names.specs.TableEntries.{names_of};
 ghost use Rattle.first_pass_grammar.specs.Leaves.{document, rule_block};
 ghost use Rattle.first_pass_lists.specs.Closing.{with_block};
 ghost use Rattle.first_pass_text.specs.Appends.{AddsHeading};
 ghost use Rattle.first_pass_tables.specs.TextsAdded.{AddsText};
 ghost use Rattle.first_pass_text.specs.Between.{AddsBetween, IsInItem, StandsBefore};
-ghost use Rattle.first_pass.specs.Ordered.{IsOrderedAt};
-ghost use Rattle.first_pass.specs.Views.{allocs_of, reading_of, source_of, source_options, source_text, tree_of};
+ghost use Rattle.first_pass_blocks.specs.Ordered.{IsOrderedAt};
+ghost use Rattle.first_pass.specs.Kept.{KeepsNames, KeepsTables};
+ghost use Rattle.first_pass.specs.Views.{allocs_of, reading_of, source_options, source_text, tree_of};
 
 use crate::state::FirstPass;
 use first_pass_items::item::{HeadingLevel, Item};
@@ -31,9 +31,7 @@ impl<'a> FirstPass<'a> {
     ) -> Result<usize, AllocError>
         requires boundary { IsCharBoundary (source_text self.old) start_ix }
         requires marker { IfSome tasklist_marker (λ x. is_text x.body ≡ false) }
-        ensures source { OnOk result (source_of self.new ≡ source_of self.old) }
-        ensures names { OnOk result (Extends (names_of (allocs_of self.new)) (names_of (allocs_of self.old))) }
-        ensures entries { OnOk result (entries (allocs_of self.new) ≡ entries (allocs_of self.old)) }
+        ensures kept { OnOk result (KeepsNames self.old self.new) }
         ensures reading { OnOk result (reading_of self.new ≡ with_block (reading_of self.old) (tree_of self.new)) }
         ensures block { IfOk result (λ next.
             AddsText (document (source_text self.old) (source_options self.old) (names_of (allocs_of self.new)))
@@ -46,16 +44,17 @@ impl<'a> FirstPass<'a> {
             → IsOrderedAt (source_text self.old) (reading_of self.old) at
             → IsOrderedAt (source_text self.old) (reading_of self.new) next) }
     {
+        let pass = &mut self.pass;
         let next = text::parse_paragraph(
-            self.alloc,
-            self.source,
-            &self.lookup_table,
-            &mut self.reading.tree,
-            &mut self.allocs,
+            pass.alloc,
+            pass.source,
+            &pass.lookup_table,
+            &mut pass.reading.tree,
+            &mut pass.allocs,
             start_ix,
             tasklist_marker,
         )?;
-        self.reading.empty_item = None;
+        pass.reading.empty_item = None;
         Ok(next)
     }
 
@@ -68,9 +67,7 @@ impl<'a> FirstPass<'a> {
     ) -> Result<usize, AllocError>
         requires within { start ≤ length (source_text self.old) }
         requires heading { atx_level_of (drop start (source_text self.old)) ≡ Some atx_level }
-        ensures source { OnOk result (source_of self.new ≡ source_of self.old) }
-        ensures names { OnOk result (Extends (names_of (allocs_of self.new)) (names_of (allocs_of self.old))) }
-        ensures entries { OnOk result (entries (allocs_of self.new) ≡ entries (allocs_of self.old)) }
+        ensures kept { OnOk result (KeepsNames self.old self.new) }
         ensures reading { OnOk result (reading_of self.new ≡ with_block (reading_of self.old) (tree_of self.new)) }
         ensures block { IfOk result (λ next.
             AddsHeading (document (source_text self.old) (source_options self.old) (names_of (allocs_of self.new)))
@@ -81,16 +78,17 @@ impl<'a> FirstPass<'a> {
             → IsOrderedAt (source_text self.old) (reading_of self.old) at
             → IsOrderedAt (source_text self.old) (reading_of self.new) next) }
     {
+        let pass = &mut self.pass;
         let next = heading::parse_atx_heading(
-            self.alloc,
-            self.source,
-            &self.lookup_table,
-            &mut self.reading.tree,
-            &mut self.allocs,
+            pass.alloc,
+            pass.source,
+            &pass.lookup_table,
+            &mut pass.reading.tree,
+            &mut pass.allocs,
             start,
             atx_level,
         )?;
-        self.reading.empty_item = None;
+        pass.reading.empty_item = None;
         Ok(next)
     }
 
@@ -98,8 +96,7 @@ impl<'a> FirstPass<'a> {
     /// into the text, and returns the offset after it (CommonMark 4.1).
     pub fn parse_hrule(&mut self, hrule_size: usize, ix: usize) -> Result<usize, AllocError>
         requires { ix + hrule_size ≤ length (source_text self.old) }
-        ensures source { OnOk result (source_of self.new ≡ source_of self.old) }
-        ensures allocs { OnOk result (allocs_of self.new ≡ allocs_of self.old) }
+        ensures kept { OnOk result (KeepsTables self.old self.new) }
         ensures reading { OnOk result (reading_of self.new ≡ with_block (reading_of self.old) (tree_of self.new)) }
         ensures block { OnOk result (tree_of self.new ≡ added (tree_of self.old) (rule_block ix hrule_size)) }
         ensures fits { OnOk result ((from : ℕ) → from ≤ ix → IsCharBoundary (source_text self.old) ix
@@ -111,9 +108,10 @@ impl<'a> FirstPass<'a> {
             → IsOrderedAt (source_text self.old) (reading_of self.new) next) }
         ensures behind { IfOk result (λ next. next ≡ ix + hrule_size) }
     {
-        self.source.is_short();
-        let next = rule::parse_hrule(&mut self.reading.tree, hrule_size, ix)?;
-        self.reading.empty_item = None;
+        let pass = &mut self.pass;
+        pass.source.is_short();
+        let next = rule::parse_hrule(&mut pass.reading.tree, hrule_size, ix)?;
+        pass.reading.empty_item = None;
         Ok(next)
     }
 }

@@ -1,16 +1,14 @@
 //! The block pass of CommonMark: a text goes in, the tree of its blocks comes out
-//! (`pass::run_first_pass`). The names of the crate below are handed out too.
+//! (`pass::run_first_pass`). The original's calls are methods of `pass::FirstPass`, each of which reads a part of the
+//! pass's work by itself; the names of the crates below are handed out too.
 #![tactic(auto)]
 
 mod attributes;
-pub mod containers;
 mod definition;
 mod interrupt;
-mod laws;
 mod leaf;
 mod line;
 mod list;
-mod openers;
 pub mod pass;
 mod raw;
 mod state;
@@ -18,5 +16,6 @@ mod table;
 
 pub use first_pass_attributes::attrs;
 pub use first_pass_below::{below, flank, walk};
+pub use first_pass_blocks::laws::{ready_is_completed, ready_is_whole};
 pub use first_pass_names::items;
-pub use laws::ready_is_completed;
+pub use first_pass_open::containers;

@@ -1,14 +1,12 @@
 //! A line of a paragraph, or a cell of a table's row, as a call of the pass (CommonMark 2.4, 4.8, GFM 4.10).
 
-ghost use Rattle.std.specs.Prelude.{◌≡◌, ◌≤◌, ◌+◌, ◌-◌, ℕ, length, drop, None, Some, IfOk, IfSome, MatchOption, OnOk, IsUtf8, IsCharBoundary};
-ghost use Rattle.std.specs.Option.{option_map};
+ghost use Rattle.std.specs.Prelude.{◌≡◌, ◌≤◌, ◌+◌, ◌-◌, ℕ, length, None, Some, IfOk, IfSome, OnOk, IsUtf8, IsCharBoundary};
 ghost use Rattle.first_pass_tokens.specs.Pieces.{text_upto};
 ghost use Rattle.first_pass_lists.specs.Closing.{with_block};
-ghost use Rattle.first_pass_grammar.specs.Names.{Extends};
-ghost use Rattle.first_pass_names.specs.TableEntries.{entries, names_of};
-ghost use Rattle.first_pass.specs.Ordered.{IsOrderedAt};
+ghost use Rattle.first_pass_blocks.specs.Ordered.{IsOrderedAt};
 ghost use Rattle.first_pass.specs.Lines.{ReadsLine, ReadsCell, ReadsPossibleHead, ReadsInMode};
-ghost use Rattle.first_pass.specs.Views.{allocs_of, reading_of, source_of, source_options, source_text, tree_of};
+ghost use Rattle.first_pass.specs.Kept.{KeepsNames};
+ghost use Rattle.first_pass.specs.Views.{reading_of, source_text, tree_of};
 
 use crate::state::FirstPass;
 use first_pass_flank::flank::TableParseMode;
@@ -42,9 +40,7 @@ impl<'a> FirstPass<'a> {
     ) -> Result<(usize, Option<Item>), AllocError>
         requires start { start ≤ length (source_text self.old) }
         requires end { IfSome end (λ e. (start ≤ e) × (e ≤ length (source_text self.old))) }
-        ensures source { OnOk result (source_of self.new ≡ source_of self.old) }
-        ensures names { OnOk result (Extends (names_of (allocs_of self.new)) (names_of (allocs_of self.old))) }
-        ensures entries { OnOk result (entries (allocs_of self.new) ≡ entries (allocs_of self.old)) }
+        ensures kept { OnOk result (KeepsNames self.old self.new) }
         ensures reading { OnOk result (reading_of self.new ≡ with_block (reading_of self.old) (tree_of self.new)) }
         ensures line { IfOk result (λ answer. ReadsInMode mode self.old self.new start end answer) }
         ensures boundary { IfOk result (λ answer. end ≡ None → IsCharBoundary (source_text self.old) start
@@ -80,9 +76,7 @@ impl<'a> FirstPass<'a> {
     ) -> Result<(usize, Option<Item>), AllocError>
         requires start { start ≤ length (source_text self.old) }
         requires end { IfSome end (λ e. (start ≤ e) × (e ≤ length (source_text self.old))) }
-        ensures source { OnOk result (source_of self.new ≡ source_of self.old) }
-        ensures names { OnOk result (Extends (names_of (allocs_of self.new)) (names_of (allocs_of self.old))) }
-        ensures entries { OnOk result (entries (allocs_of self.new) ≡ entries (allocs_of self.old)) }
+        ensures kept { OnOk result (KeepsNames self.old self.new) }
         ensures reading { OnOk result (reading_of self.new ≡ with_block (reading_of self.old) (tree_of self.new)) }
         ensures utf8 { OnOk result (IsUtf8 (source_text self.old)) }
         ensures line { IfOk result (λ answer. ReadsLine self.old self.new start end answer) }
@@ -97,19 +91,20 @@ impl<'a> FirstPass<'a> {
         ensures later { IfOk result (λ answer. start ≤ answer.0) }
         ensures within { IfOk result (λ answer. answer.0 ≤ length (text_upto (source_text self.old) end)) }
     {
-        self.reading.tree.is_forest();
+        let pass = &mut self.pass;
+        pass.reading.tree.is_forest();
         let content = Content {
-            options: self.source.options,
+            options: pass.source.options,
             start,
             end,
             row: false,
         };
-        let lut = &self.lookup_table;
-        let tree = &mut self.reading.tree;
-        let text = self.source.text;
+        let lut = &pass.lookup_table;
+        let tree = &mut pass.reading.tree;
+        let text = pass.source.text;
         let braces = &mut self.braces;
-        let line = self.allocs.append_line(text, content, lut, tree, braces)?;
-        self.reading.empty_item = None;
+        let line = pass.allocs.append_line(text, content, lut, tree, braces)?;
+        pass.reading.empty_item = None;
         Ok(line)
     }
 
@@ -117,9 +112,7 @@ impl<'a> FirstPass<'a> {
     fn append_cell_content(&mut self, start: usize, end: Option<usize>) -> Result<usize, AllocError>
         requires start { start ≤ length (source_text self.old) }
         requires end { IfSome end (λ e. (start ≤ e) × (e ≤ length (source_text self.old))) }
-        ensures source { OnOk result (source_of self.new ≡ source_of self.old) }
-        ensures names { OnOk result (Extends (names_of (allocs_of self.new)) (names_of (allocs_of self.old))) }
-        ensures entries { OnOk result (entries (allocs_of self.new) ≡ entries (allocs_of self.old)) }
+        ensures kept { OnOk result (KeepsNames self.old self.new) }
         ensures reading { OnOk result (reading_of self.new ≡ with_block (reading_of self.old) (tree_of self.new)) }
         ensures cell { IfOk result (λ stop. ReadsCell self.old self.new start end stop) }
         ensures boundary { IfOk result (λ stop. end ≡ None → IsCharBoundary (source_text self.old) stop) }
@@ -130,19 +123,20 @@ impl<'a> FirstPass<'a> {
         ensures few { IfOk result (λ stop.
             length (tree_of self.new).nodes ≤ length (tree_of self.old).nodes + (stop - start)) }
     {
-        self.reading.tree.is_forest();
+        let pass = &mut self.pass;
+        pass.reading.tree.is_forest();
         let content = Content {
-            options: self.source.options,
+            options: pass.source.options,
             start,
             end,
             row: true,
         };
-        let lut = &self.lookup_table;
-        let tree = &mut self.reading.tree;
-        let text = self.source.text;
+        let lut = &pass.lookup_table;
+        let tree = &mut pass.reading.tree;
+        let text = pass.source.text;
         let braces = &mut self.braces;
-        let stop = self.allocs.append_cell(text, content, lut, tree, braces)?;
-        self.reading.empty_item = None;
+        let stop = pass.allocs.append_cell(text, content, lut, tree, braces)?;
+        pass.reading.empty_item = None;
         Ok(stop)
     }
 
@@ -155,9 +149,7 @@ impl<'a> FirstPass<'a> {
     ) -> Result<(usize, Option<Item>), AllocError>
         requires start { start ≤ length (source_text self.old) }
         requires end { IfSome end (λ e. (start ≤ e) × (e ≤ length (source_text self.old))) }
-        ensures source { OnOk result (source_of self.new ≡ source_of self.old) }
-        ensures names { OnOk result (Extends (names_of (allocs_of self.new)) (names_of (allocs_of self.old))) }
-        ensures entries { OnOk result (entries (allocs_of self.new) ≡ entries (allocs_of self.old)) }
+        ensures kept { OnOk result (KeepsNames self.old self.new) }
         ensures reading { OnOk result (reading_of self.new ≡ with_block (reading_of self.old) (tree_of self.new)) }
         ensures line { IfOk result (λ answer. ReadsPossibleHead self.old self.new start end answer) }
         ensures boundary { IfOk result (λ answer. end ≡ None → IsCharBoundary (source_text self.old) start
@@ -169,14 +161,16 @@ impl<'a> FirstPass<'a> {
         ensures few { IfOk result (λ answer.
             length (tree_of self.new).nodes ≤ length (tree_of self.old).nodes + (answer.0 - start)) }
     {
-        let bytes = text_upto(self.source.text, end);
+        let bytes = text_upto(self.pass.source.text, end);
         let line = rest_of(bytes, start);
-        let found = scan_headed_line(self.alloc, self.source.options, &self.reading.tree, line)?;
+        let options = self.pass.source.options;
+        let found = scan_headed_line(self.pass.alloc, options, &self.pass.reading.tree, line)?;
         let (next, line_break) = self.append_content(start, end)?;
         let Some(alignments) = found else {
             return Ok((next, line_break));
         };
-        let index = self.allocs.allocate_alignment(alignments)?;
+        let pass = &mut self.pass;
+        let index = pass.allocs.allocate_alignment(alignments)?;
         let table = Item {
             start: start + content_len(line),
             end: next_line(bytes, next),

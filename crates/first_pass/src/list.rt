@@ -2,8 +2,9 @@
 
 ghost use Rattle.std.specs.Prelude.{◌≡◌, ◌≤◌, ℕ, length, IsSome, IsCharBoundary, slice_get, OnOk};
 ghost use Rattle.first_pass_lists.specs.Closing.{popped, item_finished, list_finished, list_continued};
-ghost use Rattle.first_pass.specs.Ordered.{IsOrderedAt};
-ghost use Rattle.first_pass.specs.Views.{allocs_of, reading_of, source_of, source_text, tree_of};
+ghost use Rattle.first_pass_blocks.specs.Ordered.{IsOrderedAt};
+ghost use Rattle.first_pass.specs.Kept.{KeepsTables};
+ghost use Rattle.first_pass.specs.Views.{reading_of, source_text, tree_of};
 
 use crate::state::FirstPass;
 use std::alloc::AllocError;
@@ -13,51 +14,51 @@ impl<'a> FirstPass<'a> {
     /// a list become tight, unless it is loose (CommonMark 5.3).
     pub fn pop(&mut self, ix: usize)
         requires { IsSome (slice_get (tree_of self.old).spine 0) }
-        ensures source { source_of self.new ≡ source_of self.old }
-        ensures allocs { allocs_of self.new ≡ allocs_of self.old }
+        ensures kept { KeepsTables self.old self.new }
         ensures reading { reading_of self.new ≡ popped ix (reading_of self.old) }
         ensures order { (at : ℕ) → at ≤ ix → ix ≤ length (source_text self.old)
             → IsCharBoundary (source_text self.old) ix → IsOrderedAt (source_text self.old) (reading_of self.old) at
             → IsOrderedAt (source_text self.old) (reading_of self.new) ix }
     {
-        self.reading.pop(ix);
+        let pass = &mut self.pass;
+        pass.reading.pop(ix);
     }
 
     /// Closes the innermost open node, if it is an item that began with two blank lines, after the line of
     /// its marker (CommonMark 5.2). No item is empty then.
     pub fn finish_empty_list_item(&mut self)
-        ensures source { source_of self.new ≡ source_of self.old }
-        ensures allocs { allocs_of self.new ≡ allocs_of self.old }
+        ensures kept { KeepsTables self.old self.new }
         ensures reading { reading_of self.new ≡ item_finished (reading_of self.old) }
         ensures order { (at : ℕ) → IsOrderedAt (source_text self.old) (reading_of self.old) at
             → IsOrderedAt (source_text self.old) (reading_of self.new) at }
     {
-        self.reading.finish_empty_list_item();
+        let pass = &mut self.pass;
+        pass.reading.finish_empty_list_item();
     }
 
     /// Closes what a new block ends: an empty item, and the list that is then innermost, at the offset
     /// `ix`. Where a blank line stands before the block, the list becomes loose in whose item it stands.
     pub fn finish_list(&mut self, ix: usize)
-        ensures source { source_of self.new ≡ source_of self.old }
-        ensures allocs { allocs_of self.new ≡ allocs_of self.old }
+        ensures kept { KeepsTables self.old self.new }
         ensures reading { reading_of self.new ≡ list_finished ix (reading_of self.old) }
         ensures order { (at : ℕ) → at ≤ ix → ix ≤ length (source_text self.old)
             → IsCharBoundary (source_text self.old) ix → IsOrderedAt (source_text self.old) (reading_of self.old) at
             → IsOrderedAt (source_text self.old) (reading_of self.new) ix }
     {
-        self.reading.finish_list(ix);
+        let pass = &mut self.pass;
+        pass.reading.finish_list(ix);
     }
 
     /// Continues the list that is innermost, where its byte is `ch`: it is loose if a blank line stands
     /// before. Else a list with that byte and the number `index` is opened at the offset `start`.
     pub fn continue_list(&mut self, start: usize, ch: u8, index: u64) -> Result<(), AllocError>
-        ensures source { OnOk result (source_of self.new ≡ source_of self.old) }
-        ensures allocs { OnOk result (allocs_of self.new ≡ allocs_of self.old) }
+        ensures kept { OnOk result (KeepsTables self.old self.new) }
         ensures reading { OnOk result (reading_of self.new ≡ list_continued start ch index (reading_of self.old)) }
         ensures order { OnOk result ((at : ℕ) → at ≤ start → start ≤ length (source_text self.old)
             → IsCharBoundary (source_text self.old) start → IsOrderedAt (source_text self.old) (reading_of self.old) at
             → IsOrderedAt (source_text self.old) (reading_of self.new) start) }
     {
-        self.reading.continue_list(start, ch, index)
+        let pass = &mut self.pass;
+        pass.reading.continue_list(start, ch, index)
     }
 }

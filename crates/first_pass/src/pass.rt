@@ -1,58 +1,27 @@
-//! The block pass: the lines of a text, one block after the other.
+//! The block pass as a value: the lines of a text, one block after the other.
 
-ghost use Rattle.std.specs.Prelude.{◌≡◌, ◌<◌, ◌≤◌, ◌+◌, ◌-◌, ◌*◌, min, true, false, [], length, None, Some, IsSome, slice_get, IfOk, IfSome, OnOk, IsUtf8, IsCharBoundary, ℕ};
-ghost use Rattle.first_pass_lines.specs.Places.{offset, line_end, IsPlaceOf};
-ghost use Rattle.first_pass_walk.specs.Walk.{MarksSpecial};
-ghost use Rattle.first_pass_scan.specs.MetadataSearch.{IsKnownOf};
-ghost use Rattle.first_pass_grammar.specs.Leaves.{document};
-ghost use Rattle.first_pass_grammar.specs.declared.kind.Container.TheVariants.{BlockQuote};
-ghost use Rattle.first_pass_grammar.specs.Containers.{prefix};
-ghost use Rattle.first_pass_grammar.specs.Derivation.{no_tables, Derives};
+ghost use Rattle.std.specs.Prelude.{◌≡◌, ◌<◌, ◌+◌, length, IfOk, IsCharBoundary};
 ghost use Rattle.first_pass_grammar.specs.Completion.{lines_from};
-ghost use Rattle.first_pass_open.specs.OpenBlock.{closed_by};
-ghost use Rattle.first_pass_grammar.specs.Skeleton.{Inside, Line};
-ghost use Rattle.first_pass_grammar.specs.Kinds.{Paragraph, item_at, unindented, IsKind};
-ghost use Rattle.first_pass_text.specs.declared.kinds.Found.TheVariants.{Marked};
-ghost use Rattle.first_pass.specs.Adding.{AddsLeaf};
-ghost use Rattle.first_pass.specs.Opening.{ReadyText, ReadyTagged, OrderedText};
-ghost use Rattle.first_pass_lists.specs.Closing.{with_block};
-ghost use Rattle.first_pass.specs.Ordered.{IsOrderedAt, IsOrderedFrom};
-ghost use Rattle.first_pass.specs.Progress.{ReadsLeaf, WentOn};
-ghost use Rattle.first_pass_text.specs.Found.{IsFoundAt, marked_kind};
-ghost use Rattle.first_pass_text.specs.Between.{StandsBefore};
-ghost use Rattle.first_pass_grammar.specs.Counting.{own_nodes};
-ghost use Rattle.first_pass_grammar.specs.WholeTables.{AreWholeTables, HasWholeTables};
-ghost use Rattle.first_pass_grammar.specs.Order.{IsOrdered, GrowsBy, is_task_marker};
-ghost use Rattle.first_pass_grammar.specs.OpenOrder.{IsOrderedTo, is_in_item};
-ghost use Rattle.first_pass.specs.State.{Ready, ReadyAt};
-ghost use Rattle.first_pass_names.specs.TableEntries.{tables, names_of, refdefs_of};
-ghost use Rattle.first_pass_definitions.specs.Found.{AreWritten};
-ghost use Rattle.first_pass_grammar.specs.Names.{Names, Extends, AreNamed};
-ghost use Rattle.first_pass.specs.Views.{allocs_of, reading_of, source_of, source_options, source_text, tree_of};
+ghost use Rattle.first_pass_grammar.specs.Derivation.{no_tables};
+ghost use Rattle.first_pass_grammar.specs.Leaves.{document};
+ghost use Rattle.first_pass_grammar.specs.Names.{Names, AreNamed};
+ghost use Rattle.first_pass_grammar.specs.WholeTables.{HasWholeTables};
+ghost use Rattle.first_pass_names.specs.TableEntries.{tables, names_of};
+ghost use Rattle.first_pass_blocks.specs.Ordered.{IsOrderedAt};
+ghost use Rattle.first_pass_blocks.specs.Positions.{LineAt};
+ghost use Rattle.first_pass_blocks.specs.Progress.{ReadsBlock};
+ghost use Rattle.first_pass_blocks.specs.State.{Ready};
+ghost use Rattle.first_pass.specs.Views.{allocs_of, pass_of, reading_of, source_options, source_text, tree_of};
 
-use crate::containers::{Behind, close_containers, enter_line, open_containers};
-use crate::definition::RunEnd;
 pub use crate::state::FirstPass;
 pub use first_pass_below::below::{count_header_cols, get_html_end_tag};
-use first_pass_items::item::Item;
+pub use first_pass_blocks::pass::run_first_pass;
+use first_pass_blocks::state::BlockPass;
 use first_pass_items::option_set::Options;
-use first_pass_lines::places::{next_line, rest_of};
-use first_pass_lists::reading::Reading;
-use first_pass_names::items::Allocations;
-use first_pass_open::indentation::scan_indentation;
-use first_pass_open::place::Place;
-use first_pass_open::source::Source;
-use first_pass_scan::metadata_search::MetadataEnds;
-use first_pass_text::interrupt::scan_line_behind_tag;
 pub use first_pass_text::interrupt::scan_paragraph_interrupt_no_table;
-use first_pass_text::kinds::{Found, MarkedLeaf, kind_at};
 use first_pass_tokens::braces::BraceContexts;
-use first_pass_tree::forest::Tree;
 pub use first_pass_tree::tight::surgerize_tight_list;
-use first_pass_tree::tree_index::TreeIndex;
-use first_pass_walk::walk::special_bytes;
 use std::alloc::{AllocError, Global};
-use std::cmp::max;
 
 impl<'a> FirstPass<'a> {
     /// A pass over `text` that has read nothing yet.
@@ -67,297 +36,22 @@ impl<'a> FirstPass<'a> {
         ensures named { IfOk result (λ pass. AreNamed (names_of (allocs_of pass)) (tree_of pass).nodes) }
         ensures whole { IfOk result (λ pass. HasWholeTables (names_of (allocs_of pass)) (tree_of pass)) }
     {
-        // A guess at how many nodes the text will have: pages of it that are never reached cost nothing. It stays
-        // under 32 MiB, above which the C library maps such a block anew in each pass.
-        let capacity = max(128, (text.len() / 6).min(640_000));
-        let mut tree = Tree::with_capacity(alloc, capacity)?;
-        let root = tree.root();
-        tree.set_end(root, text.len());
+        let pass = BlockPass::new(alloc, text, options)?;
         Ok(FirstPass {
-            alloc,
-            source: Source { text, options },
-            reading: Reading {
-                tree,
-                empty_item: None,
-                blank: false,
-            },
-            allocs: Allocations::new(alloc),
+            pass,
             braces: BraceContexts::new(),
-            lookup_table: special_bytes(&options),
-            metadata_ends: MetadataEnds::new(),
         })
     }
 
-    /// Reads the block that begins at the line's start `start_ix`, an offset into the text before its
-    /// end, and returns the offset at which the next line begins that is not read, or the text's length.
-    /// Open containers that the line doesn't continue are closed, and those that begin in it are opened.
-    ///
-    /// Where the nodes so far begin a derivation of the text that continues at `start_ix`, they begin one
-    /// then that continues at the answer. At most four nodes are added for each byte that is read, cells apart
-    /// that rows of tables are filled with.
-    ///
-    /// Where each link definition in the table is written in the text, each is so then: its label, its destination and
-    /// a title of one line are borrowed from the text where nothing in them changes (CommonMark 4.7, and this
-    /// project).
-    ///
-    /// Where each index that they keep names an entry, and no row of a table is open, tables that are whole stay so:
-    /// their rows stand one deeper, the cells of these two deeper, and none elsewhere; each row has as many cells as
-    /// its table has columns, and of the cells of a table at most 262,144 are filled in (GFM 4.10, and this project).
+    /// Reads the block that begins at the line's start `start_ix`, an offset into the text before its end, and returns
+    /// the offset at which the next line begins that is not read, or the text's length. What it keeps is said at
+    /// `BlockPass::parse_block`.
     pub fn parse_block(&mut self, start_ix: usize) -> Result<usize, AllocError>
         requires within { start_ix < length (source_text self.old) }
         requires boundary { IsCharBoundary (source_text self.old) start_ix }
-        ensures source { OnOk result (source_of self.new ≡ source_of self.old) }
-        ensures names { OnOk result (Extends (names_of (allocs_of self.new)) (names_of (allocs_of self.old))) }
-        ensures later { IfOk result (λ next. (start_ix < next) × (next ≤ length (source_text self.old))) }
-        ensures boundary { IfOk result (λ next. IsCharBoundary (source_text self.old) next) }
-        ensures ready { IfOk result (λ next. (names : Names) → Extends names (names_of (allocs_of self.new))
-            → Ready (document (source_text self.old) (source_options self.old) names)
-            (tables (allocs_of self.old)) (reading_of self.old)
-            (lines_from (source_text self.old) start_ix)
-            → Ready (document (source_text self.old) (source_options self.old) names)
-            (tables (allocs_of self.new)) (reading_of self.new)
-            (lines_from (source_text self.old) next)) }
-        ensures order { IfOk result (λ next.
-            IsOrderedFrom (source_options self.old) (source_text self.old) (reading_of self.old) start_ix
-            → IsOrderedFrom (source_options self.old) (source_text self.old) (reading_of self.new) next) }
-        ensures few { IfOk result (λ next. GrowsBy start_ix next (tree_of self.old).nodes
-            (tree_of self.new).nodes) }
-        ensures named { OnOk result (AreNamed (names_of (allocs_of self.old)) (tree_of self.old).nodes
-            → AreNamed (names_of (allocs_of self.new)) (tree_of self.new).nodes) }
-        ensures written { OnOk result (AreWritten (source_text self.old) (refdefs_of (allocs_of self.old))
-            → AreWritten (source_text self.old) (refdefs_of (allocs_of self.new))) }
-        ensures whole { OnOk result (AreNamed (names_of (allocs_of self.old)) (tree_of self.old).nodes
-            → HasWholeTables (names_of (allocs_of self.old)) (tree_of self.old)
-            → HasWholeTables (names_of (allocs_of self.new)) (tree_of self.new)) }
+        ensures { IfOk result (λ next.
+            ReadsBlock (pass_of self.old) (pass_of self.new) (1 + start_ix) (LineAt start_ix) next) }
     {
-        let Some(mut place) = enter_line(&mut self.reading, self.source, start_ix) else {
-            return Ok(next_line(self.source.text.as_bytes(), start_ix));
-        };
-        match open_containers(&mut self.reading, self.source, &mut place)? {
-            Behind::Leaf => {
-                let next = self.parse_leaf(place)?;
-                Ok(next)
-            }
-            Behind::TaskText(marker) => {
-                let next = self.parse_task_text(place, marker)?;
-                Ok(next)
-            }
-            Behind::NextLine(next) => Ok(next),
-            Behind::Tag(next) => {
-                let next = self.parse_tagged(next)?;
-                Ok(next)
-            }
-        }
+        self.pass.parse_block(start_ix)
     }
-
-    // Reads the line that begins at `start`, after the tag of the block quote that is innermost, where it
-    // belongs to that quote; returns as `parse_block`, or `start` where the line is read as any other.
-    fn parse_tagged(&mut self, start: usize) -> Result<usize, AllocError>
-        requires boundary { IsCharBoundary (source_text self.old) start }
-        requires no_empty { (reading_of self.old).empty_item ≡ None }
-        ensures read { IfOk result (λ next. WentOn self.old self.new start (λ names.
-            ReadyTagged (document (source_text self.old) (source_options self.old) names)
-            (tables (allocs_of self.old)) (reading_of self.old)
-            (lines_from (source_text self.old) start))
-            (IsOrderedTo (source_text self.old) (tree_of self.old) start) next) }
-        ensures few { IfOk result (λ next. GrowsBy start next (tree_of self.old).nodes
-            (tree_of self.new).nodes) }
-    {
-        let bytes = rest_of(self.source.text.as_bytes(), start);
-        match scan_line_behind_tag(self.alloc, self.source, bytes, &self.reading.tree)? {
-            None => Ok(start),
-            Some(rest) => {
-                let next = self.parse_leaf(Place { line: start, rest })?;
-                Ok(next)
-            }
-        }
-    }
-
-    // Reads the paragraph after the marker of a task list item, at a place; returns as `parse_block`.
-    fn parse_task_text(&mut self, place: Place<'a>, marker: Item) -> Result<usize, AllocError>
-        requires utf8 { IsUtf8 (source_text self.old) }
-        requires place { IsPlaceOf (source_text self.old) place }
-        requires marker { is_task_marker marker.body ≡ true }
-        requires item { is_in_item (tree_of self.old) ≡ true }
-        requires no_empty { (reading_of self.old).empty_item ≡ None }
-        ensures read { IfOk result (λ next. WentOn self.old self.new (line_end place.entry) (λ names.
-            ReadyText (document (source_text self.old) (source_options self.old) names)
-            (tables (allocs_of self.old)) (reading_of self.old) marker
-            place.entry (lines_from (source_text self.old) (line_end place.entry)))
-            (OrderedText (source_text self.old) (tree_of self.old) marker (offset place.entry)) next) }
-        ensures few { IfOk result (λ next. (from : ℕ) → StandsBefore (source_text self.old) from
-            (offset place.entry) (Some marker) → from < next
-            → GrowsBy from next (tree_of self.old).nodes (tree_of self.new).nodes) }
-    {
-        self.source.is_short();
-        let mut place = place;
-        scan_indentation(&mut place.rest);
-        let next = self.parse_paragraph(place.offset(), Some(marker))?;
-        Ok(next)
-    }
-
-    // Reads the leaf block that begins at a place where no container begins, or after a block quote's tag; returns as
-    // `parse_block`.
-    fn parse_leaf(&mut self, place: Place<'a>) -> Result<usize, AllocError>
-        requires utf8 { IsUtf8 (source_text self.old) }
-        requires place { IsPlaceOf (source_text self.old) place }
-        requires no_empty { (reading_of self.old).empty_item ≡ None }
-        ensures read { IfOk result (λ next. ReadsLeaf self.old self.new place.entry next) }
-        ensures few { IfOk result (λ next. GrowsBy (offset place.entry) next (tree_of self.old).nodes
-            (tree_of self.new).nodes) }
-    {
-        self.source.is_short();
-        let mut behind = place.copy();
-        let (found, columns) = kind_at(self.source, &mut behind, &mut self.metadata_ends);
-        let next = self.parse_kind(place, found, columns, behind.offset())?;
-        Ok(next)
-    }
-
-    // Reads the leaf block that was found at a place, after so many columns, at the offset `at`; returns as
-    // `parse_block`.
-    #[inline(always)]
-    fn parse_kind(
-        &mut self,
-        place: Place<'a>,
-        found: Found,
-        columns: usize,
-        at: usize,
-    ) -> Result<usize, AllocError>
-        requires utf8 { IsUtf8 (source_text self.old) }
-        requires place { IsPlaceOf (source_text self.old) place }
-        requires no_empty { (reading_of self.old).empty_item ≡ None }
-        requires found { IsFoundAt (source_options self.old) place found columns at }
-        ensures read { IfOk result (λ next. ReadsLeaf self.old self.new place.entry next) }
-        ensures few { IfOk result (λ next. GrowsBy (offset place.entry) next (tree_of self.old).nodes
-            (tree_of self.new).nodes) }
-    {
-        self.reading.tree.is_forest();
-        match found {
-            Found::Blank => {
-                self.reading.read_blank_line();
-                Ok(next_line(self.source.text.as_bytes(), at))
-            }
-            Found::Paragraph => {
-                let next = self.parse_text(place, at)?;
-                Ok(next)
-            }
-            Found::HtmlToBlank => {
-                self.reading.finish_list(place.line);
-                let next = self.parse_html_block_type_6_or_7(at, 0, columns)?;
-                Ok(next)
-            }
-            Found::Marked(leaf) => {
-                self.reading.finish_list(place.line);
-                let next = self.parse_marked(place, leaf, columns, at)?;
-                Ok(next)
-            }
-        }
-    }
-
-    // Reads the link definitions at a place whose text begins at the offset `at`, and the paragraph that they flow
-    // into, or the paragraph that begins there; returns as `parse_block`.
-    fn parse_text(&mut self, place: Place<'a>, at: usize) -> Result<usize, AllocError>
-        requires utf8 { IsUtf8 (source_text self.old) }
-        requires place { IsPlaceOf (source_text self.old) place }
-        requires no_empty { (reading_of self.old).empty_item ≡ None }
-        requires kind { IsKind (source_options self.old) place.rest Paragraph }
-        requires at { at ≡ offset (unindented place) }
-        ensures read { IfOk result (λ next. ReadsLeaf self.old self.new place.entry next) }
-        ensures few { IfOk result (λ next. GrowsBy (offset place.entry) next (tree_of self.old).nodes
-            (tree_of self.new).nodes) }
-    {
-        self.reading.tree.is_forest();
-        match self.parse_definitions(place.line, at)? {
-            RunEnd::NextLine(line, next) => {
-                self.reading.finish_list(line);
-                Ok(next)
-            }
-            RunEnd::Paragraph(text) => {
-                self.reading.finish_list(text);
-                let next = self.parse_paragraph(text, None)?;
-                Ok(next)
-            }
-        }
-    }
-
-    // Appends the leaf block that is told by its mark, at a place, after so many columns, at the offset `at`.
-    fn parse_marked(
-        &mut self,
-        place: Place<'a>,
-        leaf: MarkedLeaf,
-        columns: usize,
-        at: usize,
-    ) -> Result<usize, AllocError>
-        requires utf8 { IsUtf8 (source_text self.old) }
-        requires place { IsPlaceOf (source_text self.old) place }
-        requires found { IsFoundAt (source_options self.old) place (Marked leaf) columns at }
-        requires not_blank { (reading_of self.old).blank ≡ false }
-        ensures { IfOk result (λ next. AddsLeaf self.old self.new place.entry (marked_kind leaf) next) }
-    {
-        match leaf {
-            MarkedLeaf::IndentedCode => {
-                let next = self.parse_code(place)?;
-                Ok(next)
-            }
-            MarkedLeaf::Metadata(byte) => {
-                let next = self.parse_metadata_block(at, byte)?;
-                Ok(next)
-            }
-            MarkedLeaf::HtmlToEnd(end) => {
-                let next = self.parse_html_block_type_1_to_5(at, end, 0, columns)?;
-                Ok(next)
-            }
-            MarkedLeaf::ThematicBreak(size) => {
-                let next = self.parse_hrule(size, at)?;
-                Ok(next)
-            }
-            MarkedLeaf::AtxHeading(level) => {
-                let next = self.parse_atx_heading(at, level)?;
-                Ok(next)
-            }
-            MarkedLeaf::FencedCode(count, byte) => {
-                let next = self.parse_fenced_code_block(at, columns, byte, count)?;
-                Ok(next)
-            }
-        }
-    }
-}
-
-/// Reads the blocks of a text: the finished tree that the block grammar derives from the text's lines
-/// under these options, and the tables of what the text defines. The tree has at most four nodes for each
-/// byte, besides its root and cells that rows of tables are filled with; each row has as many cells as its table has
-/// columns, and at most 262,144 cells are filled into a table. Each link definition in the tables is what stands at
-/// its range; its label, its destination and a title of one line are borrowed from the text where nothing in them
-/// changes. The one error is that a request for memory was refused.
-pub fn run_first_pass<'a>(
-    alloc: Global,
-    text: &'a str,
-    options: Options,
-) -> Result<(Tree<Item>, Allocations<'a>), AllocError>
-    ensures derived { IfOk result (λ answer. Derives (document text.now options (names_of answer.1)) answer.0.nodes
-        (tables answer.1)) }
-    ensures finished { IfOk result (λ answer. answer.0.spine ≡ []) }
-    ensures order { IfOk result (λ answer. IsOrdered text.now answer.0.nodes) }
-    ensures few { IfOk result (λ answer. own_nodes answer.0.nodes ≤ 1 + 4 * length text.now) }
-    ensures named { IfOk result (λ answer. AreNamed (names_of answer.1) answer.0.nodes) }
-    ensures written { IfOk result (λ answer. AreWritten text.now (refdefs_of answer.1)) }
-    ensures whole { IfOk result (λ answer. AreWholeTables (names_of answer.1) answer.0.nodes) }
-{
-    let mut pass = FirstPass::new(alloc, text, options)?;
-    let mut ix = 0;
-    while ix < text.len() {
-        ix = pass.parse_block(ix)?;
-    }
-    close_containers(&mut pass.reading, 0, text.len());
-    let FirstPass {
-        alloc: _,
-        source: _,
-        reading,
-        allocs,
-        braces: _,
-        lookup_table: _,
-        metadata_ends: _,
-    } = pass;
-    let Reading { tree, .. } = reading;
-    Ok((tree, allocs))
 }

@@ -1,24 +1,22 @@
 //! Leaf blocks whose lines are raw: code, metadata and HTML.
 
-ghost use Rattle.std.specs.Prelude.{◌≡◌, ◌≤◌, ◌<◌, ℕ, Some, None, true, false, nat_lt, max, List, length, drop, IfOk, OnOk, IsUtf8, IsCharBoundary};
+ghost use Rattle.std.specs.Prelude.{◌≡◌, ◌≤◌, ◌<◌, ℕ, Some, None, true, false, max, length, drop, IfOk, OnOk, IsCharBoundary};
 ghost use Rattle.first_pass_lines.specs.Lines.{is_blank_line, is_content};
 ghost use Rattle.first_pass_scan.specs.LeafLines.{code_fence};
 ghost use Rattle.first_pass_lines.specs.Rest.{indent};
-ghost use Rattle.first_pass_lines.specs.Places.{Place, offset, line_end, IsPlaceOf};
+ghost use Rattle.first_pass_lines.specs.Places.{Place, offset};
 ghost use Rattle.first_pass_grammar.specs.Leaves.{document};
-ghost use Rattle.first_pass_grammar.specs.Names.{Extends};
-ghost use Rattle.first_pass_grammar.specs.Kinds.{IndentedCode, is_blank_rest};
 ghost use Rattle.first_pass_grammar.specs.RawLines.{range_text, range_html};
 ghost use Rattle.first_pass_grammar.specs.CodeBlocks.{IsFencedCode, IsMetadata};
 ghost use Rattle.first_pass_grammar.specs.HtmlBlocks.{IsHtml};
-ghost use Rattle.first_pass_names.specs.TableEntries.{entries, names_of};
+ghost use Rattle.first_pass_names.specs.TableEntries.{names_of};
 ghost use Rattle.first_pass_raw.specs.RawBlocks.{range_of, AppendsRaw, IsPlaceAt, AddsIndented, AddsRaw, behind_line_at, fenced_behind, metadata_behind, html_to_end, html_to_blank};
-ghost use Rattle.first_pass.specs.Adding.{AddsLeaf};
 ghost use Rattle.first_pass_grammar.specs.Order.{GrowsBy};
 ghost use Rattle.first_pass_lists.specs.Closing.{with_block};
 ghost use Rattle.first_pass_text.specs.Between.{AddsBetween};
-ghost use Rattle.first_pass.specs.Ordered.{IsOrderedAt, IsOrderedFrom};
-ghost use Rattle.first_pass.specs.Views.{allocs_of, context_in, reading_of, source_of, source_options, source_text, tree_of};
+ghost use Rattle.first_pass_blocks.specs.Ordered.{IsOrderedAt, IsOrderedFrom};
+ghost use Rattle.first_pass.specs.Kept.{KeepsNames};
+ghost use Rattle.first_pass.specs.Views.{allocs_of, context_in, reading_of, source_options, source_text, tree_of};
 
 use crate::state::FirstPass;
 use first_pass_open::place::Place;
@@ -26,7 +24,6 @@ use first_pass_raw::fenced_code::Fence;
 use first_pass_raw::raw_line::{RawKind, append_raw_line};
 use first_pass_raw::{fenced_code, html_block, indented_code, metadata_block};
 use std::alloc::AllocError;
-use std::cmp::max;
 
 impl<'a> FirstPass<'a> {
     /// Appends a raw line of code or metadata to the innermost open node: the columns that are owed before it, at
@@ -40,9 +37,7 @@ impl<'a> FirstPass<'a> {
         requires owed { remaining_space ≤ 3 }
         requires order { start ≤ end }
         requires within { end ≤ length (source_text self.old) }
-        ensures source { OnOk result (source_of self.new ≡ source_of self.old) }
-        ensures names { OnOk result (Extends (names_of (allocs_of self.new)) (names_of (allocs_of self.old))) }
-        ensures entries { OnOk result (entries (allocs_of self.new) ≡ entries (allocs_of self.old)) }
+        ensures kept { OnOk result (KeepsNames self.old self.new) }
         ensures reading { OnOk result (reading_of self.new ≡ with_block (reading_of self.old) (tree_of self.new)) }
         ensures line { OnOk result (AppendsRaw range_text (source_text self.old) (names_of (allocs_of self.new))
             remaining_space start end (tree_of self.old) (tree_of self.new)) }
@@ -64,9 +59,7 @@ impl<'a> FirstPass<'a> {
         requires owed { remaining_space ≤ 3 }
         requires order { start ≤ end }
         requires within { end ≤ length (source_text self.old) }
-        ensures source { OnOk result (source_of self.new ≡ source_of self.old) }
-        ensures names { OnOk result (Extends (names_of (allocs_of self.new)) (names_of (allocs_of self.old))) }
-        ensures entries { OnOk result (entries (allocs_of self.new) ≡ entries (allocs_of self.old)) }
+        ensures kept { OnOk result (KeepsNames self.old self.new) }
         ensures reading { OnOk result (reading_of self.new ≡ with_block (reading_of self.old) (tree_of self.new)) }
         ensures line { OnOk result (AppendsRaw range_html (source_text self.old) (names_of (allocs_of self.new))
             remaining_space start end (tree_of self.old) (tree_of self.new)) }
@@ -88,9 +81,7 @@ impl<'a> FirstPass<'a> {
         requires owed { remaining_space ≤ 3 }
         requires order { start ≤ end }
         requires within { end ≤ length (source_text self.old) }
-        ensures source { OnOk result (source_of self.new ≡ source_of self.old) }
-        ensures names { OnOk result (Extends (names_of (allocs_of self.new)) (names_of (allocs_of self.old))) }
-        ensures entries { OnOk result (entries (allocs_of self.new) ≡ entries (allocs_of self.old)) }
+        ensures kept { OnOk result (KeepsNames self.old self.new) }
         ensures reading { OnOk result (reading_of self.new ≡ with_block (reading_of self.old) (tree_of self.new)) }
         ensures line { OnOk result (AppendsRaw (range_of kind) (source_text self.old) (names_of (allocs_of self.new))
             remaining_space start end (tree_of self.old) (tree_of self.new)) }
@@ -98,18 +89,19 @@ impl<'a> FirstPass<'a> {
             → IsCharBoundary (source_text self.old) end → IsOrderedAt (source_text self.old) (reading_of self.old) at
             → IsOrderedAt (source_text self.old) (reading_of self.new) end) }
     {
-        self.reading.tree.is_forest();
-        self.source.is_short();
+        let pass = &mut self.pass;
+        pass.reading.tree.is_forest();
+        pass.source.is_short();
         append_raw_line(
-            &mut self.reading.tree,
-            &mut self.allocs,
-            self.source.text,
+            &mut pass.reading.tree,
+            &mut pass.allocs,
+            pass.source.text,
             kind,
             remaining_space,
             start,
             end,
         )?;
-        self.reading.empty_item = None;
+        pass.reading.empty_item = None;
         Ok(())
     }
 
@@ -124,10 +116,8 @@ impl<'a> FirstPass<'a> {
         requires boundary { IsCharBoundary (source_text self.old) start_ix }
         requires owed { remaining_space ≤ 3 }
         requires code { is_blank_line (drop start_ix (source_text self.old)) ≡ false }
-        ensures source { OnOk result (source_of self.new ≡ source_of self.old) }
+        ensures kept { OnOk result (KeepsNames self.old self.new) }
         ensures empty_item { OnOk result ((reading_of self.new).empty_item ≡ None) }
-        ensures names { OnOk result (Extends (names_of (allocs_of self.new)) (names_of (allocs_of self.old))) }
-        ensures entries { OnOk result (entries (allocs_of self.new) ≡ entries (allocs_of self.old)) }
         ensures block { IfOk result (λ next. (p : Place) → IsPlaceAt (source_text self.old) start_ix p
             → p.rest.owed ≡ remaining_space
             → AddsIndented (document (source_text self.old) (source_options self.old) (names_of (allocs_of self.new))) p
@@ -140,31 +130,17 @@ impl<'a> FirstPass<'a> {
             → IsOrderedAt (source_text self.old) (reading_of self.old) at
             → IsOrderedAt (source_text self.old) (reading_of self.new) next) }
     {
+        let pass = &mut self.pass;
         let (next, blank) = indented_code::parse_indented_code_block(
-            &mut self.reading.tree,
-            &mut self.allocs,
-            self.source.text,
-            self.source.options,
+            &mut pass.reading.tree,
+            &mut pass.allocs,
+            pass.source.text,
+            pass.source.options,
             start_ix,
             remaining_space,
         )?;
-        self.reading.empty_item = None;
-        self.reading.blank = blank;
-        Ok(next)
-    }
-
-    // The same after the columns of a place.
-    pub(crate) fn parse_code(&mut self, place: Place<'a>) -> Result<usize, AllocError>
-        requires utf8 { IsUtf8 (source_text self.old) }
-        requires place { IsPlaceOf (source_text self.old) place }
-        requires code { (is_blank_rest place.rest ≡ false) × (nat_lt (indent place.rest) 4 ≡ false) }
-        ensures { IfOk result (λ next. AddsLeaf self.old self.new place.entry IndentedCode next) }
-    {
-        self.source.is_short();
-        let mut place = place;
-        place.rest.scan_space_upto(4);
-        let owed = place.rest.remaining_space();
-        let next = self.parse_indented_code_block(place.offset(), owed)?;
+        pass.reading.empty_item = None;
+        pass.reading.blank = blank;
         Ok(next)
     }
 
@@ -180,9 +156,7 @@ impl<'a> FirstPass<'a> {
     ) -> Result<usize, AllocError>
         requires boundary { IsCharBoundary (source_text self.old) start_ix }
         requires fence { code_fence (drop start_ix (source_text self.old)) ≡ Some (n_fence_char, fence_ch) }
-        ensures source { OnOk result (source_of self.new ≡ source_of self.old) }
-        ensures names { OnOk result (Extends (names_of (allocs_of self.new)) (names_of (allocs_of self.old))) }
-        ensures entries { OnOk result (entries (allocs_of self.new) ≡ entries (allocs_of self.old)) }
+        ensures kept { OnOk result (KeepsNames self.old self.new) }
         ensures reading { OnOk result (reading_of self.new ≡ with_block (reading_of self.old) (tree_of self.new)) }
         ensures block { IfOk result (λ next. let e = fenced_behind (source_text self.old)
             (context_in self.old).path indent fence_ch n_fence_char start_ix in
@@ -197,21 +171,22 @@ impl<'a> FirstPass<'a> {
             → IsOrderedAt (source_text self.old) (reading_of self.old) at
             → IsOrderedAt (source_text self.old) (reading_of self.new) next) }
     {
+        let pass = &mut self.pass;
         let fence = Fence {
             indent,
             byte: fence_ch,
             count: n_fence_char,
         };
         let next = fenced_code::parse_fenced_code_block(
-            self.alloc,
-            &mut self.reading.tree,
-            &mut self.allocs,
-            self.source.text,
-            self.source.options,
+            pass.alloc,
+            &mut pass.reading.tree,
+            &mut pass.allocs,
+            pass.source.text,
+            pass.source.options,
             start_ix,
             fence,
         )?;
-        self.reading.empty_item = None;
+        pass.reading.empty_item = None;
         Ok(next)
     }
 
@@ -224,9 +199,7 @@ impl<'a> FirstPass<'a> {
     ) -> Result<usize, AllocError>
         requires boundary { IsCharBoundary (source_text self.old) start_ix }
         requires byte { is_content metadata_block_ch ≡ true }
-        ensures source { OnOk result (source_of self.new ≡ source_of self.old) }
-        ensures names { OnOk result (Extends (names_of (allocs_of self.new)) (names_of (allocs_of self.old))) }
-        ensures entries { OnOk result (entries (allocs_of self.new) ≡ entries (allocs_of self.old)) }
+        ensures kept { OnOk result (KeepsNames self.old self.new) }
         ensures reading { OnOk result (reading_of self.new ≡ with_block (reading_of self.old) (tree_of self.new)) }
         ensures block { IfOk result (λ next. let e = metadata_behind (source_text self.old)
             (context_in self.old).path metadata_block_ch start_ix in
@@ -241,15 +214,16 @@ impl<'a> FirstPass<'a> {
             → IsOrderedAt (source_text self.old) (reading_of self.old) at
             → IsOrderedAt (source_text self.old) (reading_of self.new) next) }
     {
+        let pass = &mut self.pass;
         let next = metadata_block::parse_metadata_block(
-            &mut self.reading.tree,
-            &mut self.allocs,
-            self.source.text,
-            self.source.options,
+            &mut pass.reading.tree,
+            &mut pass.allocs,
+            pass.source.text,
+            pass.source.options,
             start_ix,
             metadata_block_ch,
         )?;
-        self.reading.empty_item = None;
+        pass.reading.empty_item = None;
         Ok(next)
     }
 
@@ -266,9 +240,7 @@ impl<'a> FirstPass<'a> {
         requires boundary { IsCharBoundary (source_text self.old) start_ix }
         requires owed { remaining_space ≤ 3 }
         requires indent { indent ≤ 3 }
-        ensures source { OnOk result (source_of self.new ≡ source_of self.old) }
-        ensures names { OnOk result (Extends (names_of (allocs_of self.new)) (names_of (allocs_of self.old))) }
-        ensures entries { OnOk result (entries (allocs_of self.new) ≡ entries (allocs_of self.old)) }
+        ensures kept { OnOk result (KeepsNames self.old self.new) }
         ensures reading { OnOk result (reading_of self.new ≡ with_block (reading_of self.old) (tree_of self.new)) }
         ensures block { IfOk result (λ next. (p : Place) → IsPlaceAt (source_text self.old) start_ix p
             → let e = html_to_end (source_text self.old) (context_in self.old).path html_end_tag.now p in
@@ -283,16 +255,17 @@ impl<'a> FirstPass<'a> {
             → IsOrderedAt (source_text self.old) (reading_of self.old) at
             → IsOrderedAt (source_text self.old) (reading_of self.new) next) }
     {
+        let pass = &mut self.pass;
         let next = html_block::parse_html_block_type_1_to_5(
-            &mut self.reading.tree,
-            &mut self.allocs,
-            self.source.text,
-            self.source.options,
+            &mut pass.reading.tree,
+            &mut pass.allocs,
+            pass.source.text,
+            pass.source.options,
             start_ix,
             html_end_tag,
-            max(remaining_space, indent),
+            remaining_space.max(indent),
         )?;
-        self.reading.empty_item = None;
+        pass.reading.empty_item = None;
         Ok(next)
     }
 
@@ -308,9 +281,7 @@ impl<'a> FirstPass<'a> {
         requires boundary { IsCharBoundary (source_text self.old) start_ix }
         requires owed { remaining_space ≤ 3 }
         requires indent { indent ≤ 3 }
-        ensures source { OnOk result (source_of self.new ≡ source_of self.old) }
-        ensures names { OnOk result (Extends (names_of (allocs_of self.new)) (names_of (allocs_of self.old))) }
-        ensures entries { OnOk result (entries (allocs_of self.new) ≡ entries (allocs_of self.old)) }
+        ensures kept { OnOk result (KeepsNames self.old self.new) }
         ensures reading { OnOk result (reading_of self.new ≡ with_block (reading_of self.old) (tree_of self.new)) }
         ensures block { IfOk result (λ next. (p : Place) → IsPlaceAt (source_text self.old) start_ix p
             → let e = html_to_blank (source_text self.old) (context_in self.old).path p in
@@ -328,16 +299,17 @@ impl<'a> FirstPass<'a> {
         ensures few { IfOk result (λ next. (from : ℕ) → from ≤ start_ix → from < next
             → GrowsBy from next (tree_of self.old).nodes (tree_of self.new).nodes) }
     {
-        self.reading.tree.is_forest();
+        let pass = &mut self.pass;
+        pass.reading.tree.is_forest();
         let next = html_block::parse_html_block_type_6_or_7(
-            &mut self.reading.tree,
-            &mut self.allocs,
-            self.source.text,
-            self.source.options,
+            &mut pass.reading.tree,
+            &mut pass.allocs,
+            pass.source.text,
+            pass.source.options,
             start_ix,
-            max(remaining_space, indent),
+            remaining_space.max(indent),
         )?;
-        self.reading.empty_item = None;
+        pass.reading.empty_item = None;
         Ok(next)
     }
 }

@@ -3,17 +3,17 @@
 ghost use Rattle.std.specs.Prelude.{◌≡◌, ◌<◌, ◌≤◌, true, ℕ, length, IfOk, IsSomeAnd, OnOk, IsCharBoundary};
 ghost use Rattle.first_pass_tree.specs.declared.tree_index.TreeIndex.{TreeIndex};
 ghost use Rattle.first_pass_tree.specs.Forest.{in_table};
-ghost use Rattle.first_pass_names.specs.TableEntries.{entries, names_of, AddsTexts};
-ghost use Rattle.first_pass_grammar.specs.Names.{Extends};
+ghost use Rattle.first_pass_names.specs.TableEntries.{names_of, AddsTexts};
 ghost use Rattle.first_pass_grammar.specs.Leaves.{document};
 ghost use Rattle.first_pass_grammar.specs.OpenOrder.{IsOrderedTo};
 ghost use Rattle.first_pass_grammar.specs.Order.{GrowsBy};
 ghost use Rattle.first_pass_grammar.specs.Tables.{most_filled};
 ghost use Rattle.first_pass_open.specs.OpenBlock.{IsJustPushed};
 ghost use Rattle.first_pass_text.specs.Appends.{line_end_at};
-ghost use Rattle.first_pass.specs.Ordered.{behind_row};
+ghost use Rattle.first_pass.specs.Holds.{behind_row};
 ghost use Rattle.first_pass_tables.specs.Appends.{IsOpenNode, open_table, ReadsRow, ReadsRowLine, AppendsRows, AddsWholeRows};
-ghost use Rattle.first_pass.specs.Views.{allocs_of, braces_of, reading_of, source_of, source_options, source_text, tree_of, with_tree};
+ghost use Rattle.first_pass.specs.Kept.{KeepsNames};
+ghost use Rattle.first_pass.specs.Views.{allocs_of, braces_of, reading_of, source_options, source_text, tree_of, with_tree};
 
 use crate::state::FirstPass;
 use first_pass_tables::{row, rows};
@@ -38,10 +38,8 @@ impl<'a> FirstPass<'a> {
         requires body { IsCharBoundary (source_text self.old) body_start }
         requires open { (ix : TreeIndex) × IsJustPushed (tree_of self.old) ix }
         requires table { in_table (tree_of self.old).nodes (tree_of self.old).spine ≡ true }
-        ensures source { OnOk result (source_of self.new ≡ source_of self.old) }
-        ensures names { OnOk result (Extends (names_of (allocs_of self.new)) (names_of (allocs_of self.old))) }
+        ensures kept { OnOk result (KeepsNames self.old self.new) }
         ensures texts { OnOk result (AddsTexts (names_of (allocs_of self.new)) (names_of (allocs_of self.old))) }
-        ensures entries { OnOk result (entries (allocs_of self.new) ≡ entries (allocs_of self.old)) }
         ensures braces { OnOk result (braces_of self.new ≡ braces_of self.old) }
         ensures reading { OnOk result (reading_of self.new ≡ with_tree (reading_of self.old) (tree_of self.new)) }
         ensures rows { IfOk result (λ answer. IsSomeAnd answer (λ next.
@@ -58,12 +56,13 @@ impl<'a> FirstPass<'a> {
             AddsWholeRows (document (source_text self.old) (source_options self.old) (names_of (allocs_of self.new)))
             table_cols head_start (tree_of self.old) (tree_of self.new) next)) }
     {
+        let pass = &mut self.pass;
         let next = rows::parse_table(
-            self.alloc,
-            self.source,
-            &self.lookup_table,
-            &mut self.reading.tree,
-            &mut self.allocs,
+            pass.alloc,
+            pass.source,
+            &pass.lookup_table,
+            &mut pass.reading.tree,
+            &mut pass.allocs,
             table_cols,
             head_start,
             body_start,
@@ -85,10 +84,8 @@ impl<'a> FirstPass<'a> {
         requires open { IsOpenNode (tree_of self.old) }
         requires table { in_table (tree_of self.old).nodes (tree_of self.old).spine ≡ true }
         requires few { missing_empty_cells.old ≤ most_filled }
-        ensures source { OnOk result (source_of self.new ≡ source_of self.old) }
-        ensures names { OnOk result (Extends (names_of (allocs_of self.new)) (names_of (allocs_of self.old))) }
+        ensures kept { OnOk result (KeepsNames self.old self.new) }
         ensures texts { OnOk result (AddsTexts (names_of (allocs_of self.new)) (names_of (allocs_of self.old))) }
-        ensures entries { OnOk result (entries (allocs_of self.new) ≡ entries (allocs_of self.old)) }
         ensures reading { OnOk result (reading_of self.new ≡ with_tree (reading_of self.old) (tree_of self.new)) }
         ensures row { IfOk result (λ row.
             ReadsRowLine (document (source_text self.old) (source_options self.old) (names_of (allocs_of self.new)))
@@ -101,12 +98,13 @@ impl<'a> FirstPass<'a> {
         ensures few { IfOk result (λ row. (from : ℕ) → from ≤ ix → from < behind_row row ix
             → GrowsBy from (behind_row row ix) (tree_of self.old).nodes (tree_of self.new).nodes) }
     {
+        let pass = &mut self.pass;
         let row = rows::parse_table_row(
-            self.alloc,
-            self.source,
-            &self.lookup_table,
-            &mut self.reading.tree,
-            &mut self.allocs,
+            pass.alloc,
+            pass.source,
+            &pass.lookup_table,
+            &mut pass.reading.tree,
+            &mut pass.allocs,
             &mut self.braces,
             ix,
             row_cells,
@@ -129,10 +127,8 @@ impl<'a> FirstPass<'a> {
         requires within { ix ≤ length (source_text self.old) }
         requires open { IsOpenNode (tree_of self.old) }
         requires few { missing_empty_cells.old ≤ most_filled }
-        ensures source { OnOk result (source_of self.new ≡ source_of self.old) }
-        ensures names { OnOk result (Extends (names_of (allocs_of self.new)) (names_of (allocs_of self.old))) }
+        ensures kept { OnOk result (KeepsNames self.old self.new) }
         ensures texts { OnOk result (AddsTexts (names_of (allocs_of self.new)) (names_of (allocs_of self.old))) }
-        ensures entries { OnOk result (entries (allocs_of self.new) ≡ entries (allocs_of self.old)) }
         ensures reading { OnOk result (reading_of self.new ≡ with_tree (reading_of self.old) (tree_of self.new)) }
         ensures row { IfOk result (λ row.
             ReadsRow (document (source_text self.old) (source_options self.old) (names_of (allocs_of self.new)))
@@ -146,11 +142,12 @@ impl<'a> FirstPass<'a> {
             → from < behind_row row ix
             → GrowsBy from (behind_row row ix) (tree_of self.old).nodes (tree_of self.new).nodes) }
     {
+        let pass = &mut self.pass;
         let row = row::parse_table_row_inner(
-            self.source,
-            &self.lookup_table,
-            &mut self.reading.tree,
-            &mut self.allocs,
+            pass.source,
+            &pass.lookup_table,
+            &mut pass.reading.tree,
+            &mut pass.allocs,
             &mut self.braces,
             ix,
             row_cells,

@@ -7,7 +7,7 @@ ghost use Rattle.first_pass_host.specs.OptionWord.{StandFor};
 ghost use Rattle.first_pass_program.specs.Runs.{IsPrinted, Leaves, LeavesText, WritesWhole};
 ghost use Rattle.first_pass_host.specs.Streams.{stream_between};
 
-use first_pass::pass::run_first_pass;
+use first_pass_blocks::pass::run_first_pass;
 use first_pass_host::fault::BlocksFault;
 use first_pass_host::input::read_whole;
 use first_pass_host::option_word::parse_options;

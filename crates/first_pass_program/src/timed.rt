@@ -6,7 +6,7 @@ ghost use Rattle.first_pass_program.specs.Bench.{CountsNodes};
 ghost use Rattle.first_pass_host.specs.Streams.{IsReadFault};
 ghost use Rattle.first_pass_timing.specs.Timing.{IsTimed};
 
-use first_pass::pass::run_first_pass;
+use first_pass_blocks::pass::run_first_pass;
 use first_pass_host::fault::BlocksFault;
 use first_pass_items::option_set::Options;
 use first_pass_timing::clock::TimeSource;

@@ -5,20 +5,20 @@ use Rattle.first_pass_tokens.specs.Pieces.{text_upto}
 use Rattle.first_pass_tokens.specs.LineTokens.{EndsLine}
 use Rattle.first_pass_tokens.proofs.BytesLemmas.{few_of_line}
 use Rattle.first_pass_lists.specs.declared.reading.Reading.{Reading}
-use Rattle.first_pass.specs.Ordered.{reached}
-use Rattle.first_pass.proofs.OrderLemmas.{ordered_none}
+use Rattle.first_pass_blocks.specs.Ordered.{reached}
+use Rattle.first_pass_blocks.proofs.OrderLemmas.{ordered_none}
 use Rattle.first_pass.proofs.OrderJoin.{ordered_line}
 use Rattle.first_pass_text.proofs.ParagraphLemmas.{next_boundary}
 use Rattle.first_pass.proofs.state.FirstPass.append_content.Goals as goal
 
 pub returns-clause-boundary : goal.returns-clause-boundary
 returns-clause-boundary c = λ whole boundary.
-    let text = c.args.self.now.source.text.now in
-    let options = c.args.self.now.source.options in
+    let text = c.args.self.now.pass.source.text.now in
+    let options = c.args.self.now.pass.source.options in
     let ends = subst (λ (t : Option ℕ). EndsLine
     (record { options = options; whole = text; text = text_upto text t; start = c.args.start; row = false; braces = c.args.self.now.braces }) c.in_ok-line.line)
     whole c.in_ok-line.ensures.ends in
-    next_boundary (document text c.args.self.now.source.options no_names) c.args.start c.in_ok-line.line.0 c.args.self.now.braces c.in_ok-line.line.1
+    next_boundary (document text c.args.self.now.pass.source.options no_names) c.args.start c.in_ok-line.line.0 c.args.self.now.braces c.in_ok-line.line.1
     c.in_ok-line.ensures.utf8 boundary ends
 
 both_ends : (text : List ℕ) (start : ℕ) (end : Option ℕ)
@@ -29,9 +29,9 @@ both_ends text start (Some e) h b = (h.0, b)
 pub returns-clause-order : goal.returns-clause-order
 returns-clause-order c = λ ends boundary at low o.
     let self = c.args.self.now in
-    let text = self.source.text.now in
-    let options = self.source.options in
-    let old : Reading = self.reading in
+    let text = self.pass.source.text.now in
+    let options = self.pass.source.options in
+    let old : Reading = self.pass.reading in
     let new : Reading = record old { tree = c.append_line.new.tree; empty_item = None } in
     let answer = c.in_ok-line.line in
     let h = c.in_ok-line.ensures.line in

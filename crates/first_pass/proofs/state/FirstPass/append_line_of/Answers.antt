@@ -21,14 +21,14 @@ line_in_order Html d owed from to items order b c line = html_line_in_order d ow
 pub returns-clause-order : goal.returns-clause-order
 returns-clause-order c = λ at low begins ends o.
     let self = c.args.self.now in
-    let text = self.source.text.now in
+    let text = self.pass.source.text.now in
     let from = c.args.start in
     let to = c.args.end in
-    let old : Reading = self.reading in
+    let old : Reading = self.pass.reading in
     let new : Reading = record old { tree = c.append_raw_line.new.tree; empty_item = None } in
     let names = names_of c.append_raw_line.new.allocs in
-    let d = document text self.source.options names in
+    let d = document text self.pass.source.options names in
     let line = c.in_ok-append_raw_line.ensures.line in
-    let are = line.are self.source.options names (extends_none names) in
+    let are = line.are self.pass.source.options names (extends_none names) in
     let tokens = line_in_order c.args.kind d c.args.remaining_space from to line.items c.requires.order begins ends are in
     tokens_ordered text old new at from to line.items c.is_forest.ensures o low tokens ends.0 line.tree_is refl

@@ -6,19 +6,23 @@ use Rattle.first_pass_names.proofs.NameLemmas.{extends_both, extends_alignments}
 use Rattle.first_pass_tokens.specs.Pieces.{text_upto}
 use Rattle.first_pass_tables.proofs.TextsAre.{line_bounds}
 use Rattle.first_pass.specs.Views.{allocs_of}
-use Rattle.first_pass.proofs.OrderLemmas.{ordered_at_later}
+use Rattle.first_pass_blocks.proofs.OrderLemmas.{ordered_at_later}
 use Rattle.first_pass.proofs.state.FirstPass.append_possible_head.Goals as goal
 
-pub returns-clause-names : goal.returns-clause-names
-returns-clause-names c =
-    extends_both (names_of c.allocate_alignment.new.self) (names_of (allocs_of c.append_content.new.self)) (names_of (allocs_of c.args.self.now))
-    (extends_alignments (names_of (allocs_of c.append_content.new.self))
-    (names_of c.allocate_alignment.new.self) c.in-Some.alignments.items c.in_ok-index.ensures.names)
-    c.in_ok-next.ensures.names
+pub returns-clause-kept : goal.returns-clause-kept
+returns-clause-kept c =
+    let e = c.in_ok-next.ensures.kept in
+    record {
+      source = e.source;
+      names = extends_both (names_of c.allocate_alignment.new.self) (names_of (allocs_of c.append_content.new.self)) (names_of (allocs_of c.args.self.now))
+          (extends_alignments (names_of (allocs_of c.append_content.new.self)) (names_of c.allocate_alignment.new.self)
+          c.in-Some.alignments.items c.in_ok-index.ensures.names) e.names;
+      entries = c.in_ok-index.ensures.entries ∙ e.entries;
+    }
 
 pub returns-clause-boundary : goal.returns-clause-boundary
 returns-clause-boundary c = λ whole boundary.
-    let text = c.args.self.now.source.text.now in
+    let text = c.args.self.now.pass.source.text.now in
     let next = c.in_ok-next.next in
     let e : c.text_upto-bytes.result.now ≡ text = c.text_upto-bytes.ensures ∙ ap (text_upto text) whole in
     let there = c.next_line.ensures.value ∙ ap (λ t. next + line_len (drop next t)) e in
@@ -30,10 +34,10 @@ upto_within text start (Some e) h = let n = length-take-le e text h.1 in let k =
 
 pub returns-clause-order : goal.returns-clause-order
 returns-clause-order c = λ ends boundary at low o.
-    let text = c.args.self.now.source.text.now in
+    let text = c.args.self.now.pass.source.text.now in
     let all = upto_within text c.args.start c.args.end c.requires.end in
     let same = ap length c.text_upto-bytes.ensures in
     let within = c.next_line.ensures.within in
     let value = c.next_line.ensures.value in
-    ordered_at_later text c.append_content.new.self.reading c.in_ok-next.next c.next_line.result (omega arith) (omega arith)
+    ordered_at_later text c.append_content.new.self.pass.reading c.in_ok-next.next c.next_line.result (omega arith) (omega arith)
     (c.in_ok-next.ensures.order ends boundary at low o)

@@ -2,8 +2,8 @@ use Rattle.std.proofs.Common.{◌≡◌, ◌≤◌, ℕ, List, length, Result, O
 use Rattle.std.specs.declared.alloc.AllocError.{AllocError}
 use Rattle.first_pass_lists.specs.Closing.{list_continued}
 use Rattle.first_pass_lists.specs.declared.reading.Reading.{Reading}
-use Rattle.first_pass.specs.Ordered.{IsOrderedAt}
-use Rattle.first_pass.proofs.OrderLemmas.{continue_list_keeps_order}
+use Rattle.first_pass_blocks.specs.Ordered.{IsOrderedAt}
+use Rattle.first_pass_blocks.proofs.OrderLemmas.{continue_list_keeps_order}
 use Rattle.first_pass.proofs.state.FirstPass.continue_list.Goals as goal
 
 by_result : {T : Type 0} (result : Result T AllocError) (text : List ℕ) (r q : Reading) (start ch index : ℕ) → OnOk result (q ≡ list_continued start ch index r)
@@ -13,5 +13,6 @@ by_result (Err e) text r q start ch index is = tt
 
 pub returns-clause-order : goal.returns-clause-order
 returns-clause-order c =
-    by_result c.continue_list.result c.args.self.now.source.text.now c.args.self.now.reading c.continue_list.new.self c.args.start c.args.ch c.args.index
+    by_result c.continue_list.result c.args.self.now.pass.source.text.now c.args.self.now.pass.reading c.continue_list.new.self c.args.start c.args.ch
+    c.args.index
     c.continue_list.ensures

@@ -1,4 +1,4 @@
-use Rattle.std.proofs.Common.{subst, IsUtf8}
+use Rattle.std.proofs.Common.{refl, subst, IsUtf8}
 use Rattle.first_pass_names.specs.TableEntries.{names_of, no_names}
 use Rattle.first_pass_grammar.specs.Leaves.{document}
 use Rattle.first_pass_grammar.proofs.MoreNames.{extends_none}
@@ -6,8 +6,8 @@ use Rattle.first_pass.specs.Views.{allocs_of, source_options, source_text, tree_
 use Rattle.first_pass.proofs.UnderlinedOrder.{open_ordered, underlined_ordered}
 use Rattle.first_pass.proofs.state.FirstPass.parse_setext_heading.Goals as goal
 
-pub returns-in_default-clause-names : goal.returns-in_default-clause-names
-returns-in_default-clause-names c = extends_none (names_of (allocs_of c.args.self.now))
+pub returns-in_default-clause-kept : goal.returns-in_default-clause-kept
+returns-in_default-clause-kept c = record { source = refl; names = extends_none (names_of (allocs_of c.args.self.now)); entries = refl }
 
 pub returns-in_default-clause-order : goal.returns-in_default-clause-order
 returns-in_default-clause-order c l by holds =

@@ -1,0 +1,95 @@
+-- A pass read an HTML block that a blank line ends, where a new block had ended what it ends (CommonMark 4.6).
+use Rattle.std.proofs.Common.{◌≡◌, inl, ℕ, ◌≤◌, min, false, List, length, drop, None, IsUtf8, IsCharBoundary, refl, sym, ap, subst, ◌∙◌, arith}
+use Rattle.first_pass_items.specs.declared.item.Item.{Item}
+use Rattle.first_pass_tree.specs.Forest.{Forest, IsForest}
+use Rattle.first_pass_lines.specs.Rest.{indent}
+use Rattle.first_pass_lines.specs.Places.{Place, offset, line_end, IsPlaceOf}
+use Rattle.first_pass_grammar.specs.Kinds.{HtmlToBlank, unindented, IsKind}
+use Rattle.first_pass_grammar.specs.Extents.{Extent}
+use Rattle.first_pass_grammar.specs.Leaves.{document}
+use Rattle.first_pass_grammar.specs.Completion.{lines_from}
+use Rattle.first_pass_grammar.specs.Names.{Extends}
+use Rattle.first_pass_names.specs.TableEntries.{entries, tables, told_by, names_of}
+use Rattle.first_pass_open.specs.Path.{path_of}
+use Rattle.first_pass_open.proofs.PlaceLemmas.{all_keep}
+use Rattle.first_pass_raw.specs.RawBlocks.{IsPlaceAt, behind_line_at, html_to_blank}
+use Rattle.first_pass_lists.specs.Closing.{list_finished}
+use Rattle.first_pass_lists.specs.declared.reading.Reading.{Reading}
+use Rattle.first_pass_text.proofs.KindLemmas.{kind_says}
+use Rattle.first_pass_blocks.specs.declared.state.BlockPass.{BlockPass}
+use Rattle.first_pass_blocks.specs.Views.{allocs_of, reading_of, source_of, source_options, source_text, tree_of}
+use Rattle.first_pass_blocks.specs.Progress.{ReadsLeaf}
+use Rattle.first_pass_blocks.specs.State.{Ready}
+use Rattle.first_pass_blocks.proofs.CountLemmas.{list_finished_count, leaf_left, left_before}
+use Rattle.first_pass_blocks.proofs.HandedOn.{path_added, html_stops, ordered_stopped, list_finished_blank}
+use Rattle.first_pass_blocks.proofs.KindBlocks.{AddsHtml, columns_are, html_blank_added, ready_kind}
+use Rattle.first_pass_blocks.proofs.LeafAdded.{found_boundary}
+use Rattle.first_pass_blocks.proofs.LeafLemmas.{line_end_of}
+use Rattle.first_pass_blocks.proofs.LineLemmas.{list_finished_none}
+use Rattle.first_pass_blocks.proofs.NamedLemmas.{block_added, list_finished_named, kind_named}
+use Rattle.first_pass_blocks.proofs.OrderLemmas.{ordered_none}
+use Rattle.first_pass_blocks.proofs.OrderSteps.{block_ordered, ordered_finished, unindented_later}
+use Rattle.first_pass_blocks.proofs.RawFits.{to_blank_between, to_blank_ends, to_blank_few}
+use Rattle.first_pass_blocks.proofs.WholeKept.{list_finished_whole, block_whole, kind_whole}
+use Rattle.first_pass_blocks.proofs.WrittenLemmas.{written_stay}
+
+-- the block's place, at the offset after the columns
+pub html_stands : (text : List ℕ) (p : Place) (at : ℕ) → IsUtf8 text → IsPlaceOf text p → at ≡ offset (unindented p) → IsPlaceAt text at (unindented p)
+html_stands text p at u i at_is =
+    let j = all_keep text p.line p.rest u i in record { offset_is = sym at_is; left_is = j.left ∙ ap (λ n. drop n text) (sym at_is) }
+
+pub html_read : (old new : BlockPass) (p : Place) (at columns next : ℕ) → IsUtf8 (source_text old) → IsPlaceOf (source_text old) p
+    → (reading_of old).empty_item ≡ None → IsForest (tree_of old) → IsForest (list_finished p.line (reading_of old)).tree
+    → IsKind (source_options old) p.rest HtmlToBlank → columns ≡ min 4 (indent p.rest) → at ≡ offset (unindented p)
+    → source_of new ≡ source_of old → Extends (names_of (allocs_of new)) (names_of (allocs_of old)) → entries (allocs_of new) ≡ entries (allocs_of old)
+    → (reading_of new).empty_item ≡ (list_finished p.line (reading_of old)).empty_item
+    → (reading_of new).blank ≡ (list_finished p.line (reading_of old)).blank
+    → (behind_line_at (source_text old) at ≤ next) × IsCharBoundary (source_text old) next
+    → AddsHtml (source_text old) (source_options old) (names_of (allocs_of new)) at columns (unindented p) (list_finished p.line (reading_of old)).tree
+    (tree_of new) next → ReadsLeaf old new p next
+html_read old new p at columns next u i empty forest forest_after kind columns_is at_is source names same_entries empty_is blank_is behind block =
+    let text = source_text old in
+    let options = source_options old in
+    let now = names_of (allocs_of new) in
+    let r : Reading = reading_of old in
+    let q : Reading = list_finished p.line r in
+    let z : Place = unindented p in
+    let tree : Forest Item = tree_of new in
+    let e : Extent = html_to_blank text (path_of options q.tree) z in
+    let j = all_keep text p.line p.rest u i in
+    let low = unindented_later text p.line p.rest u i in
+    let begins = found_boundary text p at u i at_is in
+    let there = html_stands text p at u i at_is in
+    let here : behind_line_at text at ≡ line_end p = ap (behind_line_at text) at_is ∙ line_end_of text p j in
+    let later = behind.0 in
+    let width = (columns_are _ _ columns_is (kind_says options p.rest HtmlToBlank kind)).0 in
+    let none = empty_is ∙ list_finished_none p.line r in
+    let blank = blank_is ∙ list_finished_blank p.line r in
+    let added = html_blank_added text options now p q.tree tree at next at_is j columns width block in
+    let some = left_before p (leaf_left options p.rest HtmlToBlank kind (λ b. cc)) in
+    let grows = to_blank_few text options now q.tree tree at next u begins behind.1.0 columns z there block (offset p) (omega arith) (omega arith) in
+    let same = list_finished_count p.line r in
+    let path : path_of options tree ≡ path_of options q.tree = ap (path_of options) block.tree_is ∙ path_added options q.tree block.items forest_after in
+    record {
+      source = source;
+      names = names;
+      later = omega arith;
+      boundary = behind.1;
+      ready = λ more extends ready. subst (λ t. Ready (document text options more) t (reading_of new) (lines_from text next)) (sym (ap told_by same_entries))
+          (ready_kind text options (tables (allocs_of old)) now more r tree p HtmlToBlank false next forest kind refl extends added empty ready
+          (reading_of new).empty_item (reading_of new).blank none blank);
+      named = λ h. block_added now (names_of (allocs_of old)) q.tree tree added.items names added.tree_is
+          (kind_named text options now p HtmlToBlank false q.tree tree next added) (list_finished_named (names_of (allocs_of old)) p.line r h);
+      written = written_stay text (allocs_of old) (allocs_of new) same_entries;
+      order = λ o. ordered_stopped options text (reading_of new) (path_of options q.tree) e next behind.1 none path
+          (html_stops (length text) (path_of options q.tree) z (lines_from text (behind_line_at text (offset z)))) block.left_is
+          (block_ordered text q (reading_of new) at at e.«end»
+          (ordered_none text q at (list_finished_none p.line r) begins.0
+          (ordered_finished text r p.line (offset p) p.line at (omega arith) (omega arith) (inl (refl, o.0)) begins.0 begins empty o.1))
+          (omega arith) (to_blank_between text options now q.tree tree at next u begins behind.1.0 columns z there block)
+          (to_blank_ends text options now q.tree tree at next u begins behind.1.0 z there).0 none);
+      whole = λ h k. block_whole now (names_of (allocs_of old)) q.tree tree added.items names added.tree_is
+          (kind_whole text options now p HtmlToBlank false q.tree tree next i added)
+          (list_finished_named (names_of (allocs_of old)) p.line r h) (list_finished_whole (names_of (allocs_of old)) p.line r k);
+      few = omega arith;
+    }

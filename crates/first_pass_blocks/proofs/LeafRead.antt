@@ -1,0 +1,59 @@
+-- A pass read a leaf block, once it was added where a new block had ended what it ends.
+use Rattle.std.proofs.Common.{◌≡◌, inl, ℕ, false, None, refl, sym, ap, subst, arith}
+use Rattle.first_pass_tree.specs.Forest.{IsForest}
+use Rattle.first_pass_lines.specs.Places.{Place, offset, IsPlaceOf}
+use Rattle.first_pass_grammar.specs.Kinds.{Kind, Blank, IsKind}
+use Rattle.first_pass_grammar.specs.Rows.{is_paragraph}
+use Rattle.first_pass_grammar.specs.Leaves.{document}
+use Rattle.first_pass_grammar.specs.Completion.{lines_from}
+use Rattle.first_pass_names.specs.TableEntries.{tables, told_by, names_of}
+use Rattle.first_pass_blocks.specs.State.{Ready}
+use Rattle.first_pass_lists.specs.Closing.{list_finished}
+use Rattle.first_pass_lists.specs.declared.reading.Reading.{Reading}
+use Rattle.first_pass_blocks.specs.declared.state.BlockPass.{BlockPass}
+use Rattle.first_pass_blocks.specs.Views.{allocs_of, reading_of, source_options, source_text, tree_of}
+use Rattle.first_pass_blocks.specs.Adding.{AddsLeaf}
+use Rattle.first_pass_blocks.specs.Progress.{ReadsLeaf}
+use Rattle.first_pass_blocks.proofs.OrderSteps.{ordered_leaf}
+use Rattle.first_pass_blocks.proofs.KindBlocks.{ready_kind}
+use Rattle.first_pass_blocks.proofs.WrittenLemmas.{written_stay}
+use Rattle.first_pass_blocks.proofs.NamedLemmas.{block_added, list_finished_named, kind_named}
+use Rattle.first_pass_blocks.proofs.WholeKept.{list_finished_whole, block_whole, kind_whole}
+use Rattle.first_pass_blocks.proofs.CountLemmas.{list_finished_count, block_count, leaf_left, left_before}
+
+-- a block that ends what the line's beginning ends
+pub leaf_read : (old new : BlockPass) (p : Place) (kind : Kind) (next : ℕ) → IsPlaceOf (source_text old) p → (reading_of old).empty_item ≡ None
+    → IsForest (tree_of old) → IsKind (source_options old) p.rest kind → (kind ≡ Blank → ⊥) → is_paragraph kind ≡ false
+    → AddsLeaf (record old { reading = list_finished p.line (reading_of old) }) new p kind next → ReadsLeaf old new p next
+leaf_read old new p kind next i empty forest is some other e =
+    let text = source_text old in
+    let r : Reading = reading_of old in
+    let none = e.empty_item in
+    let later = e.later in
+    let before = left_before p (leaf_left (source_options old) p.rest kind is some) in
+    let fits = e.fits (offset p) (omega arith) in
+    let grows = block_count text (offset p) next (list_finished p.line r).tree (tree_of new) fits (omega arith) in
+    let same = list_finished_count p.line r in
+    record {
+      source = e.source;
+      names = e.names;
+      later = later;
+      boundary = e.boundary;
+      ready = λ more extends ready.
+          subst (λ z. Ready (document text (source_options old) more) z (reading_of new) (lines_from text next)) (sym (ap told_by e.entries))
+          (ready_kind text (source_options old) (tables (allocs_of old)) (names_of (allocs_of new)) more r (tree_of new) p kind
+          (reading_of new).blank next forest is other extends e.block empty ready (reading_of new).empty_item (reading_of new).blank none refl);
+      named = λ h.
+          block_added (names_of (allocs_of new)) (names_of (allocs_of old)) (list_finished p.line r).tree (tree_of new) e.block.items e.names e.block.tree_is
+          (kind_named text (source_options old) (names_of (allocs_of new)) p kind (reading_of new).blank (list_finished p.line r).tree
+          (tree_of new) next e.block) (list_finished_named (names_of (allocs_of old)) p.line r h);
+      written = written_stay text (allocs_of old) (allocs_of new) e.entries;
+      order = λ o. inl (ordered_leaf text r (reading_of new) p.line (offset p) p.line (offset p) next (omega arith) (omega arith)
+          (inl (refl, o.0)) i.within i.boundary empty o.1 fits e.boundary.0 none);
+      whole = λ h k.
+          block_whole (names_of (allocs_of new)) (names_of (allocs_of old)) (list_finished p.line r).tree (tree_of new) e.block.items e.names e.block.tree_is
+          (kind_whole text (source_options old) (names_of (allocs_of new)) p kind (reading_of new).blank (list_finished p.line r).tree
+          (tree_of new) next i e.block)
+          (list_finished_named (names_of (allocs_of old)) p.line r h) (list_finished_whole (names_of (allocs_of old)) p.line r k);
+      few = omega arith;
+    }

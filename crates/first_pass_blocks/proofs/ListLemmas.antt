@@ -1,0 +1,122 @@
+-- A list closed in the tree, against what the grammar says of it.
+use Rattle.std.proofs.Common.{◌≡◌, ℕ, zero, suc, ◌+◌, ◌<◌, ◌==◌, nat_lt, Bool, true, false, not, List, [], ◌∷◌, length, map, slice_index, Some, None, refl, sym}
+use Rattle.std.proofs.Common.{ap, subst, ◌∙◌, arith, if◌then◌else◌}
+use Rattle.std.proofs.lemmas.Bool.Decides.{nat_tests}
+use Rattle.first_pass_items.specs.declared.item.Item.{Item}
+use Rattle.first_pass_items.specs.declared.item.ItemBody.TheVariants.{List as ListBody}
+use Rattle.first_pass_items.specs.declared.item.ListFlags.{ListFlags}
+use Rattle.first_pass_tree.specs.declared.tree_index.TreeIndex.{TreeIndex}
+use Rattle.first_pass_tree.specs.Forest.{Forest, IsForest, IsOpenPath, depths, modify, map_from, body_at}
+use Rattle.first_pass_tree.specs.Tight.{tight_body, tightened, tight_run, tight_at, tight_items}
+use Rattle.first_pass_grammar.specs.Derivation.{node_of, list_flags}
+use Rattle.first_pass_grammar.specs.Completion.{flagged, list_closed, InList}
+use Rattle.first_pass_open.specs.OpenBlock.{closed_by}
+use Rattle.first_pass_blocks.specs.State.{frame_of}
+use Rattle.first_pass_tree.proofs.BodyLemmas.{changed_alike}
+
+-- all are deeper than a depth
+abbrev AreDeeper : ℕ → List (ℕ × Item) → Type 0
+AreDeeper depth [] = Unit {0}
+AreDeeper depth (n ∷ ns) = (depth < n.0) × AreDeeper depth ns
+
+run_all : (depth : ℕ) (ns : List (ℕ × Item)) → AreDeeper depth ns → tight_run depth ns ≡ map (tightened (suc (suc depth))) ns
+unfolding tight_run
+run_all depth [] deep = refl
+run_all depth (n ∷ ns) deep =
+    let d : depth < n.0 = deep.0 in
+    let t : nat_lt depth n.0 ≡ true = grind (arith, nat_tests, d) in
+    let z : depth + 2 ≡ suc (suc depth) = omega arith in
+    let r = run_all depth ns deep.1 in
+    rw t (ap (λ k. tightened k n ∷ tight_run depth ns) z ∙ ap (λ ms. tightened (suc (suc depth)) n ∷ ms) r)
+
+-- after a place all are deeper
+abbrev AreDeeperBehind : ℕ → ℕ → List (ℕ × Item) → Type 0
+AreDeeperBehind depth i [] = Unit {0}
+AreDeeperBehind depth zero (n ∷ ns) = AreDeeper depth ns
+AreDeeperBehind depth (suc i) (n ∷ ns) = AreDeeperBehind depth i ns
+
+all_deeper : (depth : ℕ) (ns : List (ℕ × Item)) → ((k : ℕ) → k < length (depths ns) → depth < slice_index (depths ns) k) → AreDeeper depth ns
+all_deeper depth [] h = tt
+all_deeper depth (n ∷ ns) h = (h 0 (omega arith), all_deeper depth ns (λ k l. h (suc k) (omega arith)))
+
+deeper_behind : (depth i : ℕ) (ns : List (ℕ × Item))
+    → ((k : ℕ) → i < k → k < length (depths ns) → depth < slice_index (depths ns) k) → AreDeeperBehind depth i ns
+deeper_behind depth i [] h = tt
+deeper_behind depth zero (n ∷ ns) h = all_deeper depth ns (λ k l. h (suc k) (omega arith) (omega arith))
+deeper_behind depth (suc i) (n ∷ ns) h = deeper_behind depth i ns (λ k l m. h (suc k) (omega arith) (omega arith))
+
+tight_same : (t : Bool) (x : Item) (e : ℕ) (flags : ListFlags) (byte number : ℕ) → x.body ≡ ListBody flags byte number → flags ≡ list_flags true
+    → (let y : Item = if t then record { start = x.start; «end» = x.«end»; body = tight_body x.body } else x in
+    ◌≡◌ {A = Item} (record { start = y.start; «end» = e; body = flagged false y.body }) (record { start = x.start; «end» = e; body = x.body }))
+tight_same true x e flags byte number is set =
+    ap (λ b. node_of x.start e (flagged false (tight_body b))) is ∙ ap (λ f. node_of x.start e (ListBody f byte number)) (sym set)
+    ∙ ap (λ b. node_of x.start e b) (sym is)
+tight_same false x e flags byte number is set =
+    ap (λ b. node_of x.start e (flagged false b)) is ∙ ap (λ f. node_of x.start e (ListBody f byte number)) (sym set) ∙ ap (λ b. node_of x.start e b) (sym is)
+
+-- The paragraphs are made tight after a list that has its end, or the list is closed as a whole.
+tight_whole : (depth i e : ℕ) (ns : List (ℕ × Item)) (flags : ListFlags) (byte number : ℕ)
+    → body_at ns i ≡ Some (ListBody flags byte number) → flags ≡ list_flags true → AreDeeperBehind depth i ns
+    → tight_at depth (suc i) (modify ns i (λ x. record { start = x.start; «end» = e; body = x.body }))
+    ≡ modify (map_from (tightened (suc (suc depth))) i ns) i (λ x. record { start = x.start; «end» = e; body = flagged false x.body })
+unfolding tight_at
+tight_whole depth i e [] flags byte number is set deep = cc
+tight_whole depth zero e (n ∷ ns) flags byte number is set deep =
+    let b : n.1.body ≡ ListBody flags byte number = cc in
+    ap (λ ms. (n.0, record { start = n.1.start; «end» = e; body = n.1.body }) ∷ ms) (run_all depth ns deep)
+    ∙ ap (λ x. (n.0, x) ∷ map (tightened (suc (suc depth))) ns) (sym (tight_same (n.0 == suc (suc depth)) n.1 e flags byte number b set))
+tight_whole depth (suc i) e (n ∷ ns) flags byte number is set deep = ap (λ ms. n ∷ ms) (tight_whole depth i e ns flags byte number is set deep)
+
+depths-modify : (ns : List (ℕ × Item)) (i : ℕ) (g : Item → Item) → depths (modify ns i g) ≡ depths ns
+depths-modify [] i g = refl
+depths-modify (n ∷ ns) zero g = refl
+depths-modify (n ∷ ns) (suc i) g = ap (λ ds. n.0 ∷ ds) (depths-modify ns i g)
+
+-- a tight list closed
+pub tight_closed : (f : Forest Item) (ix : TreeIndex) (rest : List TreeIndex) (e : ℕ) (flags : ListFlags) (byte number : ℕ)
+    → IsForest f → f.spine ≡ ix ∷ rest → body_at f.nodes ix.0 ≡ Some (ListBody flags byte number) → flags ≡ list_flags true
+    → (tight_items (closed_by f e (ix ∷ rest)) ix).nodes ≡ list_closed f.nodes ix.0 (suc (suc (suc (length rest)))) false e
+unfolding list_closed
+tight_closed f ix rest e flags byte number forest spine is set =
+    let p : IsOpenPath (depths f.nodes) (ix ∷ rest) = subst (IsOpenPath (depths f.nodes)) spine forest.opened in
+    let nodes : List (ℕ × Item) = modify f.nodes ix.0 (λ x. record { start = x.start; «end» = e; body = x.body }) in
+    let same : depths nodes ≡ depths f.nodes = depths-modify f.nodes ix.0 _ in
+    let z : length rest + 1 ≡ suc (length rest) = omega arith in
+    let at : slice_index (depths nodes) ix.0 ≡ suc (length rest) = ap (λ ds. slice_index ds ix.0) same ∙ p.0.depth ∙ z in
+    let behind : (k : ℕ) → ix.0 < k → k < length (depths f.nodes) → suc (length rest) < slice_index (depths f.nodes) k =
+    λ k l m. (let b = p.0.behind k l m in omega arith) in
+    let y : ix.0 + 1 ≡ suc ix.0 = omega arith in
+    ap (λ d. tight_at d (ix.0 + 1) nodes) at ∙ ap (λ k. tight_at (suc (length rest)) k nodes) y
+    ∙ tight_whole (suc (length rest)) ix.0 e f.nodes flags byte number is set (deeper_behind (suc (length rest)) ix.0 f.nodes behind)
+
+loose_same : (x : Item) (e : ℕ) (flags : ListFlags) (byte number : ℕ) → flags ≡ list_flags false → x.body ≡ ListBody flags byte number
+    → ◌≡◌ {A = Item} (record { start = x.start; «end» = e; body = x.body }) (record { start = x.start; «end» = e; body = flagged true x.body })
+loose_same x e flags byte number set is =
+    ap (λ b. node_of x.start e b) is ∙ ap (λ f. node_of x.start e (ListBody f byte number)) set ∙ ap (λ b. node_of x.start e (flagged true b)) (sym is)
+
+-- a loose list closed
+pub loose_closed : (f : Forest Item) (ix : TreeIndex) (rest : List TreeIndex) (e : ℕ) (flags : ListFlags) (byte number : ℕ)
+    → body_at f.nodes ix.0 ≡ Some (ListBody flags byte number) → flags ≡ list_flags false
+    → (closed_by f e (ix ∷ rest)).nodes ≡ list_closed f.nodes ix.0 (suc (suc (suc (length rest)))) true e
+unfolding list_closed
+loose_closed f ix rest e flags byte number is set =
+    changed_alike f.nodes ix.0 _ _ (ListBody flags byte number) is (λ x b. loose_same x e flags byte number set b)
+
+-- the flags of an open list
+flags_by : (a b : Bool) (x byte list : ℕ) (loose : Bool)
+    → (x == 1) ≡ a → (x == 0) ≡ b → (if a then Some (InList list false) else (if b then Some (InList list true) else None)) ≡ Some (InList byte loose)
+    → (list ≡ byte) × (x ≡ (if loose then 0 else 1))
+flags_by true b x byte list loose s t h = let l : false ≡ loose = cc in let y : x ≡ 1 = grind (arith, nat_tests, s) in (cc, y ∙ ap (λ k. if k then 0 else 1) l)
+flags_by false true x byte list loose s t h =
+    let l : true ≡ loose = cc in
+    let y : x ≡ 0 = grind (arith, nat_tests, t) in (cc, y ∙ ap (λ k. if k then 0 else 1) l)
+flags_by false false x byte list loose s t h = cc
+
+flags_of : (loose : Bool) (flags : ListFlags) → flags.0 ≡ (if loose then 0 else 1) → flags ≡ list_flags (not loose)
+flags_of true flags h = ap (λ n. record { 0 = n }) h
+flags_of false flags h = ap (λ n. record { 0 = n }) h
+
+pub open_flags : (flags : ListFlags) (list number byte : ℕ) (loose : Bool)
+    → frame_of (ListBody flags list number) ≡ Some (InList byte loose) → (list ≡ byte) × (flags ≡ list_flags (not loose))
+open_flags flags list number byte loose h =
+    let f = flags_by (flags.0 == 1) (flags.0 == 0) flags.0 byte list loose refl refl h in (f.0, flags_of loose flags f.1)

@@ -1,0 +1,206 @@
+-- Each index that nodes keep names an entry: what closes nodes and notes blank lines changes no index, and what opens a container adds none.
+use Rattle.std.proofs.Common.{◌≡◌, ℕ, zero, suc, ◌+◌, ◌==◌, ◌&&◌, Bool, true, false, if◌then◌else◌, List, [], ◌∷◌, length, nat_lt, slice_index, Option, Some}
+use Rattle.std.proofs.Common.{None, is_some, refl, sym, subst}
+use Rattle.std.specs.Int.RustNames.{bit_and}
+use Rattle.std.proofs.lemmas.Bool.{cond_both}
+use Rattle.first_pass_items.specs.declared.item.Item.{Item}
+use Rattle.first_pass_items.specs.declared.item.ItemBody.{ItemBody}
+use Rattle.first_pass_items.specs.declared.item.ItemBody.TheVariants.{BlockQuote as BlockQuoteBody, List as ListBody, ListItem as ListItemBody, Paragraph}
+use Rattle.first_pass_items.specs.declared.item.ItemBody.TheVariants.{TaskListMarker}
+use Rattle.first_pass_tree.specs.declared.tree_index.TreeIndex.{TreeIndex}
+use Rattle.first_pass_tree.specs.Forest.{Forest, empty_forest, with_end_at, depths, body_at, is_text, added, at_depth}
+use Rattle.first_pass_tree.specs.Tight.{tight_body, tightened, tight_run, tight_at, tight_items}
+use Rattle.first_pass_grammar.specs.Names.{Names, Extends, index_of, NamesEntry, AreNamed}
+use Rattle.first_pass_grammar.specs.Derivation.{list_flags}
+use Rattle.first_pass_grammar.specs.Order.{is_task_marker}
+use Rattle.first_pass_grammar.proofs.LeavesNamed.{opens_named}
+use Rattle.first_pass_grammar.proofs.NamedItems.{IsNamed, named_more, named_both, named_deeper, named_modified}
+use Rattle.first_pass_items.specs.declared.option_set.Options.{Options}
+use Rattle.first_pass_lines.specs.Places.{Place, line_end}
+use Rattle.first_pass_grammar.specs.Kinds.{Kind}
+use Rattle.first_pass_grammar.specs.Leaves.{document}
+use Rattle.first_pass_grammar.specs.Completion.{lines_from}
+use Rattle.first_pass_names.proofs.NameLemmas.{extends_none}
+use Rattle.first_pass_open.specs.Path.{path_of}
+use Rattle.first_pass_blocks.specs.Adding.{AddsKind}
+use Rattle.first_pass_open.specs.OpenBlock.{closed_by, with_child}
+use Rattle.first_pass_lists.specs.Closing.{loosened_by, top_body, is_list, is_list_of, is_item, popped_by, popped_at, popped, item_finished_by, item_finished}
+use Rattle.first_pass_lists.specs.Closing.{list_left, gap_tree, gap_noted, list_finished, loosened_top, list_kept, begun, list_continued, emptied}
+use Rattle.first_pass_lists.specs.Closing.{blank_read_by, blank_read}
+use Rattle.first_pass_lists.specs.declared.reading.Reading.{Reading}
+use Rattle.first_pass_blocks.proofs.OpenerLemmas.{item_opened}
+
+-- the marker of a task is no text and has no index
+pub task_is_no_text : (body : ItemBody) → is_task_marker body ≡ true → is_text body ≡ false
+task_is_no_text (TaskListMarker checked) h = refl
+task_is_no_text body h = cc
+
+pub task_has_none : (body : ItemBody) → is_task_marker body ≡ true → index_of body ≡ None
+task_has_none (TaskListMarker checked) h = refl
+task_has_none body h = cc
+
+module _ (names : Names) where
+  -- the nodes of what is remembered
+  abbrev pub AreReadNamed : Reading → Type 0
+  AreReadNamed r = AreNamed names r.tree.nodes
+
+  body_tight : (body : ItemBody) → NamesEntry names (index_of body) → NamesEntry names (index_of (tight_body body))
+  body_tight Paragraph h = tt
+  body_tight body h = h
+
+  node_by : (t : Bool) (x : Item) → IsNamed names x → IsNamed names (if t then record { start = x.start; «end» = x.«end»; body = tight_body x.body } else x)
+  node_by true x h = body_tight x.body h
+  node_by false x h = h
+
+  -- paragraphs of a list made tight
+  run_by : (t : Bool) (depth : ℕ) (n : ℕ × Item) (nodes : List (ℕ × Item)) → AreNamed names (n ∷ nodes) → AreNamed names (tight_run depth nodes)
+      → AreNamed names (if t then tightened (depth + 2) n ∷ tight_run depth nodes else n ∷ nodes)
+  unfolding AreNamed
+  run_by true depth n nodes h further = (node_by (n.0 == depth + 2) n.1 h.0, further)
+  run_by false depth n nodes h further = h
+
+  run_named : (depth : ℕ) (nodes : List (ℕ × Item)) → AreNamed names nodes → AreNamed names (tight_run depth nodes)
+  unfolding tight_run AreNamed
+  run_named depth [] h = h
+  run_named depth (n ∷ nodes) h = run_by (nat_lt depth n.0) depth n nodes h (run_named depth nodes h.1)
+
+  tight_named : (depth from : ℕ) (nodes : List (ℕ × Item)) → AreNamed names nodes → AreNamed names (tight_at depth from nodes)
+  unfolding tight_at AreNamed
+  tight_named depth zero nodes h = run_named depth nodes h
+  tight_named depth (suc from) [] h = h
+  tight_named depth (suc from) (n ∷ nodes) h = (h.0, tight_named depth from nodes h.1)
+
+  items_by : (t : Bool) (f : Forest Item) (ix : TreeIndex) → AreNamed names f.nodes → AreNamed names (if t then tight_items f ix else f).nodes
+  items_by true f ix h = tight_named (slice_index (depths f.nodes) ix.0) (ix.0 + 1) f.nodes h
+  items_by false f ix h = h
+
+  -- what closes the innermost open node
+  closed_named : (r : Reading) (f : Forest Item) (ix : TreeIndex) (b : Option ItemBody) → AreNamed names f.nodes → AreReadNamed (popped_by r f ix b)
+  closed_named r f ix None h = h
+  closed_named r f ix (Some (ListBody flags byte number)) h = items_by (bit_and flags.0 1 == 1) f ix h
+  closed_named r f ix (Some (ListItemBody columns)) h = h
+  closed_named r f ix (Some b) h = h
+
+  popped_at_named : (e : ℕ) (r : Reading) (s : List TreeIndex) → AreReadNamed r → AreReadNamed (popped_at e r s)
+  popped_at_named e r [] h = h
+  popped_at_named e r (ix ∷ rest) h =
+      closed_named r (closed_by r.tree e (ix ∷ rest)) ix (body_at (closed_by r.tree e (ix ∷ rest)).nodes ix.0)
+      (named_modified names r.tree.nodes ix.0 (λ x. record x { «end» = e }) (λ x k. k) h)
+
+  pub popped_named : (e : ℕ) (r : Reading) → AreReadNamed r → AreReadNamed (popped e r)
+  unfolding popped
+  popped_named e r h = popped_at_named e r r.tree.spine h
+
+  -- what finishes an empty item
+  finished_by_named : (r : Reading) (o : Option ℕ) → AreReadNamed r → AreReadNamed (item_finished_by r o)
+  finished_by_named r None h = h
+  finished_by_named r (Some e) h =
+      cond_both (r.blank && is_item (top_body r.tree)) (popped e r) r (λ (q : Reading). AreReadNamed q) (λ b. popped_named e r h) (λ b. h)
+
+  pub item_finished_named : (r : Reading) → AreReadNamed r → AreReadNamed (item_finished r)
+  unfolding item_finished
+  item_finished_named r h = finished_by_named r r.empty_item h
+
+  -- what makes a list loose
+  loosened_named : (f : Forest Item) (ix : TreeIndex) (b : Option ItemBody) → AreNamed names f.nodes → AreNamed names (loosened_by f ix b).nodes
+  loosened_named f ix None h = h
+  loosened_named f ix (Some (ListBody flags byte number)) h =
+      named_modified names f.nodes ix.0 (λ x. record x { body = ListBody (list_flags false) byte number }) (λ x k. tt) h
+  loosened_named f ix (Some b) h = h
+
+  gap_tree_named : (f : Forest Item) (s : List TreeIndex) → AreNamed names f.nodes → AreNamed names (gap_tree f s).nodes
+  gap_tree_named f [] h = h
+  gap_tree_named f (ix ∷ []) h = h
+  gap_tree_named f (ix ∷ outer ∷ rest) h = loosened_named f outer (body_at f.nodes outer.0) h
+
+  gap_named : (r : Reading) → AreReadNamed r → AreReadNamed (gap_noted r)
+  gap_named r h = cond_both r.blank (record r { tree = gap_tree r.tree r.tree.spine; blank = false }) r (λ (q : Reading). AreReadNamed q)
+      (λ b. gap_tree_named r.tree r.tree.spine h) (λ b. h)
+
+  -- what finishes a list
+  left_named : (e : ℕ) (r : Reading) → AreReadNamed r → AreReadNamed (list_left e r)
+  left_named e r h = cond_both (is_list (top_body r.tree)) (popped e r) r (λ (q : Reading). AreReadNamed q) (λ b. popped_named e r h) (λ b. h)
+
+  pub list_finished_named : (e : ℕ) (r : Reading) → AreReadNamed r → AreReadNamed (list_finished e r)
+  unfolding list_finished
+  list_finished_named e r h = gap_named (list_left e (item_finished r)) (left_named e (item_finished r) (item_finished_named r h))
+
+  top_named : (f : Forest Item) (s : List TreeIndex) → AreNamed names f.nodes → AreNamed names (loosened_top f s).nodes
+  top_named f [] h = h
+  top_named f (ix ∷ rest) h = loosened_named f ix (body_at f.nodes ix.0) h
+
+  kept_named : (r : Reading) → AreReadNamed r → AreReadNamed (list_kept r)
+  kept_named r h = cond_both r.blank (record r { tree = loosened_top r.tree r.tree.spine; blank = false }) r (λ (q : Reading). AreReadNamed q)
+      (λ b. top_named r.tree r.tree.spine h) (λ b. h)
+
+  -- a blank line
+  emptied_named : (f : Forest Item) (s : List TreeIndex) → AreNamed names f.nodes → AreNamed names (emptied f s).nodes
+  emptied_named f [] h = h
+  emptied_named f (ix ∷ rest) h = named_modified names f.nodes ix.0 (λ x. record x { body = ListItemBody 0 }) (λ x k. tt) h
+
+  blank_by_named : (r : Reading) (b : Option ItemBody) → AreReadNamed r → AreReadNamed (blank_read_by r b)
+  blank_by_named r None h = h
+  blank_by_named r (Some (BlockQuoteBody kind)) h = h
+  blank_by_named r (Some (ListItemBody columns)) h =
+      cond_both (is_some r.empty_item) (emptied r.tree r.tree.spine) r.tree (λ (f : Forest Item). AreNamed names f.nodes)
+      (λ b. emptied_named r.tree r.tree.spine h) (λ b. h)
+  blank_by_named r (Some b) h = h
+
+  pub blank_named : (r : Reading) → AreReadNamed r → AreReadNamed (blank_read r)
+  unfolding blank_read
+  blank_named r h = blank_by_named r (top_body r.tree) h
+
+  -- what opens a container
+  begun_named : (start : ℕ) (body : ItemBody) (r : Reading) → NamesEntry names (index_of body) → AreReadNamed r → AreReadNamed (begun start body r)
+  unfolding AreNamed
+  begun_named start body r own h = named_both names r.tree.nodes ((length r.tree.spine + 1, record { start = start; «end» = 0; body = body }) ∷ []) h (own, tt)
+
+  continued_named : (start byte number : ℕ) (r : Reading) → AreReadNamed r → AreReadNamed (list_continued start byte number r)
+  unfolding list_continued
+  continued_named start byte number r h =
+      let s : Reading = item_finished r in
+      let k = item_finished_named r h in
+      cond_both (is_list_of byte (top_body s.tree)) (list_kept s) (begun start (ListBody (list_flags true) byte number) (list_finished start s))
+      (λ (q : Reading). AreReadNamed q) (λ b. kept_named s k)
+      (λ b. begun_named start (ListBody (list_flags true) byte number) (list_finished start s) tt (list_finished_named start s k))
+
+  pub item_named : (start byte number columns : ℕ) (r : Reading) → AreReadNamed r → AreReadNamed (item_opened start byte number columns r)
+  item_named start byte number columns r h =
+      begun_named start (ListItemBody columns) (list_continued start byte number r) tt (continued_named start byte number r h)
+
+  pub quote_named : (line start : ℕ) (body : ItemBody) (r : Reading)
+      → NamesEntry names (index_of body) → AreReadNamed r → AreReadNamed (begun start body (list_finished line r))
+  quote_named line start body r own h = begun_named start body (list_finished line r) own (list_finished_named line r h)
+
+  -- the marker of a task
+  none_named : (o : Option Item) (f : Forest Item)
+      → ((x : Item) → o ≡ Some x → is_task_marker x.body ≡ true) → AreNamed names f.nodes → AreNamed names (with_child f o).nodes
+  unfolding AreNamed
+  none_named None f mark h = h
+  none_named (Some x) f mark h =
+      named_both names f.nodes ((length f.spine + 1, x) ∷ []) h (subst (NamesEntry names) (sym (task_has_none x.body (mark x refl))) tt, tt)
+
+  pub child_named : (f : Forest Item) (marker : Option Item)
+      → ((x : Item) → marker ≡ Some x → is_task_marker x.body ≡ true) → AreNamed names f.nodes → AreNamed names (with_child f marker).nodes
+  child_named f marker mark h = none_named marker f mark h
+
+  -- a block that is added, where more is named
+  pub block_added : (old : Names) (f new : Forest Item) (items : List (ℕ × Item))
+      → Extends names old → new ≡ added f items → AreNamed names items → AreNamed old f.nodes → AreNamed names new.nodes
+  unfolding AreNamed
+  block_added old f new items more is own h =
+      subst (λ (g : Forest Item). AreNamed names g.nodes) (sym is)
+      (named_both names f.nodes (at_depth (length f.spine + 1) items) (named_more names old f.nodes more h) (named_deeper names (length f.spine + 1) items own))
+
+-- a leaf block of a kind that was added
+pub kind_named : (text : List ℕ) (options : Options) (names : Names) (p : Place) (kind : Kind) (gap : Bool) (old new : Forest Item) (next : ℕ)
+    → (a : AddsKind (document text options names) p kind gap old new next) → AreNamed names a.items
+kind_named text options names p kind gap old new next a =
+    opens_named (document text options names) (path_of options old) p (lines_from text (line_end p)) kind a.items gap (lines_from text next)
+    (a.opens names (extends_none names))
+
+-- the root has no index
+pub first_named : (names : Names) (tree : Forest Item) (root : TreeIndex) (e : ℕ) → tree ≡ with_end_at empty_forest root e → AreNamed names tree.nodes
+unfolding AreNamed
+first_named names tree root e is = subst (λ (f : Forest Item). AreNamed names f.nodes) (sym is)
+    (named_modified names empty_forest.nodes root.0 (λ x. record x { «end» = e }) (λ x k. k) (tt, tt))

@@ -1,0 +1,520 @@
+-- Order is kept: as nodes are added, opened and closed, and as blank lines are noted.
+use Rattle.std.proofs.Common.{◌≡◌, ◌⊎◌, inl, inr, ℕ, zero, suc, ◌+◌, ◌≤◌, ◌==◌, ◌&&◌, nat_lt, Bool, true, false, if◌then◌else◌, List, [], ◌∷◌, ◌++◌, length}
+use Rattle.std.proofs.Common.{slice_get, Option, Some, None, is_some, IsUtf8, IsCharBoundary, refl, sym, ap, subst, ◌∙◌, arith}
+use Rattle.std.proofs.lemmas.Str.{IsCharBoundary-start, IsCharBoundary-end}
+use Rattle.std.specs.Int.RustNames.{bit_and}
+use Rattle.std.specs.Option.{option_and_then}
+use Rattle.first_pass_items.specs.declared.item.Item.{Item}
+use Rattle.first_pass_items.specs.declared.item.ItemBody.{ItemBody}
+use Rattle.first_pass_items.specs.declared.item.ItemBody.TheVariants.{BlockQuote as BlockQuoteBody, List as ListBody, ListItem as ListItemBody}
+use Rattle.first_pass_tree.specs.declared.tree_index.TreeIndex.{TreeIndex}
+use Rattle.first_pass_tree.specs.Forest.{Forest, empty_forest, with_end_at, with_body_at, body_at, modify, at_depth, appended, added, item_at}
+use Rattle.first_pass_tree.specs.Tight.{tightened, tight_run, tight_at, tight_items}
+use Rattle.first_pass_grammar.specs.Derivation.{list_flags}
+use Rattle.first_pass_grammar.specs.Order.{Extent, is_text_block, is_task_marker, is_list_item, extent_of, extents, Row, Empty, Node, laid, IsBetween}
+use Rattle.first_pass_grammar.specs.Order.{Elsewhere, InItem, Fits, FitsBetween, IsOrdered}
+use Rattle.first_pass_grammar.specs.OpenOrder.{laid_open, AreAt, open_item, FitsOpen, item_on_top, within_top, IsOrderedTo}
+use Rattle.first_pass_grammar.proofs.Orders.{beside, ended_at, extents-append, length-extents, extents-at_depth, laid-at_depth, laid-one, laid_open-beside}
+use Rattle.first_pass_grammar.proofs.Orders.{laid_open-pushed, laid_open-level, laid_open-popped, laid_open-root, length-places, fits-one, fits_open-later}
+use Rattle.first_pass_grammar.proofs.Orders.{fits_open-beside, fits_open-pushed, fits_open-popped, extents-ended, extents-kept, extent-tightened, fits-whole}
+use Rattle.first_pass_open.specs.OpenBlock.{closed_by}
+use Rattle.first_pass_lists.specs.Closing.{remembered, loosened_by, top_body, is_list, is_list_of, is_item, popped_by, popped_at, popped, item_finished_by}
+use Rattle.first_pass_lists.specs.Closing.{item_finished, list_left, gap_tree, list_finished, loosened_top, list_kept, begun, list_continued, emptied}
+use Rattle.first_pass_lists.specs.Closing.{blank_read_by, blank_read}
+use Rattle.first_pass_lists.specs.declared.reading.Reading.{Reading}
+use Rattle.first_pass_blocks.specs.Ordered.{reached, IsOrderedAt}
+use Rattle.first_pass_tree.proofs.BodyLemmas.{body-changed, body_of}
+use Rattle.first_pass_blocks.proofs.StateLemmas.{popped_is}
+
+-- a forest with the same extents and open nodes
+pub ordered_same : (text : List ℕ) (f g : Forest Item) (a : ℕ)
+    → extents g.nodes ≡ extents f.nodes → g.spine ≡ f.spine → IsOrderedTo text f a → IsOrderedTo text g a
+ordered_same text f g a nodes spine h = record {
+  root = h.root;
+  levels = h.levels;
+  row = h.row;
+  nodes = nodes ∙ h.nodes;
+  places = subst (λ (s : List TreeIndex). AreAt h.root h.levels s) (sym spine) h.places;
+  fits = h.fits;
+  within = h.within;
+  whole = h.whole;
+}
+
+-- up to a later offset
+pub ordered_later : (text : List ℕ) (f : Forest Item) (a b : ℕ) → a ≤ b → b ≤ length text → IsOrderedTo text f a → IsOrderedTo text f b
+ordered_later text f a b later within h = record {
+  root = h.root;
+  levels = h.levels;
+  row = h.row;
+  nodes = h.nodes;
+  places = h.places;
+  fits = fits_open-later text a b h.levels h.row later h.fits;
+  within = within;
+  whole = h.whole;
+}
+
+-- the extent at a place says whether an item stands there
+item_there : (nodes : List (ℕ × Item)) (front : List (ℕ × Extent)) (n : ℕ × Extent) (more : List (ℕ × Extent)) (k : ℕ)
+    → extents nodes ≡ front ++ n ∷ more → k ≡ length front → item_on_top (body_at nodes k) ≡ n.1.item
+item_there [] [] n more k is at = cc
+item_there [] (y ∷ front) n more k is at = cc
+item_there (m ∷ nodes) [] n more zero is at = (let x : (m.0, extent_of m.1) ≡ n = cc in ap (λ (z : ℕ × Extent). z.1.item) x)
+item_there (m ∷ nodes) [] n more (suc k) is at = absurd (omega arith)
+item_there (m ∷ nodes) (y ∷ front) n more zero is at = absurd (omega arith)
+item_there (m ∷ nodes) (y ∷ front) n more (suc k) is at = (let z : extents nodes ≡ front ++ n ∷ more = cc in item_there nodes front n more k z (omega arith))
+
+item_open : (nodes : List (ℕ × Item)) (root : Extent) (levels : List (Row × Extent)) (row : Row) (spine : List TreeIndex)
+    → extents nodes ≡ laid_open root levels row → AreAt root levels spine
+    → open_item levels ≡ item_on_top (option_and_then (λ ix. body_at nodes ix.0) (slice_get spine 0))
+item_open nodes root [] row [] is at = refl
+item_open nodes root [] row (ix ∷ spine) is at = absurd at
+item_open nodes root (level ∷ levels) row [] is at = absurd at
+item_open nodes root (level ∷ levels) row (ix ∷ spine) is at =
+    sym (item_there nodes (laid_open root levels level.0) (suc (length levels), level.1) (laid (suc (suc (length levels))) row) ix.0
+    (is ∙ laid_open-level root level levels row) at.0)
+
+-- more nodes in the innermost open one
+ordered_more : (text : List ℕ) (f g : Forest Item) (a b : ℕ) (more : Row)
+    → extents g.nodes ≡ extents f.nodes ++ laid (suc (length f.spine)) more → g.spine ≡ f.spine → Fits text (within_top f) a b more → b ≤ length text
+    → IsOrderedTo text f a → IsOrderedTo text g b
+ordered_more text f g a b more nodes spine fits within h =
+    let n : length f.spine ≡ length h.levels = length-places h.root h.levels f.spine h.places in
+    record {
+      root = h.root;
+      levels = h.levels;
+      row = beside h.row more;
+      nodes = nodes ∙ ap (λ (z : List (ℕ × Extent)). z ++ laid (suc (length f.spine)) more) h.nodes
+          ∙ ap (λ (k : ℕ). laid_open h.root h.levels h.row ++ laid (suc k) more) n
+          ∙ sym (laid_open-beside h.root h.levels h.row more);
+      places = subst (λ (s : List TreeIndex). AreAt h.root h.levels s) (sym spine) h.places;
+      fits = fits_open-beside text a b h.levels h.row more h.fits
+          (subst (λ t. Fits text (if t then InItem else Elsewhere) a b more) (sym (item_open f.nodes h.root h.levels h.row f.spine h.nodes h.places)) fits);
+      within = within;
+      whole = h.whole;
+    }
+
+-- a node added
+pub ordered_appended : (text : List ℕ) (f : Forest Item) (a b : ℕ) (x : Item)
+    → IsBetween text a b (extent_of x) → b ≤ length text → IsOrderedTo text f a → IsOrderedTo text (appended f x) b
+ordered_appended text f a b x between within h =
+    let d : length f.spine + 1 ≡ suc (length f.spine) = omega arith in
+    ordered_more text f (appended f x) a b (Node (extent_of x) Empty Empty)
+    (extents-append f.nodes ((length f.spine + 1, x) ∷ []) ∙ ap (λ (k : ℕ). extents f.nodes ++ (k, extent_of x) ∷ []) d
+    ∙ ap (λ (z : List (ℕ × Extent)). extents f.nodes ++ z) (sym (laid-one (suc (length f.spine)) (extent_of x))))
+    refl (fits-one text (within_top f) a b (extent_of x) between) within h
+
+-- a block added
+pub ordered_added : (text : List ℕ) (f : Forest Item) (a b : ℕ) (items : List (ℕ × Item))
+    → FitsBetween text (within_top f) a b items → b ≤ length text → IsOrderedTo text f a → IsOrderedTo text (added f items) b
+ordered_added text f a b items (row, is, fits, few) within h =
+    let d : ℕ = length f.spine + 1 in
+    let z : d + 0 ≡ suc (length f.spine) = omega arith in
+    let block : extents (at_depth d items) ≡ laid (suc (length f.spine)) row =
+    extents-at_depth d items ∙ ap (at_depth d) is ∙ laid-at_depth d 0 row ∙ ap (λ (k : ℕ). laid k row) z in
+    ordered_more text f (added f items) a b row
+    (extents-append f.nodes (at_depth d items) ∙ ap (λ (z : List (ℕ × Extent)). extents f.nodes ++ z) block) refl fits within h
+
+-- a container or list begun
+pub ordered_begun : (text : List ℕ) (r : Reading) (a start : ℕ) (body : ItemBody)
+    → a ≤ start → start ≤ length text → IsCharBoundary text start → IsOrderedTo text r.tree a → IsOrderedTo text (begun start body r).tree start
+ordered_begun text r a start body later within starts h =
+    let f : Forest Item = r.tree in
+    let x : Extent = extent_of (record { start = start; «end» = 0; body = body }) in
+    let d : length f.spine + 1 ≡ suc (length h.levels) = (let n = length-places h.root h.levels f.spine h.places in omega arith) in
+    record {
+      root = h.root;
+      levels = (h.row, x) ∷ h.levels;
+      row = Empty;
+      nodes = extents-append f.nodes ((length f.spine + 1, record { start = start; «end» = 0; body = body }) ∷ [])
+          ∙ ap (λ (k : ℕ). extents f.nodes ++ (k, x) ∷ []) d
+          ∙ ap (λ (z : List (ℕ × Extent)). z ++ (suc (length h.levels), x) ∷ []) h.nodes ∙ sym (laid_open-pushed h.root x h.levels h.row);
+      places = (sym (length-extents f.nodes) ∙ ap length h.nodes, h.places);
+      fits = fits_open-pushed text a x h.levels h.row later starts h.fits;
+      within = within;
+      whole = h.whole;
+    }
+
+-- the whole tree, where no node but the root is open
+whole_by : (text : List ℕ) (nodes : List (ℕ × Item)) (to : ℕ) (root : Extent) (levels : List (Row × Extent)) (row : Row)
+    → extents nodes ≡ laid_open root levels row → AreAt root levels [] → FitsOpen text to levels row → to ≤ length text
+    → IsBetween text 0 (length text) root × (root.start ≡ 0) × (root.«end» ≡ length text) → IsOrdered text nodes
+whole_by text nodes to root [] row is places fits within whole =
+    (Node root row Empty, is ∙ laid_open-root root row, fits-whole text root to row whole.0 whole.1 whole.2 within fits)
+whole_by text nodes to root (level ∷ levels) row is places fits within whole = absurd places
+
+-- a tree that is closed
+pub ordered_whole : (text : List ℕ) (f : Forest Item) (to : ℕ) → f.spine ≡ [] → IsOrderedTo text f to → IsOrdered text f.nodes
+ordered_whole text f to closed h =
+    whole_by text f.nodes to h.root h.levels h.row h.nodes (subst (λ (s : List TreeIndex). AreAt h.root h.levels s) closed h.places) h.fits h.within h.whole
+
+first_at : (text : List ℕ) → IsUtf8 text → IsOrderedTo text (with_end_at empty_forest (record { 0 = 0 }) (length text)) 0
+unfolding laid_open laid FitsOpen Fits
+first_at text utf8 =
+    let n : 0 ≤ length text = omega arith in
+    let z : 0 ≤ 0 = omega arith in
+    let l : length text ≤ length text = omega arith in
+    record {
+      root = record { start = 0; «end» = length text; text_block = false; marker = false; item = false };
+      levels = [];
+      row = Empty;
+      nodes = refl;
+      places = tt;
+      fits = z;
+      within = n;
+      whole = (record { behind = z; order = n; before = l; starts = IsCharBoundary-start text utf8; ends = IsCharBoundary-end text }, refl, refl);
+    }
+
+-- before the first block
+pub ordered_first : (text : List ℕ) (tree : Forest Item) (root : TreeIndex)
+    → IsUtf8 text → root.0 ≡ 0 → tree ≡ with_end_at empty_forest root (length text) → IsOrderedTo text tree 0
+ordered_first text tree root utf8 top tree_is =
+    let at_top : ℕ → TreeIndex = λ n. record { 0 = n } in
+    let e : tree ≡ with_end_at empty_forest (at_top 0) (length text) = tree_is ∙ ap (λ n. with_end_at empty_forest (at_top n) (length text)) top in
+    subst (λ (f : Forest Item). IsOrderedTo text f 0) (sym e) (first_at text utf8)
+
+-- the innermost open node closed
+closed_levels : (text : List ℕ) (f : Forest Item) (at e : ℕ) (ix : TreeIndex) (rest : List TreeIndex) (root : Extent) (levels : List (Row × Extent)) (row : Row)
+    → extents f.nodes ≡ laid_open root levels row → AreAt root levels (ix ∷ rest)
+    → FitsOpen text at levels row → IsBetween text 0 (length text) root × (root.start ≡ 0) × (root.«end» ≡ length text) → at ≤ e → e ≤ length text
+    → IsCharBoundary text e → IsOrderedTo text (closed_by f e (ix ∷ rest)) e
+closed_levels text f at e ix rest root [] row is places fits whole later within ends = absurd places
+closed_levels text f at e ix rest root (level ∷ levels) row is places fits whole later within ends = record {
+  root = root;
+  levels = levels;
+  row = beside level.0 (Node (ended_at level.1 e) row Empty);
+  nodes = extents-ended f.nodes (laid_open root levels level.0) (suc (length levels), level.1) (laid (suc (suc (length levels))) row) ix.0 e
+      (is ∙ laid_open-level root level levels row) places.0
+      ∙ sym (laid_open-popped root (ended_at level.1 e) levels level.0 row);
+  places = places.1;
+  fits = fits_open-popped text at e level levels row later ends fits;
+  within = within;
+  whole = whole;
+}
+
+pub ordered_closed : (text : List ℕ) (f : Forest Item) (at e : ℕ) (ix : TreeIndex) (rest : List TreeIndex)
+    → f.spine ≡ ix ∷ rest → at ≤ e → e ≤ length text → IsCharBoundary text e → IsOrderedTo text f at → IsOrderedTo text (closed_by f e (ix ∷ rest)) e
+ordered_closed text f at e ix rest spine later within ends h =
+    closed_levels text f at e ix rest h.root h.levels h.row h.nodes
+    (subst (λ (s : List TreeIndex). AreAt h.root h.levels s) spine h.places) h.fits h.whole later within ends
+
+-- paragraphs made tight keep their extents
+run_by : (t : Bool) (depth : ℕ) (n : ℕ × Item) (nodes : List (ℕ × Item))
+    → extents (tight_run depth nodes) ≡ extents nodes → extents (if t then tightened (depth + 2) n ∷ tight_run depth nodes else n ∷ nodes) ≡ extents (n ∷ nodes)
+run_by true depth n nodes h =
+    ap (λ (x : Extent). (n.0, x) ∷ extents (tight_run depth nodes)) (extent-tightened (depth + 2) n)
+    ∙ ap (λ (z : List (ℕ × Extent)). (n.0, extent_of n.1) ∷ z) h
+run_by false depth n nodes h = refl
+
+extents-run : (depth : ℕ) (nodes : List (ℕ × Item)) → extents (tight_run depth nodes) ≡ extents nodes
+unfolding tight_run
+extents-run depth [] = refl
+extents-run depth (n ∷ nodes) = run_by (nat_lt depth n.0) depth n nodes (extents-run depth nodes)
+
+-- the paragraphs of a list made tight keep their extents
+pub extents-tight : (depth from : ℕ) (nodes : List (ℕ × Item)) → extents (tight_at depth from nodes) ≡ extents nodes
+unfolding tight_at
+extents-tight depth zero nodes = extents-run depth nodes
+extents-tight depth (suc from) [] = refl
+extents-tight depth (suc from) (n ∷ nodes) = ap (λ (z : List (ℕ × Extent)). (n.0, extent_of n.1) ∷ z) (extents-tight depth from nodes)
+
+tight_by : (text : List ℕ) (t : Bool) (f : Forest Item) (ix : TreeIndex) (a : ℕ) → IsOrderedTo text f a → IsOrderedTo text (if t then tight_items f ix else f) a
+tight_by text true f ix a h = ordered_same text f (tight_items f ix) a (extents-tight _ (ix.0 + 1) f.nodes) refl h
+tight_by text false f ix a h = h
+
+-- what closing makes of the tree and of an empty item
+popped_tree : (text : List ℕ) (r : Reading) (f : Forest Item) (ix : TreeIndex) (a : ℕ) (b : Option ItemBody)
+    → IsOrderedTo text f a → IsOrderedTo text (popped_by r f ix b).tree a
+popped_tree text r f ix a None h = h
+popped_tree text r f ix a (Some (ListBody flags byte number)) h = tight_by text (bit_and flags.0 1 == 1) f ix a h
+popped_tree text r f ix a (Some (ListItemBody columns)) h = h
+popped_tree text r f ix a (Some b) h = h
+
+popped_empty : (r : Reading) (f : Forest Item) (ix : TreeIndex) (b : Option ItemBody)
+    → (r.empty_item ≡ None) ⊎ (is_item b ≡ true) → (popped_by r f ix b).empty_item ≡ None
+popped_empty r f ix None (inl none) = none
+popped_empty r f ix None (inr item) = cc
+popped_empty r f ix (Some (ListBody flags byte number)) (inl none) = none
+popped_empty r f ix (Some (ListBody flags byte number)) (inr item) = cc
+popped_empty r f ix (Some (ListItemBody columns)) h = refl
+popped_empty r f ix (Some b) (inl none) = none
+popped_empty r f ix (Some b) (inr item) = cc
+
+-- up to an offset, with no item empty
+abbrev IsPlainTo : List ℕ → Reading → ℕ → Type 0
+IsPlainTo text r at = IsOrderedTo text r.tree at × (r.empty_item ≡ None)
+
+no_some : (o : Option ℕ) (e : ℕ) → o ≡ None → o ≡ Some e → ⊥
+no_some o e a b = cc
+
+-- where no item is empty, what is in order is the tree
+pub ordered_none : (text : List ℕ) (r : Reading) (at : ℕ) → r.empty_item ≡ None → at ≤ length text → IsOrderedTo text r.tree at → IsOrderedAt text r at
+ordered_none text r at none within h =
+    let same : reached r.empty_item at ≡ at = ap (λ (o : Option ℕ). reached o at) none in
+    record {
+      ordered = subst (λ (n : ℕ). IsOrderedTo text r.tree n) (sym same) h;
+      later = omega arith;
+      within = within;
+      innermost = λ e is. absurd (no_some r.empty_item e none is);
+    }
+
+false_true : (t : Bool) → t ≡ false → t ≡ true → ⊥
+false_true t a b = cc
+
+later_by : (text : List ℕ) (r : Reading) (at b : ℕ) (o : Option ℕ) → r.empty_item ≡ o → at ≤ b → b ≤ length text → IsOrderedTo text r.tree (reached o at)
+    → reached o at ≤ at → IsOrderedTo text r.tree (reached o b) × (reached o b ≤ b)
+later_by text r at b None is later within h order = (let here : b ≤ b = omega arith in (ordered_later text r.tree at b later within h, here))
+later_by text r at b (Some e) is later within h order = (let here : e ≤ b = omega arith in (h, here))
+
+-- up to a later offset, whether an item is empty or not
+pub ordered_at_later : (text : List ℕ) (r : Reading) (at b : ℕ) → at ≤ b → b ≤ length text → IsOrderedAt text r at → IsOrderedAt text r b
+ordered_at_later text r at b later within h =
+    let l = later_by text r at b r.empty_item refl later within h.ordered h.later in
+    record { ordered = l.0; later = l.1; within = within; innermost = h.innermost }
+
+plain_of : (text : List ℕ) (r : Reading) (at : ℕ) → r.empty_item ≡ None → IsOrderedAt text r at → IsOrderedTo text r.tree at
+plain_of text r at none h = subst (λ (o : Option ℕ). IsOrderedTo text r.tree (reached o at)) none h.ordered
+
+-- the innermost open node closed
+popped_plain : (text : List ℕ) (r : Reading) (at e : ℕ) (s : List TreeIndex)
+    → r.tree.spine ≡ s → (r.empty_item ≡ None) ⊎ (is_item (top_body r.tree) ≡ true) → at ≤ e → e ≤ length text → IsCharBoundary text e
+    → IsOrderedTo text r.tree at → IsPlainTo text (popped e r) e
+unfolding popped
+popped_plain text r at e [] spine (inl none) later within ends h =
+    let same : popped e r ≡ r = ap (popped_at e r) spine in
+    subst (λ (q : Reading). IsPlainTo text q e) (sym same) (ordered_later text r.tree at e later within h, none)
+popped_plain text r at e [] spine (inr item) later within ends h =
+    let none : is_item (top_body r.tree) ≡ false =
+    ap (λ (s : List TreeIndex). is_item (option_and_then (λ ix. body_at r.tree.nodes ix.0) (slice_get s 0))) spine in
+    absurd (false_true (is_item (top_body r.tree)) none item)
+popped_plain text r at e (ix ∷ rest) spine empty later within ends h =
+    let f : Forest Item = closed_by r.tree e (ix ∷ rest) in
+    let b : Option ItemBody = body_at r.tree.nodes ix.0 in
+    let top : is_item (top_body r.tree) ≡ is_item b =
+    ap (λ (s : List TreeIndex). is_item (option_and_then (λ ix. body_at r.tree.nodes ix.0) (slice_get s 0))) spine in
+    let none : (r.empty_item ≡ None) ⊎ (is_item b ≡ true) = elim empty [ inl x ↦ inl x | inr item ↦ inr (sym top ∙ item) ] in
+    subst (λ (q : Reading). IsPlainTo text q e) (sym (popped_is e r ix rest spine))
+    (popped_tree text r f ix e b (ordered_closed text r.tree at e ix rest spine later within ends h), popped_empty r f ix b none)
+
+empty_by : (text : List ℕ) (r : Reading) (at : ℕ) (o : Option ℕ)
+    → r.empty_item ≡ o → IsOrderedAt text r at → (r.empty_item ≡ None) ⊎ (is_item (top_body r.tree) ≡ true)
+empty_by text r at None is h = inl is
+empty_by text r at (Some e) is h = inr (h.innermost e is).0
+
+popped_at_offset : (text : List ℕ) (r : Reading) (at e : ℕ)
+    → at ≤ e → e ≤ length text → IsCharBoundary text e → IsOrderedAt text r at → IsPlainTo text (popped e r) e
+popped_at_offset text r at e later within ends h =
+    let before : reached r.empty_item at ≤ at = h.later in
+    popped_plain text r (reached r.empty_item at) e r.tree.spine refl (empty_by text r at r.empty_item refl h) (omega arith) within ends h.ordered
+
+-- the innermost open node closed
+pub ordered_popped : (text : List ℕ) (r : Reading) (at e : ℕ)
+    → at ≤ e → e ≤ length text → IsCharBoundary text e → IsOrderedAt text r at → IsOrderedAt text (popped e r) e
+ordered_popped text r at e later within ends h =
+    let p = popped_at_offset text r at e later within ends h in
+    ordered_none text (popped e r) e p.1 within p.0
+
+-- an item that began with two blank lines closed
+finished_by : (text : List ℕ) (r : Reading) (at e : ℕ) (t : Bool)
+    → r.empty_item ≡ Some e → IsOrderedTo text r.tree e → e ≤ at → at ≤ length text → (is_item (top_body r.tree) ≡ true) × IsCharBoundary text e
+    → IsOrderedTo text (if t then popped e r else r).tree at
+finished_by text r at e true is h later within inner =
+    let here : e ≤ e = omega arith in
+    let short : e ≤ length text = omega arith in
+    ordered_later text (popped e r).tree e at later within (popped_plain text r e e r.tree.spine refl (inr inner.0) here short inner.1 h).0
+finished_by text r at e false is h later within inner = ordered_later text r.tree e at later within h
+
+finished_with : (text : List ℕ) (r : Reading) (at : ℕ) (o : Option ℕ)
+    → r.empty_item ≡ o → IsOrderedTo text r.tree (reached o at) → reached o at ≤ at → at ≤ length text
+    → ((e : ℕ) → r.empty_item ≡ Some e → (is_item (top_body r.tree) ≡ true) × IsCharBoundary text e) → IsPlainTo text (item_finished_by r o) at
+finished_with text r at None is h later within inner = (h, is)
+finished_with text r at (Some e) is h later within inner = (finished_by text r at e (r.blank && is_item (top_body r.tree)) is h later within (inner e is), refl)
+
+item_finished_plain : (text : List ℕ) (r : Reading) (at : ℕ) → IsOrderedAt text r at → IsPlainTo text (item_finished r) at
+unfolding item_finished
+item_finished_plain text r at h = finished_with text r at r.empty_item refl h.ordered h.later h.within h.innermost
+
+-- an item finished that began with two blank lines
+pub ordered_item_finished : (text : List ℕ) (r : Reading) (at : ℕ) → IsOrderedAt text r at → IsOrderedAt text (item_finished r) at
+ordered_item_finished text r at h =
+    let p = item_finished_plain text r at h in
+    ordered_none text (item_finished r) at p.1 h.within p.0
+
+-- a list made loose keeps its extent
+list_extent : (x : Item) (a b : ItemBody) → x.body ≡ a → is_text_block a ≡ is_text_block b → is_task_marker a ≡ is_task_marker b
+    → is_list_item a ≡ is_list_item b → extent_of (record { start = x.start; «end» = x.«end»; body = b }) ≡ extent_of x
+list_extent x a b is p m i =
+    ap (λ (t : Bool). record { start = x.start; «end» = x.«end»; text_block = t; marker = is_task_marker b; item = is_list_item b }) (sym p)
+    ∙ ap (λ (t : Bool). record { start = x.start; «end» = x.«end»; text_block = is_text_block a; marker = t; item = is_list_item b }) (sym m)
+    ∙ ap (λ (t : Bool). record { start = x.start; «end» = x.«end»; text_block = is_text_block a; marker = is_task_marker a; item = t }) (sym i)
+    ∙ ap (λ (c : ItemBody). record { start = x.start; «end» = x.«end»; text_block = is_text_block c; marker = is_task_marker c; item = is_list_item c })
+    (sym is)
+
+-- another body at a place, which is a paragraph, a marker or an item as before
+pub extents-body : (nodes : List (ℕ × Item)) (k : ℕ) (a b : ItemBody)
+    → body_at nodes k ≡ Some a → is_text_block a ≡ is_text_block b → is_task_marker a ≡ is_task_marker b → is_list_item a ≡ is_list_item b
+    → extents (modify nodes k (λ x. record x { body = b })) ≡ extents nodes
+extents-body nodes k a b is p m i = extents-kept nodes k (λ x. record x { body = b }) a is (λ x e. list_extent x a b e p m i)
+
+loosened_kept : (text : List ℕ) (f : Forest Item) (ix : TreeIndex) (a : ℕ) (b : Option ItemBody)
+    → body_at f.nodes ix.0 ≡ b → IsOrderedTo text f a → IsOrderedTo text (loosened_by f ix b) a
+loosened_kept text f ix a (Some (ListBody flags byte number)) is h =
+    ordered_same text f (with_body_at f ix (ListBody (list_flags false) byte number)) a
+    (extents-body f.nodes ix.0 (ListBody flags byte number) (ListBody (list_flags false) byte number) is refl refl refl) refl h
+loosened_kept text f ix a None is h = h
+loosened_kept text f ix a (Some b) is h = h
+
+gap_kept : (text : List ℕ) (f : Forest Item) (a : ℕ) (s : List TreeIndex) → IsOrderedTo text f a → IsOrderedTo text (gap_tree f s) a
+gap_kept text f a [] h = h
+gap_kept text f a (ix ∷ []) h = h
+gap_kept text f a (ix ∷ outer ∷ rest) h = loosened_kept text f outer a (body_at f.nodes outer.0) refl h
+
+gap_by : (text : List ℕ) (r : Reading) (a : ℕ) (t : Bool)
+    → IsPlainTo text r a → IsPlainTo text (if t then record r { tree = gap_tree r.tree r.tree.spine; blank = false } else r) a
+gap_by text r a true h = (gap_kept text r.tree a r.tree.spine h.0, h.1)
+gap_by text r a false h = h
+
+left_by : (text : List ℕ) (r : Reading) (at e b : ℕ) (t : Bool)
+    → at ≤ b → e ≤ b → b ≤ length text → IsCharBoundary text e → (t ≡ true → at ≤ e) → IsPlainTo text r at → IsPlainTo text (if t then popped e r else r) b
+left_by text r at e b true later short within ends order h =
+    let first : at ≤ e = order refl in
+    let p = popped_plain text r at e r.tree.spine refl (inl h.1) first (omega arith) ends h.0 in
+    (ordered_later text (popped e r).tree e b short within p.0, p.1)
+left_by text r at e b false later short within ends order h = (ordered_later text r.tree at b later within h.0, h.1)
+
+list_finished_plain : (text : List ℕ) (r : Reading) (at e b : ℕ) → at ≤ b → e ≤ b → b ≤ length text → IsCharBoundary text e
+    → (is_list (top_body (item_finished r).tree) ≡ true → at ≤ e) → IsOrderedAt text r at → IsPlainTo text (list_finished e r) b
+unfolding list_finished
+list_finished_plain text r at e b later short within ends order h =
+    let q : Reading = item_finished r in
+    let l : Reading = list_left e q in
+    gap_by text l b l.blank (left_by text q at e b (is_list (top_body q.tree)) later short within ends order (item_finished_plain text r at h))
+
+-- a list finished before a block
+pub ordered_list_finished : (text : List ℕ) (r : Reading) (at e b : ℕ) → at ≤ b → e ≤ b → b ≤ length text → IsCharBoundary text e
+    → (is_list (top_body (item_finished r).tree) ≡ true → at ≤ e) → IsOrderedAt text r at → IsOrderedAt text (list_finished e r) b
+ordered_list_finished text r at e b later short within ends order h =
+    let p = list_finished_plain text r at e b later short within ends order h in
+    ordered_none text (list_finished e r) b p.1 within p.0
+
+loosened_top_kept : (text : List ℕ) (f : Forest Item) (a : ℕ) (s : List TreeIndex) → IsOrderedTo text f a → IsOrderedTo text (loosened_top f s) a
+loosened_top_kept text f a [] h = h
+loosened_top_kept text f a (ix ∷ rest) h = loosened_kept text f ix a (body_at f.nodes ix.0) refl h
+
+kept_by : (text : List ℕ) (r : Reading) (a : ℕ) (t : Bool)
+    → IsPlainTo text r a → IsPlainTo text (if t then record r { tree = loosened_top r.tree r.tree.spine; blank = false } else r) a
+kept_by text r a true h = (loosened_top_kept text r.tree a r.tree.spine h.0, h.1)
+kept_by text r a false h = h
+
+continued_by : (text : List ℕ) (s : Reading) (at start byte number : ℕ) (t : Bool)
+    → at ≤ start → start ≤ length text → IsCharBoundary text start → IsPlainTo text s at
+    → IsPlainTo text (if t then list_kept s else begun start (ListBody (list_flags true) byte number) (list_finished start s)) start
+continued_by text s at start byte number true later within starts h =
+    (let k = kept_by text s at s.blank h in (ordered_later text (list_kept s).tree at start later within k.0, k.1))
+continued_by text s at start byte number false later within starts h =
+    let here : start ≤ start = omega arith in
+    let short : at ≤ length text = omega arith in
+    let p = list_finished_plain text s at start start later here within starts (λ list. later) (ordered_none text s at h.1 short h.0) in
+    (ordered_begun text (list_finished start s) start start (ListBody (list_flags true) byte number) here within starts p.0, p.1)
+
+-- a list that continues, or a new one
+pub ordered_list_continued : (text : List ℕ) (r : Reading) (at start byte number : ℕ)
+    → at ≤ start → start ≤ length text → IsCharBoundary text start → IsOrderedAt text r at → IsOrderedAt text (list_continued start byte number r) start
+unfolding list_continued
+ordered_list_continued text r at start byte number later within starts h =
+    let s : Reading = item_finished r in
+    let p = continued_by text s at start byte number (is_list_of byte (top_body s.tree)) later within starts (item_finished_plain text r at h) in
+    ordered_none text (list_continued start byte number r) start p.1 within p.0
+
+-- another tree with the same extents and open nodes, of which the innermost is an item if it was
+ordered_changed : (text : List ℕ) (r : Reading) (tree : Forest Item) (blank : Bool) (at : ℕ)
+    → extents tree.nodes ≡ extents r.tree.nodes → tree.spine ≡ r.tree.spine → (is_item (top_body r.tree) ≡ true → is_item (top_body tree) ≡ true)
+    → IsOrderedAt text r at → IsOrderedAt text (record r { tree = tree; blank = blank }) at
+ordered_changed text r tree blank at nodes spine item h = record {
+  ordered = ordered_same text r.tree tree (reached r.empty_item at) nodes spine h.ordered;
+  later = h.later;
+  within = h.within;
+  innermost = λ e is. (item (h.innermost e is).0, (h.innermost e is).1);
+}
+
+-- an item that takes blank lines alone keeps its extent, and is an item
+emptied_kept : (text : List ℕ) (r : Reading) (at columns : ℕ) (s : List TreeIndex)
+    → r.tree.spine ≡ s → option_and_then (λ (ix : TreeIndex). body_at r.tree.nodes ix.0) (slice_get s 0) ≡ Some (ListItemBody columns)
+    → IsOrderedAt text r at → IsOrderedAt text (record r { tree = emptied r.tree s; blank = true }) at
+emptied_kept text r at columns [] spine is h = cc
+emptied_kept text r at columns (ix ∷ rest) spine is h =
+    let g : Forest Item = with_body_at r.tree ix (ListItemBody 0) in
+    let body : body_at g.nodes ix.0 ≡ Some (ListItemBody 0) =
+    body-changed r.tree.nodes ix.0 (λ x. record x { body = ListItemBody 0 }) (ListItemBody columns) (ListItemBody 0) is (λ x e. refl) in
+    let top : top_body g ≡ body_at g.nodes ix.0 = ap (λ (s : List TreeIndex). option_and_then (λ ix. body_at g.nodes ix.0) (slice_get s 0)) spine in
+    ordered_changed text r g true at (extents-body r.tree.nodes ix.0 (ListItemBody columns) (ListItemBody 0) is refl refl refl) refl
+    (λ item. ap is_item (top ∙ body)) h
+
+emptied_by : (text : List ℕ) (r : Reading) (at columns : ℕ) (t : Bool) → top_body r.tree ≡ Some (ListItemBody columns) → IsOrderedAt text r at
+    → IsOrderedAt text (record r { tree = if t then emptied r.tree r.tree.spine else r.tree; blank = true }) at
+emptied_by text r at columns true is h = emptied_kept text r at columns r.tree.spine refl is h
+emptied_by text r at columns false is h = ordered_changed text r r.tree true at refl refl (λ item. item) h
+
+blank_by : (text : List ℕ) (r : Reading) (at : ℕ) (b : Option ItemBody) → top_body r.tree ≡ b → IsOrderedAt text r at → IsOrderedAt text (blank_read_by r b) at
+blank_by text r at (Some (BlockQuoteBody kind)) is h = h
+blank_by text r at (Some (ListItemBody columns)) is h = emptied_by text r at columns (is_some r.empty_item) is h
+blank_by text r at None is h = ordered_changed text r r.tree true at refl refl (λ item. item) h
+blank_by text r at (Some b) is h = ordered_changed text r r.tree true at refl refl (λ item. item) h
+
+-- a blank line read
+pub ordered_blank_read : (text : List ℕ) (r : Reading) (at b : ℕ) → at ≤ b → b ≤ length text → IsOrderedAt text r at → IsOrderedAt text (blank_read r) b
+unfolding blank_read
+ordered_blank_read text r at b later within h = ordered_at_later text (blank_read r) at b later within (blank_by text r at (top_body r.tree) refl h)
+
+-- what a call of pop remembers
+pub pop_keeps_order : (text : List ℕ) (r q : Reading) (at e : ℕ)
+    → q ≡ popped e r → at ≤ e → e ≤ length text → IsCharBoundary text e → IsOrderedAt text r at → IsOrderedAt text q e
+pop_keeps_order text r q at e is later within ends h = subst (λ (s : Reading). IsOrderedAt text s e) (sym is) (ordered_popped text r at e later within ends h)
+
+-- what a call of finish_empty_list_item remembers
+pub finish_item_keeps_order : (text : List ℕ) (r q : Reading) (at : ℕ) → q ≡ item_finished r → IsOrderedAt text r at → IsOrderedAt text q at
+finish_item_keeps_order text r q at is h = subst (λ (s : Reading). IsOrderedAt text s at) (sym is) (ordered_item_finished text r at h)
+
+-- what a call of finish_list remembers
+pub finish_list_keeps_order : (text : List ℕ) (r q : Reading) (at e : ℕ)
+    → q ≡ list_finished e r → at ≤ e → e ≤ length text → IsCharBoundary text e → IsOrderedAt text r at → IsOrderedAt text q e
+finish_list_keeps_order text r q at e is later within ends h =
+    let here : e ≤ e = omega arith in
+    subst (λ (s : Reading). IsOrderedAt text s e) (sym is) (ordered_list_finished text r at e e later here within ends (λ list. later) h)
+
+-- what a call of continue_list remembers
+pub continue_list_keeps_order : (text : List ℕ) (r q : Reading) (at start byte number : ℕ)
+    → q ≡ list_continued start byte number r → at ≤ start → start ≤ length text → IsCharBoundary text start → IsOrderedAt text r at → IsOrderedAt text q start
+continue_list_keeps_order text r q at start byte number is later within starts h =
+    subst (λ (s : Reading). IsOrderedAt text s start) (sym is) (ordered_list_continued text r at start byte number later within starts h)
+
+other_popped : (r : Reading) (f : Forest Item) (ix : TreeIndex) (b : Option ItemBody)
+    → is_list b ≡ false → is_item b ≡ false → popped_by r f ix b ≡ record r { tree = f }
+other_popped r f ix None list item = refl
+other_popped r f ix (Some (ListBody flags byte number)) list item = cc
+other_popped r f ix (Some (ListItemBody columns)) list item = cc
+other_popped r f ix (Some b) list item = refl
+
+-- the innermost open node closed, where that is no list and no item
+pub popped_other : (r : Reading) (e : ℕ) (ix : TreeIndex) (s : List TreeIndex) (b : Option ItemBody)
+    → r.tree.spine ≡ s → slice_get s 0 ≡ Some ix → body_at (closed_by r.tree e s).nodes ix.0 ≡ b → is_list b ≡ false → is_item b ≡ false
+    → popped e r ≡ record r { tree = closed_by r.tree e s }
+unfolding popped
+popped_other r e ix [] b spine top is list item = cc
+popped_other r e ix (jx ∷ rest) b spine top is list item =
+    let same : jx ≡ ix = cc in
+    let f : Forest Item = closed_by r.tree e (jx ∷ rest) in
+    let is' : body_at f.nodes jx.0 ≡ b = ap (λ (i : TreeIndex). body_at f.nodes i.0) same ∙ is in
+    ap (popped_at e r) spine ∙ ap (popped_by r f jx) is' ∙ other_popped r f jx b list item
+
+-- the same from what the calls answer
+pub popped_other_calls : (r q : Reading) (e : ℕ) (ix : TreeIndex) (x : Item) → slice_get r.tree.spine 0 ≡ Some ix → q.tree ≡ closed_by r.tree e r.tree.spine
+    → q.empty_item ≡ r.empty_item → q.blank ≡ r.blank → item_at q.tree ix ≡ Some x
+    → is_list (Some x.body) ≡ false → is_item (Some x.body) ≡ false → q ≡ popped e r
+popped_other_calls r q e ix x top tree empty blank at list item =
+    let body : body_at (closed_by r.tree e r.tree.spine).nodes ix.0 ≡ Some x.body =
+    ap (λ (f : Forest Item). body_at f.nodes ix.0) (sym tree) ∙ body_of q.tree ix x at in
+    let is : popped e r ≡ record r { tree = closed_by r.tree e r.tree.spine } = popped_other r e ix r.tree.spine (Some x.body) refl top body list item in
+    let same : q ≡ record r { tree = closed_by r.tree e r.tree.spine } =
+    ap (λ (f : Forest Item). remembered f q.empty_item q.blank) tree ∙ ap (λ (o : Option ℕ). remembered (closed_by r.tree e r.tree.spine) o q.blank) empty
+    ∙ ap (λ (t : Bool). remembered (closed_by r.tree e r.tree.spine) r.empty_item t) blank in
+    same ∙ sym is

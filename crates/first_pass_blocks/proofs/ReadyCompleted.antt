@@ -1,0 +1,111 @@
+-- What is ready can be completed.
+use Rattle.std.proofs.Common.{◌≡◌, ℕ, Bool, true, false, List, [], ◌∷◌, length, map, Option, Some, None, refl, sym, ap, ◌∙◌, subst, arith}
+use Rattle.std.specs.Option.{option_and_then}
+use Rattle.std.proofs.lemmas.Option.{same_Some}
+use Rattle.first_pass_items.specs.declared.item.Item.{Item}
+use Rattle.first_pass_items.specs.declared.item.ItemBody.{ItemBody}
+use Rattle.first_pass_items.specs.declared.item.ItemBody.TheVariants.{ListItem as ListItemBody}
+use Rattle.first_pass_tree.specs.declared.tree_index.TreeIndex.{TreeIndex}
+use Rattle.first_pass_tree.specs.Forest.{Forest, body_at, with_body_at}
+use Rattle.first_pass_lines.specs.Places.{Place}
+use Rattle.first_pass_grammar.specs.Names.{Names, Extends}
+use Rattle.first_pass_grammar.specs.Leaves.{Document, document}
+use Rattle.first_pass_grammar.specs.Derivation.{Tables}
+use Rattle.first_pass_grammar.specs.Skeleton.{From, Line, Blanks, next_is_blank}
+use Rattle.first_pass_grammar.specs.Completion.{NoList, Standing, Frame, last_of, Completes, CanGoOn}
+use Rattle.first_pass_grammar.proofs.MoreNames.{extends_none}
+use Rattle.first_pass_grammar.proofs.Completed.{line_goes_on, completion_derives}
+use Rattle.first_pass_open.specs.Path.{container_of, with_container, path_in, path_of}
+use Rattle.first_pass_lists.specs.Closing.{emptied}
+use Rattle.first_pass_lists.specs.declared.reading.Reading.{Reading}
+use Rattle.first_pass_blocks.specs.State.{AreOpen, ReadyAt, ReadyBeforeLine, ReadyInItem, ReadyEmpty, ReadyWith, Ready}
+use Rattle.first_pass_blocks.specs.Completed.{CompletedAt, CompletedBeforeLine, CompletedInItem, CompletedWith, IsCompleted}
+use Rattle.first_pass_tree.proofs.BodyLemmas.{body-changed}
+use Rattle.first_pass_blocks.proofs.OpenLemmas.{open_path}
+use Rattle.first_pass_items.specs.declared.option_set.Options.{Options}
+
+-- open nodes are in one way what frames say
+open_length : (nodes : List (ℕ × Item)) (spine : List TreeIndex) (frames : List Frame) → AreOpen nodes spine frames
+    → length frames ≡ length (map (λ (ix : TreeIndex). ix.0) spine)
+open_length nodes [] [] o = refl
+open_length nodes [] (frame ∷ frames) o = absurd o
+open_length nodes (ix ∷ spine) [] o = absurd o
+open_length nodes (ix ∷ spine) (frame ∷ frames) o = let l = open_length nodes spine frames o.1 in omega arith
+
+open_once : (nodes : List (ℕ × Item)) (spine : List TreeIndex) (frames others : List Frame) → AreOpen nodes spine frames → AreOpen nodes spine others
+    → frames ≡ others
+open_once nodes [] [] [] o p = refl
+open_once nodes [] [] (other ∷ others) o p = absurd p
+open_once nodes [] (frame ∷ frames) others o p = absurd o
+open_once nodes (ix ∷ spine) [] others o p = absurd o
+open_once nodes (ix ∷ spine) (frame ∷ frames) [] o p = absurd p
+open_once nodes (ix ∷ spine) (frame ∷ frames) (other ∷ others) o p =
+    let first : frame ≡ other = same_Some frame other (sym o.0 ∙ p.0) in
+    let rest = open_once nodes spine frames others o.1 p.1 in
+    cc
+
+standing_of : Tables → Forest Item → List Frame → Bool → Standing
+standing_of defined tree frames run = record { nodes = tree.nodes; list = NoList; before = record { last = last_of frames; counted = run }; defined = defined }
+
+-- what is ready at a place, with all names
+abbrev AlwaysReady : Document → Tables → Forest Item → Bool → From → List Place → Type 0
+AlwaysReady d defined tree run from lines = (more : Names) → Extends more d.names → ReadyAt (document d.text d.options more) defined tree run from lines
+
+completed_at : (d : Document) (defined : Tables) (tree : Forest Item) (run : Bool) (from : From) (lines : List Place) → CanGoOn (path_of d.options tree) from
+    → AlwaysReady d defined tree run from lines → CompletedAt d defined tree run from lines
+unfolding standing_of
+completed_at d defined tree run from lines can ready =
+    let now = ready d.names (extends_none d.names) in
+    let places : List ℕ = map (λ (ix : TreeIndex). ix.0) tree.spine in
+    let always : (more : Names)
+    → Extends more d.names → Completes (document d.text d.options more) now.frames places (standing_of defined tree now.frames run) from lines =
+    λ more x.
+    let at_last = ready more x in
+    subst (λ z. Completes (document d.text d.options more) z places (standing_of defined tree z run) from lines)
+    (open_once tree.nodes tree.spine at_last.frames now.frames at_last.are_open now.are_open) at_last.completes in
+    let inside = subst (λ z. CanGoOn z from) (open_path d.options tree.nodes tree.spine now.frames now.are_open) can in
+    let size = open_length tree.nodes tree.spine now.frames now.are_open in
+    let done = completion_derives d now.frames places (standing_of defined tree now.frames run) from lines size inside always in
+    record { frames = now.frames; are_open = now.are_open; completion = done.0; derives = done.1 }
+
+-- an empty item is a container
+item_goes_on : (options : Options) (f : Forest Item) (ix : TreeIndex) (rest : List TreeIndex) (columns : ℕ) (from : From) → f.spine ≡ ix ∷ rest
+    → body_at f.nodes ix.0 ≡ Some (ListItemBody columns) → CanGoOn (path_of options f) from
+item_goes_on options f ix rest columns from spine item =
+    subst (λ (s : List TreeIndex). CanGoOn (path_in options f.nodes s) from) (sym spine)
+    (subst (λ (o : Option ItemBody). CanGoOn (with_container (option_and_then (container_of options) o) (path_in options f.nodes rest)) from) (sym item) tt)
+
+module _ (d : Document) (defined : Tables) (r : Reading) (lines : List Place) (e : ℕ) (empty : ReadyEmpty d defined r e lines) where
+  zero_is : emptied r.tree r.tree.spine ≡ with_body_at r.tree empty.place (ListItemBody 0)
+  zero_is = ap (emptied r.tree) empty.spine
+
+  zero_goes_on : CanGoOn (path_of d.options (emptied r.tree r.tree.spine)) (Blanks e)
+  zero_goes_on =
+      let change : Item → Item = λ x. record { start = x.start; «end» = x.«end»; body = ListItemBody 0 } in
+      let body = body-changed r.tree.nodes empty.place.0 change (ListItemBody empty.columns) (ListItemBody 0) empty.item (λ x h. refl) in
+      subst (λ f. CanGoOn (path_of d.options f) (Blanks e)) (sym zero_is)
+      (item_goes_on d.options (with_body_at r.tree empty.place (ListItemBody 0)) empty.place empty.outer 0 (Blanks e) empty.spine body)
+
+  before_line : (t : Bool) → ((more : Names) → Extends more d.names → ReadyBeforeLine (document d.text d.options more) defined r.tree e lines t)
+      → CompletedBeforeLine d defined r.tree e lines t
+  before_line true ready = completed_at d defined (emptied r.tree r.tree.spine) false (Blanks e) lines zero_goes_on ready
+  before_line false ready = completed_at d defined r.tree false Line lines (line_goes_on (path_of d.options r.tree)) ready
+
+  in_item : (blank : Bool)
+      → ((more : Names) → Extends more d.names → ReadyInItem (document d.text d.options more) defined r.tree e lines blank)
+      → CompletedInItem d defined r.tree e lines blank
+  in_item true ready =
+      completed_at d defined r.tree true (Blanks e) lines
+      (item_goes_on d.options r.tree empty.place empty.outer empty.columns (Blanks e) empty.spine empty.item) ready
+  in_item false ready = before_line (next_is_blank (path_of d.options r.tree) lines) ready
+
+ready_with : (d : Document) (defined : Tables) (r : Reading) (lines : List Place) (o : Option ℕ)
+    → ((more : Names) → Extends more d.names → ReadyWith (document d.text d.options more) defined r lines o) → CompletedWith d defined r lines o
+ready_with d defined r lines None ready = completed_at d defined r.tree r.blank Line lines (line_goes_on (path_of d.options r.tree)) ready
+ready_with d defined r lines (Some e) ready =
+    in_item d defined r lines e (ready d.names (extends_none d.names)) r.blank (λ more x. let empty = ready more x in empty.ready)
+
+pub ready_completed : (d : Document) (defined : Tables) (r : Reading) (lines : List Place)
+    → ((more : Names) → Extends more d.names → Ready (document d.text d.options more) defined r lines) → IsCompleted d defined r lines
+unfolding Ready IsCompleted
+ready_completed d defined r lines ready = ready_with d defined r lines r.empty_item ready

@@ -1,0 +1,98 @@
+-- What is ready shows whole tables already.
+use Rattle.std.proofs.Common.{◌≡◌, ℕ, zero, suc, Bool, true, false, List, [], ◌∷◌, map, Option, Some, None, refl, sym, ap, ◌∙◌}
+use Rattle.std.specs.Option.{option_and_then}
+use Rattle.std.proofs.lemmas.Option.{none-some}
+use Rattle.first_pass_items.specs.declared.item.Item.{Item}
+use Rattle.first_pass_items.specs.declared.item.ItemBody.{ItemBody}
+use Rattle.first_pass_items.specs.declared.item.ItemBody.TheVariants.{BlockQuote as BlockQuoteBody, List as ListBody, ListItem as ListItemBody}
+use Rattle.first_pass_tree.specs.declared.tree_index.TreeIndex.{TreeIndex}
+use Rattle.first_pass_tree.specs.Forest.{Forest}
+use Rattle.first_pass_lines.specs.Places.{Place}
+use Rattle.first_pass_grammar.specs.Names.{Names, Extends, AreNamed}
+use Rattle.first_pass_grammar.specs.Leaves.{Document}
+use Rattle.first_pass_grammar.specs.Derivation.{Tables}
+use Rattle.first_pass_grammar.specs.Skeleton.{From, Line, Blanks, next_is_blank}
+use Rattle.first_pass_grammar.specs.Completion.{lines_from, NoList, Frame, last_of}
+use Rattle.first_pass_grammar.specs.WholeTables.{marks, AreWholeTables}
+use Rattle.first_pass_grammar.proofs.LinesLeft.{lines_from_at}
+use Rattle.first_pass_grammar.proofs.MoreNames.{extends_none}
+use Rattle.first_pass_grammar.proofs.PlacesKept.{AreAt}
+use Rattle.first_pass_grammar.proofs.SilentNodes.{IsSilent, AreSilent, marks_modified}
+use Rattle.first_pass_grammar.proofs.TableMarks.{ShowsNothing}
+use Rattle.first_pass_grammar.proofs.WholeBefore.{completed_whole, whole_already}
+use Rattle.first_pass_grammar.proofs.WholeBlocks.{PlainFrom}
+use Rattle.first_pass_grammar.proofs.WholeForests.{whole_same}
+use Rattle.first_pass_lists.specs.Closing.{emptied}
+use Rattle.first_pass_lists.specs.declared.reading.Reading.{Reading}
+use Rattle.first_pass_open.specs.Path.{path_of}
+use Rattle.first_pass_blocks.specs.State.{frame_of, frame_at, AreOpen, ReadyEmpty, ReadyWith, Ready, StaysReady}
+use Rattle.first_pass_blocks.specs.Completed.{CompletedAt, CompletedBeforeLine, CompletedInItem, CompletedWith, IsCompleted}
+use Rattle.first_pass_blocks.proofs.ReadyCompleted.{ready_completed}
+
+-- an open node is a container or a list, and shows nothing
+frame_silent : (b : ItemBody) (frame : Frame) → frame_of b ≡ Some frame → ShowsNothing b
+frame_silent (BlockQuoteBody kind) frame h = λ names depth start end. refl
+frame_silent (ListItemBody columns) frame h = λ names depth start end. refl
+frame_silent (ListBody flags byte number) frame h = λ names depth start end. refl
+frame_silent b frame h = absurd (none-some frame h)
+
+open_silent : (nodes : List (ℕ × Item)) (i : ℕ) (frame : Frame) → frame_at nodes i ≡ Some frame → IsSilent nodes i
+open_silent [] i frame h = absurd (none-some frame h)
+open_silent (n ∷ nodes) zero frame h = frame_silent n.1.body frame h
+open_silent (n ∷ nodes) (suc i) frame h = open_silent nodes i frame h
+
+all_silent : (nodes : List (ℕ × Item)) (spine : List TreeIndex) (frames : List Frame) → AreOpen nodes spine frames
+    → AreSilent nodes (map (λ (ix : TreeIndex). ix.0) spine)
+all_silent nodes [] [] o = tt
+all_silent nodes [] (frame ∷ frames) o = absurd o
+all_silent nodes (ix ∷ spine) [] o = absurd o
+all_silent nodes (ix ∷ spine) (frame ∷ frames) o = (open_silent nodes ix.0 frame o.0, all_silent nodes spine frames o.1)
+
+-- under names that continue the present ones
+abbrev IsWholeOnce : Names → List (ℕ × Item) → Type 0
+IsWholeOnce names nodes = (more : Names) × Extends more names × AreWholeTables more nodes
+
+module _ (d : Document) (defined : Tables) (lines : List Place) (at : AreAt d.text lines) where
+  whole_at : (tree : Forest Item) (run : Bool) (from : From) → PlainFrom d.text from → CompletedAt d defined tree run from lines
+      → IsWholeOnce d.names tree.nodes
+  whole_at tree run from plain c = (
+    c.completion.names,
+    c.completion.extends,
+    completed_whole d c.frames (map (λ (ix : TreeIndex). ix.0) tree.spine)
+        (record { nodes = tree.nodes; list = NoList; before = record { last = last_of c.frames; counted = run }; defined = defined }) from lines plain at
+        (all_silent tree.nodes tree.spine c.frames c.are_open) tt c.completion c.derives,
+  )
+
+  -- an item that takes blank lines alone shows nothing either
+  emptied_shows : (r : Reading) (e : ℕ) → ReadyEmpty d defined r e lines → (names : Names)
+      → marks names (emptied r.tree r.tree.spine).nodes ≡ marks names r.tree.nodes
+  emptied_shows r e empty names =
+      ap (λ s. marks names (emptied r.tree s).nodes) empty.spine
+      ∙ marks_modified names r.tree.nodes empty.place.0 (λ x. record { start = x.start; «end» = x.«end»; body = ListItemBody 0 })
+      (λ x k names depth start end. refl)
+      (open_silent r.tree.nodes empty.place.0 _ (ap (option_and_then frame_of) empty.item))
+
+  whole_before_line : (r : Reading) (e : ℕ) → ReadyEmpty d defined r e lines → (t : Bool) → CompletedBeforeLine d defined r.tree e lines t
+      → IsWholeOnce d.names r.tree.nodes
+  whole_before_line r e empty true c =
+      let (more, extends, whole) = whole_at (emptied r.tree r.tree.spine) false (Blanks e) tt c in
+      (more, extends, whole_same more (emptied r.tree r.tree.spine).nodes r.tree.nodes (sym (emptied_shows r e empty more)) whole)
+  whole_before_line r e empty false c = whole_at r.tree false Line tt c
+
+  whole_in_item : (r : Reading) (e : ℕ) → ReadyEmpty d defined r e lines → (blank : Bool) → CompletedInItem d defined r.tree e lines blank
+      → IsWholeOnce d.names r.tree.nodes
+  whole_in_item r e empty true c = whole_at r.tree true (Blanks e) tt c
+  whole_in_item r e empty false c = whole_before_line r e empty (next_is_blank (path_of d.options r.tree) lines) c
+
+  whole_with : (r : Reading) (o : Option ℕ) → ReadyWith d defined r lines o → CompletedWith d defined r lines o → IsWholeOnce d.names r.tree.nodes
+  whole_with r None ready c = whole_at r.tree r.blank Line tt c
+  whole_with r (Some e) empty c = whole_in_item r e empty r.blank c
+
+pub ready_whole : (d : Document) (defined : Tables) (r : Reading) (start : ℕ)
+    → StaysReady d defined r (lines_from d.text start) → AreNamed d.names r.tree.nodes → AreWholeTables d.names r.tree.nodes
+unfolding Ready IsCompleted
+ready_whole d defined r start ready named =
+    let lines : List Place = lines_from d.text start in
+    let (more, extends, whole) = whole_with d defined lines (lines_from_at d.text start) r r.empty_item (ready d.names (extends_none d.names))
+    (ready_completed d defined r lines ready) in
+    whole_already more d.names r.tree.nodes extends named whole

@@ -1,0 +1,108 @@
+-- A block quote with a tag: what it ends and counts, and the line after it.
+use Rattle.std.proofs.Common.{◌≡◌, inl, inr, ℕ, ◌+◌, nat_lt, ◌&&◌, Bool, true, false, List, [], ◌∷◌, length, drop, slice_get, Option, Some, None, is_some, refl}
+use Rattle.std.proofs.Common.{sym, ap, subst, ◌∙◌, if◌then◌else◌}
+use Rattle.std.proofs.lemmas.Bool.{cases_lt}
+use Rattle.std.specs.Option.{option_and_then}
+use Rattle.first_pass_items.specs.declared.item.Item.{Item}
+use Rattle.first_pass_items.specs.declared.item.BlockQuoteKind.{BlockQuoteKind}
+use Rattle.first_pass_items.specs.declared.item.ItemBody.TheVariants.{BlockQuote as BlockQuoteBody}
+use Rattle.first_pass_tree.specs.declared.tree_index.TreeIndex.{TreeIndex}
+use Rattle.first_pass_tree.specs.Forest.{Forest, body_at}
+use Rattle.first_pass_lines.specs.Rest.{indent}
+use Rattle.first_pass_lines.specs.Lines.{line_len}
+use Rattle.first_pass_lines.specs.Places.{Place, line_rest, line_place, place_at}
+use Rattle.first_pass_lines.proofs.LineFacts.{lines_at-line, lines_at-end}
+use Rattle.first_pass_grammar.specs.Derivation.{Tables}
+use Rattle.first_pass_grammar.specs.Containers.{Context}
+use Rattle.first_pass_grammar.specs.declared.kind.Container.TheVariants.{BlockQuote}
+use Rattle.first_pass_grammar.specs.Containers.{Context, at_rest, after, front}
+use Rattle.first_pass_grammar.specs.Kinds.{unindented, interrupts, ends_tag}
+use Rattle.first_pass_grammar.specs.Leaves.{Document}
+use Rattle.first_pass_grammar.specs.Skeleton.{From, Line, At, ALeafAlone, behind_tag}
+use Rattle.first_pass_grammar.specs.Completion.{lines_from, Frame, InContainer}
+use Rattle.first_pass_grammar.proofs.Completions.{counts_in}
+use Rattle.first_pass_lists.specs.Closing.{top_body, is_list, popped, item_finished_by, item_finished, list_left, gap_tree, gap_noted, list_finished}
+use Rattle.first_pass_lists.specs.declared.reading.Reading.{Reading}
+use Rattle.first_pass_open.specs.Path.{path_of, context_of}
+use Rattle.first_pass_blocks.specs.State.{frame_of, AreOpen, ReadyAt, Ready}
+use Rattle.first_pass_blocks.specs.Positions.{ReadyInQuote, ReadyTagged, ReadyLazy}
+use Rattle.first_pass_open.proofs.PathLemmas.{front-end}
+use Rattle.first_pass_text.proofs.ParagraphLemmas.{ends_past}
+use Rattle.first_pass_blocks.proofs.StateLemmas.{ready_plain}
+
+left_none : (at : ℕ) (r : Reading) (t : Bool) → t ≡ false → (if t then popped at r else r) ≡ r
+left_none at r t is = rw is refl
+
+noted_none : (r : Reading) (f : Forest Item) (t : Bool) → t ≡ false → (if t then record r { tree = f; blank = false } else r) ≡ r
+noted_none r f t is = rw is refl
+
+-- Where a block quote is innermost, no item is empty and no blank line was read, a new block ends nothing.
+pub finishes_nothing : (at : ℕ) (r : Reading) (kind : Option BlockQuoteKind)
+    → top_body r.tree ≡ Some (BlockQuoteBody kind) → r.blank ≡ false → r.empty_item ≡ None → list_finished at r ≡ r
+unfolding list_finished item_finished
+finishes_nothing at r kind quote blank none =
+    let item : item_finished_by r r.empty_item ≡ r = ap (item_finished_by r) none in
+    let left : list_left at r ≡ r = left_none at r (is_list (top_body r.tree)) (ap is_list quote) in
+    ap (λ q. gap_noted (list_left at q)) item ∙ ap gap_noted left ∙ noted_none r (gap_tree r.tree r.tree.spine) r.blank blank
+
+-- a blank line doesn't count directly in it
+pub quote_counts : (nodes : List (ℕ × Item)) (s : List TreeIndex) (frames : List Frame) (kind : Option BlockQuoteKind)
+    → option_and_then (λ (ix : TreeIndex). body_at nodes ix.0) (slice_get s 0) ≡ Some (BlockQuoteBody kind) → AreOpen nodes s frames
+    → counts_in frames false ≡ false
+quote_counts nodes [] frames kind quote o = cc
+quote_counts nodes (ix ∷ s) [] kind quote o = absurd o
+quote_counts nodes (ix ∷ s) (frame ∷ frames) kind quote o =
+    let is : Some (InContainer (BlockQuote kind)) ≡ Some frame = sym (ap (option_and_then frame_of) quote) ∙ o.0 in
+    let same : InContainer (BlockQuote kind) ≡ frame = cc in
+    ap (λ f. counts_in (f ∷ frames) false) (sym same)
+
+-- At the text's end no line belongs to it.
+end_by : (around : Context) (whole : Bool) → (nat_lt (indent (line_rest [])) 4 && interrupts around whole (line_rest [])) ≡ true
+unfolding interrupts
+end_by around whole = refl
+
+pub tag_end : (around : Context) → ends_tag around (line_rest []) ≡ true
+tag_end around =
+    ap (λ r. nat_lt (indent r) 4 && interrupts around (is_some (after around.path (line_rest []))) r) (front-end around.path)
+    ∙ end_by around (is_some (after around.path (line_rest [])))
+
+tag_by : (around : Context) (line : Place) (lines : List Place) (t : Bool) → ends_tag around line.rest ≡ t
+    → behind_tag around (line ∷ lines) ≡ (if t then (Line, line ∷ lines) else (At (unindented (at_rest line (front around.path line.rest))) ALeafAlone, lines))
+tag_by around line lines t is = rw is refl
+
+-- where blocks continue after its tag, at the line that begins at an offset
+tag_line : (around : Context) (text : List ℕ) (at : ℕ) (t : Bool) → ends_tag around (line_rest (drop at text)) ≡ t
+    → (let lines : List Place = lines_from text at in
+    behind_tag around lines ≡ (if t then (Line, lines)
+    else (At (unindented (place_at at (front around.path (line_rest (drop at text))))) ALeafAlone, lines_from text (at + line_len (drop at text)))))
+tag_line around text at t is =
+    elim (cases_lt at (length text)) [
+      | inl within ↦ (
+          let first = lines_at-line text at within in
+          ap (behind_tag around) first ∙ tag_by around (line_place at (drop at text)) (lines_from text (at + line_len (drop at text))) t is
+          ∙ ap (λ z. if t then (Line, z)
+          else (At (unindented (place_at at (front around.path (line_rest (drop at text))))) ALeafAlone, lines_from text (at + line_len (drop at text))))
+          (sym first))
+      | inr past ↦ (let none : lines_from text at ≡ [] = lines_at-end text at past in
+          let over : t ≡ true = sym is ∙ ap (λ bs. ends_tag around (line_rest bs)) (ends_past text at past) ∙ tag_end around in
+          ap (behind_tag around) none ∙ ap (λ z. (Line, z)) (sym none) ∙ ap (λ u. if u then (Line, lines_from text at)
+          else (At (unindented (place_at at (front around.path (line_rest (drop at text))))) ALeafAlone, lines_from text (at + line_len (drop at text))))
+          (sym over))
+    ]
+
+-- the line after its tag, which is read as any other
+pub ready_any_line : (d : Document) (defined : Tables) (r : Reading) (at : ℕ) → ends_tag (context_of d.options r.tree) (line_rest (drop at d.text)) ≡ true
+    → r.empty_item ≡ None → ReadyTagged d defined r (lines_from d.text at) → Ready d defined r (lines_from d.text at)
+ready_any_line d defined r at is none tagged =
+    let lines : List Place = lines_from d.text at in
+    let here : behind_tag (context_of d.options r.tree) lines ≡ (Line, lines) = tag_line (context_of d.options r.tree) d.text at true is in
+    ready_plain d defined r lines none (subst (λ t. ReadyAt d defined r.tree t Line lines) (sym tagged.blank)
+    (subst (λ (z : From × List Place). ReadyAt d defined r.tree false z.0 z.1) here tagged.ready))
+
+-- the same, which belongs to the quote
+pub ready_its_line : (d : Document) (defined : Tables) (r : Reading) (at : ℕ)
+    → ends_tag (context_of d.options r.tree) (line_rest (drop at d.text)) ≡ false → ReadyTagged d defined r (lines_from d.text at)
+    → ReadyLazy d defined r (unindented (place_at at (front (path_of d.options r.tree) (line_rest (drop at d.text)))))
+    (lines_from d.text (at + line_len (drop at d.text)))
+ready_its_line d defined r at is tagged =
+    subst (λ (z : From × List Place). ReadyInQuote d defined r z.0 z.1) (tag_line (context_of d.options r.tree) d.text at false is) tagged

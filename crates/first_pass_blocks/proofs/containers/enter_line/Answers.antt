@@ -1,0 +1,100 @@
+use Rattle.std.proofs.Common.{◌≡◌, inl, IsUtf8, ◌+◌, drop, is_some, refl, sym, ap, subst, ◌∙◌, arith}
+use Rattle.first_pass_lines.specs.Lines.{blank_len, line_len}
+use Rattle.first_pass_lines.specs.Rest.{Rest}
+use Rattle.first_pass_lines.specs.Places.{Place, line_rest, place_at, line_end}
+use Rattle.first_pass_grammar.specs.Leaves.{Document, document}
+use Rattle.first_pass_grammar.specs.Names.{Names}
+use Rattle.first_pass_grammar.specs.Derivation.{Tables}
+use Rattle.first_pass_grammar.specs.Skeleton.{Inside}
+use Rattle.first_pass_grammar.specs.Completion.{lines_from}
+use Rattle.first_pass_grammar.specs.OpenOrder.{IsOrderedTo}
+use Rattle.first_pass_lists.specs.Closing.{item_finished}
+use Rattle.first_pass_lists.specs.declared.reading.Reading.{Reading}
+use Rattle.first_pass_blocks.specs.Ordered.{IsOrderedAt}
+use Rattle.first_pass_blocks.specs.State.{Ready, ReadyAt}
+use Rattle.first_pass_blocks.proofs.NamedLemmas.{AreReadNamed, blank_named, item_finished_named}
+use Rattle.first_pass_blocks.proofs.WholeKept.{IsReadWhole, blank_whole, item_finished_whole}
+use Rattle.first_pass_blocks.proofs.CountLemmas.{count, item_finished_count, blank_count}
+use Rattle.first_pass_blocks.proofs.HandedOn.{handed_whole, ordered_blank_line, ordered_other_line}
+use Rattle.first_pass_blocks.proofs.OrderSteps.{ordered_at_place}
+use Rattle.first_pass_blocks.proofs.LineLemmas.{IsAtLine, at_line, blank_line_read, line_entered, finished_none, line_kept}
+use Rattle.first_pass_blocks.proofs.containers.enter_line.Goals as goal
+use Rattle.first_pass_blocks.proofs.containers.enter_line.Goals.{After-is_some}
+
+-- the line that is entered
+line_is : (c : After-is_some) → c.new-line_start.result ≡ line_rest (drop c.args.start_ix c.args.source.text.now)
+line_is c = c.new-line_start.ensures ∙ ap line_rest (c.rest_of.ensures.value ∙ ap (drop c.args.start_ix) c.as_bytes.ensures.value)
+
+-- what is left of it, and whether that is blank
+abbrev left : After-is_some → Rest
+left c = c.scan_containers-kept.new.line_start
+
+blank : (c : After-is_some) → is_some (blank_len (left c).left) ≡ c.is_some.result
+blank c = ap (λ bs. is_some (blank_len bs)) (sym c.left.ensures) ∙ ap is_some (sym c.scan_blank_line.ensures.value) ∙ sym c.is_some.ensures
+
+at_its_line : (c : After-is_some) (names : Names) (defined : Tables)
+    → IsAtLine (document c.args.source.text.now c.args.source.options names) defined c.args.reading.now c.close_containers.new.reading c.args.start_ix (left c)
+at_its_line c names defined =
+    let d : Document = document c.args.source.text.now c.args.source.options names in
+    at_line d defined c.args.reading.now c.close_containers.new.reading c.args.start_ix c.scan_containers-kept.result c.new-line_start.result (left c)
+    (line_is c) c.requires.within c.close_containers.ensures.spine (c.close_containers.ensures.kept.paths c.args.source.options)
+    (λ e lines. c.close_containers.ensures.kept.ready e defined lines) c.scan_containers-kept.ensures.taken c.scan_containers-kept.ensures.stops
+
+pub returns-then-is_some-clause-entered : goal.returns-then-is_some-clause-entered
+returns-then-is_some-clause-entered c =
+    let a : After-is_some = (goal.at.returns-then-is_some-clause-entered c).After-is_some in
+    let source = c.args.source in
+    let text = source.text.now in
+    let start = c.args.start_ix in
+    let closed : Reading = c.close_containers.new.reading in
+    let kept = c.close_containers.ensures.kept in
+    let w = c.requires.within in
+    let same = ap count c.read_blank_line.ensures ∙ blank_count closed ∙ kept.count in
+    record {
+      ready = λ names defined ready.
+          let d : Document = document text source.options names in
+          subst (λ q. Ready d defined q (lines_from text (start + line_len (drop start text)))) (sym c.read_blank_line.ensures)
+          (blank_line_read d defined _ closed start _ (at_its_line a names defined) (blank a ∙ c.if-is_some.true) ready);
+      order = λ ordered. inl (subst (λ (q : Reading). IsOrderedAt text q (start + line_len (drop start text))) (sym c.read_blank_line.ensures)
+          (ordered_blank_line source.options text c.args.reading.now closed start (subst IsUtf8 c.as_bytes.ensures.value c.as_bytes.ensures.utf8) w
+          c.requires.boundary (kept.order text (omega arith) c.requires.boundary)
+          (λ h. kept.all_kept (handed_whole source.options text c.args.reading.now start c.scan_containers-kept.result
+          c.new-line_start.result (left a) (line_is a) c.scan_containers-kept.ensures.within c.scan_containers-kept.ensures.taken
+          c.scan_containers-kept.ensures.stops h).0) ordered));
+      few = λ first grows. omega arith;
+      named = λ names h. subst (AreReadNamed names) (sym c.read_blank_line.ensures) (blank_named names closed (kept.named names h));
+      whole = λ names h. subst (IsReadWhole names) (sym c.read_blank_line.ensures) (blank_whole names closed (kept.whole names h));
+    }
+
+pub returns-clause-entered : goal.returns-clause-entered
+returns-clause-entered c =
+    let a : After-is_some = (goal.at.returns-clause-entered c).After-is_some in
+    let source = c.args.source in
+    let text = source.text.now in
+    let start = c.args.start_ix in
+    let p : Place = place_at start (left a) in
+    let closed : Reading = c.close_containers.new.reading in
+    let kept = c.close_containers.ensures.kept in
+    let w = c.requires.within in
+    let same = ap count c.finish_empty_list_item.ensures ∙ item_finished_count closed ∙ kept.count in
+    let here = line_kept source.options text _ _ start c.scan_containers-kept.result c.args.reading.now.tree _ (left a) c.as_bytes.ensures.utf8
+    c.as_bytes.ensures.value c.rest_of.ensures.value c.new-line_start.ensures c.requires.boundary c.scan_containers-kept.ensures.taken in (
+      (here.0, refl, here.1),
+      ap (λ (q : Reading). q.empty_item) c.finish_empty_list_item.ensures ∙ finished_none closed,
+      record {
+        ready = λ names defined ready.
+            let d : Document = document text source.options names in
+            subst (λ (q : Reading). ReadyAt d defined q.tree q.blank (Inside p) (lines_from text (line_end p))) (sym c.finish_empty_list_item.ensures)
+            (subst (λ n. ReadyAt d defined (item_finished closed).tree (item_finished closed).blank (Inside p) (lines_from text n)) (sym here.1)
+            (line_entered d defined _ closed start _ (at_its_line a names defined) (blank a ∙ c.if-is_some.false) ready));
+        order = λ ordered. ordered_at_place text _ start p refl c.requires.boundary here.0
+            (subst (λ (q : Reading). IsOrderedTo text q.tree start) (sym c.finish_empty_list_item.ensures)
+            (ordered_other_line source.options text c.args.reading.now closed start (kept.order text (omega arith) c.requires.boundary)
+            (λ h. let some = (handed_whole source.options text c.args.reading.now start c.scan_containers-kept.result c.new-line_start.result (left a)
+            (line_is a) c.scan_containers-kept.ensures.within c.scan_containers-kept.ensures.taken c.scan_containers-kept.ensures.stops h).1 in
+            let none = blank a ∙ c.if-is_some.false in cc) ordered));
+        few = λ first grows. omega arith;
+        named = λ names h. subst (AreReadNamed names) (sym c.finish_empty_list_item.ensures) (item_finished_named names closed (kept.named names h));
+        whole = λ names h. subst (IsReadWhole names) (sym c.finish_empty_list_item.ensures) (item_finished_whole names closed (kept.whole names h));
+      },
+    )

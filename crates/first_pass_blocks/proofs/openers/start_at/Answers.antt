@@ -1,0 +1,74 @@
+use Rattle.std.proofs.Common.{◌≡◌, ℕ, ◌+◌, List, Option, Some, None, is_some, refl, sym, ap, ◌∙◌}
+use Rattle.first_pass_items.specs.declared.item.Item.{Item}
+use Rattle.first_pass_items.specs.declared.item.BlockQuoteKind.{BlockQuoteKind}
+use Rattle.first_pass_lines.specs.Lines.{blank_len}
+use Rattle.first_pass_lines.specs.Rest.{Rest}
+use Rattle.first_pass_lines.specs.Places.{Place, place_at, offset}
+use Rattle.first_pass_grammar.specs.Containers.{prefix}
+use Rattle.first_pass_grammar.specs.Kinds.{item_at, is_blank_rest, quote_start}
+use Rattle.first_pass_grammar.specs.Openers.{task_behind}
+use Rattle.first_pass_grammar.specs.declared.kind.Container.TheVariants.{BlockQuote}
+use Rattle.first_pass_grammar.proofs.OpenerFacts.{start_item, start_quote, start_none}
+use Rattle.first_pass_open.proofs.PlaceLemmas.{item_keeps, quote_absent}
+use Rattle.first_pass_blocks.specs.declared.openers.Opener.TheVariants.{Quote, Item as ItemOpener}
+use Rattle.first_pass_blocks.specs.declared.openers.AfterMarker.{AfterMarker}
+use Rattle.first_pass_blocks.specs.declared.openers.Start.{Start}
+use Rattle.first_pass_blocks.specs.Starts.{item_after, quote_after}
+use Rattle.first_pass_blocks.proofs.LineLemmas.{same_place}
+use Rattle.first_pass_blocks.proofs.OpenerLemmas.{item_found, item_absent}
+use Rattle.first_pass_blocks.proofs.StartLemmas.{matches, matches_none, quote_here}
+use Rattle.first_pass_blocks.proofs.openers.start_at.Goals as goal
+use Rattle.first_pass_blocks.proofs.openers.start_at.Goals.{In-Some}
+
+-- the item that begins there
+taken : (c : In-Some)
+    → item_at c.place.inside.rest ≡ Some ((c.in-Some.marker.byte, c.in-Some.marker.number, c.in-Some.marker.indent), c.scan_item.new.line_start)
+taken c = item_found _ c.scan_item.result c.in-Some.marker c.place.inside.rest c.scan_item.new.line_start c.in-Some.is c.scan_item.ensures
+
+pub scan_task-task-requires-clause-place : goal.scan_task-task-requires-clause-place
+scan_task-task-requires-clause-place c =
+    (item_keeps c.args.source.text.now c.place.inside.line c.place.inside.rest _ c.requires.utf8
+    (taken (goal.at.scan_task-task-requires-clause-place c).In-Some) (same_place _ _ _ c.place.view_is c.requires.place)).0
+
+pub returns-in-Some : goal.returns-in-Some
+returns-in-Some c =
+    let p : Place = place_at c.place.inside.line c.place.inside.rest in
+    let options = c.args.source.options in
+    let marker = c.in-Some.marker in
+    let task : Option Item × Rest = task_behind options c.place.inside.line c.scan_item.new.line_start in
+    let start : ℕ → AfterMarker → Option Start = λ n after. Some (record { opener = ItemOpener marker; start = n; after = after }) in
+    let over : c.is_some-is_over.result ≡ is_blank_rest task.1 =
+    c.is_some-is_over.ensures ∙ ap is_some c.scan_blank_line.ensures.value
+    ∙ ap (λ (bs : List ℕ). is_some (blank_len bs)) (c.left.ensures ∙ ap (λ (q : Place). q.rest.left) c.scan_task-task.ensures.place) in
+    let after : c.item_after.result ≡ item_after task.0 (is_blank_rest task.1) =
+    c.item_after.ensures ∙ ap (λ (m : Option Item). item_after m c.is_some-is_over.result) c.scan_task-task.ensures.marker ∙ ap (item_after task.0) over in
+    rw (← c.place.view_is) (matches _ _ _ _
+    (start_item options p ((marker.byte, marker.number, marker.indent), c.scan_item.new.line_start) (taken (goal.at.returns-in-Some c).In-Some)) (
+      ap (λ (n : ℕ). start n c.item_after.result) (c.offset-before.ensures ∙ ap offset (sym c.place.view_is)) ∙ ap (start (offset p)) after,
+      c.scan_task-task.ensures.place,
+    ))
+
+pub returns-in_err-quote : goal.returns-in_err-quote
+returns-in_err-quote c =
+    let p : Place = place_at c.place.inside.line c.place.inside.rest in
+    let item =
+    item_absent (item_at c.place.inside.rest) c.scan_item.result c.place.inside.rest c.scan_item.new.line_start c.in_default.is c.scan_item.ensures in
+    let quote = quote_absent _ c.scan_quote.result _ c.scan_item.new.line_start c.scan_quote.new.line_start c.in_err-quote.was c.scan_quote.ensures in
+    rw (← c.place.view_is) (matches_none _ _ _
+    (start_none c.args.source.options p item.0 (ap (prefix (BlockQuote None)) (sym item.1) ∙ quote.0))
+    (c.from_residual.ensures, ap (place_at c.place.inside.line) (quote.1 ∙ item.1)))
+
+pub returns : goal.returns
+returns c =
+    let p : Place = place_at c.place.inside.line c.place.inside.rest in
+    let options = c.args.source.options in
+    let inside : Rest = c.scan_quote.new.line_start in
+    let here = quote_here c.place.inside.rest c.scan_item.new.line_start inside c.scan_item.result c.scan_quote.result c.in_ok-quote.quote c.in_default.is
+    c.scan_item.ensures c.in_ok-quote.was c.scan_quote.ensures in
+    let start : Option BlockQuoteKind → ℕ → AfterMarker → Option Start = λ kind n after. Some (record { opener = Quote kind; start = n; after = after }) in
+    rw (← c.place.view_is) (matches _ _ _ _ (start_quote options p inside here.0 here.1) (
+      ap (start c.scan_tag-tag.result (c.place.inside.line + c.in_ok-quote.quote)) c.quote_after.ensures
+          ∙ ap (λ (n : ℕ). start c.scan_tag-tag.result (c.place.inside.line + n) (quote_after c.scan_tag-tag.result)) here.2
+          ∙ ap (λ (kind : Option BlockQuoteKind). start kind (quote_start p) (quote_after kind)) c.scan_tag-tag.ensures,
+      refl,
+    ))

@@ -1,0 +1,120 @@
+use Rattle.std.proofs.Common.{◌≡◌, ◌≤◌, inl, inr, ℕ, List, [], length, None, IsCharBoundary, arith, refl, sym, ap, ◌∙◌, subst}
+use Rattle.std.proofs.lemmas.Str.{IsCharBoundary-start, IsCharBoundary-end}
+use Rattle.first_pass_lines.proofs.LineFacts.{lines_at-end}
+use Rattle.first_pass_grammar.specs.Leaves.{document}
+use Rattle.first_pass_items.specs.declared.option_set.Options.{Options}
+use Rattle.first_pass_grammar.specs.Completion.{lines_from}
+use Rattle.first_pass_lists.specs.declared.reading.Reading.{Reading}
+use Rattle.first_pass_open.specs.declared.source.Source.{Source}
+use Rattle.first_pass_blocks.specs.Ordered.{reached, IsOrderedAt, IsOrderedFrom}
+use Rattle.first_pass_blocks.specs.State.{Ready}
+use Rattle.first_pass_names.specs.TableEntries.{tables, names_of, refdefs_of}
+use Rattle.first_pass_definitions.specs.Found.{AreWritten}
+use Rattle.first_pass_blocks.proofs.WrittenLemmas.{none_written}
+use Rattle.first_pass_grammar.proofs.OwnNodes.{own_at_most}
+use Rattle.first_pass_grammar.proofs.WholeForests.{derived_whole}
+use Rattle.first_pass_blocks.proofs.OrderLemmas.{ordered_whole}
+use Rattle.first_pass_open.proofs.FrontLemmas.{outer-none}
+use Rattle.first_pass_blocks.proofs.StateLemmas.{ready_finish}
+use Rattle.first_pass_names.proofs.NameLemmas.{extends_both, extends_equal}
+use Rattle.first_pass_blocks.proofs.pass.run_first_pass.Goals as goal
+
+pub loop-ix-init : goal.loop-ix-init
+loop-ix-init c = record {
+  same_text = c.in_ok-pass.ensures.text;
+  same_options = c.in_ok-pass.ensures.options;
+  boundary = IsCharBoundary-start c.args.text.now c.utf8.text;
+  ready = λ names more. subst (λ z. Ready (document c.args.text.now c.args.options names) z c.in_ok-pass.pass.reading (lines_from c.args.text.now 0))
+      (sym c.in_ok-pass.ensures.tables) (c.in_ok-pass.ensures.ready names);
+  order = inl c.in_ok-pass.ensures.order;
+  named = c.in_ok-pass.ensures.named;
+  written = none_written c.args.text.now c.in_ok-pass.pass.allocs c.in_ok-pass.ensures.tables;
+  few = (let root = c.in_ok-pass.ensures.root in let most = own_at_most None c.in_ok-pass.pass.reading.tree.nodes in omega arith);
+}
+
+both_same : {t u : List ℕ} {o w : Options} → t ≡ u → o ≡ w → ◌≡◌ {A = List ℕ × Options} (t, o) (u, w)
+both_same a b = cc
+
+pub loop-ix-preserved : goal.loop-ix-preserved
+loop-ix-preserved c =
+    let i = c.loop-ix.invariant in
+    let e = c.in_ok-ix.ensures in
+    let pass = c.loop-ix.pass in
+    let new = c.parse_block.new.self in
+    let next = c.in_ok-ix.ix in
+    let before : Reading = pass.reading in
+    let behind : Reading = new.reading in
+    record {
+      same_text = ap (λ (z : Source). z.text.now) e.source ∙ i.same_text;
+      same_options = ap (λ (z : Source). z.options) e.source ∙ i.same_options;
+      boundary = subst (λ t. IsCharBoundary t next) i.same_text e.boundary;
+      ready = λ names more.
+          subst (λ (z : List ℕ × Options). Ready (document z.0 z.1 names) (tables pass.allocs) before (lines_from z.0 c.loop-ix.ix)
+          → Ready (document z.0 z.1 names) (tables new.allocs) behind (lines_from z.0 next)) (both_same i.same_text i.same_options) (e.ready names more)
+          (i.ready names (extends_both names (names_of new.allocs) (names_of pass.allocs) more e.names));
+      order = subst (λ (z : List ℕ × Options). IsOrderedFrom z.1 z.0 before c.loop-ix.ix → IsOrderedFrom z.1 z.0 behind next)
+          (both_same i.same_text i.same_options) e.order i.order;
+      named = e.named i.named;
+      written = subst (λ t. AreWritten t (refdefs_of pass.allocs) → AreWritten t (refdefs_of new.allocs)) i.same_text e.written i.written;
+      few = (let read = i.few in let grows = e.few in let later = e.later in omega arith);
+    }
+
+-- At the end of the text no line is handed on.
+at_end : (options : Options) (text : List ℕ) (r : Reading) (at : ℕ) → length text ≤ at → IsOrderedFrom options text r at → IsOrderedAt text r at
+at_end options text r at past (inl o) = o
+at_end options text r at past (inr h) = (let within = h.within in absurd (omega arith))
+
+-- At the end of the text all containers are closed.
+all_closed : (c : goal.After-close_containers) → c.close_containers.new.reading.tree.spine ≡ []
+all_closed c = c.close_containers.ensures.spine ∙ outer-none c.loop-ix.pass.reading.tree.spine
+
+pub returns-clause-derived : goal.returns-clause-derived
+returns-clause-derived c =
+    let names = names_of c.loop-ix.pass.allocs in
+    let d = document c.args.text.now c.args.options names in
+    let i = c.loop-ix.invariant in
+    let now = c.close_containers.new.reading in
+    let here = subst (Ready d (tables c.loop-ix.pass.allocs) c.loop-ix.pass.reading) (lines_at-end c.args.text.now c.loop-ix.ix c.loop-ix-test.false)
+    (i.ready names (extends_equal _ _ refl)) in
+    let closed : Ready d (tables c.loop-ix.pass.allocs) now [] =
+    c.close_containers.ensures.kept.ready d (tables c.loop-ix.pass.allocs) [] refl (λ m low high. tt) here in
+    ready_finish d (tables c.loop-ix.pass.allocs) now (all_closed c) closed
+
+pub returns-clause-whole : goal.returns-clause-whole
+returns-clause-whole c =
+    let names = names_of c.loop-ix.pass.allocs in
+    let d = document c.args.text.now c.args.options names in
+    derived_whole d c.close_containers.new.reading.tree.nodes (tables c.loop-ix.pass.allocs) (returns-clause-derived c)
+
+pub returns-clause-finished : goal.returns-clause-finished
+returns-clause-finished c = all_closed c
+
+pub returns-clause-order : goal.returns-clause-order
+returns-clause-order c =
+    let text = c.args.text.now in
+    let i = c.loop-ix.invariant in
+    let n = length text in
+    let last = IsCharBoundary-end text in
+    let now : Reading = c.close_containers.new.reading in
+    let read : Reading = c.loop-ix.pass.reading in
+    let past = c.loop-ix-test.false in
+    let order = at_end c.args.options text read c.loop-ix.ix (omega arith) i.order in
+    let within = order.within in
+    let same : c.loop-ix.ix ≡ n = omega arith in
+    let closes = c.close_containers.ensures.kept.order text in
+    let here : IsOrderedAt text now n = closes (omega arith) last (subst (IsOrderedAt text read) same order) in
+    ordered_whole text now.tree (reached now.empty_item n) (all_closed c) here.ordered
+
+pub returns-clause-few : goal.returns-clause-few
+returns-clause-few c =
+    let i = c.loop-ix.invariant in
+    let read = i.few in
+    let within = i.boundary.0 in
+    let closed = c.close_containers.ensures.kept.count in
+    omega arith
+
+pub returns-clause-named : goal.returns-clause-named
+returns-clause-named c = c.close_containers.ensures.kept.named (names_of c.loop-ix.pass.allocs) c.loop-ix.invariant.named
+
+pub returns-clause-written : goal.returns-clause-written
+returns-clause-written c = c.loop-ix.invariant.written

@@ -1,0 +1,71 @@
+use Rattle.std.proofs.Common.{◌+◌, drop, IsCharBoundary, refl, sym, ap, ◌∙◌, subst, arith}
+use Rattle.first_pass_lines.specs.Lines.{is_blank_line, line_len}
+use Rattle.first_pass_lines.specs.Rest.{Rest, after_columns}
+use Rattle.first_pass_lines.specs.Places.{Place, offset, moved_columns}
+use Rattle.first_pass_lines.proofs.PlaceFacts.{columns_keep, columns_line_end, columns_shorter}
+use Rattle.first_pass_raw.specs.RawBlocks.{behind_line_at}
+use Rattle.first_pass_open.proofs.PlaceLemmas.{read_to}
+use Rattle.first_pass_blocks.proofs.EnterLemmas.{blank_columns}
+use Rattle.first_pass_blocks.proofs.OrderSteps.{offset_later}
+use Rattle.first_pass_names.specs.TableEntries.{names_of}
+use Rattle.first_pass_text.specs.declared.kinds.MarkedLeaf.TheVariants.{IndentedCode}
+use Rattle.first_pass_blocks.proofs.LeafAdded.{found_says}
+use Rattle.first_pass_blocks.proofs.RawFits.{indented_between}
+use Rattle.first_pass_blocks.proofs.KindBlocks.{code_added}
+use Rattle.first_pass_blocks.proofs.state.BlockPass.append_code.Goals as goal
+
+pub offset-requires : goal.offset-requires
+offset-requires c =
+    let i = columns_keep c.args.self.now.source.text.now 4 c.args.place c.requires.utf8 c.requires.place in
+    let e = read_to (after_columns 4) _ c.args.place _ c.scan_space_upto.new.self refl c.scan_space_upto.ensures.rest c.place.view_is in
+    let short = c.is_short.ensures in
+    omega (arith, i.within, e)
+
+pub parse_indented_code_block-requires-clause-boundary : goal.parse_indented_code_block-requires-clause-boundary
+parse_indented_code_block-requires-clause-boundary c =
+    let text = c.args.self.now.source.text.now in
+    let i = columns_keep text 4 c.args.place c.requires.utf8 c.requires.place in
+    let e = read_to (after_columns 4) _ c.args.place _ _ c.offset.ensures c.scan_space_upto.ensures.rest c.place.view_is in
+    subst (IsCharBoundary text) (sym e) i.boundary
+
+pub parse_indented_code_block-requires-clause-code : goal.parse_indented_code_block-requires-clause-code
+parse_indented_code_block-requires-clause-code c =
+    let text = c.args.self.now.source.text.now in
+    let i = columns_keep text 4 c.args.place c.requires.utf8 c.requires.place in
+    let e = read_to (after_columns 4) _ c.args.place _ _ c.offset.ensures c.scan_space_upto.ensures.rest c.place.view_is in
+    ap (λ n. is_blank_line (drop n text)) e ∙ ap is_blank_line (sym i.left) ∙ blank_columns 4 c.args.place.rest
+    ∙ (found_says c.args.self.now.source.options c.args.place IndentedCode c.args.columns c.args.at c.requires.found).0
+
+pub returns : goal.returns
+returns c =
+    let self = c.args.self.now in
+    let text = self.source.text.now in
+    let options = self.source.options in
+    let p : Place = c.args.place in
+    let q : Place = moved_columns 4 p in
+    let f = c.requires in
+    let e = c.in_ok-next.ensures in
+    let next = c.in_ok-next.next in
+    let names = names_of c.parse_indented_code_block.new.allocs in
+    let tree = c.parse_indented_code_block.new.tree in
+    let i = columns_keep text 4 p f.utf8 f.place in
+    let there = read_to (after_columns 4) _ p _ _ c.offset.ensures c.scan_space_upto.ensures.rest c.place.view_is in
+    let owed = c.remaining_space-owed.ensures.value ∙ ap (λ (r : Rest). r.owed) c.scan_space_upto.ensures.rest
+    ∙ ap (λ (z : Place). (after_columns 4 z.rest).owed) c.place.view_is in
+    let ends = ap (behind_line_at text) there ∙ ap (λ bs. offset q + line_len bs) (sym i.left) ∙ columns_line_end 4 p in
+    let low = offset_later text p.line p.rest q.rest f.place i (columns_shorter 4 p.rest) in
+    let later = e.boundary.0 in
+    let begins = subst (IsCharBoundary text) (sym there) i.boundary in
+    let fits = indented_between text options names self.reading.tree tree c.offset.result next e.utf8 begins e.boundary.1.0 c.remaining_space-owed.result
+    c.in_ok-next.blank e.block in
+    record {
+      source = refl;
+      names = e.names;
+      entries = e.entries;
+      empty_item = f.no_empty;
+      block = code_added text options names p self.reading.tree tree next _ i
+          (e.block q (record { offset_is = sym there; left_is = i.left ∙ ap (λ n. drop n text) (sym there) }) (sym owed));
+      later = omega arith;
+      boundary = e.boundary.1;
+      fits = λ from before. fits from (omega arith);
+    }

@@ -1,0 +1,41 @@
+use Rattle.std.proofs.Common.{◌≡◌, Some, drop, refl}
+use Rattle.first_pass_html.specs.Starts.{html_end}
+use Rattle.first_pass_lines.specs.Places.{Place}
+use Rattle.first_pass_grammar.specs.Kinds.{unindented, all_taken}
+use Rattle.first_pass_names.specs.TableEntries.{names_of}
+use Rattle.first_pass_text.specs.declared.kinds.MarkedLeaf.{MarkedLeaf}
+use Rattle.first_pass_text.specs.declared.kinds.MarkedLeaf.TheVariants.{HtmlToEnd}
+use Rattle.first_pass_open.proofs.PlaceLemmas.{all_keep}
+use Rattle.first_pass_blocks.proofs.RawFits.{to_end_between}
+use Rattle.first_pass_blocks.proofs.KindBlocks.{html_end_added, is_here, columns_are}
+use Rattle.first_pass_blocks.proofs.LeafAdded.{found_says, found_boundary, leaf_added}
+use Rattle.first_pass_blocks.proofs.state.BlockPass.append_html.Goals as goal
+
+pub parse_html_block_type_1_to_5-requires : goal.parse_html_block_type_1_to_5-requires
+parse_html_block_type_1_to_5-requires c = record {
+  boundary = found_boundary _ _ _ c.requires.utf8 c.requires.place c.requires.found.at_is;
+  columns = (columns_are _ _ c.requires.found.columns_are (found_says _ _ (HtmlToEnd c.args.«end») _ _ c.requires.found)).1;
+}
+
+pub returns : goal.returns
+returns c =
+    let self = c.args.self.now in
+    let text = self.source.text.now in
+    let options = self.source.options in
+    let p : Place = c.args.place.now in
+    let leaf : MarkedLeaf = HtmlToEnd c.args.«end» in
+    let tag = c.args.«end».now in
+    let f = c.requires in
+    let e = c.in_ok-next.ensures in
+    let next = c.in_ok-next.next in
+    let at = c.args.at in
+    let names = names_of c.parse_html_block_type_1_to_5.new.allocs in
+    let tree = c.parse_html_block_type_1_to_5.new.tree in
+    let i = all_keep text p.line p.rest f.utf8 f.place in
+    let tag_is : html_end (drop 1 (all_taken p.rest).left) ≡ Some tag = f.found.«end» in
+    leaf_added self _ p leaf c.args.columns at next f refl e.names e.entries refl refl e.boundary
+    (to_end_between text options names self.reading.tree tree at next f.utf8 (found_boundary text p at f.utf8 f.place f.found.at_is) e.boundary.1.0
+    tag c.args.columns e.block)
+    (html_end_added text options names p self.reading.tree tree at next f.found.at_is i tag c.args.columns tag_is
+    (columns_are _ _ f.found.columns_are (found_says options p leaf c.args.columns at f.found)).0
+    (e.block (unindented p) (is_here text options names p self.reading.tree tree at next f.found.at_is i)))

@@ -1,0 +1,43 @@
+use Rattle.std.proofs.Common.{IsCharBoundary, refl, sym, subst, ◌∙◌, arith}
+use Rattle.first_pass_lines.specs.Places.{Place}
+use Rattle.first_pass_names.specs.TableEntries.{names_of}
+use Rattle.first_pass_names.proofs.NameLemmas.{extends_none}
+use Rattle.first_pass_text.specs.Between.{AddsBetween}
+use Rattle.first_pass_text.specs.declared.kinds.MarkedLeaf.{MarkedLeaf}
+use Rattle.first_pass_text.specs.declared.kinds.MarkedLeaf.TheVariants.{ThematicBreak}
+use Rattle.first_pass_open.proofs.PlaceLemmas.{all_keep, place_end}
+use Rattle.first_pass_blocks.proofs.LeafLemmas.{rule_end}
+use Rattle.first_pass_blocks.proofs.KindBlocks.{rule_added}
+use Rattle.first_pass_blocks.proofs.LeafAdded.{found_says, found_boundary, line_read, leaf_added}
+use Rattle.first_pass_blocks.proofs.state.BlockPass.append_rule.Goals as goal
+
+pub parse_hrule-requires : goal.parse_hrule-requires
+parse_hrule-requires c =
+    let f = c.requires in
+    let ends = rule_end c.args.place.now c.args.at c.args.size (found_says _ _ (ThematicBreak c.args.size) _ _ f.found) f.found.at_is in
+    let w = (place_end c.args.self.now.source.text.now c.args.place.now f.utf8 f.place).0 in
+    let short = c.is_short.ensures in
+    omega arith
+
+pub returns : goal.returns
+returns c =
+    let self = c.args.self.now in
+    let text = self.source.text.now in
+    let options = self.source.options in
+    let p : Place = c.args.place.now in
+    let size = c.args.size in
+    let at = c.args.at in
+    let leaf : MarkedLeaf = ThematicBreak size in
+    let f = c.requires in
+    let e = c.in_ok-next.ensures in
+    let next = c.in_ok-next.next in
+    let names = names_of self.allocs in
+    let tree = c.parse_hrule.new.tree in
+    let i = all_keep text p.line p.rest f.utf8 f.place in
+    let ends = rule_end p at size (found_says options p leaf c.args.columns at f.found) f.found.at_is in
+    let last = subst (IsCharBoundary text) (sym ends) (place_end text p f.utf8 f.place) in
+    leaf_added self _ p leaf c.args.columns at next f refl (extends_none names) refl refl refl
+    (line_read self self p leaf c.args.columns at next f (e.behind ∙ ends))
+    (λ from low. subst (λ n. AddsBetween text from n self.reading.tree tree) (sym e.behind)
+    (e.fits text from low (found_boundary text p at f.utf8 f.place f.found.at_is) last))
+    (rule_added text options names p self.reading.tree tree at next f.found.at_is i size (e.behind ∙ ends) e.block)

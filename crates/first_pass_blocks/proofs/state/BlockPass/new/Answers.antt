@@ -1,0 +1,31 @@
+use Rattle.std.proofs.Common.{length, None, false, refl, ap, ◌∙◌, arith}
+use Rattle.first_pass_lists.specs.Closing.{remembered}
+use Rattle.first_pass_tree.specs.Forest.{with_end_at}
+use Rattle.first_pass_blocks.proofs.NamedLemmas.{first_named}
+use Rattle.first_pass_blocks.proofs.OrderLemmas.{ordered_none, ordered_first}
+use Rattle.first_pass_blocks.proofs.WholeKept.{first_whole}
+use Rattle.first_pass_blocks.proofs.StateLemmas.{ready_first}
+use Rattle.first_pass_blocks.proofs.state.BlockPass.new.Goals as goal
+
+pub returns-clause-ready : goal.returns-clause-ready
+returns-clause-ready c = λ names.
+    ready_first c.args.text.now c.args.options names c.set_end.new.self c.root-root.result c.root-root.ensures.value
+    (c.set_end.ensures ∙ ap (λ f. with_end_at f c.root-root.result (length c.args.text.now)) c.in_ok-tree.ensures)
+
+pub returns-clause-order : goal.returns-clause-order
+returns-clause-order c =
+    let text = c.args.text.now in
+    let tree = c.set_end.new.self in
+    ordered_none text (remembered tree None false) 0 refl (omega arith)
+    (ordered_first text tree c.root-root.result c.utf8.text c.root-root.ensures.value
+    (c.set_end.ensures ∙ ap (λ f. with_end_at f c.root-root.result (length text)) c.in_ok-tree.ensures))
+
+pub returns-clause-named : goal.returns-clause-named
+returns-clause-named c =
+    first_named _ c.set_end.new.self c.root-root.result (length c.args.text.now)
+    (c.set_end.ensures ∙ ap (λ f. with_end_at f c.root-root.result (length c.args.text.now)) c.in_ok-tree.ensures)
+
+pub returns-clause-whole : goal.returns-clause-whole
+returns-clause-whole c =
+    first_whole _ c.set_end.new.self c.root-root.result (length c.args.text.now)
+    (c.set_end.ensures ∙ ap (λ f. with_end_at f c.root-root.result (length c.args.text.now)) c.in_ok-tree.ensures)

@@ -1,0 +1,139 @@
+use Rattle.std.proofs.Common.{◌≡◌, ◌≤◌, inl, length, IsCharBoundary, refl, sym, ap, subst, ◌∙◌, arith}
+use Rattle.first_pass_tree.specs.Forest.{IsForest}
+use Rattle.first_pass_lines.specs.Places.{Place, offset, line_end}
+use Rattle.first_pass_grammar.specs.Kinds.{unindented, IsKind}
+use Rattle.first_pass_grammar.specs.Leaves.{document}
+use Rattle.first_pass_grammar.specs.Completion.{lines_from}
+use Rattle.first_pass_names.specs.TableEntries.{names_of, tables}
+use Rattle.first_pass_names.proofs.NameLemmas.{extends_none}
+use Rattle.first_pass_open.proofs.PlaceLemmas.{all_keep, place_end}
+use Rattle.first_pass_lists.specs.Closing.{list_finished, blank_read}
+use Rattle.first_pass_lists.specs.declared.reading.Reading.{Reading}
+use Rattle.first_pass_text.specs.Appends.{line_end_at}
+use Rattle.first_pass_text.specs.Found.{IsFoundAt, kind_of, marked_kind}
+use Rattle.first_pass_text.specs.declared.kinds.MarkedLeaf.{MarkedLeaf}
+use Rattle.first_pass_text.proofs.KindLemmas.{Says, kind_says}
+use Rattle.first_pass_blocks.specs.Adding.{AddsLeaf}
+use Rattle.first_pass_blocks.specs.Ordered.{IsOrderedAt}
+use Rattle.first_pass_blocks.specs.Positions.{line_or}
+use Rattle.first_pass_blocks.specs.State.{Ready}
+use Rattle.first_pass_blocks.proofs.CountLemmas.{count, blank_count}
+use Rattle.first_pass_blocks.proofs.HandedOn.{list_finished_blank}
+use Rattle.first_pass_blocks.proofs.HtmlRead.{html_stands, html_read}
+use Rattle.first_pass_blocks.proofs.KindBlocks.{marked_some, marked_other, columns_are, AddsHtml}
+use Rattle.first_pass_blocks.proofs.LeafAdded.{found_boundary}
+use Rattle.first_pass_blocks.proofs.LeafLemmas.{ready_blank_leaf, line_end_of}
+use Rattle.first_pass_blocks.proofs.LeafRead.{leaf_read}
+use Rattle.first_pass_blocks.proofs.LineLemmas.{list_finished_none}
+use Rattle.first_pass_blocks.proofs.NamedLemmas.{AreReadNamed, blank_named}
+use Rattle.first_pass_blocks.proofs.OrderLemmas.{ordered_none, ordered_blank_read}
+use Rattle.first_pass_blocks.proofs.OrderSteps.{line_or-below, place_before_end}
+use Rattle.first_pass_blocks.proofs.WholeKept.{IsReadWhole, blank_whole}
+use Rattle.first_pass_blocks.proofs.state.BlockPass.parse_kind.Goals as goal
+
+pub next_line-requires : goal.next_line-requires
+next_line-requires c =
+    let i = all_keep c.args.self.now.source.text.now c.args.place.line c.args.place.rest c.requires.utf8 c.requires.place in
+    let e = c.requires.found.at_is in
+    let l = ap length (c.as_bytes.ensures.value) in
+    omega (arith, i.within)
+
+pub returns-in-Blank : goal.returns-in-Blank
+returns-in-Blank c =
+    let self = c.args.self.now in
+    let text = self.source.text.now in
+    let p = c.args.place in
+    let old : Reading = self.reading in
+    let next = c.next_line.result in
+    let i = all_keep text p.line p.rest c.requires.utf8 c.requires.place in
+    let ends : next ≡ line_end p = c.next_line.ensures.value ∙ ap (λ t. line_end_at t c.args.at) c.as_bytes.ensures.value
+    ∙ ap (line_end_at text) c.requires.found.at_is ∙ line_end_of text p i in
+    let last = subst (IsCharBoundary text) (sym ends) (place_end text p c.requires.utf8 c.requires.place) in
+    let from = line_or old.tree p.line (offset p) in
+    let below : from ≤ offset p = line_or-below old.tree p.line (offset p) (omega arith) in
+    let here = place_before_end p in
+    let high = last.0 in
+    let same = ap count c.read_blank_line.ensures ∙ blank_count old in
+    record {
+      source = refl;
+      names = extends_none _;
+      later = omega arith;
+      boundary = last;
+      ready = λ names more ready. let d = document text self.source.options names in
+          subst (λ q. Ready d (tables self.allocs) q (lines_from text next)) (sym c.read_blank_line.ensures)
+          (subst (λ n. Ready d (tables self.allocs) (blank_read old) (lines_from text n)) (sym ends)
+          (ready_blank_leaf d (tables self.allocs) old p (lines_from text (line_end p))
+          (subst (IsKind self.source.options p.rest) (ap kind_of c.in-Blank.is) c.requires.found.kind) c.requires.no_empty ready));
+      named = λ h. subst (AreReadNamed (names_of self.allocs)) (sym c.read_blank_line.ensures) (blank_named (names_of self.allocs) old h);
+      written = λ h. h;
+      order = λ o. inl (subst (λ (q : Reading). IsOrderedAt text q next) (sym c.read_blank_line.ensures)
+          (ordered_blank_read text old from next (omega arith) high (ordered_none text old from c.requires.no_empty (omega arith) o.1)));
+      whole = λ h k. subst (IsReadWhole (names_of self.allocs)) (sym c.read_blank_line.ensures) (blank_whole (names_of self.allocs) old k);
+      few = omega arith;
+    }
+
+pub parse_html_block_type_6_or_7-requires : goal.parse_html_block_type_6_or_7-requires
+parse_html_block_type_6_or_7-requires c = record {
+  boundary = found_boundary _ _ _ c.requires.utf8 c.requires.place c.requires.found.at_is;
+  columns = (columns_are _ _ c.requires.found.columns_are (subst (Says c.args.place.rest) (ap kind_of c.in-HtmlToBlank.is)
+      (kind_says c.args.self.now.source.options c.args.place.rest (kind_of c.args.found) c.requires.found.kind))).1;
+}
+
+pub returns-in_ok-next-in-HtmlToBlank : goal.returns-in_ok-next-in-HtmlToBlank
+returns-in_ok-next-in-HtmlToBlank c =
+    let self = c.args.self.now in
+    let p = c.args.place in
+    let old : Reading = self.reading in
+    let q : Reading = list_finished p.line old in
+    let f : Reading = c.finish_list.new.self in
+    let rem : f ≡ q = c.finish_list.ensures ∙ ap (λ (z : Place). list_finished z.line old) c.place-in-HtmlToBlank.view_is in
+    let e = c.in_ok-next-in-HtmlToBlank.ensures in
+    html_read self _ p c.args.at c.args.columns c.in_ok-next-in-HtmlToBlank.next c.requires.utf8 c.requires.place c.requires.no_empty c.is_forest.ensures
+    (subst (λ (z : Reading). IsForest z.tree) rem c.is_forest-in-HtmlToBlank.ensures)
+    (subst (IsKind self.source.options p.rest) (ap kind_of c.in-HtmlToBlank.is) c.requires.found.kind) c.requires.found.columns_are c.requires.found.at_is
+    refl e.names e.entries (ap (λ (z : Reading). z.empty_item) rem) (ap (λ (z : Reading). z.blank) rem) e.boundary
+    (subst (λ (z : Reading). AddsHtml self.source.text.now self.source.options (names_of c.parse_html_block_type_6_or_7.new.allocs) c.args.at c.args.columns
+    (unindented p) z.tree c.parse_html_block_type_6_or_7.new.tree c.in_ok-next-in-HtmlToBlank.next) rem
+    (e.block (unindented p) (html_stands self.source.text.now p
+    c.args.at c.requires.utf8 c.requires.place c.requires.found.at_is)))
+
+pub append_marked-requires : goal.append_marked-requires
+append_marked-requires c =
+    let self = c.args.self.now in
+    let p = c.args.place in
+    let old : Reading = self.reading in
+    let f : Reading = c.finish_list-in-Marked.new.self in
+    let rem : f ≡ list_finished p.line old = c.finish_list-in-Marked.ensures ∙ ap (λ (z : Place). list_finished z.line old) c.place-in-Marked.view_is in
+    record {
+      utf8 = c.requires.utf8;
+      place = c.requires.place;
+      found = subst (λ x. IsFoundAt self.source.options p x c.args.columns c.args.at) c.in-Marked.is c.requires.found;
+      not_blank = ap (λ (r : Reading). r.blank) rem ∙ list_finished_blank p.line old;
+      no_empty = ap (λ (r : Reading). r.empty_item) rem ∙ list_finished_none p.line old;
+    }
+
+pub returns-in_ok-next-in-Marked : goal.returns-in_ok-next-in-Marked
+returns-in_ok-next-in-Marked c =
+    let self = c.args.self.now in
+    let options = self.source.options in
+    let p = c.args.place in
+    let old : Reading = self.reading in
+    let f : Reading = c.finish_list-in-Marked.new.self in
+    let rem : f ≡ list_finished p.line old = c.finish_list-in-Marked.ensures ∙ ap (λ (z : Place). list_finished z.line old) c.place-in-Marked.view_is in
+    let leaf : MarkedLeaf = c.in-Marked.leaf in
+    let new = c.append_marked.new.self in
+    let next = c.in_ok-next-in-Marked.next in
+    let e = c.in_ok-next-in-Marked.ensures in
+    let adds : AddsLeaf (record self { reading = f }) new p (marked_kind leaf) next = record {
+      source = e.source;
+      names = e.names;
+      entries = e.entries;
+      empty_item = e.empty_item;
+      block = e.block;
+      later = e.later;
+      boundary = e.boundary;
+      fits = e.fits;
+    } in
+    leaf_read self new p (marked_kind leaf) next c.requires.place c.requires.no_empty c.is_forest.ensures
+    (subst (IsKind options p.rest) (ap kind_of c.in-Marked.is) c.requires.found.kind) (marked_some leaf) (marked_other leaf)
+    (subst (λ (r : Reading). AddsLeaf (record self { reading = r }) new p (marked_kind leaf) next) rem adds)

@@ -1,0 +1,98 @@
+use Rattle.std.proofs.Common.{◌≡◌, inl, inr, ℕ, ◌+◌, List, drop, Bool, Option, true, false, Some, None, refl, sym, subst, ◌∙◌, if◌then◌else◌, ap, arith}
+use Rattle.first_pass_lines.specs.Lines.{line_len}
+use Rattle.first_pass_lines.specs.Rest.{Rest}
+use Rattle.first_pass_lines.specs.Places.{Place, line_rest, place_at, line_end, IsPlaceOf}
+use Rattle.first_pass_grammar.specs.Containers.{front}
+use Rattle.first_pass_grammar.specs.Containers.{Context}
+use Rattle.first_pass_blocks.specs.Views.{context_in}
+use Rattle.first_pass_grammar.specs.Kinds.{all_taken, ends_tag, unindented}
+use Rattle.first_pass_grammar.specs.Leaves.{document}
+use Rattle.first_pass_grammar.specs.Completion.{lines_from}
+use Rattle.first_pass_lists.specs.declared.reading.Reading.{Reading}
+use Rattle.first_pass_open.specs.Path.{path_of}
+use Rattle.first_pass_blocks.specs.Positions.{ReadyLazy}
+use Rattle.first_pass_open.proofs.PlaceLemmas.{text_place}
+use Rattle.first_pass_blocks.proofs.OrderLemmas.{ordered_none}
+use Rattle.first_pass_blocks.proofs.OrderSteps.{ordered_at_place, place_before_end}
+use Rattle.first_pass_names.specs.TableEntries.{tables}
+use Rattle.first_pass_names.proofs.NameLemmas.{extends_none}
+use Rattle.first_pass_blocks.proofs.TagLemmas.{ready_any_line, ready_its_line}
+use Rattle.first_pass_blocks.proofs.state.BlockPass.parse_tagged.Goals as goal
+
+-- what was said of the line that bytes begin with, read from the text
+said : (found : Option Rest) (around : Context) (text all bytes : List ℕ) (at : ℕ) → all ≡ text → bytes ≡ drop at all
+    → found ≡ (if ends_tag around (line_rest bytes) then None else Some (all_taken (front around.path (line_rest bytes))))
+    → found ≡ (if ends_tag around (line_rest (drop at text)) then None else Some (all_taken (front around.path (line_rest (drop at text)))))
+said found around text all bytes at a b h =
+    subst (λ bs. found ≡ (if ends_tag around (line_rest bs) then None else Some (all_taken (front around.path (line_rest bs))))) (b ∙ ap (drop at) a) h
+
+any_by : (t : Bool) (r : Rest) (found : Option Rest) → found ≡ None → found ≡ (if t then None else Some r) → t ≡ true
+any_by true r found none h = refl
+any_by false r found none h = cc
+
+its_by : (t : Bool) (r s : Rest) (found : Option Rest) → found ≡ Some s → found ≡ (if t then None else Some r) → (t ≡ false) × (s ≡ r)
+its_by true r s found some h = cc
+its_by false r s found some h = (refl, cc)
+
+pub returns-in-None : goal.returns-in-None
+returns-in-None c =
+    let self = c.args.self.now in
+    let at = c.args.start in
+    let text = self.source.text.now in
+    let h = said _ (context_in self) text _ _ at c.as_bytes.ensures.value c.rest_of-bytes.ensures.value c.in_ok-scan_line_behind_tag.ensures.value in
+    let any = any_by (ends_tag (context_in self) (line_rest (drop at text))) _ _ c.in-None.is h in
+    record {
+      source = refl;
+      names = extends_none _;
+      later = omega arith;
+      boundary = c.requires.boundary;
+      ready = λ names more tagged. ready_any_line (document text self.source.options names) (tables self.allocs) self.reading at any c.requires.no_empty tagged;
+      named = λ h. h;
+      written = λ h. h;
+      order = λ ordered. inl (ordered_none text self.reading at c.requires.no_empty c.requires.boundary.0 ordered);
+      whole = λ h k. k;
+      few = omega arith;
+    }
+
+pub returns-in_ok-next-in-Some : goal.returns-in_ok-next-in-Some
+returns-in_ok-next-in-Some c =
+    let self = c.args.self.now in
+    let text = self.source.text.now in
+    let at = c.args.start in
+    let old : Reading = self.reading in
+    let path = path_of self.source.options self.reading.tree in
+    let p : Place = unindented (place_at at (front path (line_rest (drop at text)))) in
+    let q : Place = place_at at c.in-Some.rest in
+    let e = c.in_ok-next-in-Some.ensures in
+    let h = said _ (context_in self) text _ _ at c.as_bytes.ensures.value c.rest_of-bytes.ensures.value c.in_ok-scan_line_behind_tag.ensures.value in
+    let its = its_by (ends_tag (context_in self) (line_rest (drop at text))) _ c.in-Some.rest _ c.in-Some.is h in
+    let same : q ≡ p = ap (place_at at) its.1 in
+    let here = text_place text at path c.in_ok-scan_line_behind_tag.ensures.utf8 c.requires.boundary in
+    let ends : line_end p ≡ at + line_len (drop at text) = here.1 in
+    let later = e.later in
+    let before = place_before_end q in
+    let few = e.few in
+    record {
+      source = e.source;
+      names = e.names;
+      later = omega arith;
+      boundary = e.boundary;
+      ready = λ names more tagged. let d = document text self.source.options names in
+          e.ready names more
+          (inr (subst (λ q. ReadyLazy d (tables self.allocs) old q (lines_from text (line_end q))) (sym same)
+          (subst (λ n. ReadyLazy d (tables self.allocs) old p (lines_from text n)) (sym ends) (ready_its_line d (tables self.allocs) old at its.0 tagged))));
+      named = e.named;
+      written = e.written;
+      order = λ ordered. e.order (ordered_at_place text self.reading.tree at q refl c.requires.boundary (subst (IsPlaceOf text) (sym same) here.0) ordered);
+      whole = e.whole;
+      few = omega arith;
+    }
+
+pub parse_leaf-requires-clause-place : goal.parse_leaf-requires-clause-place
+parse_leaf-requires-clause-place c =
+    let text = c.args.self.now.source.text.now in
+    let at = c.args.start in
+    let path = path_of c.args.self.now.source.options c.args.self.now.reading.tree in
+    let h = said _ (context_in c.args.self.now) text _ _ at c.as_bytes.ensures.value c.rest_of-bytes.ensures.value c.in_ok-scan_line_behind_tag.ensures.value in
+    let its = its_by (ends_tag (context_in c.args.self.now) (line_rest (drop at text))) _ c.in-Some.rest _ c.in-Some.is h in
+    subst (λ r. IsPlaceOf text (place_at at r)) (sym its.1) (text_place text at path c.in_ok-scan_line_behind_tag.ensures.utf8 c.requires.boundary).0

@@ -1,0 +1,79 @@
+use Rattle.std.proofs.Common.{inl, ℕ, Some, refl, IsCharBoundary, sym, ap, subst, ◌∙◌, arith}
+use Rattle.first_pass_grammar.specs.Kinds.{all_taken, unindented}
+use Rattle.first_pass_grammar.specs.Leaves.{document}
+use Rattle.first_pass_grammar.specs.Completion.{lines_from}
+use Rattle.first_pass_text.specs.Appends.{line_end_at}
+use Rattle.first_pass_lists.specs.declared.reading.Reading.{Reading}
+use Rattle.first_pass_blocks.specs.State.{Ready}
+use Rattle.first_pass_open.proofs.PlaceLemmas.{all_keep, read_to}
+use Rattle.first_pass_blocks.proofs.CountLemmas.{block_count}
+use Rattle.first_pass_blocks.proofs.OrderSteps.{ordered_block, unindented_later}
+use Rattle.first_pass_lines.specs.Places.{offset}
+use Rattle.first_pass_text.specs.Between.{AddsBetween, StandsBefore}
+use Rattle.first_pass_names.specs.TableEntries.{tables, told_by, names_of}
+use Rattle.first_pass_blocks.proofs.WrittenLemmas.{written_stay}
+use Rattle.first_pass_names.proofs.NameLemmas.{extends_none}
+use Rattle.first_pass_grammar.proofs.TextsNamed.{text_named}
+use Rattle.first_pass_blocks.proofs.NamedLemmas.{block_added, task_is_no_text, task_has_none}
+use Rattle.first_pass_blocks.proofs.WholeKept.{task_shows, block_whole, added_text_whole}
+use Rattle.first_pass_blocks.proofs.LeafLemmas.{line_end_of, ready_text}
+use Rattle.first_pass_blocks.proofs.state.BlockPass.parse_task_text.Goals as goal
+
+pub offset-requires : goal.offset-requires
+offset-requires c =
+    let i = all_keep c.args.self.now.source.text.now c.args.place.line c.args.place.rest c.requires.utf8 c.requires.place in
+    let e = read_to all_taken _ c.args.place _ c.scan_indentation.new.line_start refl c.scan_indentation.ensures.rest c.place.view_is in
+    let short = c.is_short.ensures in
+    omega (arith, i.within, e)
+
+pub parse_paragraph-requires-clause-boundary : goal.parse_paragraph-requires-clause-boundary
+parse_paragraph-requires-clause-boundary c =
+    let text = c.args.self.now.source.text.now in
+    let i = all_keep text c.args.place.line c.args.place.rest c.requires.utf8 c.requires.place in
+    let e = read_to all_taken _ c.args.place _ _ c.offset.ensures c.scan_indentation.ensures.rest c.place.view_is in
+    subst (IsCharBoundary text) (sym e) i.boundary
+
+pub parse_paragraph-requires-clause-marker : goal.parse_paragraph-requires-clause-marker
+parse_paragraph-requires-clause-marker c = task_is_no_text c.args.marker.body c.requires.after.0
+
+pub returns : goal.returns
+returns c =
+    let self = c.args.self.now in
+    let text = self.source.text.now in
+    let options = self.source.options in
+    let p = c.args.place in
+    let at = c.offset.result in
+    let old : Reading = self.reading in
+    let now = names_of c.parse_paragraph.new.allocs in
+    let tree = c.parse_paragraph.new.tree in
+    let new : Reading = record old { tree = tree } in
+    let next = c.in_ok-next.next in
+    let e = c.in_ok-next.ensures in
+    let mark = c.requires.after.0 in
+    let none = c.requires.after.1 in
+    let i = all_keep text p.line p.rest c.requires.utf8 c.requires.place in
+    let there = read_to all_taken _ p _ _ c.offset.ensures c.scan_indentation.ensures.rest c.place.view_is in
+    let low = unindented_later text p.line p.rest c.requires.utf8 c.requires.place in
+    let ends = ap (line_end_at text) there ∙ line_end_of text p i in
+    let later = e.block.later in
+    let fits : (from : ℕ) → StandsBefore text from (offset p) (Some c.args.marker) → AddsBetween text from next old.tree tree =
+    λ from stands. let b = stands.1 in let before = b.before in
+    e.fits c.requires.after.2 from (stands.0, record { behind = b.behind; order = b.order; before = omega arith; starts = b.starts; ends = b.ends }) in
+    record {
+      source = refl;
+      names = e.names;
+      later = omega arith;
+      boundary = e.block.boundary;
+      ready = λ names more ready. let d = document text options names in
+          subst (λ z. Ready d z new (lines_from text next)) (sym (ap told_by e.entries))
+          (ready_text d (tables self.allocs) old tree p at next c.args.marker e.block.items there i (e.block.is_text names more) e.block.tree_is none ready);
+      named = λ h. block_added now (names_of self.allocs) old.tree tree e.block.items e.names e.block.tree_is
+          (text_named (document text options now) _ (unindented p) (Some c.args.marker) _ _ (task_has_none c.args.marker.body mark)
+          (e.block.is_text now (extends_none now) (unindented p) i (sym there))) h;
+      written = written_stay text self.allocs c.parse_paragraph.new.allocs e.entries;
+      order = λ o. inl (ordered_block text old.tree new o.from next (fits o.from o.stands) e.block.boundary.0 none o.ordered);
+      whole = λ h k. block_whole now (names_of self.allocs) old.tree tree e.block.items e.names e.block.tree_is
+          (added_text_whole (document text options now) _ (unindented p) (Some c.args.marker) _ _ i (task_shows c.args.marker.body mark)
+          (e.block.is_text now (extends_none now) (unindented p) i (sym there))) h k;
+      few = λ from stands apart. block_count text from next old.tree tree (fits from stands) apart;
+    }

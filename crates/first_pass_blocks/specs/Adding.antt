@@ -1,0 +1,50 @@
+-- What is said of a leaf block that is added at a place (private functions alone cite this).
+use Rattle.std.specs.Prelude.{◌≡◌, ℕ, ◌≤◌, Bool, false, List, None, IsUtf8, IsCharBoundary}
+use Rattle.first_pass_items.specs.declared.item.Item.{Item}
+use Rattle.first_pass_tree.specs.Forest.{Forest, added}
+use Rattle.first_pass_lines.specs.Places.{Place, offset, line_end, IsPlaceOf}
+use Rattle.first_pass_grammar.specs.Kinds.{Kind}
+use Rattle.first_pass_grammar.specs.Names.{Names, Extends}
+use Rattle.first_pass_grammar.specs.Leaves.{Document, document}
+use Rattle.first_pass_grammar.specs.Blocks.{leaf_block}
+use Rattle.first_pass_grammar.specs.Skeleton.{Line, OpensLeaf, OpensAs}
+use Rattle.first_pass_grammar.specs.Completion.{lines_from}
+use Rattle.first_pass_open.specs.Path.{path_of}
+use Rattle.first_pass_text.specs.Between.{AddsBetween}
+use Rattle.first_pass_text.specs.Found.{IsFoundAt}
+use Rattle.first_pass_text.specs.declared.kinds.Found.TheVariants.{Marked}
+use Rattle.first_pass_text.specs.declared.kinds.MarkedLeaf.{MarkedLeaf}
+use Rattle.first_pass_names.specs.TableEntries.{entries, names_of}
+use Rattle.first_pass_blocks.specs.declared.state.BlockPass.{BlockPass}
+use Rattle.first_pass_blocks.specs.Views.{allocs_of, reading_of, source_of, source_options, source_text, tree_of}
+
+-- A leaf block of a kind, which begins at a place, is a last child of the innermost open node, whatever more is named: with this end of a list before it,
+-- with or without blank lines at its end, and the lines from an offset on left.
+pub record AddsKind (d : Document) (p : Place) (kind : Kind) (gap : Bool) (old new : Forest Item) (next : ℕ) : Type 0 where
+  pub items : List (ℕ × Item)
+  pub tree_is : new ≡ added old items
+  pub opens : (more : Names) → Extends more d.names
+      → OpensAs (document d.text d.options more) (path_of d.options old) p (lines_from d.text (line_end p)) kind
+      (OpensLeaf (leaf_block kind p items gap) Line (lines_from d.text next))
+
+-- A pass added such a block: it reads the same text, what was named keeps its name, no entry of a table changed, and no item is empty. The nodes of the
+-- block lie after any offset before the place, and reading continues at an offset after the line of the place, between characters.
+pub record AddsLeaf (old new : BlockPass) (p : Place) (kind : Kind) (next : ℕ) : Type 0 where
+  pub source : source_of new ≡ source_of old
+  pub names : Extends (names_of (allocs_of new)) (names_of (allocs_of old))
+  pub entries : entries (allocs_of new) ≡ entries (allocs_of old)
+  pub empty_item : (reading_of new).empty_item ≡ None
+  pub block : AddsKind (document (source_text old) (source_options old) (names_of (allocs_of new))) p kind (reading_of new).blank (tree_of old)
+      (tree_of new) next
+  pub later : line_end p ≤ next
+  pub boundary : IsCharBoundary (source_text old) next
+  pub fits : (from : ℕ) → from ≤ offset p → AddsBetween (source_text old) from next (tree_of old) (tree_of new)
+
+-- A leaf block that is told by its mark is found at a place, after so many columns, at an offset, in a pass whose open list and empty item a new block has
+-- ended.
+pub record IsFoundIn (pass : BlockPass) (p : Place) (leaf : MarkedLeaf) (columns at : ℕ) : Type 0 where
+  pub utf8 : IsUtf8 (source_text pass)
+  pub place : IsPlaceOf (source_text pass) p
+  pub found : IsFoundAt (source_options pass) p (Marked leaf) columns at
+  pub not_blank : (reading_of pass).blank ≡ false
+  pub no_empty : (reading_of pass).empty_item ≡ None

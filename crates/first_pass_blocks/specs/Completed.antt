@@ -1,0 +1,38 @@
+-- What the pass remembers between two blocks, completed.
+use Rattle.std.specs.Prelude.{ℕ, Bool, true, false, List, map, Option, Some, None}
+use Rattle.first_pass_items.specs.declared.item.Item.{Item}
+use Rattle.first_pass_tree.specs.Forest.{Forest}
+use Rattle.first_pass_lines.specs.Places.{Place}
+use Rattle.first_pass_grammar.specs.Leaves.{Document, document}
+use Rattle.first_pass_grammar.specs.Skeleton.{From, Line, Blanks, next_is_blank}
+use Rattle.first_pass_grammar.specs.Derivation.{Tables, Derives}
+use Rattle.first_pass_grammar.specs.Completion.{NoList, Frame, last_of, Completion}
+use Rattle.first_pass_lists.specs.Closing.{emptied}
+use Rattle.first_pass_lists.specs.declared.reading.Reading.{Reading}
+use Rattle.first_pass_open.specs.Path.{path_of}
+use Rattle.first_pass_blocks.specs.State.{AreOpen}
+
+-- Something completes the open nodes of a tree from a place or from these lines on, and the text derives the forest that they become.
+pub record CompletedAt (d : Document) (defined : Tables) (tree : Forest Item) (run : Bool) (from : From) (lines : List Place) : Type 0 where
+  pub frames : List Frame
+  pub are_open : AreOpen tree.nodes tree.spine frames
+  pub completion : Completion d frames (map (λ ix. ix.0) tree.spine)
+      (record { nodes = tree.nodes; list = NoList; before = record { last = last_of frames; counted = run }; defined = defined }) from lines
+  pub derives : Derives (document d.text d.options completion.names) completion.forest completion.tables
+
+-- the same with an empty item innermost, whose marker's line ends at an offset: whether it takes blank lines alone is seen at the next line
+abbrev pub CompletedBeforeLine : Document → Tables → Forest Item → ℕ → List Place → Bool → Type 0
+CompletedBeforeLine d defined tree e lines true = CompletedAt d defined (emptied tree tree.spine) false (Blanks e) lines
+CompletedBeforeLine d defined tree e lines false = CompletedAt d defined tree false Line lines
+
+abbrev pub CompletedInItem : Document → Tables → Forest Item → ℕ → List Place → Bool → Type 0
+CompletedInItem d defined tree e lines true = CompletedAt d defined tree true (Blanks e) lines
+CompletedInItem d defined tree e lines false = CompletedBeforeLine d defined tree e lines (next_is_blank (path_of d.options tree) lines)
+
+-- the same of what the pass remembers, whose innermost open node may be such an item
+abbrev pub CompletedWith : Document → Tables → Reading → List Place → Option ℕ → Type 0
+CompletedWith d defined r lines None = CompletedAt d defined r.tree r.blank Line lines
+CompletedWith d defined r lines (Some e) = CompletedInItem d defined r.tree e lines r.blank
+
+unfoldable pub IsCompleted : Document → Tables → Reading → List Place → Type 0
+IsCompleted d defined r lines = CompletedWith d defined r lines r.empty_item

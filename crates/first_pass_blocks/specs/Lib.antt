@@ -1,0 +1,10 @@
+pub mod Adding
+pub mod Completed
+pub mod Entering
+pub mod Positions
+pub mod Ordered
+pub mod Progress
+pub mod Runs
+pub mod Starts
+pub mod State
+pub mod Views

@@ -1,0 +1,81 @@
+-- A container that begins at a place, as the pass tells it, and what the pass remembers once it is open (private functions alone cite this).
+use Rattle.std.specs.Prelude.{◌≡◌, ℕ, Bool, true, Option, Some, None, if◌then◌else◌}
+use Rattle.first_pass_items.specs.declared.item.Item.{Item}
+use Rattle.first_pass_items.specs.declared.item.BlockQuoteKind.{BlockQuoteKind}
+use Rattle.first_pass_items.specs.declared.item.ItemBody.TheVariants.{BlockQuote as BlockQuoteBody, ListItem as ListItemBody}
+use Rattle.first_pass_grammar.specs.Blocks.{Opener as ContainerOpener, QuoteMarker, ItemMarker}
+use Rattle.first_pass_grammar.specs.Openers.{AfterMarker as After, OnLine as AfterOnLine, TaskText as AfterTaskText, LineEnds as AfterLineEnds}
+use Rattle.first_pass_grammar.specs.Openers.{TagAlone as AfterTagAlone, Start as ContainerStart, after_task, after_quote}
+use Rattle.first_pass_lines.specs.Places.{Place}
+use Rattle.first_pass_grammar.specs.Order.{is_task_marker}
+use Rattle.first_pass_grammar.specs.OpenOrder.{is_in_item}
+use Rattle.first_pass_lists.specs.Closing.{begun, list_finished, list_continued}
+use Rattle.first_pass_lists.specs.declared.list.ListMarker.{ListMarker}
+use Rattle.first_pass_lists.specs.declared.reading.Reading.{Reading}
+use Rattle.first_pass_open.specs.OpenBlock.{with_child}
+use Rattle.first_pass_blocks.specs.Positions.{Position, LineAt, InLine, LeafAt, TaskAt, TaggedAt}
+use Rattle.first_pass_blocks.specs.declared.openers.Opener.{Opener}
+use Rattle.first_pass_blocks.specs.declared.openers.Opener.TheVariants.{Quote, Item as ItemOpener}
+use Rattle.first_pass_blocks.specs.declared.openers.AfterMarker.{AfterMarker}
+use Rattle.first_pass_blocks.specs.declared.openers.AfterMarker.TheVariants.{OnLine, TaskText, LineEnds, TagAlone}
+use Rattle.first_pass_blocks.specs.declared.openers.Start.{Start}
+
+-- the marker of a list item, of which these are the byte, the number and the indent
+abbrev pub marker_of : ℕ × ℕ × ℕ → ListMarker
+marker_of m = record { byte = m.0; number = m.1; indent = m.2 }
+
+-- the grammar's words in the pass's
+abbrev pub opener_told : ContainerOpener → Opener
+opener_told (QuoteMarker kind) = Quote kind
+opener_told (ItemMarker byte number columns) = ItemOpener (marker_of (byte, number, columns))
+
+abbrev pub after_told : After → AfterMarker
+after_told AfterOnLine = OnLine
+after_told (AfterTaskText marker) = TaskText marker
+after_told (AfterLineEnds marker) = LineEnds marker
+after_told AfterTagAlone = TagAlone
+
+abbrev pub start_told : ContainerStart → Start
+start_told s = record { opener = opener_told s.head.opener; start = s.head.start; after = after_told s.after }
+
+abbrev pub item_after : Option Item → Bool → AfterMarker
+item_after marker is_over = after_told (if is_over then AfterLineEnds marker else after_task marker)
+
+abbrev pub quote_after : Option BlockQuoteKind → AfterMarker
+quote_after kind = after_told (after_quote kind)
+
+-- a container is open, with the list that it needs, which starts at an offset in the line that begins at another
+abbrev pub container_opened : ℕ → ℕ → Opener → Reading → Reading
+container_opened line start (Quote kind) r = begun start (BlockQuoteBody kind) (list_finished line r)
+container_opened line start (ItemOpener m) r = begun start (ListItemBody m.indent) (list_continued start m.byte m.number r)
+
+-- what stands alone after its marker is read, in the line that ends at an offset
+abbrev pub after_read : AfterMarker → ℕ → Reading → Reading
+after_read OnLine e r = r
+after_read (TaskText marker) e r = r
+after_read (LineEnds marker) e r = record r { tree = with_child r.tree marker; empty_item = Some e }
+after_read TagAlone e r = r
+
+abbrev pub start_opened : ℕ → Start → ℕ → Reading → Reading
+start_opened line s e r = after_read s.after e (container_opened line s.start s.opener r)
+
+-- where reading has come to after a marker, whose line's rest begins at a place and which ends at an offset
+abbrev pub after_at : Place → ℕ → AfterMarker → Position
+after_at p e OnLine = InLine p
+after_at p e (TaskText marker) = TaskAt p marker
+after_at p e (LineEnds marker) = LineAt e
+after_at p e TagAlone = TaggedAt e
+
+-- the same where no other container begins
+abbrev pub last_at : Place → ℕ → AfterMarker → Position
+last_at p e OnLine = LeafAt p
+last_at p e (TaskText marker) = TaskAt p marker
+last_at p e (LineEnds marker) = LineAt e
+last_at p e TagAlone = TaggedAt e
+
+-- no item is empty then, but one whose line is over after its marker; the marker of a task stands in an item
+abbrev pub IsAfter : AfterMarker → Reading → Type 0
+IsAfter OnLine r = r.empty_item ≡ None
+IsAfter (TaskText marker) r = (is_task_marker marker.body ≡ true) × (r.empty_item ≡ None) × (is_in_item r.tree ≡ true)
+IsAfter (LineEnds marker) r = Unit {0}
+IsAfter TagAlone r = r.empty_item ≡ None

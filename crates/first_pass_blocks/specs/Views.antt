@@ -1,0 +1,33 @@
+-- What is seen of a pass: the text and the options that it reads under, what it remembers between two lines, the tree in that, and what nodes name.
+use Rattle.std.specs.Prelude.{ℕ, List}
+use Rattle.first_pass_items.specs.declared.item.Item.{Item}
+use Rattle.first_pass_items.specs.declared.option_set.Options.{Options}
+use Rattle.first_pass_tree.specs.Forest.{Forest}
+use Rattle.first_pass_names.specs.declared.items.Allocations.{Allocations}
+use Rattle.first_pass_open.specs.declared.source.Source.{Source}
+use Rattle.first_pass_lists.specs.declared.reading.Reading.{Reading}
+use Rattle.first_pass_grammar.specs.Containers.{Context}
+use Rattle.first_pass_open.specs.Path.{context_of}
+use Rattle.first_pass_blocks.specs.declared.state.BlockPass.{BlockPass}
+
+abbrev pub source_of : BlockPass → Source
+source_of pass = pass.source
+
+abbrev pub source_text : BlockPass → List ℕ
+source_text pass = pass.source.text.now
+
+abbrev pub source_options : BlockPass → Options
+source_options pass = pass.source.options
+
+abbrev pub reading_of : BlockPass → Reading
+reading_of pass = pass.reading
+
+abbrev pub tree_of : BlockPass → Forest Item
+tree_of pass = pass.reading.tree
+
+abbrev pub allocs_of : BlockPass → Allocations
+allocs_of pass = pass.allocs
+
+-- what a line is read in by it
+abbrev pub context_in : BlockPass → Context
+context_in pass = context_of pass.source.options pass.reading.tree

@@ -1,0 +1,117 @@
+//! The open containers, and how far a line continues them (CommonMark 5).
+
+ghost use Rattle.std.specs.Prelude.{◌≡◌, ◌<◌, ◌≤◌, length, None, IfOk, OnOk, IsUtf8, IsCharBoundary};
+ghost use Rattle.first_pass_lines.specs.Places.{line_end, IsPlaceOf};
+ghost use Rattle.first_pass_open.specs.Path.{outer};
+ghost use Rattle.first_pass_blocks.specs.Entering.{ClosesAt, EntersLine};
+ghost use Rattle.first_pass_blocks.specs.Positions.{InLine, IsInLine, ReadsTo};
+ghost use Rattle.first_pass_blocks.specs.Starts.{start_opened, last_at, IsAfter};
+
+use crate::openers::{AfterMarker, Opener, Start, start_at};
+use first_pass_lines::lines::scan_blank_line;
+use first_pass_lines::places::{next_line, rest_of};
+use first_pass_lists::reading::Reading;
+pub use first_pass_open::containers::scan_containers;
+use first_pass_open::place::Place;
+use first_pass_open::source::Source;
+use first_pass_scan::line_start::LineStart;
+use first_pass_text::paragraph::append_item;
+use std::alloc::AllocError;
+
+/// Closes the open nodes at the offset `ix`, but the outermost `kept` of them.
+pub(crate) fn close_containers(reading: &mut Reading, kept: usize, ix: usize)
+    requires { kept ≤ length reading.old.tree.spine }
+    ensures spine { reading.new.tree.spine ≡ outer kept reading.old.tree.spine }
+    ensures kept { ClosesAt reading.old reading.new kept ix }
+{
+    while kept < reading.tree.spine_len() {
+        reading.tree.is_forest();
+        reading.pop(ix);
+    }
+}
+
+/// Closes the containers that the line doesn't continue that begins at `start_ix`, and returns the place after
+/// those that it continues; `None` where it is a blank line, which is read then.
+pub(crate) fn enter_line<'a>(
+    reading: &mut Reading,
+    source: Source<'a>,
+    start_ix: usize,
+) -> Option<Place<'a>>
+    requires within { start_ix < length source.text.now }
+    requires boundary { IsCharBoundary source.text.now start_ix }
+    ensures utf8 { IsUtf8 source.entry.text.now }
+    ensures entered { EntersLine source.entry reading.old reading.new start_ix result }
+{
+    let mut line_start = LineStart::new(rest_of(source.text.as_bytes(), start_ix));
+    let kept = scan_containers(&reading.tree, &mut line_start, source.options, false);
+    close_containers(reading, kept, start_ix);
+    if scan_blank_line(line_start.left()).is_some() {
+        reading.read_blank_line();
+        return None;
+    }
+    reading.finish_empty_list_item();
+    Some(Place {
+        line: start_ix,
+        rest: line_start,
+    })
+}
+
+/// Opens the containers that begin at a place, one inside the other, and takes their markers. Returns what stands after
+/// the last: more of the line, in which no other begins, or what its marker ends with (CommonMark 5).
+pub(crate) fn open_containers<'a>(
+    reading: &mut Reading,
+    source: Source<'a>,
+    place: &mut Place<'a>,
+) -> Result<AfterMarker, AllocError>
+    requires utf8 { IsUtf8 source.text.now }
+    requires place { IsPlaceOf source.text.now place.old }
+    requires no_empty { reading.old.empty_item ≡ None }
+    ensures after { IfOk result (λ after. IsAfter after reading.new) }
+    ensures place { OnOk result (IsInLine source.entry.text.now place.old.line (line_end place.old) place.new) }
+    ensures opened { IfOk result (λ after. ReadsTo source.entry place.old.line reading.old reading.new
+        (InLine place.old) (last_at place.new (line_end place.old) after)) }
+{
+    loop {
+        reading.tree.is_forest();
+        let Some(start) = start_at(source, place) else {
+            return Ok(AfterMarker::OnLine);
+        };
+        open_start(reading, source, place, start)?;
+        match start.after {
+            AfterMarker::OnLine => {}
+            after => return Ok(after),
+        }
+    }
+}
+
+// Opens a container that begins in the line of a place, the one after its marker: with the list that it needs, and
+// with the marker of a task that stands alone in it.
+#[inline(always)]
+fn open_start<'a>(
+    reading: &mut Reading,
+    source: Source<'a>,
+    place: &Place<'a>,
+    start: Start,
+) -> Result<(), AllocError>
+    requires { IsPlaceOf source.text.now place.now }
+    ensures { OnOk result (reading.new ≡ start_opened place.now.line start (line_end place.now) reading.old) }
+{
+    match start.opener {
+        Opener::Item(marker) => reading.open_item(start.start, marker)?,
+        Opener::Quote(kind) => reading.open_quote(place.line, start.start, kind)?,
+    }
+    if let AfterMarker::LineEnds(marker) = start.after {
+        append_item(&mut reading.tree, marker)?;
+        reading.empty_item = Some(line_over(source, place));
+    }
+    Ok(())
+}
+
+/// Where the line of a place is over: the offset at which the next one begins.
+pub(crate) fn line_over<'a>(source: Source<'a>, place: &Place<'a>) -> usize
+    requires { IsPlaceOf source.text.now place.now }
+    ensures { result ≡ line_end place.now }
+{
+    source.is_short();
+    next_line(source.text.as_bytes(), place.offset())
+}

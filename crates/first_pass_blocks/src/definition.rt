@@ -1,0 +1,105 @@
+//! Link reference definitions, as many as stand one after the other (CommonMark 4.7).
+
+ghost use Rattle.std.specs.Prelude.{◌≡◌, ◌||◌, IfOk, OnOk, OnErr, Some, None, IsUtf8, IsCharBoundary, true, if◌then◌else◌};
+ghost use Rattle.first_pass_lines.specs.Places.{Place, line_rest, offset, IsPlaceOf};
+ghost use Rattle.first_pass_grammar.specs.Containers.{front};
+ghost use Rattle.first_pass_grammar.specs.Kinds.{all_taken, ends_tag, is_blank_rest};
+ghost use Rattle.first_pass_open.specs.Path.{context_of};
+ghost use Rattle.first_pass_tree.specs.Forest.{in_table};
+ghost use Rattle.first_pass_names.specs.TableEntries.{tables};
+ghost use Rattle.first_pass_text.specs.Rests.{IsRestOf};
+ghost use Rattle.first_pass_text.specs.Memory.{line_may_head};
+ghost use Rattle.first_pass_blocks.specs.Runs.{PutsDefinitions, ReadsRun};
+ghost use Rattle.first_pass_blocks.specs.Views.{allocs_of, context_in, source_text, tree_of};
+
+use crate::state::BlockPass;
+use first_pass_definitions::reference::parse_refdef_total;
+use first_pass_items::item::Item;
+use first_pass_lines::lines::scan_blank_line;
+use first_pass_lines::places::{next_line, rest_of};
+use first_pass_open::source::Source;
+use first_pass_scan::line_start::LineStart;
+use first_pass_text::interrupt::scan_line_behind_tag;
+use first_pass_tree::forest::Tree;
+use std::alloc::{AllocError, Global};
+
+/// What stands after link definitions.
+#[derive(Clone, Copy)]
+pub(crate) enum RunEnd {
+    /// Nothing of their run: the last of them is in the line that begins at the first offset, and the next line begins
+    /// at the second.
+    NextLine(usize, usize),
+    /// Text of a paragraph, which begins at an offset.
+    Paragraph(usize),
+}
+
+/// Enters the line that `bytes` begin with, all that the text has from the line on: a line that continues a run of
+/// link reference definitions, whatever open containers it continues. Returns what is left of it after what it has of
+/// their prefixes and after its columns. `None` where it ends the run: where after the tag of a block quote it would be
+/// read as any other, and where what is left is blank, as at the text's end. The error is want of memory, where the
+/// line may head a table (CommonMark 4.7, 4.8, 5.1).
+pub fn scan_next_line_or_lazy_continuation<'input>(
+    alloc: Global,
+    source: Source<'_>,
+    bytes: &'input [u8],
+    tree: &Tree<Item>,
+) -> Result<Option<LineStart<'input>>, AllocError>
+    requires { IsRestOf source.text.now bytes.now }
+    ensures value { IfOk result (λ rest. let around = context_of source.entry.options tree.now in
+        let line = front around.path (line_rest bytes.now) in
+        rest ≡ (if ends_tag around (line_rest bytes.now) || is_blank_rest (all_taken line)
+        then None
+        else Some (all_taken line))) }
+    ensures err { OnErr result (line_may_head (context_of source.entry.options tree.now)
+        (line_rest bytes.now) ≡ true) }
+{
+    let line = scan_line_behind_tag(alloc, source, bytes, tree)?;
+    let Some(rest) = line else {
+        return Ok(None);
+    };
+    if scan_blank_line(rest.left()).is_some() {
+        return Ok(None);
+    }
+    Ok(Some(rest))
+}
+
+impl<'a> BlockPass<'a> {
+    // Reads the link definitions that begin at the offset `at`, in the line that begins at `line`, as many as there
+    // are, and puts them into the table beside the tree.
+    pub(crate) fn parse_definitions(&mut self, line: usize, at: usize) -> Result<RunEnd, AllocError>
+        requires utf8 { IsUtf8 (source_text self.old) }
+        requires boundary { IsCharBoundary (source_text self.old) at }
+        ensures kept { OnOk result (PutsDefinitions self.old self.new) }
+        ensures run { IfOk result (λ behind. (p : Place) → p.line ≡ line → offset p ≡ at
+            → IsPlaceOf (source_text self.old) p
+            → ReadsRun (source_text self.old) (context_in self.old)
+            (in_table (tree_of self.old).nodes (tree_of self.old).spine) p (tables (allocs_of self.old))
+            (tables (allocs_of self.new)) behind) }
+    {
+        self.source.is_short();
+        let mut line = line;
+        let mut at = at;
+        while let Some((size, label, definition)) = parse_refdef_total(
+            self.alloc,
+            self.source,
+            &self.reading.tree,
+            at,
+        )? {
+            self.allocs.define_link(label, definition)?;
+            let bytes = self.source.text.as_bytes();
+            let next = next_line(bytes, at + size);
+            let rest = scan_next_line_or_lazy_continuation(
+                self.alloc,
+                self.source,
+                rest_of(bytes, next),
+                &self.reading.tree,
+            )?;
+            let Some(rest) = rest else {
+                return Ok(RunEnd::NextLine(line, next));
+            };
+            line = next;
+            at = next + rest.bytes_scanned();
+        }
+        Ok(RunEnd::Paragraph(at))
+    }
+}

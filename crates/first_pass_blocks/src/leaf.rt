@@ -1,0 +1,199 @@
+//! Leaf blocks that are told by their mark (CommonMark 4.1, 4.2, 4.4 to 4.6, and metadata).
+
+ghost use Rattle.std.specs.Prelude.{IfOk};
+ghost use Rattle.first_pass_grammar.specs.Kinds.{HtmlToEnd as HtmlKind};
+ghost use Rattle.first_pass_text.specs.Found.{marked_kind};
+ghost use Rattle.first_pass_text.specs.declared.kinds.MarkedLeaf.TheVariants.{IndentedCode, Metadata, HtmlToEnd, ThematicBreak, AtxHeading, FencedCode};
+ghost use Rattle.first_pass_blocks.specs.Adding.{AddsLeaf, IsFoundIn};
+
+use crate::state::BlockPass;
+use first_pass_items::item::HeadingLevel;
+use first_pass_open::place::Place;
+use first_pass_raw::fenced_code::{Fence, parse_fenced_code_block};
+use first_pass_raw::html_block::parse_html_block_type_1_to_5;
+use first_pass_raw::indented_code::parse_indented_code_block;
+use first_pass_raw::metadata_block::parse_metadata_block;
+use first_pass_text::heading::parse_atx_heading;
+use first_pass_text::kinds::MarkedLeaf;
+use first_pass_text::rule::parse_hrule;
+use std::alloc::AllocError;
+
+impl<'a> BlockPass<'a> {
+    /// Appends the leaf block that is told by its mark, at a place, after so many columns, at the offset `at`. Returns
+    /// the offset at which the line begins that is not read.
+    pub(crate) fn append_marked(
+        &mut self,
+        place: Place<'a>,
+        leaf: MarkedLeaf,
+        columns: usize,
+        at: usize,
+    ) -> Result<usize, AllocError>
+        requires { IsFoundIn self.old place leaf columns at }
+        ensures { IfOk result (λ next. AddsLeaf self.old self.new place.entry (marked_kind leaf) next) }
+    {
+        match leaf {
+            MarkedLeaf::IndentedCode => {
+                let next = self.append_code(place, columns, at)?;
+                Ok(next)
+            }
+            MarkedLeaf::Metadata(byte) => {
+                let next = self.append_metadata(&place, byte, columns, at)?;
+                Ok(next)
+            }
+            MarkedLeaf::HtmlToEnd(end) => {
+                let next = self.append_html(&place, end, columns, at)?;
+                Ok(next)
+            }
+            MarkedLeaf::ThematicBreak(size) => {
+                let next = self.append_rule(&place, size, columns, at)?;
+                Ok(next)
+            }
+            MarkedLeaf::AtxHeading(level) => {
+                let next = self.append_heading(&place, level, columns, at)?;
+                Ok(next)
+            }
+            MarkedLeaf::FencedCode(count, byte) => {
+                let fence = Fence {
+                    indent: columns,
+                    byte,
+                    count,
+                };
+                let next = self.append_fenced_code(&place, fence, at)?;
+                Ok(next)
+            }
+        }
+    }
+
+    // Appends indented code.
+    fn append_code(
+        &mut self,
+        place: Place<'a>,
+        columns: usize,
+        at: usize,
+    ) -> Result<usize, AllocError>
+        requires { IsFoundIn self.old place IndentedCode columns at }
+        ensures { IfOk result (λ next. AddsLeaf self.old self.new place.entry (marked_kind IndentedCode) next) }
+    {
+        self.source.is_short();
+        let mut place = place;
+        place.rest.scan_space_upto(4);
+        let owed = place.rest.remaining_space();
+        let (next, blank) = parse_indented_code_block(
+            &mut self.reading.tree,
+            &mut self.allocs,
+            self.source.text,
+            self.source.options,
+            place.offset(),
+            owed,
+        )?;
+        self.reading.blank = blank;
+        Ok(next)
+    }
+
+    // Appends the metadata block of this byte.
+    fn append_metadata(
+        &mut self,
+        place: &Place<'a>,
+        byte: u8,
+        columns: usize,
+        at: usize,
+    ) -> Result<usize, AllocError>
+        requires { IsFoundIn self.old place.now (Metadata byte) columns at }
+        ensures { IfOk result (λ next. AddsLeaf self.old self.new place.now (marked_kind (Metadata byte)) next) }
+    {
+        let next = parse_metadata_block(
+            &mut self.reading.tree,
+            &mut self.allocs,
+            self.source.text,
+            self.source.options,
+            at,
+            byte,
+        )?;
+        Ok(next)
+    }
+
+    // Appends the HTML block that this text ends.
+    fn append_html(
+        &mut self,
+        place: &Place<'a>,
+        end: &'static str,
+        columns: usize,
+        at: usize,
+    ) -> Result<usize, AllocError>
+        requires { IsFoundIn self.old place.now (HtmlToEnd end) columns at }
+        ensures { IfOk result (λ next. AddsLeaf self.old self.new place.now HtmlKind next) }
+    {
+        let next = parse_html_block_type_1_to_5(
+            &mut self.reading.tree,
+            &mut self.allocs,
+            self.source.text,
+            self.source.options,
+            at,
+            end,
+            columns,
+        )?;
+        Ok(next)
+    }
+
+    // Appends the thematic break of so many bytes.
+    fn append_rule(
+        &mut self,
+        place: &Place<'a>,
+        size: usize,
+        columns: usize,
+        at: usize,
+    ) -> Result<usize, AllocError>
+        requires { IsFoundIn self.old place.now (ThematicBreak size) columns at }
+        ensures { IfOk result (λ next. AddsLeaf self.old self.new place.now (marked_kind (ThematicBreak size)) next) }
+    {
+        self.source.is_short();
+        let next = parse_hrule(&mut self.reading.tree, size, at)?;
+        Ok(next)
+    }
+
+    // Appends the ATX heading of this level.
+    fn append_heading(
+        &mut self,
+        place: &Place<'a>,
+        level: HeadingLevel,
+        columns: usize,
+        at: usize,
+    ) -> Result<usize, AllocError>
+        requires { IsFoundIn self.old place.now (AtxHeading level) columns at }
+        ensures { IfOk result (λ next. AddsLeaf self.old self.new place.now (marked_kind (AtxHeading level)) next) }
+    {
+        let next = parse_atx_heading(
+            self.alloc,
+            self.source,
+            &self.lookup_table,
+            &mut self.reading.tree,
+            &mut self.allocs,
+            at,
+            level,
+        )?;
+        Ok(next)
+    }
+
+    // Appends the fenced code block with this fence.
+    fn append_fenced_code(
+        &mut self,
+        place: &Place<'a>,
+        fence: Fence,
+        at: usize,
+    ) -> Result<usize, AllocError>
+        requires { IsFoundIn self.old place.now (FencedCode fence.count fence.byte) fence.indent at }
+        ensures { IfOk result (λ next.
+            AddsLeaf self.old self.new place.now (marked_kind (FencedCode fence.count fence.byte)) next) }
+    {
+        let next = parse_fenced_code_block(
+            self.alloc,
+            &mut self.reading.tree,
+            &mut self.allocs,
+            self.source.text,
+            self.source.options,
+            at,
+            fence,
+        )?;
+        Ok(next)
+    }
+}

@@ -1,0 +1,10 @@
+//! The block pass of CommonMark: a text goes in, the tree of its blocks comes out (`pass::run_first_pass`).
+#![tactic(auto)]
+
+pub mod containers;
+pub mod definition;
+pub mod laws;
+mod leaf;
+mod openers;
+pub mod pass;
+pub mod state;

@@ -1,0 +1,159 @@
+//! Which container begins at a place (CommonMark 5.1, 5.2).
+
+ghost use Rattle.std.specs.Prelude.{◌≡◌, Some, None, MatchOption, IsUtf8, if◌then◌else◌};
+ghost use Rattle.first_pass_lines.specs.Places.{IsPlaceOf};
+ghost use Rattle.first_pass_grammar.specs.Containers.{at_rest};
+ghost use Rattle.first_pass_grammar.specs.Kinds.{item_at};
+ghost use Rattle.first_pass_grammar.specs.Openers.{task_behind, tag_behind, start_at};
+ghost use Rattle.first_pass_blocks.specs.Starts.{marker_of, start_told, item_after, quote_after};
+
+use bitflags::Flags;
+use first_pass_items::item::{BlockQuoteKind, Item, ItemBody};
+use first_pass_items::option_set::Options;
+use first_pass_lines::lines::scan_blank_line;
+use first_pass_lists::list::ListMarker;
+use first_pass_open::containers::scan_quote;
+use first_pass_open::indentation::scan_indentation;
+use first_pass_open::place::Place;
+use first_pass_open::source::Source;
+use first_pass_scan::line_start::LineStart;
+
+/// What opens a container.
+#[derive(Clone, Copy, Drop)]
+pub(crate) enum Opener {
+    /// A block quote's `>`, with the kind that a tag after it gives the quote.
+    Quote(Option<BlockQuoteKind>),
+    /// A list item's marker.
+    Item(ListMarker),
+}
+
+/// What stands after a container's marker on its line.
+#[derive(Clone, Copy, Drop)]
+pub(crate) enum AfterMarker {
+    /// More of the line, in which blocks continue.
+    OnLine,
+    /// The text of a task, after this marker.
+    TaskText(Item),
+    /// Nothing, or the marker of a task alone.
+    LineEnds(Option<Item>),
+    /// The tag of a block quote alone.
+    TagAlone,
+}
+
+/// A container that begins at a place.
+#[derive(Clone, Copy, Drop)]
+pub(crate) struct Start {
+    pub(crate) opener: Opener,
+    /// The offset into the text at which the container starts.
+    pub(crate) start: usize,
+    pub(crate) after: AfterMarker,
+}
+
+/// The container that begins at a place: a list item where one does, else a block quote where one does. Its marker is
+/// taken, and that of a task; `None` where no container begins there, and then nothing is taken.
+#[inline(always)]
+pub(crate) fn start_at<'a>(source: Source<'a>, place: &mut Place<'a>) -> Option<Start>
+    requires utf8 { IsUtf8 source.text.now }
+    requires place { IsPlaceOf source.text.now place.old }
+    ensures { MatchOption (start_at source.entry.options place.old) ((result ≡ None) × (place.new ≡ place.old))
+        (λ s. (result ≡ Some (start_told s)) × (place.new ≡ at_rest place.old s.rest)) }
+{
+    source.is_short();
+    let before = place.offset();
+    if let Some(marker) = scan_item(&mut place.rest) {
+        let task = scan_task(source, place);
+        let is_over = scan_blank_line(place.left()).is_some();
+        return Some(Start {
+            opener: Opener::Item(marker),
+            start: before,
+            after: item_after(task, is_over),
+        });
+    }
+    let quote = scan_quote(&mut place.rest)?;
+    let tag = scan_tag(source.options, &place.rest);
+    Some(Start {
+        opener: Opener::Quote(tag),
+        start: place.line + quote,
+        after: quote_after(tag),
+    })
+}
+
+// What stands after an item's marker, with the marker of a task or without one, whose line is over there or not.
+#[inline(always)]
+fn item_after(task: Option<Item>, is_over: bool) -> AfterMarker
+    ensures { result ≡ item_after task is_over }
+{
+    match task {
+        _ if is_over => AfterMarker::LineEnds(task),
+        Some(marker) => AfterMarker::TaskText(marker),
+        None => AfterMarker::OnLine,
+    }
+}
+
+// What stands after a block quote's marker, with a tag or without one.
+#[inline(always)]
+fn quote_after(tag: Option<BlockQuoteKind>) -> AfterMarker
+    ensures { result ≡ quote_after tag }
+{
+    if tag.is_some() {
+        AfterMarker::TagAlone
+    } else {
+        AfterMarker::OnLine
+    }
+}
+
+// The kind that a tag here gives a block quote, where one is there and the option is on.
+fn scan_tag<'a>(options: Options, line_start: &LineStart<'a>) -> Option<BlockQuoteKind>
+    ensures { result ≡ tag_behind options line_start.now }
+{
+    if !options.contains(Options::ENABLE_GFM) {
+        return None;
+    }
+    line_start.copy().scan_blockquote_tag()
+}
+
+// Takes the task list item marker after an item's own, where one is there and the option is on, and returns it; else
+// takes nothing.
+fn scan_task<'a>(source: Source<'a>, place: &mut Place<'a>) -> Option<Item>
+    requires utf8 { IsUtf8 source.text.now }
+    requires place { IsPlaceOf source.text.now place.old }
+    ensures marker { result ≡ (task_behind source.entry.options place.old.line place.old.rest).0 }
+    ensures place { place.new
+        ≡ at_rest place.old (task_behind source.entry.options place.old.line place.old.rest).1 }
+{
+    if !source.options.contains(Options::ENABLE_TASKLISTS) {
+        return None;
+    }
+    source.is_short();
+    let start = place.offset();
+    let checked = place.rest.scan_task_list_marker()?;
+    Some(Item {
+        start,
+        end: place.offset(),
+        body: ItemBody::TaskListMarker(checked),
+    })
+}
+
+// Takes the list item marker here and the columns before it, where an item begins at under four columns, and
+// returns it; takes nothing where none does.
+#[tactic(auto, unfolding(first_pass_grammar::specs::Kinds::item_at))]
+fn scan_item<'a>(line_start: &mut LineStart<'a>) -> Option<ListMarker>
+    ensures { MatchOption (item_at line_start.old) ((result ≡ None) × (line_start.new ≡ line_start.old))
+        (λ item. (result ≡ Some (marker_of item.0)) × (line_start.new ≡ item.1)) }
+{
+    if line_start.is_at_inert() {
+        return None;
+    }
+    let mut next = line_start.copy();
+    let columns = scan_indentation(&mut next);
+    if columns >= 4 {
+        return None;
+    }
+    let (byte, number, indent) = next.scan_list_marker_with_indent(columns)?;
+    *line_start = next;
+    Some(ListMarker {
+        byte,
+        number,
+        indent,
+    })
+}
