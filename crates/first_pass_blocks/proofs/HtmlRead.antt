@@ -8,8 +8,7 @@ use Rattle.first_pass_grammar.specs.Kinds.{HtmlToBlank, unindented, IsKind}
 use Rattle.first_pass_grammar.specs.Extents.{Extent}
 use Rattle.first_pass_grammar.specs.Leaves.{document}
 use Rattle.first_pass_grammar.specs.Completion.{lines_from}
-use Rattle.first_pass_grammar.specs.Names.{Extends}
-use Rattle.first_pass_names.specs.TableEntries.{entries, tables, told_by, names_of}
+use Rattle.first_pass_names.specs.TableEntries.{tables, told_by, names_of, NamesMore}
 use Rattle.first_pass_open.specs.Path.{path_of}
 use Rattle.first_pass_open.proofs.PlaceLemmas.{all_keep}
 use Rattle.first_pass_raw.specs.RawBlocks.{IsPlaceAt, behind_line_at, html_to_blank}
@@ -41,13 +40,13 @@ html_stands text p at u i at_is =
 pub html_read : (old new : BlockPass) (p : Place) (at columns next : ℕ) → IsUtf8 (source_text old) → IsPlaceOf (source_text old) p
     → (reading_of old).empty_item ≡ None → IsForest (tree_of old) → IsForest (list_finished p.line (reading_of old)).tree
     → IsKind (source_options old) p.rest HtmlToBlank → columns ≡ min 4 (indent p.rest) → at ≡ offset (unindented p)
-    → source_of new ≡ source_of old → Extends (names_of (allocs_of new)) (names_of (allocs_of old)) → entries (allocs_of new) ≡ entries (allocs_of old)
+    → source_of new ≡ source_of old → NamesMore (allocs_of old) (allocs_of new)
     → (reading_of new).empty_item ≡ (list_finished p.line (reading_of old)).empty_item
     → (reading_of new).blank ≡ (list_finished p.line (reading_of old)).blank
     → (behind_line_at (source_text old) at ≤ next) × IsCharBoundary (source_text old) next
     → AddsHtml (source_text old) (source_options old) (names_of (allocs_of new)) at columns (unindented p) (list_finished p.line (reading_of old)).tree
     (tree_of new) next → ReadsLeaf old new p next
-html_read old new p at columns next u i empty forest forest_after kind columns_is at_is source names same_entries empty_is blank_is behind block =
+html_read old new p at columns next u i empty forest forest_after kind columns_is at_is source adds empty_is blank_is behind block =
     let text = source_text old in
     let options = source_options old in
     let now = names_of (allocs_of new) in
@@ -72,15 +71,15 @@ html_read old new p at columns next u i empty forest forest_after kind columns_i
     let path : path_of options tree ≡ path_of options q.tree = ap (path_of options) block.tree_is ∙ path_added options q.tree block.items forest_after in
     record {
       source = source;
-      names = names;
+      names = adds.names;
       later = omega arith;
       boundary = behind.1;
-      ready = λ more extends ready. subst (λ t. Ready (document text options more) t (reading_of new) (lines_from text next)) (sym (ap told_by same_entries))
+      ready = λ more extends ready. subst (λ t. Ready (document text options more) t (reading_of new) (lines_from text next)) (sym (ap told_by adds.entries))
           (ready_kind text options (tables (allocs_of old)) now more r tree p HtmlToBlank false next forest kind refl extends added empty ready
           (reading_of new).empty_item (reading_of new).blank none blank);
-      named = λ h. block_added now (names_of (allocs_of old)) q.tree tree added.items names added.tree_is
+      named = λ h. block_added now (names_of (allocs_of old)) q.tree tree added.items adds.names added.tree_is
           (kind_named text options now p HtmlToBlank false q.tree tree next added) (list_finished_named (names_of (allocs_of old)) p.line r h);
-      written = written_stay text (allocs_of old) (allocs_of new) same_entries;
+      written = written_stay text (allocs_of old) (allocs_of new) adds.entries;
       order = λ o. ordered_stopped options text (reading_of new) (path_of options q.tree) e next behind.1 none path
           (html_stops (length text) (path_of options q.tree) z (lines_from text (behind_line_at text (offset z)))) block.left_is
           (block_ordered text q (reading_of new) at at e.«end»
@@ -88,7 +87,7 @@ html_read old new p at columns next u i empty forest forest_after kind columns_i
           (ordered_finished text r p.line (offset p) p.line at (omega arith) (omega arith) (inl (refl, o.0)) begins.0 begins empty o.1))
           (omega arith) (to_blank_between text options now q.tree tree at next u begins behind.1.0 columns z there block)
           (to_blank_ends text options now q.tree tree at next u begins behind.1.0 z there).0 none);
-      whole = λ h k. block_whole now (names_of (allocs_of old)) q.tree tree added.items names added.tree_is
+      whole = λ h k. block_whole now (names_of (allocs_of old)) q.tree tree added.items adds.names added.tree_is
           (kind_whole text options now p HtmlToBlank false q.tree tree next i added)
           (list_finished_named (names_of (allocs_of old)) p.line r h) (list_finished_whole (names_of (allocs_of old)) p.line r k);
       few = omega arith;

@@ -3,9 +3,8 @@ use Rattle.std.proofs.Common.{◌≡◌, ℕ, ◌≤◌, drop, Some, false, List
 use Rattle.first_pass_items.specs.declared.option_set.Options.{Options}
 use Rattle.first_pass_lines.specs.Places.{Place, offset, line_end, IsPlaceOf}
 use Rattle.first_pass_grammar.specs.Leaves.{document}
-use Rattle.first_pass_grammar.specs.Names.{Extends}
 use Rattle.first_pass_grammar.specs.Kinds.{unindented}
-use Rattle.first_pass_names.specs.TableEntries.{entries, names_of}
+use Rattle.first_pass_names.specs.TableEntries.{names_of, NamesMore}
 use Rattle.first_pass_raw.specs.RawBlocks.{behind_line_at}
 use Rattle.first_pass_text.specs.Between.{AddsBetween}
 use Rattle.first_pass_text.specs.Found.{IsFoundAt, marked_kind}
@@ -57,21 +56,19 @@ module _ (old new : BlockPass) (p : Place) (leaf : MarkedLeaf) (columns at next 
   line_read ends =
       let same = here in (omega arith, subst (IsCharBoundary (source_text old)) (sym ends) (place_end (source_text old) p f.utf8 f.place))
 
-  pub leaf_added : source_of new ≡ source_of old → Extends (names_of (allocs_of new)) (names_of (allocs_of old))
-      → entries (allocs_of new) ≡ entries (allocs_of old) → (reading_of new).empty_item ≡ (reading_of old).empty_item
+  pub leaf_added : source_of new ≡ source_of old → NamesMore (allocs_of old) (allocs_of new) → (reading_of new).empty_item ≡ (reading_of old).empty_item
       → (reading_of new).blank ≡ (reading_of old).blank → (behind_line_at (source_text old) at ≤ next) × IsCharBoundary (source_text old) next
       → ((from : ℕ) → from ≤ at → AddsBetween (source_text old) from next (tree_of old) (tree_of new))
       → AddsKind (document (source_text old) (source_options old) (names_of (allocs_of new))) p (marked_kind leaf) false (tree_of old) (tree_of new) next
       → AddsLeaf old new p (marked_kind leaf) next
-  leaf_added source names entries empty blank behind fits block =
+  leaf_added source more empty blank behind fits block =
       let later = behind.0 in
       let same = here in
       let at_is = f.found.at_is in
       let low = unindented_later (source_text old) p.line p.rest f.utf8 f.place in
       record {
         source = source;
-        names = names;
-        entries = entries;
+        more = more;
         empty_item = empty ∙ f.no_empty;
         block = adds_so (source_text old) (source_options old) (names_of (allocs_of new)) p (marked_kind leaf) (marked_kind leaf) false
             (reading_of new).blank (tree_of old) (tree_of new) next refl (blank ∙ f.not_blank) block;

@@ -36,22 +36,24 @@ leaf_read old new p kind next i empty forest is some other e =
     let same = list_finished_count p.line r in
     record {
       source = e.source;
-      names = e.names;
+      names = e.more.names;
       later = later;
       boundary = e.boundary;
       ready = λ more extends ready.
-          subst (λ z. Ready (document text (source_options old) more) z (reading_of new) (lines_from text next)) (sym (ap told_by e.entries))
+          subst (λ z. Ready (document text (source_options old) more) z (reading_of new) (lines_from text next)) (sym (ap told_by e.more.entries))
           (ready_kind text (source_options old) (tables (allocs_of old)) (names_of (allocs_of new)) more r (tree_of new) p kind
           (reading_of new).blank next forest is other extends e.block empty ready (reading_of new).empty_item (reading_of new).blank none refl);
       named = λ h.
-          block_added (names_of (allocs_of new)) (names_of (allocs_of old)) (list_finished p.line r).tree (tree_of new) e.block.items e.names e.block.tree_is
+          block_added (names_of (allocs_of new)) (names_of (allocs_of old)) (list_finished p.line r).tree (tree_of new) e.block.items e.more.names
+          e.block.tree_is
           (kind_named text (source_options old) (names_of (allocs_of new)) p kind (reading_of new).blank (list_finished p.line r).tree
           (tree_of new) next e.block) (list_finished_named (names_of (allocs_of old)) p.line r h);
-      written = written_stay text (allocs_of old) (allocs_of new) e.entries;
+      written = written_stay text (allocs_of old) (allocs_of new) e.more.entries;
       order = λ o. inl (ordered_leaf text r (reading_of new) p.line (offset p) p.line (offset p) next (omega arith) (omega arith)
           (inl (refl, o.0)) i.within i.boundary empty o.1 fits e.boundary.0 none);
       whole = λ h k.
-          block_whole (names_of (allocs_of new)) (names_of (allocs_of old)) (list_finished p.line r).tree (tree_of new) e.block.items e.names e.block.tree_is
+          block_whole (names_of (allocs_of new)) (names_of (allocs_of old)) (list_finished p.line r).tree (tree_of new) e.block.items e.more.names
+          e.block.tree_is
           (kind_whole text (source_options old) (names_of (allocs_of new)) p kind (reading_of new).blank (list_finished p.line r).tree
           (tree_of new) next i e.block)
           (list_finished_named (names_of (allocs_of old)) p.line r h) (list_finished_whole (names_of (allocs_of old)) p.line r k);

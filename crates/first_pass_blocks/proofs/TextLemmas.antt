@@ -19,7 +19,7 @@ use Rattle.first_pass_grammar.specs.LinkTables.{LinkEntry}
 use Rattle.first_pass_grammar.specs.LinkRuns.{Ended, FlowsOn, IsRun}
 use Rattle.first_pass_grammar.specs.Completion.{Frame, lines_from}
 use Rattle.first_pass_grammar.specs.OpenOrder.{IsOrderedTo}
-use Rattle.first_pass_names.specs.TableEntries.{entries, tables, told_by, names_of, refdefs_of}
+use Rattle.first_pass_names.specs.TableEntries.{tables, told_by, names_of, refdefs_of, NamesMore}
 use Rattle.first_pass_definitions.specs.Found.{AreWritten}
 use Rattle.first_pass_lists.specs.Closing.{list_finished}
 use Rattle.first_pass_lists.specs.declared.reading.Reading.{Reading}
@@ -160,11 +160,11 @@ pub run_text : (old mid new : BlockPass) (p : Place) (nested : Bool) (at next : 
     → nested ≡ in_table (tree_of old).nodes (tree_of old).spine → source_of mid ≡ source_of old → names_of (allocs_of mid) ≡ names_of (allocs_of old)
     → (AreWritten (source_text old) (refdefs_of (allocs_of old)) → AreWritten (source_text old) (refdefs_of (allocs_of mid)))
     → ReadsRun (source_text old) (context_in old) nested (unindented p) (tables (allocs_of old)) (tables (allocs_of mid)) (TextBehind at)
-    → source_of new ≡ source_of mid → Extends (names_of (allocs_of new)) (names_of (allocs_of mid)) → entries (allocs_of new) ≡ entries (allocs_of mid)
+    → source_of new ≡ source_of mid → NamesMore (allocs_of mid) (allocs_of new)
     → (reading_of new).empty_item ≡ None → (reading_of new).blank ≡ false
     → AddsText (document (source_text old) (source_options old) (names_of (allocs_of new))) at None (list_finished at (reading_of old)).tree (tree_of new) next
     → ((from : ℕ) → from ≤ at → AddsBetween (source_text old) from next (list_finished at (reading_of old)).tree (tree_of new)) → ReadsLeaf old new p next
-run_text old mid new p nested at next u i empty forest kind nest source names written w source' grown same_entries none blank block fits =
+run_text old mid new p nested at next u i empty forest kind nest source names written w source' adds none blank block fits =
     let text = source_text old in
     let options = source_options old in
     let r : Reading = reading_of old in
@@ -175,7 +175,7 @@ run_text old mid new p nested at next u i empty forest kind nest source names wr
     let on = later_than text p q further w.later in
     let at_is : at ≡ offset q = w.says in
     let begins = w.stands.boundary in
-    let more_named = subst (Extends (names_of (allocs_of new))) names grown in
+    let more_named = subst (Extends (names_of (allocs_of new))) names adds.names in
     let here : line_end_at text at ≡ line_end q = ap (line_end_at text) at_is ∙ ap (λ bs. offset q + line_len bs) (sym w.stands.left) in
     let later = block.later in
     let some = left_before p (leaf_left options p.rest Paragraph kind (λ b. cc)) in
@@ -190,7 +190,7 @@ run_text old mid new p nested at next u i empty forest kind nest source names wr
           let d = document text options more in
           let plain = nest ∙ leaf_plain d (tables (allocs_of old)) r p (lines_from text (line_end p)) ready in
           let run = run_from text (context_in old) p w.definitions (FlowsOn q (lines_from text (line_end q))) (w.run plain) in
-          subst (λ z. Ready d z (reading_of new) (lines_from text next)) (sym (ap told_by same_entries ∙ w.defined plain))
+          subst (λ z. Ready d z (reading_of new) (lines_from text next)) (sym (ap told_by adds.entries ∙ w.defined plain))
           (ready_flows d (tables (allocs_of old)) r (tree_of new) p q at next w.definitions block.items forest kind w.stands at_is run
           (block.is_text more extends) block.tree_is empty ready (reading_of new).empty_item (reading_of new).blank none blank);
       named =
@@ -198,7 +198,7 @@ run_text old mid new p nested at next u i empty forest kind nest source names wr
           (text_named (document text options (names_of (allocs_of new))) _ q None _ _ tt
           (block.is_text (names_of (allocs_of new)) (extends_none (names_of (allocs_of new))) q w.stands (sym at_is)))
           (list_finished_named (names_of (allocs_of old)) at r h);
-      written = λ h. written_stay text (allocs_of mid) (allocs_of new) same_entries (written h);
+      written = λ h. written_stay text (allocs_of mid) (allocs_of new) adds.entries (written h);
       order = λ o. inl (ordered_leaf text r (reading_of new) q.line (offset q) at at next (omega arith) (omega arith) (inr refl)
           (let high = begins.0 in omega arith) (subst (IsCharBoundary text) (sym at_is) begins) empty
           (later_ordered text r.tree p q further w.later w.stands o.1) (fits at (omega arith)) block.boundary.0 none);

@@ -14,7 +14,7 @@ use Rattle.first_pass_text.specs.Between.{AddsBetween}
 use Rattle.first_pass_text.specs.Found.{IsFoundAt}
 use Rattle.first_pass_text.specs.declared.kinds.Found.TheVariants.{Marked}
 use Rattle.first_pass_text.specs.declared.kinds.MarkedLeaf.{MarkedLeaf}
-use Rattle.first_pass_names.specs.TableEntries.{entries, names_of}
+use Rattle.first_pass_names.specs.TableEntries.{names_of, NamesMore}
 use Rattle.first_pass_blocks.specs.declared.state.BlockPass.{BlockPass}
 use Rattle.first_pass_blocks.specs.Views.{allocs_of, reading_of, source_of, source_options, source_text, tree_of}
 
@@ -31,8 +31,7 @@ pub record AddsKind (d : Document) (p : Place) (kind : Kind) (gap : Bool) (old n
 -- block lie after any offset before the place, and reading continues at an offset after the line of the place, between characters.
 pub record AddsLeaf (old new : BlockPass) (p : Place) (kind : Kind) (next : ℕ) : Type 0 where
   pub source : source_of new ≡ source_of old
-  pub names : Extends (names_of (allocs_of new)) (names_of (allocs_of old))
-  pub entries : entries (allocs_of new) ≡ entries (allocs_of old)
+  pub more : NamesMore (allocs_of old) (allocs_of new)
   pub empty_item : (reading_of new).empty_item ≡ None
   pub block : AddsKind (document (source_text old) (source_options old) (names_of (allocs_of new))) p kind (reading_of new).blank (tree_of old)
       (tree_of new) next

@@ -3,7 +3,7 @@ use Rattle.std.specs.Prelude.{◌≡◌, ℕ, false, List, [], ◌++◌, map, Op
 use Rattle.std.specs.Option.{option_map, option_and_then}
 use Rattle.first_pass_items.specs.declared.cow_str.CowStr.{CowStr}
 use Rattle.first_pass_items.specs.CowText.{text_of}
-pub use Rattle.first_pass_grammar.specs.Names.{Names, with_named, with_alignments, with_heading}
+pub use Rattle.first_pass_grammar.specs.Names.{Names, with_named, with_alignments, with_heading, Extends}
 use Rattle.first_pass_grammar.specs.LinkTables.{LinkEntry}
 use Rattle.first_pass_grammar.specs.Derivation.{Tables}
 use Rattle.first_pass_attributes.specs.Attributes.{attributes_in}
@@ -71,3 +71,8 @@ pub record AddsTexts (new old : Names) : Type 0 where
   pub texts : new.texts ≡ old.texts ++ more
   pub alignments : new.alignments ≡ old.alignments
   pub headings : new.headings ≡ old.headings
+
+-- what was named keeps its name, and no entry of a table changed
+pub record NamesMore (old new : Allocations) : Type 0 where
+  pub names : Extends (names_of new) (names_of old)
+  pub entries : entries new ≡ entries old

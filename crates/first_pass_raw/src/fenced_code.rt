@@ -5,9 +5,8 @@ ghost use Rattle.std.specs.List.{suffix_len};
 ghost use Rattle.first_pass_lines.specs.Lines.{is_ascii_white};
 ghost use Rattle.first_pass_lines.specs.Places.{place_at, IsPlaceOf};
 ghost use Rattle.first_pass_grammar.specs.Leaves.{document};
-ghost use Rattle.first_pass_grammar.specs.Names.{Extends};
 ghost use Rattle.first_pass_open.specs.Path.{path_of};
-ghost use Rattle.first_pass_names.specs.TableEntries.{entries, names_of};
+ghost use Rattle.first_pass_names.specs.TableEntries.{names_of, NamesMore};
 ghost use Rattle.first_pass_scan.specs.LeafLines.{code_fence};
 ghost use Rattle.first_pass_grammar.specs.CodeBlocks.{info_string, closing_fence_end, IsFencedCode};
 ghost use Rattle.first_pass_raw.specs.RawBlocks.{AddsRaw, fenced_behind, behind_line_at};
@@ -54,8 +53,7 @@ pub fn parse_fenced_code_block<'a>(
         AddsRaw (document text.now options (names_of allocs.new)) (λ d.
         IsFencedCode d start_ix fence.count e.places e.«end») e.left tree.old tree.new next) }
     ensures boundary { IfOk result (λ next. (behind_line_at text.now start_ix ≤ next) × IsCharBoundary text.now next) }
-    ensures names { OnOk result (Extends (names_of allocs.new) (names_of allocs.old)) }
-    ensures entries { OnOk result (entries allocs.new ≡ entries allocs.old) }
+    ensures more { OnOk result (NamesMore allocs.old allocs.new) }
     ensures utf8 { IsUtf8 text.now }
 {
     tree.is_forest();

@@ -3,9 +3,8 @@
 ghost use Rattle.std.specs.Prelude.{◌≡◌, ◌≤◌, IfOk, OnOk, IsUtf8, IsCharBoundary};
 ghost use Rattle.first_pass_lines.specs.Places.{Place};
 ghost use Rattle.first_pass_grammar.specs.Leaves.{document};
-ghost use Rattle.first_pass_grammar.specs.Names.{Extends};
 ghost use Rattle.first_pass_open.specs.Path.{path_of};
-ghost use Rattle.first_pass_names.specs.TableEntries.{entries, names_of};
+ghost use Rattle.first_pass_names.specs.TableEntries.{names_of, NamesMore};
 ghost use Rattle.first_pass_items.specs.declared.item.ItemBody.TheVariants.{HtmlBlock};
 ghost use Rattle.first_pass_grammar.specs.RawLines.{range_html};
 ghost use Rattle.first_pass_grammar.specs.HtmlBlocks.{IsHtml};
@@ -45,8 +44,7 @@ pub fn parse_html_block_type_1_to_5<'a>(
         AddsRaw (document text.now options (names_of allocs.new)) (λ d.
         IsHtml d start_ix columns e.places e.«end») e.left tree.old tree.new next) }
     ensures boundary { IfOk result (λ next. (behind_line_at text.now start_ix ≤ next) × IsCharBoundary text.now next) }
-    ensures names { OnOk result (Extends (names_of allocs.new) (names_of allocs.old)) }
-    ensures entries { OnOk result (entries allocs.new ≡ entries allocs.old) }
+    ensures more { OnOk result (NamesMore allocs.old allocs.new) }
     ensures utf8 { IsUtf8 text.now }
 {
     let end = open_html_block(tree, allocs, text, start_ix, columns)?;
@@ -79,8 +77,7 @@ pub fn parse_html_block_type_6_or_7<'a>(
         AddsRaw (document text.now options (names_of allocs.new)) (λ d.
         IsHtml d start_ix columns e.places e.«end») e.left tree.old tree.new next) }
     ensures boundary { IfOk result (λ next. (behind_line_at text.now start_ix ≤ next) × IsCharBoundary text.now next) }
-    ensures names { OnOk result (Extends (names_of allocs.new) (names_of allocs.old)) }
-    ensures entries { OnOk result (entries allocs.new ≡ entries allocs.old) }
+    ensures more { OnOk result (NamesMore allocs.old allocs.new) }
     ensures utf8 { IsUtf8 text.now }
 {
     let next = open_html_block(tree, allocs, text, start_ix, columns)?;
@@ -106,8 +103,7 @@ fn open_html_block<'a>(
         (opened_block tree.old start HtmlBlock) tree.new) }
     ensures path { OnOk result ((options : Options) → path_of options tree.new ≡ path_of options tree.old) }
     ensures apart { OnOk result (JoinsNone tree.new) }
-    ensures names { OnOk result (Extends (names_of allocs.new) (names_of allocs.old)) }
-    ensures entries { OnOk result (entries allocs.new ≡ entries allocs.old) }
+    ensures more { OnOk result (NamesMore allocs.old allocs.new) }
 {
     tree.is_forest();
     open_block(tree, start, ItemBody::HtmlBlock)?;

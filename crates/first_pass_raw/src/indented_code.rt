@@ -4,10 +4,9 @@ ghost use Rattle.std.specs.Prelude.{◌≡◌, ◌≤◌, length, drop, Some, fa
 ghost use Rattle.first_pass_tree.specs.Forest.{IsChild, kept_after, with_end_at};
 ghost use Rattle.first_pass_lines.specs.Places.{Place, place_at, offset, IsPlaceOf};
 ghost use Rattle.first_pass_grammar.specs.Leaves.{document};
-ghost use Rattle.first_pass_grammar.specs.Names.{Extends};
 ghost use Rattle.first_pass_grammar.specs.RawLines.{range_text};
 ghost use Rattle.first_pass_open.specs.Path.{path_of};
-ghost use Rattle.first_pass_names.specs.TableEntries.{entries, names_of};
+ghost use Rattle.first_pass_names.specs.TableEntries.{names_of, NamesMore};
 ghost use Rattle.first_pass_lines.specs.Lines.{is_blank_line};
 ghost use Rattle.first_pass_raw.specs.RawBlocks.{code_rest_at, IsPlaceAt, AppendsRaw, AddsIndented, behind_line_at};
 
@@ -41,8 +40,7 @@ pub fn parse_indented_code_block<'a>(
         → AddsIndented (document text.now options (names_of allocs.new)) p tree.old tree.new answer.0 answer.1) }
     ensures boundary { IfOk result (λ answer. (behind_line_at text.now start_ix ≤ answer.0)
         × IsCharBoundary text.now answer.0) }
-    ensures names { OnOk result (Extends (names_of allocs.new) (names_of allocs.old)) }
-    ensures entries { OnOk result (entries allocs.new ≡ entries allocs.old) }
+    ensures more { OnOk result (NamesMore allocs.old allocs.new) }
     ensures utf8 { IsUtf8 text.now }
 {
     tree.is_forest();
@@ -87,8 +85,7 @@ fn append_line<'a>(
     ensures within { IfOk result (λ next. next ≤ length text.now) }
     ensures line { IfOk result (λ next. AppendsRaw range_text text.now (names_of allocs.new) owed at next tree.old
         tree.new) }
-    ensures names { OnOk result (Extends (names_of allocs.new) (names_of allocs.old)) }
-    ensures entries { OnOk result (entries allocs.new ≡ entries allocs.old) }
+    ensures more { OnOk result (NamesMore allocs.old allocs.new) }
 {
     let next = next_line(text.as_bytes(), at);
     append_raw_line(tree, allocs, text, RawKind::Code, owed, at, next)?;

@@ -2,9 +2,8 @@
 
 ghost use Rattle.std.specs.Prelude.{◌≡◌, ◌≤◌, length, IfOk, OnOk, IsCharBoundary, IsUtf8};
 ghost use Rattle.first_pass_grammar.specs.Leaves.{document};
-ghost use Rattle.first_pass_grammar.specs.Names.{Extends};
 ghost use Rattle.first_pass_open.specs.Path.{path_of};
-ghost use Rattle.first_pass_names.specs.TableEntries.{entries, names_of};
+ghost use Rattle.first_pass_names.specs.TableEntries.{names_of, NamesMore};
 ghost use Rattle.first_pass_grammar.specs.CodeBlocks.{IsMetadata, metadata_kind};
 ghost use Rattle.first_pass_raw.specs.RawBlocks.{AddsRaw, metadata_behind, behind_line_at};
 
@@ -48,8 +47,7 @@ pub fn parse_metadata_block<'a>(
         AddsRaw (document text.now options (names_of allocs.new)) (λ d.
         IsMetadata d start_ix metadata_block_ch e.places e.«end») e.left tree.old tree.new next) }
     ensures boundary { IfOk result (λ next. (behind_line_at text.now start_ix ≤ next) × IsCharBoundary text.now next) }
-    ensures names { OnOk result (Extends (names_of allocs.new) (names_of allocs.old)) }
-    ensures entries { OnOk result (entries allocs.new ≡ entries allocs.old) }
+    ensures more { OnOk result (NamesMore allocs.old allocs.new) }
     ensures utf8 { IsUtf8 text.now }
 {
     tree.is_forest();

@@ -1,11 +1,9 @@
 //! Raw lines: the lines of code, metadata and HTML, of which no markup is read (CommonMark 4.4, 4.5, 4.6).
 
 ghost use Rattle.std.specs.Prelude.{◌≡◌, ◌≤◌, length, OnOk};
-ghost use Rattle.first_pass_items.specs.declared.option_set.Options.{Options};
-ghost use Rattle.first_pass_grammar.specs.Names.{Names, Extends};
 ghost use Rattle.first_pass_grammar.specs.RawLines.{ends_with_both};
 ghost use Rattle.first_pass_tokens.specs.TreeTokens.{with_tokens};
-ghost use Rattle.first_pass_names.specs.TableEntries.{entries, names_of};
+ghost use Rattle.first_pass_names.specs.TableEntries.{names_of, NamesMore};
 ghost use Rattle.first_pass_raw.specs.RawBlocks.{range_of, AppendsColumns, AppendsRaw};
 
 use first_pass_items::cow_str::CowStr;
@@ -23,8 +21,7 @@ fn append_columns<'a>(
 ) -> Result<(), AllocError>
     requires { columns ≤ 3 }
     ensures items { OnOk result (AppendsColumns (names_of allocs.new) columns at tree.old tree.new) }
-    ensures names { OnOk result (Extends (names_of allocs.new) (names_of allocs.old)) }
-    ensures entries { OnOk result (entries allocs.new ≡ entries allocs.old) }
+    ensures more { OnOk result (NamesMore allocs.old allocs.new) }
 {
     if columns == 0 {
         return Ok(());
@@ -95,8 +92,7 @@ pub fn append_raw_line<'a>(
     requires within { end ≤ length text.now }
     ensures line { OnOk result (AppendsRaw (range_of kind) text.now (names_of allocs.new) remaining_space start end
         tree.old tree.new) }
-    ensures names { OnOk result (Extends (names_of allocs.new) (names_of allocs.old)) }
-    ensures entries { OnOk result (entries allocs.new ≡ entries allocs.old) }
+    ensures more { OnOk result (NamesMore allocs.old allocs.new) }
 {
     append_columns(tree, allocs, remaining_space, start)?;
     if ends_with_both(text.as_bytes(), start, end) {

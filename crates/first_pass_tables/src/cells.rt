@@ -5,9 +5,8 @@ ghost use Rattle.first_pass_walk.specs.Walk.{MarksSpecial};
 ghost use Rattle.first_pass_tree.specs.Forest.{IsChild};
 ghost use Rattle.first_pass_tokens.specs.LineTokens.{spot};
 ghost use Rattle.first_pass_tokens.specs.TreeTokens.{chained};
-ghost use Rattle.first_pass_names.specs.TableEntries.{entries, names_of, AddsTexts};
+ghost use Rattle.first_pass_names.specs.TableEntries.{names_of, AddsTexts, NamesMore};
 ghost use Rattle.first_pass_grammar.specs.Leaves.{document};
-ghost use Rattle.first_pass_grammar.specs.Names.{Extends};
 ghost use Rattle.first_pass_grammar.specs.Tables.{cell_start};
 ghost use Rattle.first_pass_tables.specs.Appends.{AddsCell, empty_cell, without_behind};
 
@@ -55,9 +54,8 @@ pub fn append_table_cell(
     ensures cell { IfOk result (λ stop.
         AddsCell (document source.entry.text.now source.entry.options (names_of allocs.new)) start
         (spot text braces.old) tree.old tree.new (spot stop braces.new)) }
-    ensures names { OnOk result (Extends (names_of allocs.new) (names_of allocs.old)) }
+    ensures more { OnOk result (NamesMore allocs.old allocs.new) }
     ensures texts { OnOk result (AddsTexts (names_of allocs.new) (names_of allocs.old)) }
-    ensures entries { OnOk result (entries allocs.new ≡ entries allocs.old) }
 {
     tree.is_forest();
     open_block(tree, start, ItemBody::TableCell)?;

@@ -4,9 +4,8 @@ ghost use Rattle.std.specs.Prelude.{◌≡◌, ◌≤◌, ◌&&◌, ◌||◌, no
 ghost use Rattle.first_pass_walk.specs.Walk.{MarksSpecial};
 ghost use Rattle.first_pass_tree.specs.declared.tree_index.TreeIndex.{TreeIndex};
 ghost use Rattle.first_pass_tokens.specs.LineTokens.{spot};
-ghost use Rattle.first_pass_names.specs.TableEntries.{entries, names_of, AddsTexts};
+ghost use Rattle.first_pass_names.specs.TableEntries.{names_of, AddsTexts, NamesMore};
 ghost use Rattle.first_pass_grammar.specs.Leaves.{document};
-ghost use Rattle.first_pass_grammar.specs.Names.{Extends};
 ghost use Rattle.first_pass_grammar.specs.Tables.{most_filled};
 ghost use Rattle.first_pass_open.specs.OpenBlock.{IsJustPushed};
 ghost use Rattle.first_pass_text.specs.Between.{AddsBetween};
@@ -53,9 +52,8 @@ fn append_some_cells(
     ensures cells { IfOk result (λ read.
         AppendsSome (document source.entry.text.now source.entry.options (names_of allocs.new)) most
         (spot start braces.old) tree.old tree.new (read, braces.new)) }
-    ensures names { OnOk result (Extends (names_of allocs.new) (names_of allocs.old)) }
+    ensures more { OnOk result (NamesMore allocs.old allocs.new) }
     ensures texts { OnOk result (AddsTexts (names_of allocs.new) (names_of allocs.old)) }
-    ensures entries { OnOk result (entries allocs.new ≡ entries allocs.old) }
     ensures utf8 { OnOk result (IsUtf8 source.entry.text.now) }
 {
     let bytes = source.text.as_bytes();
@@ -100,9 +98,8 @@ fn append_cells(
     ensures cells { IfOk result (λ answer.
         AppendsCells (document source.entry.text.now source.entry.options (names_of allocs.new)) columns
         (spot start braces.old) tree.old tree.new (spot answer.0 braces.new, answer.1)) }
-    ensures names { OnOk result (Extends (names_of allocs.new) (names_of allocs.old)) }
+    ensures more { OnOk result (NamesMore allocs.old allocs.new) }
     ensures texts { OnOk result (AddsTexts (names_of allocs.new) (names_of allocs.old)) }
-    ensures entries { OnOk result (entries allocs.new ≡ entries allocs.old) }
     ensures utf8 { OnOk result (IsUtf8 source.entry.text.now) }
 {
     source.is_short();
@@ -137,9 +134,8 @@ pub fn append_head_row(
     ensures head { IfOk result (λ missing.
         AddsHead (document source.entry.text.now source.entry.options (names_of allocs.new)) columns
         (spot start braces.old) tree.old (open_table tree.new missing braces.new)) }
-    ensures names { OnOk result (Extends (names_of allocs.new) (names_of allocs.old)) }
+    ensures more { OnOk result (NamesMore allocs.old allocs.new) }
     ensures texts { OnOk result (AddsTexts (names_of allocs.new) (names_of allocs.old)) }
-    ensures entries { OnOk result (entries allocs.new ≡ entries allocs.old) }
 {
     open_block(tree, start, ItemBody::TableHead)?;
     let (end, count) = append_cells(source, lut, tree, allocs, braces, start, columns)?;
@@ -183,9 +179,8 @@ pub fn parse_table_row_inner(
         ReadsRow (document source.entry.text.now source.entry.options (names_of allocs.new)) row_cells ix
         (open_table tree.old missing_empty_cells.old braces.old)
         (open_table tree.new missing_empty_cells.new braces.new) row) }
-    ensures names { OnOk result (Extends (names_of allocs.new) (names_of allocs.old)) }
+    ensures more { OnOk result (NamesMore allocs.old allocs.new) }
     ensures texts { OnOk result (AddsTexts (names_of allocs.new) (names_of allocs.old)) }
-    ensures entries { OnOk result (entries allocs.new ≡ entries allocs.old) }
     ensures fits { IfOk result (λ row. IsCharBoundary source.entry.text.now ix → (from : ℕ) → from ≤ ix
         → IfSome row (λ r. AddsBetween source.entry.text.now from r.0 tree.old tree.new)) }
 {

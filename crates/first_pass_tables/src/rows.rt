@@ -5,9 +5,8 @@ ghost use Rattle.first_pass_lines.specs.Places.{line_place};
 ghost use Rattle.first_pass_walk.specs.Walk.{MarksSpecial};
 ghost use Rattle.first_pass_tree.specs.Forest.{in_table};
 ghost use Rattle.first_pass_tree.specs.declared.tree_index.TreeIndex.{TreeIndex};
-ghost use Rattle.first_pass_names.specs.TableEntries.{entries, names_of, AddsTexts};
+ghost use Rattle.first_pass_names.specs.TableEntries.{names_of, AddsTexts, NamesMore};
 ghost use Rattle.first_pass_grammar.specs.Leaves.{document};
-ghost use Rattle.first_pass_grammar.specs.Names.{Extends};
 ghost use Rattle.first_pass_grammar.specs.Tables.{most_filled, row_text};
 ghost use Rattle.first_pass_open.specs.OpenBlock.{IsJustPushed};
 ghost use Rattle.first_pass_open.specs.Path.{path_of};
@@ -83,9 +82,8 @@ pub fn parse_table_row(
         ReadsRowLine (document source.entry.text.now source.entry.options (names_of allocs.new)) row_cells ix
         (open_table tree.old missing_empty_cells.old braces.old)
         (open_table tree.new missing_empty_cells.new braces.new) row) }
-    ensures names { OnOk result (Extends (names_of allocs.new) (names_of allocs.old)) }
+    ensures more { OnOk result (NamesMore allocs.old allocs.new) }
     ensures texts { OnOk result (AddsTexts (names_of allocs.new) (names_of allocs.old)) }
-    ensures entries { OnOk result (entries allocs.new ≡ entries allocs.old) }
     ensures fits { IfOk result (λ row. (from : ℕ) → from ≤ ix
         → IfSome row (λ r. AddsBetween source.entry.text.now from r.0 tree.old tree.new)) }
     ensures utf8 { OnOk result (IsUtf8 source.entry.text.now) }
@@ -130,9 +128,8 @@ fn append_body(
     ensures body { IfOk result (λ next.
         AppendsBody (document source.entry.text.now source.entry.options (names_of allocs.new)) columns start
         (open_table tree.old filled braces.old) tree.new next) }
-    ensures names { OnOk result (Extends (names_of allocs.new) (names_of allocs.old)) }
+    ensures more { OnOk result (NamesMore allocs.old allocs.new) }
     ensures texts { OnOk result (AddsTexts (names_of allocs.new) (names_of allocs.old)) }
-    ensures entries { OnOk result (entries allocs.new ≡ entries allocs.old) }
     ensures utf8 { OnOk result (IsUtf8 source.entry.text.now) }
 {
     tree.is_forest();
@@ -182,9 +179,8 @@ pub fn parse_table(
     ensures rows { IfOk result (λ next.
         AppendsRows (document source.entry.text.now source.entry.options (names_of allocs.new)) table_cols head_start
         body_start tree.old tree.new next) }
-    ensures names { OnOk result (Extends (names_of allocs.new) (names_of allocs.old)) }
+    ensures more { OnOk result (NamesMore allocs.old allocs.new) }
     ensures texts { OnOk result (AddsTexts (names_of allocs.new) (names_of allocs.old)) }
-    ensures entries { OnOk result (entries allocs.new ≡ entries allocs.old) }
     ensures fits { IfOk result (λ next. (from : ℕ) → from ≤ head_start
         → line_end_at source.entry.text.now head_start ≤ body_start
         → ClosesBetween source.entry.text.now from next tree.old tree.new) }

@@ -5,9 +5,8 @@ ghost use Rattle.std.specs.Prelude.{◌≡◌, ◌≤◌, false, ℕ, drop, Opti
 ghost use Rattle.first_pass_walk.specs.Walk.{MarksSpecial};
 ghost use Rattle.first_pass_items.specs.declared.item.Item.{Item};
 ghost use Rattle.first_pass_tree.specs.Forest.{is_text};
-ghost use Rattle.first_pass_names.specs.TableEntries.{entries, names_of};
+ghost use Rattle.first_pass_names.specs.TableEntries.{names_of, NamesMore};
 ghost use Rattle.first_pass_grammar.specs.Leaves.{document};
-ghost use Rattle.first_pass_grammar.specs.Names.{Extends};
 ghost use Rattle.first_pass_grammar.specs.TableHeads.{headed_table};
 ghost use Rattle.first_pass_open.specs.Path.{context_of};
 ghost use Rattle.first_pass_text.specs.Between.{AddsBetween, IsInItem, StandsBefore};
@@ -40,8 +39,7 @@ fn append_table(
     requires marks { MarksSpecial lut.now source.options }
     requires headed { headed_table (context_of source.options tree.old) (drop start source.text.now)
         ≡ Some alignments.items }
-    ensures names { OnOk result (Extends (names_of allocs.new) (names_of allocs.old)) }
-    ensures entries { OnOk result (entries allocs.new ≡ entries allocs.old) }
+    ensures more { OnOk result (NamesMore allocs.old allocs.new) }
     ensures block { IfOk result (λ next. (marker : Option Item)
         → AddsText (document source.entry.text.now source.entry.options (names_of allocs.new)) start marker tree.old
         tree.new next) }
@@ -76,8 +74,7 @@ pub fn parse_paragraph<'a>(
     requires boundary { IsCharBoundary source.text.now start_ix }
     requires marks { MarksSpecial lut.now source.options }
     requires marker { IfSome tasklist_marker (λ x. is_text x.body ≡ false) }
-    ensures names { OnOk result (Extends (names_of allocs.new) (names_of allocs.old)) }
-    ensures entries { OnOk result (entries allocs.new ≡ entries allocs.old) }
+    ensures more { OnOk result (NamesMore allocs.old allocs.new) }
     ensures block { IfOk result (λ next.
         AddsText (document source.entry.text.now source.entry.options (names_of allocs.new)) start_ix tasklist_marker
         tree.old tree.new next) }

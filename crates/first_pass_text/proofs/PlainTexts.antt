@@ -1,19 +1,16 @@
 -- A paragraph, or a heading that is underlined, is added to the tree.
-use Rattle.std.proofs.Common.{◌≡◌, inl, inr, Bool, ◌≤◌, ℕ, ◌+◌, List, [], ◌∷◌, ◌++◌, length, drop, Option, Some, None, IfSome, MatchOption, IsUtf8}
+use Rattle.std.proofs.Common.{◌≡◌, Bool, ◌≤◌, ℕ, ◌+◌, List, [], ◌++◌, length, drop, Option, Some, None, IfSome, MatchOption, IsUtf8}
 use Rattle.std.proofs.Common.{IsCharBoundary, refl, sym, ap, subst, ◌∙◌, arith, false, IsSome, slice_get}
 use Rattle.first_pass_items.specs.declared.item.Item.{Item}
 use Rattle.first_pass_items.specs.declared.item.HeadingLevel.{HeadingLevel}
 use Rattle.first_pass_tree.specs.Forest.{Forest, added, appended, pushed, is_text, item_at, IsForest}
-use Rattle.first_pass_lines.specs.Places.{Place, offset, start_of}
+use Rattle.first_pass_lines.specs.Places.{Place, start_of}
 use Rattle.first_pass_lines.proofs.LineFacts.{lines_at-line}
 use Rattle.first_pass_lines.proofs.PlaceFacts.{start_of-lines}
-use Rattle.first_pass_grammar.specs.declared.kind.Container.{Container}
-use Rattle.first_pass_grammar.specs.Leaves.{Document, document, TextLines, text_lines, AreTextLines, paragraph_block, heading_block, marker_items, add_break}
+use Rattle.first_pass_grammar.specs.Leaves.{Document, document, TextLines, text_lines, AreTextLines, paragraph_block, heading_block, marker_items}
 use Rattle.first_pass_grammar.specs.Names.{Names, Extends, NamesAttributes}
 use Rattle.first_pass_grammar.proofs.MoreNames.{extends_both}
 use Rattle.first_pass_grammar.specs.Headings.{heading_braces, heading_attributes_of, chain_bytes, kept_before}
-use Rattle.first_pass_grammar.specs.Containers.{at_rest, front}
-use Rattle.first_pass_grammar.specs.Kinds.{unindented}
 use Rattle.first_pass_attributes.specs.AttributeBlocks.{Braces}
 use Rattle.first_pass_names.specs.TableEntries.{no_names}
 use Rattle.first_pass_items.specs.declared.option_set.Options.{Options}
@@ -31,7 +28,7 @@ use Rattle.first_pass_tree.specs.declared.tree_index.TreeIndex.{TreeIndex}
 use Rattle.first_pass_tokens.specs.Braces.{no_braces}
 use Rattle.first_pass_tokens.specs.LineTokens.{spot}
 use Rattle.first_pass_tokens.specs.TreeTokens.{chained}
-use Rattle.first_pass_tokens.specs.Chains.{close_break, cut, add_tokens}
+use Rattle.first_pass_tokens.specs.Chains.{close_break, cut}
 use Rattle.first_pass_tokens.proofs.ChainLemmas.{joins_none-fresh, pushed-fresh}
 use Rattle.first_pass_open.specs.OpenBlock.{with_child, closed_by}
 use Rattle.first_pass_open.proofs.BlockLemmas.{marked_chain, opened_at, opened_is, still_open, block_closed, open_place_of, open_item_of, open_named}

@@ -1,5 +1,5 @@
 -- What the leaf parsers append to the tree.
-use Rattle.std.specs.Prelude.{◌≡◌, ◌≤◌, ℕ, ◌+◌, List, [], take, drop, Option, Some, None, false, IsCharBoundary, if◌then◌else◌, ◌<◌, ◌^◌, IfSome}
+use Rattle.std.specs.Prelude.{◌≡◌, ◌≤◌, ℕ, ◌+◌, List, [], drop, Option, Some, None, false, IsCharBoundary, if◌then◌else◌, ◌<◌, ◌^◌, IfSome}
 use Rattle.first_pass_items.specs.declared.cow_str.CowStr.{CowStr}
 use Rattle.first_pass_items.specs.declared.item.Item.{Item}
 use Rattle.first_pass_items.specs.declared.item.HeadingIndex.{HeadingIndex}

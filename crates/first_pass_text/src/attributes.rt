@@ -11,7 +11,7 @@ ghost use Rattle.first_pass_attributes.specs.Attributes.{attributes_in};
 ghost use Rattle.first_pass_grammar.specs.Headings.{before_attributes, heading_attributes_of, chain_end as chain_end_of};
 ghost use Rattle.first_pass_grammar.specs.Leaves.{document};
 ghost use Rattle.first_pass_grammar.specs.Names.{Names, Extends, NamesAttributes};
-ghost use Rattle.first_pass_names.specs.TableEntries.{entries, names_of};
+ghost use Rattle.first_pass_names.specs.TableEntries.{names_of, NamesMore};
 ghost use Rattle.first_pass_text.specs.CutTexts.{IsBare, CutsBlock, BecomesHeading};
 
 use bitflags::Flags;
@@ -69,8 +69,7 @@ pub fn name_attributes<'a>(
     allocs: &mut Allocations<'a>,
     attributes: Option<HeadingAttributes<'a>>,
 ) -> Result<Option<HeadingIndex>, AllocError>
-    ensures names { OnOk result (Extends (names_of allocs.new) (names_of allocs.old)) }
-    ensures entries { OnOk result (entries allocs.new ≡ entries allocs.old) }
+    ensures more { OnOk result (NamesMore allocs.old allocs.new) }
     ensures named { IfOk result (λ index. (more : Names) → Extends more (names_of allocs.new)
         → NamesAttributes more index (option_map attributes_in attributes.entry)) }
 {
@@ -125,8 +124,7 @@ pub fn cut_attributes<'a>(
     broken: bool,
 ) -> Result<Option<HeadingIndex>, AllocError>
     requires within { start ≤ length source.text.now }
-    ensures names { OnOk result (Extends (names_of allocs.new) (names_of allocs.old)) }
-    ensures entries { OnOk result (entries allocs.new ≡ entries allocs.old) }
+    ensures more { OnOk result (NamesMore allocs.old allocs.new) }
     ensures cut { IfOk result (λ index.
         CutsBlock (document source.entry.text.now source.entry.options (names_of allocs.new)) start broken tree.old
         tree.new index) }
@@ -160,8 +158,7 @@ pub fn make_heading<'a>(
 ) -> Result<(), AllocError>
     requires open { slice_get tree.old.spine 0 ≡ Some node_ix }
     requires start { IfSome (item_at tree.old node_ix) (λ x. x.start ≤ length source.text.now) }
-    ensures names { OnOk result (Extends (names_of allocs.new) (names_of allocs.old)) }
-    ensures entries { OnOk result (entries allocs.new ≡ entries allocs.old) }
+    ensures more { OnOk result (NamesMore allocs.old allocs.new) }
     ensures heading { OnOk result (
         BecomesHeading (document source.entry.text.now source.entry.options (names_of allocs.new)) level broken node_ix
         tree.old tree.new) }

@@ -4,8 +4,7 @@ ghost use Rattle.std.specs.List.{suffix_len};
 ghost use Rattle.std.specs.Prelude.{◌≡◌, ℕ, ◌==◌, ◌+◌, List, take, drop, ◌≤◌, Some, length, IfOk, IfSome, OnOk, IsCharBoundary, false};
 ghost use Rattle.first_pass_walk.specs.Walk.{MarksSpecial};
 ghost use Rattle.first_pass_lines.specs.Lines.{atx_level as atx_level_of, level_number as number_of};
-ghost use Rattle.first_pass_names.specs.TableEntries.{entries, names_of};
-ghost use Rattle.first_pass_grammar.specs.Names.{Extends};
+ghost use Rattle.first_pass_names.specs.TableEntries.{names_of, NamesMore};
 ghost use Rattle.first_pass_grammar.specs.Leaves.{document, is_put_aside, kept_len as kept_len_of, heading_text_at};
 ghost use Rattle.first_pass_text.specs.Between.{AddsBetween};
 ghost use Rattle.first_pass_text.specs.Appends.{AppendsHeading, AddsHeading};
@@ -95,8 +94,7 @@ pub fn parse_atx_heading<'a>(
     requires within { start ≤ length source.text.now }
     requires marks { MarksSpecial lut.now source.options }
     requires heading { atx_level_of (drop start source.text.now) ≡ Some atx_level }
-    ensures names { OnOk result (Extends (names_of allocs.new) (names_of allocs.old)) }
-    ensures entries { OnOk result (entries allocs.new ≡ entries allocs.old) }
+    ensures more { OnOk result (NamesMore allocs.old allocs.new) }
     ensures block { IfOk result (λ next.
         AddsHeading (document source.entry.text.now source.entry.options (names_of allocs.new)) start atx_level
         tree.old tree.new next) }
@@ -152,8 +150,7 @@ fn heading_text(
     requires marks { MarksSpecial lut.now content.options }
     requires no_cell { content.row ≡ false }
     requires opened { IsJustPushed tree.old node_ix }
-    ensures names { OnOk result (Extends (names_of allocs.new) (names_of allocs.old)) }
-    ensures entries { OnOk result (entries allocs.new ≡ entries allocs.old) }
+    ensures more { OnOk result (NamesMore allocs.old allocs.new) }
     ensures line { OnOk result ((bytes : List ℕ) → kept ≡ kept_len_of bytes
         → AppendsHeading (names_of allocs.new).texts (source whole.now content no_braces) bytes tree.old tree.new) }
 {

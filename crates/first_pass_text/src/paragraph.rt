@@ -3,8 +3,7 @@
 ghost use Rattle.std.specs.Prelude.{◌≡◌, ◌<◌, ◌^◌, ℕ, false, IfOk, IfSome, OnOk, IsUtf8, IsCharBoundary};
 ghost use Rattle.first_pass_walk.specs.Walk.{MarksSpecial};
 ghost use Rattle.first_pass_tokens.specs.TreeTokens.{JoinsNone};
-ghost use Rattle.first_pass_names.specs.TableEntries.{entries, names_of};
-ghost use Rattle.first_pass_grammar.specs.Names.{Extends};
+ghost use Rattle.first_pass_names.specs.TableEntries.{names_of, NamesMore};
 ghost use Rattle.first_pass_grammar.specs.Texts.{by_backslash};
 ghost use Rattle.first_pass_grammar.specs.Leaves.{document};
 ghost use Rattle.first_pass_tree.specs.Forest.{is_text};
@@ -96,8 +95,7 @@ pub fn parse_paragraph<'a>(
     requires boundary { IsCharBoundary source.text.now start_ix }
     requires marks { MarksSpecial lut.now source.options }
     requires marker { IfSome tasklist_marker (λ x. is_text x.body ≡ false) }
-    ensures names { OnOk result (Extends (names_of allocs.new) (names_of allocs.old)) }
-    ensures entries { OnOk result (entries allocs.new ≡ entries allocs.old) }
+    ensures more { OnOk result (NamesMore allocs.old allocs.new) }
     ensures block { IfOk result (λ next.
         AddsPlainText (document source.entry.text.now source.entry.options (names_of allocs.new)) start_ix
         tasklist_marker tree.old tree.new next) }
@@ -141,8 +139,7 @@ fn append_text_lines<'a>(
     requires marks { MarksSpecial lut.now source.options }
     requires apart { JoinsNone tree.old }
     ensures utf8 { OnOk result (IsUtf8 source.entry.text.now) }
-    ensures names { OnOk result (Extends (names_of allocs.new) (names_of allocs.old)) }
-    ensures entries { OnOk result (entries allocs.new ≡ entries allocs.old) }
+    ensures more { OnOk result (NamesMore allocs.old allocs.new) }
     ensures lines { IfOk result (λ end.
         AppendsLines (document source.entry.text.now source.entry.options (names_of allocs.new)) start
         tree.old tree.new end) }

@@ -57,8 +57,7 @@ returns-in-Closes g c =
           c.in-Some.line_start c.judge-verdict.new.line_start c.in-Some.ensures.value c.judge-verdict.result c.judge-verdict.ensures.verdict c.in-Closes.end
           c.in-Closes.is;
       boundary = (omega (arith, c.loop-ix.invariant.later, line.later), line.boundary);
-      names = c.loop-ix.invariant.names;
-      entries = c.loop-ix.invariant.same_entries;
+      more = record { names = c.loop-ix.invariant.names; entries = c.loop-ix.invariant.same_entries };
     }
 
 pub append_raw_line-requires-clause-order : goal.append_raw_line-requires-clause-order
@@ -74,12 +73,14 @@ returns-in-IsLast g c =
           (g.J.JudgesLines.judges c.args.judge.now) c.args.start c.loop-ix.ix c.args.tree.now c.loop-ix.tree c.loop-ix.invariant.read c.next_line-next.result
           (open_are_in c.args.tree.now.nodes c.args.tree.now.spine c.is_forest.ensures.opened) line
           c.in-Some.line_start c.judge-verdict.new.line_start c.in-Some.ensures.value c.judge-verdict.result c.judge-verdict.ensures.verdict
-          (names_of c.append_raw_line.new.allocs) _ _ c.append_raw_line.new.tree c.requires.apart c.in_ok-append_raw_line.ensures.names
+          (names_of c.append_raw_line.new.allocs) _ _ c.append_raw_line.new.tree c.requires.apart c.in_ok-append_raw_line.ensures.more.names
           c.in_ok-append_raw_line.ensures.line c.remaining_space-owed.ensures.value
           (ap (λ n. c.loop-ix.ix + n) c.bytes_scanned.ensures) c.judge-verdict.ensures.next c.in-IsLast.is;
       boundary = (omega (arith, c.loop-ix.invariant.later, line.later), line.boundary);
-      names = extends_both _ _ _ c.in_ok-append_raw_line.ensures.names c.loop-ix.invariant.names;
-      entries = c.in_ok-append_raw_line.ensures.entries ∙ c.loop-ix.invariant.same_entries;
+      more = record {
+        names = extends_both _ _ _ c.in_ok-append_raw_line.ensures.more.names c.loop-ix.invariant.names;
+        entries = c.in_ok-append_raw_line.ensures.more.entries ∙ c.loop-ix.invariant.same_entries;
+      };
     }
 
 pub loop-ix-preserved : goal.loop-ix-preserved
@@ -89,13 +90,13 @@ loop-ix-preserved g c =
     record {
       later = omega (arith, c.loop-ix.invariant.later, line.later);
       boundary = line.boundary;
-      names = extends_both _ _ _ c.in_ok-append_raw_line.ensures.names c.loop-ix.invariant.names;
-      same_entries = c.in_ok-append_raw_line.ensures.entries ∙ c.loop-ix.invariant.same_entries;
+      names = extends_both _ _ _ c.in_ok-append_raw_line.ensures.more.names c.loop-ix.invariant.names;
+      same_entries = c.in_ok-append_raw_line.ensures.more.entries ∙ c.loop-ix.invariant.same_entries;
       read = read_more (range_of c.args.kind) c.args.text.now c.args.options (names_of c.loop-ix.allocs)
           (g.J.JudgesLines.judges c.args.judge.now) c.args.start c.loop-ix.ix c.args.tree.now c.loop-ix.tree c.loop-ix.invariant.read c.next_line-next.result
           (open_are_in c.args.tree.now.nodes c.args.tree.now.spine c.is_forest.ensures.opened) line
           c.in-Some.line_start c.judge-verdict.new.line_start c.in-Some.ensures.value c.judge-verdict.result c.judge-verdict.ensures.verdict
-          (names_of c.append_raw_line.new.allocs) _ _ c.append_raw_line.new.tree c.requires.apart c.in_ok-append_raw_line.ensures.names
+          (names_of c.append_raw_line.new.allocs) _ _ c.append_raw_line.new.tree c.requires.apart c.in_ok-append_raw_line.ensures.more.names
           c.in_ok-append_raw_line.ensures.line c.remaining_space-owed.ensures.value
           (ap (λ n. c.loop-ix.ix + n) c.bytes_scanned.ensures) c.judge-verdict.ensures.next
           (goes_by c.judge-verdict.result c.in_default-verdict.not-Stops c.in_default-verdict-2.not-Closes c.in_default-verdict-3.not-IsLast);

@@ -44,4 +44,4 @@ returns-clause-block c =
     (λ more e. info_named (names_of c.args.allocs.now) (names_of c.allocate_cow.new.self) more c.in_ok-info_ix.info_ix c.in_ok-info.info
     c.info_string.result.now (info_string (drop (c.args.start_ix + c.args.fence.count) c.args.text.now))
     c.in_ok-info_ix.ensures.index c.in_ok-info_ix.ensures.names c.info_string.ensures c.in_ok-info.ensures.value c.in_ok-info.ensures.borrowed e)
-    c.in_ok-lines.ensures.names c.in_ok-lines.ensures.lines c.close_block.ensures
+    c.in_ok-lines.ensures.more.names c.in_ok-lines.ensures.lines c.close_block.ensures

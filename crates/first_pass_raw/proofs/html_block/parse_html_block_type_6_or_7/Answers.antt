@@ -7,7 +7,7 @@ pub close_block-requires : goal.close_block-requires
 close_block-requires c =
     more_open c.args.text.now c.args.options _ c.args.start_ix c.args.columns c.in_ok-next.next c.args.tree.now c.open_html_block.new.tree
     c.in_ok-next.ensures.line c.in_ok-next.ensures.next.0
-    _ _ c.read_lines.new.tree c.in_ok-lines.lines.«end» c.in_ok-lines.lines.next c.in_ok-lines.ensures.names c.in_ok-lines.ensures.lines
+    _ _ c.read_lines.new.tree c.in_ok-lines.lines.«end» c.in_ok-lines.lines.next c.in_ok-lines.ensures.more.names c.in_ok-lines.ensures.lines
 
 pub returns-clause-block : goal.returns-clause-block
 returns-clause-block c = λ p i.
@@ -17,4 +17,4 @@ returns-clause-block c = λ p i.
     (c.in_ok-next.ensures.path c.args.options) c.in_ok-lines.ensures.lines
     (blank_extent c.args.text.now c.args.options _ c.args.start_ix c.args.columns c.in_ok-next.next c.args.tree.now c.open_html_block.new.tree
     c.in_ok-next.ensures.line c.in_ok-next.ensures.next.0 p i (path_of c.args.options c.args.tree.now))
-    c.close_block.new.tree c.in_ok-lines.ensures.names c.close_block.ensures
+    c.close_block.new.tree c.in_ok-lines.ensures.more.names c.close_block.ensures

@@ -24,8 +24,8 @@ lines-init c =
     record {
       boundary = first_boundary c.args.text.now c.args.start_ix c.in_ok-next.next c.utf8.text c.requires.boundary c.requires.code e;
       from = omega arith;
-      named = c.in_ok-next.ensures.names;
-      same_entries = c.in_ok-next.ensures.entries;
+      named = c.in_ok-next.ensures.more.names;
+      same_entries = c.in_ok-next.ensures.more.entries;
       read = λ p at o. so_far_first c.args.text.now c.args.options (names_of c.append_line.new.allocs) p opened c.append_line.new.tree c.args.start_ix
           c.args.remaining_space c.in_ok-next.next c.cur.result at o c.requires.code
           (joins_none-fresh opened refl) e line c.cur.ensures;
@@ -46,12 +46,12 @@ lines-preserved c =
     record {
       boundary = read.2;
       from = omega arith;
-      named = extends_both _ _ _ c.in_ok-next-2.ensures.names i.named;
-      same_entries = c.in_ok-next-2.ensures.entries ∙ i.same_entries;
+      named = extends_both _ _ _ c.in_ok-next-2.ensures.more.names i.named;
+      same_entries = c.in_ok-next-2.ensures.more.entries ∙ i.same_entries;
       read = λ p at o. so_far_next text c.args.options (names_of c.lines.allocs)
           (names_of c.append_line-in-Some.new.allocs) p opened c.lines.tree c.append_line-in-Some.new.tree c.lines.next c.in_ok-next-2.next _ _ c.lines.kept
           c.lines.blank c.in-Some.line_start c.utf8.text i.boundary (joins_none-fresh opened refl)
-          (i.read p at o) goes c.in-Some.ensures.place c.in_ok-next-2.ensures.names
+          (i.read p at o) goes c.in-Some.ensures.place c.in_ok-next-2.ensures.more.names
           c.remaining_space.ensures.value c.bytes_scanned.ensures c.in_ok-next-2.ensures.line c.in_ok-next-2.ensures.«end» c.is_some-blank.result
           c.kept_line-kept.result
           (c.is_some-blank.ensures ∙ ap is_some (c.scan_blank_line.ensures.value ∙ ap blank_len c.left.ensures)) c.kept_line-kept.ensures;

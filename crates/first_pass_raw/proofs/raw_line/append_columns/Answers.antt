@@ -1,3 +1,4 @@
+use Rattle.std.proofs.Common.{refl}
 use Rattle.first_pass_items.specs.declared.cow_str.CowStr.TheVariants.{Borrowed}
 use Rattle.first_pass_names.specs.TableEntries.{names_of}
 use Rattle.first_pass_names.proofs.NameLemmas.{extends_none, extends_named}
@@ -10,9 +11,11 @@ returns-clause-items c =
     (Borrowed c.range.result) c.in_ok-ix.ix c.args.columns c.args.at c.args.tree.now c.append.new.self
     c.if-columns-eq0.false c.requires c.range.ensures.value c.in_ok-ix.ensures.names c.in_ok-ix.ensures.index c.in_ok-append.ensures.ok
 
-pub returns-then-columns-eq0-clause-names : goal.returns-then-columns-eq0-clause-names
-returns-then-columns-eq0-clause-names c = extends_none (names_of c.args.allocs.now)
+pub returns-then-columns-eq0-clause-more : goal.returns-then-columns-eq0-clause-more
+returns-then-columns-eq0-clause-more c = record { names = extends_none (names_of c.args.allocs.now); entries = refl }
 
-pub returns-clause-names : goal.returns-clause-names
-returns-clause-names c =
-    extends_named (names_of c.args.allocs.now) (names_of c.allocate_cow.new.self) (Borrowed c.range.result) c.in_ok-ix.ensures.names
+pub returns-clause-more : goal.returns-clause-more
+returns-clause-more c = record {
+  names = extends_named (names_of c.args.allocs.now) (names_of c.allocate_cow.new.self) (Borrowed c.range.result) c.in_ok-ix.ensures.names;
+  entries = c.in_ok-ix.ensures.entries;
+}

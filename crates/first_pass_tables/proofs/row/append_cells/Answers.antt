@@ -53,12 +53,17 @@ returns-clause-cells c =
           (ap (λ (f : Forest Item). f.nodes) w.tree-is ∙ same.0, ap (λ (f : Forest Item). f.spine) w.tree-is ∙ same.1)
     ] in
     first_kept d (names_of c.append_some_cells.new.allocs) c.args.columns start mid kept.count stop excess.count old tree over new
-    c.in_ok-excess.ensures.names far.0 far.1 all same
+    c.in_ok-excess.ensures.more.names far.0 far.1 all same
 
-pub returns-clause-names : goal.returns-clause-names
-returns-clause-names c =
-    extends_both (names_of c.append_some_cells-2.new.allocs) (names_of c.append_some_cells.new.allocs) (names_of c.args.allocs.now) c.in_ok-excess.ensures.names
-    c.in_ok-kept.ensures.names
+pub returns-clause-more : goal.returns-clause-more
+returns-clause-more c =
+    let dropped = c.in_ok-excess.ensures.more in
+    let kept = c.in_ok-kept.ensures.more in
+    record {
+      names = extends_both (names_of c.append_some_cells-2.new.allocs) (names_of c.append_some_cells.new.allocs) (names_of c.args.allocs.now) dropped.names
+          kept.names;
+      entries = dropped.entries ∙ kept.entries;
+    }
 
 pub returns-clause-texts : goal.returns-clause-texts
 returns-clause-texts c =

@@ -62,7 +62,7 @@ one_read c =
     cell_read (document text c.args.source.options (names_of c.append_table_cell.new.allocs)) (names_of c.loop-count.allocs)
     (spot c.args.start c.args.braces.now) (spot at c.loop-count.braces)
     c.loop-count.count cell from (spot c.in_ok-at.at c.append_table_cell.new.braces) c.args.tree.now
-    c.loop-count.tree c.append_table_cell.new.tree c.in_ok-at.ensures.names c.loop-count.invariant.read
+    c.loop-count.tree c.append_table_cell.new.tree c.in_ok-at.ensures.more.names c.loop-count.invariant.read
     (c.cell_start-cell.ensures.value ∙ ap (λ (bs : List ℕ). cell_start bs at) same)
     (content_found text bytes c.rest_of.result.now at cell c.scan_whitespace_no_nl.result same c.cell_start-cell.ensures.value c.rest_of.ensures.value
     c.scan_whitespace_no_nl.ensures.value)
@@ -86,11 +86,17 @@ loop-count-preserved c =
       few = omega arith;
       grown = texts_both (names_of c.append_table_cell.new.allocs) (names_of c.loop-count.allocs) (names_of c.args.allocs.now) c.in_ok-at.ensures.texts
           c.loop-count.invariant.grown;
-      entries = c.in_ok-at.ensures.entries ∙ c.loop-count.invariant.entries;
+      entries = c.in_ok-at.ensures.more.entries ∙ c.loop-count.invariant.entries;
     }
 
-pub returns-in-Some-clause-names : goal.returns-in-Some-clause-names
-returns-in-Some-clause-names c = extends_texts (names_of c.loop-count.allocs) (names_of c.args.allocs.now) c.loop-count.invariant.grown
+pub returns-in-Some-clause-more : goal.returns-in-Some-clause-more
+returns-in-Some-clause-more c = record {
+  names = extends_texts (names_of c.loop-count.allocs) (names_of c.args.allocs.now) c.loop-count.invariant.grown;
+  entries = c.loop-count.invariant.entries;
+}
 
-pub returns-clause-names : goal.returns-clause-names
-returns-clause-names c = extends_texts (names_of c.loop-count.allocs) (names_of c.args.allocs.now) c.loop-count.invariant.grown
+pub returns-clause-more : goal.returns-clause-more
+returns-clause-more c = record {
+  names = extends_texts (names_of c.loop-count.allocs) (names_of c.args.allocs.now) c.loop-count.invariant.grown;
+  entries = c.loop-count.invariant.entries;
+}

@@ -35,7 +35,7 @@ one_read c =
     let now = open_table c.rows.tree c.rows.missing c.rows.braces in
     let new = open_table c.parse_table_row.new.tree c.parse_table_row.new.missing_empty_cells c.parse_table_row.new.braces in
     let there = open_are_in c.args.tree.now.nodes c.args.tree.now.spine c.is_forest.ensures.opened in
-    body_more d (names_of c.rows.allocs) c.args.columns c.args.start old now new c.rows.ix c.in_ok-next.ensures.utf8 there c.in_ok-next.ensures.names
+    body_more d (names_of c.rows.allocs) c.args.columns c.args.start old now new c.rows.ix c.in_ok-next.ensures.utf8 there c.in_ok-next.ensures.more.names
     c.rows.invariant.read c.in-Some.next c.in-Some.field-0-1
     (subst (ReadsRowLine d c.args.columns c.rows.ix now new) c.in-Some.is c.in_ok-next.ensures.row)
 
@@ -51,7 +51,7 @@ rows-preserved c = record {
   read = (one_read c).0;
   grown = texts_both (names_of c.parse_table_row.new.allocs) (names_of c.rows.allocs) (names_of c.args.allocs.now) c.in_ok-next.ensures.texts
       c.rows.invariant.grown;
-  entries = c.in_ok-next.ensures.entries ∙ c.rows.invariant.entries;
+  entries = c.in_ok-next.ensures.more.entries ∙ c.rows.invariant.entries;
 }
 
 pub returns-in-None-clause-body : goal.returns-in-None-clause-body
@@ -61,17 +61,15 @@ returns-in-None-clause-body c =
     let now = open_table c.rows.tree c.rows.missing c.rows.braces in
     let new = open_table c.parse_table_row.new.tree c.parse_table_row.new.missing_empty_cells c.parse_table_row.new.braces in
     let there = open_are_in c.args.tree.now.nodes c.args.tree.now.spine c.is_forest.ensures.opened in
-    body_over d (names_of c.rows.allocs) c.args.columns c.args.start old now new c.rows.ix c.in_ok-next.ensures.utf8 there c.in_ok-next.ensures.names
+    body_over d (names_of c.rows.allocs) c.args.columns c.args.start old now new c.rows.ix c.in_ok-next.ensures.utf8 there c.in_ok-next.ensures.more.names
     c.rows.invariant.read (subst (ReadsRowLine d c.args.columns c.rows.ix now new) c.in-None.is c.in_ok-next.ensures.row)
 
 pub returns-in-None-clause-texts : goal.returns-in-None-clause-texts
 returns-in-None-clause-texts c =
     texts_both (names_of c.parse_table_row.new.allocs) (names_of c.rows.allocs) (names_of c.args.allocs.now) c.in_ok-next.ensures.texts c.rows.invariant.grown
 
-pub returns-in-None-clause-names : goal.returns-in-None-clause-names
-returns-in-None-clause-names c =
-    extends_texts (names_of c.parse_table_row.new.allocs) (names_of c.args.allocs.now)
-    (texts_both (names_of c.parse_table_row.new.allocs) (names_of c.rows.allocs) (names_of c.args.allocs.now) c.in_ok-next.ensures.texts c.rows.invariant.grown)
-
-pub returns-in-None-clause-entries : goal.returns-in-None-clause-entries
-returns-in-None-clause-entries c = c.in_ok-next.ensures.entries ∙ c.rows.invariant.entries
+pub returns-in-None-clause-more : goal.returns-in-None-clause-more
+returns-in-None-clause-more c = record {
+  names = extends_texts (names_of c.parse_table_row.new.allocs) (names_of c.args.allocs.now) (returns-in-None-clause-texts c);
+  entries = c.in_ok-next.ensures.more.entries ∙ c.rows.invariant.entries;
+}

@@ -1,4 +1,4 @@
-use Rattle.std.proofs.Common.{◌+◌, length, ap, subst}
+use Rattle.std.proofs.Common.{◌+◌, length, ap, subst, ◌∙◌}
 use Rattle.first_pass_items.specs.declared.item.Item.{Item}
 use Rattle.first_pass_items.specs.declared.item.ItemBody.TheVariants.{TableHead}
 use Rattle.first_pass_tree.specs.Forest.{Forest, at_depth}
@@ -27,7 +27,7 @@ returns-clause-rows c =
     rows_closed (document c.args.source.text.now c.args.source.options (names_of c.append_body.new.allocs)) (names_of c.append_head_row.new.allocs)
     c.args.table_cols c.args.head_start c.args.body_start c.min-filled.result c.in_ok-next.next
     c.args.tree.now (open_table c.append_head_row.new.tree c.in_ok-missing.missing c.append_head_row.new.braces) c.append_body.new.tree
-    c.close_block.new.tree c.in_ok-next.ensures.names c.requires.open (open_are_in c.args.tree.now.nodes c.args.tree.now.spine c.is_forest.ensures.opened)
+    c.close_block.new.tree c.in_ok-next.ensures.more.names c.requires.open (open_are_in c.args.tree.now.nodes c.args.tree.now.spine c.is_forest.ensures.opened)
     (subst (λ b. AddsHead (document c.args.source.text.now c.args.source.options (names_of c.append_head_row.new.allocs)) c.args.table_cols
     (spot c.args.head_start b) c.args.tree.now
     (open_table c.append_head_row.new.tree c.in_ok-missing.missing c.append_head_row.new.braces)) c.new-braces.ensures c.in_ok-missing.ensures.head)
@@ -45,10 +45,14 @@ returns-clause-whole c =
     c.args.body_start c.args.tree.now c.close_block.new.tree
     c.in_ok-next.next (returns-clause-rows c)
 
-pub returns-clause-names : goal.returns-clause-names
-returns-clause-names c =
-    extends_both (names_of c.append_body.new.allocs) (names_of c.append_head_row.new.allocs) (names_of c.args.allocs.now) c.in_ok-next.ensures.names
-    c.in_ok-missing.ensures.names
+pub returns-clause-more : goal.returns-clause-more
+returns-clause-more c =
+    let body = c.in_ok-next.ensures.more in
+    let head = c.in_ok-missing.ensures.more in
+    record {
+      names = extends_both (names_of c.append_body.new.allocs) (names_of c.append_head_row.new.allocs) (names_of c.args.allocs.now) body.names head.names;
+      entries = body.entries ∙ head.entries;
+    }
 
 pub returns-clause-texts : goal.returns-clause-texts
 returns-clause-texts c =

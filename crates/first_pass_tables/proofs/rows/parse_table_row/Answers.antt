@@ -1,4 +1,4 @@
-use Rattle.std.proofs.Common.{ℕ, Option, IfSome, IsCharBoundary, sym, subst, ◌∙◌, arith}
+use Rattle.std.proofs.Common.{ℕ, Option, IfSome, IsCharBoundary, sym, subst, ◌∙◌, arith, refl}
 use Rattle.first_pass_names.specs.TableEntries.{names_of}
 use Rattle.first_pass_names.proofs.NameLemmas.{extends_none}
 use Rattle.first_pass_open.specs.Path.{path_of}
@@ -14,5 +14,5 @@ returns-clause-fits c = λ from low.
     let begins = subst (λ (o : Option ℕ). IfSome o (λ n. IsCharBoundary text n)) c.in-Some.is c.in_ok-at.ensures.place in
     c.in_ok-row.ensures.fits begins from (omega arith)
 
-pub returns-in_default-clause-names : goal.returns-in_default-clause-names
-returns-in_default-clause-names c = extends_none (names_of c.args.allocs.now)
+pub returns-in_default-clause-more : goal.returns-in_default-clause-more
+returns-in_default-clause-more c = record { names = extends_none (names_of c.args.allocs.now); entries = refl }

@@ -27,7 +27,7 @@ parse_table-requires-clause-table c = subst (λ (f : Forest Item). in_table f.no
 
 -- what is named once the table's rows are read continues its alignments
 grown_table : (c : goal.In_ok-next) → Extends (names_of c.parse_table.new.allocs) (names_of c.allocate_alignment.new.self)
-grown_table c = c.in_ok-next.ensures.names
+grown_table c = c.in_ok-next.ensures.more.names
 
 -- later names name its alignments
 named_yet : (c : goal.In_ok-next) (more : Names) → Extends more (names_of c.parse_table.new.allocs)
@@ -37,11 +37,14 @@ named_yet c more e =
     alignments_last (names_of c.args.allocs.now) named more c.in_ok-index.index c.args.alignments.items c.in_ok-index.ensures.index c.in_ok-index.ensures.names
     (extends_both more (names_of c.parse_table.new.allocs) named e (grown_table c))
 
-pub returns-clause-names : goal.returns-clause-names
-returns-clause-names c =
+pub returns-clause-more : goal.returns-clause-more
+returns-clause-more c =
     let named = names_of c.allocate_alignment.new.self in
-    extends_both (names_of c.parse_table.new.allocs) named (names_of c.args.allocs.now) c.in_ok-next.ensures.names
-    (extends_alignments (names_of c.args.allocs.now) named c.args.alignments.items c.in_ok-index.ensures.names)
+    record {
+      names = extends_both (names_of c.parse_table.new.allocs) named (names_of c.args.allocs.now) c.in_ok-next.ensures.more.names
+          (extends_alignments (names_of c.args.allocs.now) named c.args.alignments.items c.in_ok-index.ensures.names);
+      entries = c.in_ok-next.ensures.more.entries ∙ c.in_ok-index.ensures.entries;
+    }
 
 pub returns-clause-block : goal.returns-clause-block
 returns-clause-block c = λ marker.

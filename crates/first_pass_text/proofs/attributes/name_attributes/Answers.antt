@@ -1,4 +1,4 @@
-use Rattle.std.proofs.Common.{Option, Some, sym, subst}
+use Rattle.std.proofs.Common.{Option, Some, sym, subst, refl}
 use Rattle.std.specs.Option.{option_map}
 use Rattle.first_pass_attributes.specs.Attributes.{attributes_in}
 use Rattle.first_pass_attributes.specs.declared.attrs.HeadingAttributes.{HeadingAttributes}
@@ -7,12 +7,15 @@ use Rattle.first_pass_grammar.proofs.MoreNames.{extends_none, extends_heading, h
 use Rattle.first_pass_names.specs.TableEntries.{names_of}
 use Rattle.first_pass_text.proofs.attributes.name_attributes.Goals as goal
 
-pub returns-in-None-clause-names : goal.returns-in-None-clause-names
-returns-in-None-clause-names c = extends_none (names_of c.args.allocs.now)
+pub returns-in-None-clause-more : goal.returns-in-None-clause-more
+returns-in-None-clause-more c = record { names = extends_none (names_of c.args.allocs.now); entries = refl }
 
-pub returns-in_ok-index-in-Some-clause-names : goal.returns-in_ok-index-in-Some-clause-names
-returns-in_ok-index-in-Some-clause-names c =
-    extends_heading (names_of c.args.allocs.now) (names_of c.allocate_heading.new.self) (attributes_in c.in-Some.attributes) c.in_ok-index-in-Some.ensures.names
+pub returns-in_ok-index-in-Some-clause-more : goal.returns-in_ok-index-in-Some-clause-more
+returns-in_ok-index-in-Some-clause-more c = record {
+  names = extends_heading (names_of c.args.allocs.now) (names_of c.allocate_heading.new.self) (attributes_in c.in-Some.attributes)
+      c.in_ok-index-in-Some.ensures.names;
+  entries = c.in_ok-index-in-Some.ensures.entries;
+}
 
 pub returns-in_ok-index-in-Some-clause-named : goal.returns-in_ok-index-in-Some-clause-named
 returns-in_ok-index-in-Some-clause-named c more e =

@@ -61,7 +61,7 @@ returns-clause-block c =
     (c.in_ok-content_end.ensures.attributes ∙ ap (heading_attributes_of options) between)
     read refl
     (c.kept_len-kept.ensures.value ∙ ap (λ xs. kept_len (slice_range xs start c.in_ok-content_end.content_end)) bytes)
-    c.in_ok-heading_text.ensures.line c.in_ok-heading_text.ensures.names c.in_ok-index.ensures.named in
+    c.in_ok-heading_text.ensures.line c.in_ok-heading_text.ensures.more.names c.in_ok-index.ensures.named in
     let begins : start ≡ heading_text_at text c.args.start (level_number c.args.atx_level) =
     c.heading_text_start-header_start.ensures.value ∙ ap (λ t. heading_text_at t c.args.start (level_number c.args.atx_level)) bytes in
     record {
@@ -81,7 +81,11 @@ returns-clause-fits c from behind starts =
     (names_of c.heading_text.new.allocs) c.args.start c.args.atx_level c.args.tree.now c.close_block.new.tree c.next_line-end.result u starts
     c.requires.heading (returns-clause-block c) from behind
 
-pub returns-clause-names : goal.returns-clause-names
-returns-clause-names c =
-    extends_both (names_of c.heading_text.new.allocs) (names_of c.name_attributes.new.allocs) (names_of c.args.allocs.now) c.in_ok-heading_text.ensures.names
-    c.in_ok-index.ensures.names
+pub returns-clause-more : goal.returns-clause-more
+returns-clause-more c =
+    let text = c.in_ok-heading_text.ensures.more in
+    let named = c.in_ok-index.ensures.more in
+    record {
+      names = extends_both (names_of c.heading_text.new.allocs) (names_of c.name_attributes.new.allocs) (names_of c.args.allocs.now) text.names named.names;
+      entries = text.entries ∙ named.entries;
+    }

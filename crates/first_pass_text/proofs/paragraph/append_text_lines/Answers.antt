@@ -81,10 +81,16 @@ returns-in-Other-clause-lines c =
     (same_end c.args.source.text.now c.args.source.text.now c.args.source.options c.args.source.options (spot c.lines.ix c.lines.braces)
     (c.in_ok-next.next, c.in_ok-next.line_break) refl refl c.in_ok-next.ensures.ends)))
 
-pub returns-in-Underline-clause-names : goal.returns-in-Underline-clause-names
-returns-in-Underline-clause-names c =
-    extends_both (names_of c.append_line.new.self) (names_of c.lines.allocs) (names_of c.args.allocs.now) c.in_ok-next.ensures.names c.lines.invariant.grown
+pub returns-in-Underline-clause-more : goal.returns-in-Underline-clause-more
+returns-in-Underline-clause-more c = record {
+  names = extends_both (names_of c.append_line.new.self) (names_of c.lines.allocs) (names_of c.args.allocs.now) c.in_ok-next.ensures.names
+      c.lines.invariant.grown;
+  entries = c.in_ok-next.ensures.entries ∙ c.lines.invariant.entries;
+}
 
-pub returns-in-Other-clause-names : goal.returns-in-Other-clause-names
-returns-in-Other-clause-names c =
-    extends_both (names_of c.append_line.new.self) (names_of c.lines.allocs) (names_of c.args.allocs.now) c.in_ok-next.ensures.names c.lines.invariant.grown
+pub returns-in-Other-clause-more : goal.returns-in-Other-clause-more
+returns-in-Other-clause-more c = record {
+  names = extends_both (names_of c.append_line.new.self) (names_of c.lines.allocs) (names_of c.args.allocs.now) c.in_ok-next.ensures.names
+      c.lines.invariant.grown;
+  entries = c.in_ok-next.ensures.entries ∙ c.lines.invariant.entries;
+}

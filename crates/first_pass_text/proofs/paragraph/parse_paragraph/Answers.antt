@@ -15,8 +15,8 @@ close_block-requires c =
     c.in_ok-node_ix.ensures.ok c.in_ok-append_item.ensures c.requires.marker c.in_ok-end.ensures.lines in
     text_open t c.append_last_backslash.new.tree c.in_ok-append_last_backslash.ensures
 
-pub returns-in_default-clause-names : goal.returns-in_default-clause-names
-returns-in_default-clause-names c = c.in_ok-end.ensures.names
+pub returns-in_default-clause-more : goal.returns-in_default-clause-more
+returns-in_default-clause-more c = c.in_ok-end.ensures.more
 
 pub returns-in_default-clause-block : goal.returns-in_default-clause-block
 returns-in_default-clause-block c =
@@ -53,7 +53,7 @@ close_block-requires-2 c =
     (names_of c.append_text_lines.new.allocs) c.args.start_ix c.args.tasklist_marker c.args.tree.now c.append.new.self c.push.new.self c.append_item.new.tree
     c.append_text_lines.new.tree c.in_ok-node_ix.node_ix c.in_ok-end.end c.is_forest.ensures c.in_ok-append.ensures.ok c.in_ok-node_ix.ensures.index
     c.in_ok-node_ix.ensures.ok c.in_ok-append_item.ensures c.requires.marker c.in_ok-end.ensures.lines in
-    heading_open t (names_of c.make_heading.new.allocs) c.in_ok-make_heading.ensures.names c.in-Some.level c.is_by_backslash-broken.result
+    heading_open t (names_of c.make_heading.new.allocs) c.in_ok-make_heading.ensures.more.names c.in-Some.level c.is_by_backslash-broken.result
     c.make_heading.new.tree c.append_last_backslash-2.new.tree
     c.is_by_backslash-broken.ensures c.in_ok-make_heading.ensures.heading c.in_ok-append_last_backslash-2.ensures
 
@@ -64,7 +64,7 @@ returns-clause-block c =
     c.append_text_lines.new.tree c.in_ok-node_ix.node_ix c.in_ok-end.end c.is_forest.ensures c.in_ok-append.ensures.ok c.in_ok-node_ix.ensures.index
     c.in_ok-node_ix.ensures.ok c.in_ok-append_item.ensures c.requires.marker c.in_ok-end.ensures.lines in
     let next = c.in_ok-end.end.next in
-    closed_heading t (names_of c.make_heading.new.allocs) c.in_ok-make_heading.ensures.names c.in-Some.level c.is_by_backslash-broken.result
+    closed_heading t (names_of c.make_heading.new.allocs) c.in_ok-make_heading.ensures.more.names c.in-Some.level c.is_by_backslash-broken.result
     c.make_heading.new.tree c.append_last_backslash-2.new.tree
     c.is_by_backslash-broken.ensures c.in_ok-make_heading.ensures.heading c.in_ok-append_last_backslash-2.ensures
     c.close_block-2.new.tree c.next_line-behind.result (sym c.in-Some.is)
@@ -76,7 +76,12 @@ returns-clause-fits c =
     (names_of c.make_heading.new.allocs) c.args.start_ix c.args.tasklist_marker c.args.tree.now c.close_block-2.new.tree c.next_line-behind.result
     (returns-clause-block c) c.in_ok-end.ensures.utf8 c.requires.boundary
 
-pub returns-clause-names : goal.returns-clause-names
-returns-clause-names c =
-    extends_both (names_of c.make_heading.new.allocs) (names_of c.append_text_lines.new.allocs) (names_of c.args.allocs.now) c.in_ok-make_heading.ensures.names
-    c.in_ok-end.ensures.names
+pub returns-clause-more : goal.returns-clause-more
+returns-clause-more c =
+    let heading = c.in_ok-make_heading.ensures.more in
+    let lines = c.in_ok-end.ensures.more in
+    record {
+      names = extends_both (names_of c.make_heading.new.allocs) (names_of c.append_text_lines.new.allocs) (names_of c.args.allocs.now) heading.names
+          lines.names;
+      entries = heading.entries ∙ lines.entries;
+    }

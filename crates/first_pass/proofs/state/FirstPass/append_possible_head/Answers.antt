@@ -14,10 +14,12 @@ returns-clause-kept c =
     let e = c.in_ok-next.ensures.kept in
     record {
       source = e.source;
-      names = extends_both (names_of c.allocate_alignment.new.self) (names_of (allocs_of c.append_content.new.self)) (names_of (allocs_of c.args.self.now))
-          (extends_alignments (names_of (allocs_of c.append_content.new.self)) (names_of c.allocate_alignment.new.self)
-          c.in-Some.alignments.items c.in_ok-index.ensures.names) e.names;
-      entries = c.in_ok-index.ensures.entries ∙ e.entries;
+      more = record {
+        names = extends_both (names_of c.allocate_alignment.new.self) (names_of (allocs_of c.append_content.new.self)) (names_of (allocs_of c.args.self.now))
+            (extends_alignments (names_of (allocs_of c.append_content.new.self)) (names_of c.allocate_alignment.new.self)
+            c.in-Some.alignments.items c.in_ok-index.ensures.names) e.more.names;
+        entries = c.in_ok-index.ensures.entries ∙ e.more.entries;
+      };
     }
 
 pub returns-clause-boundary : goal.returns-clause-boundary

@@ -7,7 +7,7 @@ use Rattle.first_pass.proofs.UnderlinedOrder.{open_ordered, underlined_ordered}
 use Rattle.first_pass.proofs.state.FirstPass.parse_setext_heading.Goals as goal
 
 pub returns-in_default-clause-kept : goal.returns-in_default-clause-kept
-returns-in_default-clause-kept c = record { source = refl; names = extends_none (names_of (allocs_of c.args.self.now)); entries = refl }
+returns-in_default-clause-kept c = record { source = refl; more = record { names = extends_none (names_of (allocs_of c.args.self.now)); entries = refl } }
 
 pub returns-in_default-clause-order : goal.returns-in_default-clause-order
 returns-in_default-clause-order c l by holds =

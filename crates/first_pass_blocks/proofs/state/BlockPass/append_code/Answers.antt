@@ -60,8 +60,7 @@ returns c =
     c.in_ok-next.blank e.block in
     record {
       source = refl;
-      names = e.names;
-      entries = e.entries;
+      more = e.more;
       empty_item = f.no_empty;
       block = code_added text options names p self.reading.tree tree next _ i
           (e.block q (record { offset_is = sym there; left_is = i.left ∙ ap (λ n. drop n text) (sym there) }) (sym owed));

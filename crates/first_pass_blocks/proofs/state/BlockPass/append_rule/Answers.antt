@@ -36,7 +36,7 @@ returns c =
     let i = all_keep text p.line p.rest f.utf8 f.place in
     let ends = rule_end p at size (found_says options p leaf c.args.columns at f.found) f.found.at_is in
     let last = subst (IsCharBoundary text) (sym ends) (place_end text p f.utf8 f.place) in
-    leaf_added self _ p leaf c.args.columns at next f refl (extends_none names) refl refl refl
+    leaf_added self _ p leaf c.args.columns at next f refl (record { names = extends_none names; entries = refl }) refl refl
     (line_read self self p leaf c.args.columns at next f (e.behind ∙ ends))
     (λ from low. subst (λ n. AddsBetween text from n self.reading.tree tree) (sym e.behind)
     (e.fits text from low (found_boundary text p at f.utf8 f.place f.found.at_is) last))

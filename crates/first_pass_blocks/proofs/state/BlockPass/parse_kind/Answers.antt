@@ -91,7 +91,7 @@ returns-in_ok-next-in-HtmlToBlank c =
     html_read self _ p c.args.at c.args.columns c.in_ok-next-in-HtmlToBlank.next c.requires.utf8 c.requires.place c.requires.no_empty c.is_forest.ensures
     (subst (λ (z : Reading). IsForest z.tree) rem c.is_forest-in-HtmlToBlank.ensures)
     (subst (IsKind self.source.options p.rest) (ap kind_of c.in-HtmlToBlank.is) c.requires.found.kind) c.requires.found.columns_are c.requires.found.at_is
-    refl e.names e.entries (ap (λ (z : Reading). z.empty_item) rem) (ap (λ (z : Reading). z.blank) rem) e.boundary
+    refl e.more (ap (λ (z : Reading). z.empty_item) rem) (ap (λ (z : Reading). z.blank) rem) e.boundary
     (subst (λ (z : Reading). AddsHtml self.source.text.now self.source.options (names_of c.parse_html_block_type_6_or_7.new.allocs) c.args.at c.args.columns
     (unindented p) z.tree c.parse_html_block_type_6_or_7.new.tree c.in_ok-next-in-HtmlToBlank.next) rem
     (e.block (unindented p) (html_stands self.source.text.now p
@@ -126,8 +126,7 @@ returns-in_ok-next-in-Marked c =
     let e = c.in_ok-next-in-Marked.ensures in
     let adds : AddsLeaf (record self { reading = f }) new p (marked_kind leaf) next = record {
       source = e.source;
-      names = e.names;
-      entries = e.entries;
+      more = e.more;
       empty_item = e.empty_item;
       block = e.block;
       later = e.later;

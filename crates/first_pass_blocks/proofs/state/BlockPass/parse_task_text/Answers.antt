@@ -61,18 +61,18 @@ returns c =
     e.fits c.requires.after.2 from (stands.0, record { behind = b.behind; order = b.order; before = omega arith; starts = b.starts; ends = b.ends }) in
     record {
       source = refl;
-      names = e.names;
+      names = e.more.names;
       later = omega arith;
       boundary = e.block.boundary;
       ready = λ names more ready. let d = document text options names in
-          subst (λ z. Ready d z new (lines_from text next)) (sym (ap told_by e.entries))
+          subst (λ z. Ready d z new (lines_from text next)) (sym (ap told_by e.more.entries))
           (ready_text d (tables self.allocs) old tree p at next c.args.marker e.block.items there i (e.block.is_text names more) e.block.tree_is none ready);
-      named = λ h. block_added now (names_of self.allocs) old.tree tree e.block.items e.names e.block.tree_is
+      named = λ h. block_added now (names_of self.allocs) old.tree tree e.block.items e.more.names e.block.tree_is
           (text_named (document text options now) _ (unindented p) (Some c.args.marker) _ _ (task_has_none c.args.marker.body mark)
           (e.block.is_text now (extends_none now) (unindented p) i (sym there))) h;
-      written = written_stay text self.allocs c.parse_paragraph.new.allocs e.entries;
+      written = written_stay text self.allocs c.parse_paragraph.new.allocs e.more.entries;
       order = λ o. inl (ordered_block text old.tree new o.from next (fits o.from o.stands) e.block.boundary.0 none o.ordered);
-      whole = λ h k. block_whole now (names_of self.allocs) old.tree tree e.block.items e.names e.block.tree_is
+      whole = λ h k. block_whole now (names_of self.allocs) old.tree tree e.block.items e.more.names e.block.tree_is
           (added_text_whole (document text options now) _ (unindented p) (Some c.args.marker) _ _ i (task_shows c.args.marker.body mark)
           (e.block.is_text now (extends_none now) (unindented p) i (sym there))) h k;
       few = λ from stands apart. block_count text from next old.tree tree (fits from stands) apart;

@@ -77,4 +77,4 @@ returns c =
     λ from before. subst (λ (z : Reading). AddsBetween text from next z.tree tree) done
     (subst (λ (z : Source). AddsBetween z.text.now from next ended.tree tree) e.kept.source (f.fits tt from before)) in
     run_text self mid _ p nested at next c.requires.utf8 c.requires.place c.requires.no_empty c.is_forest.ensures c.requires.kind refl e.kept.source
-    e.kept.names e.kept.written run refl f.names f.entries none blank block fits
+    e.kept.names e.kept.written run refl f.more none blank block fits
