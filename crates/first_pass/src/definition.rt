@@ -5,7 +5,6 @@ ghost use Rattle.std.specs.List.{list_any};
 ghost use Rattle.std.specs.Option.{option_map};
 ghost use Rattle.first_pass_items.specs.CowText.{text_of};
 ghost use Rattle.first_pass_lines.specs.Lines.{is_line_end};
-ghost use Rattle.first_pass_lines.specs.Places.{offset};
 ghost use Rattle.first_pass_links.specs.Labels.{label_at};
 ghost use Rattle.first_pass_links.specs.Texts.{Borrows};
 ghost use Rattle.first_pass_tree.specs.Forest.{in_table};
@@ -20,7 +19,6 @@ use first_pass_definitions::{label, reference, space, target, title};
 use first_pass_items::cow_str::CowStr;
 use first_pass_labels::label_key::LabelKey;
 use first_pass_labels::label_table::LinkDef;
-use first_pass_lines::places::{next_line, rest_of};
 use std::alloc::AllocError;
 
 impl<'a> FirstPass<'a> {

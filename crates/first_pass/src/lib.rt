@@ -18,4 +18,8 @@ pub use first_pass_attributes::attrs;
 pub use first_pass_below::{below, flank, walk};
 pub use first_pass_blocks::laws::{ready_is_completed, ready_is_whole};
 pub use first_pass_names::items;
-pub use first_pass_open::containers;
+
+/// The open containers, and how far a line continues them (CommonMark 5).
+pub mod containers {
+    pub use first_pass_open::containers::scan_containers;
+}

@@ -174,11 +174,6 @@ module _ (d : Document) (defined : Tables) (f : Forest Item) (p : Place) (lines 
       completes-note d defined run frames f.nodes (map (λ i. i.0) f.spine) p lines opening plain
       (subst (λ z. Opens d z p lines opening) (open_path d.options f.nodes f.spine frames o) opens) block k
 
-  plain_in : (run : Bool) (frames : List Frame) → IsPlain frames → IsPlain (loosened_in run frames)
-  plain_in run [] h = tt
-  plain_in run (InContainer c ∷ frames) h = tt
-  plain_in run (InList byte loose ∷ frames) h = absurd h
-
   -- where no list is around what is innermost
   noted_still : (frames : List Frame) → loosened_in true frames ≡ frames → IsPlain frames → AreOpen f.nodes f.spine frames
       → CompletesAt d defined true frames f.nodes (map (λ i. i.0) f.spine) (Inside p) lines → ReadyPlain d defined f false p lines

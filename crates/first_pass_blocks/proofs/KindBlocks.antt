@@ -216,24 +216,11 @@ adds_so text options names p k kind gap blank old new next is same a =
 pub columns_are : (n m : ℕ) → n ≡ min 4 m → nat_lt m 4 ≡ true → (n ≡ m) × (n ≤ 3)
 columns_are n m is few = let low : m < 4 = grind (arith, nat_tests, few) in (omega arith, omega arith)
 
--- what was said of a text, options and a tree that are these
-pub adds_moved : (t text : List ℕ) (o options : Options) (names : Names) (p : Place) (kind : Kind) (gap : Bool) (f old new : Forest Item) (next : ℕ)
-    → t ≡ text → o ≡ options → f ≡ old → AddsKind (document t o names) p kind gap f new next → AddsKind (document text options names) p kind gap old new next
-adds_moved t text o options names p kind gap f old new next a b e h =
-    subst (λ z. AddsKind (document text options names) p kind gap z new next) e
-    (subst (λ z. AddsKind (document text z names) p kind gap f new next) b (subst (λ z. AddsKind (document z o names) p kind gap f new next) a h))
-
 -- an HTML block up to a blank line, at a place
 abbrev pub AddsHtml : List ℕ → Options → Names → ℕ → ℕ → Place → Forest Item → Forest Item → ℕ → Type 0
 AddsHtml text options names start columns p old new next =
     let e : Extent = html_to_blank text (path_of options old) p in
     AddsRaw (document text options names) (λ d. IsHtml d start columns e.places e.«end») e.left old new next
-
-pub html_moved : (t text : List ℕ) (o options : Options) (names : Names) (start columns : ℕ) (p : Place) (f old new : Forest Item) (next : ℕ)
-    → t ≡ text → o ≡ options → f ≡ old → AddsHtml t o names start columns p f new next → AddsHtml text options names start columns p old new next
-html_moved t text o options names start columns p f old new next a b e h =
-    subst (λ z. AddsHtml text options names start columns p z new next) e
-    (subst (λ z. AddsHtml text z names start columns p f new next) b (subst (λ z. AddsHtml z o names start columns p f new next) a h))
 
 -- a leaf block that begins with a mark is no paragraph
 pub marked_other : (leaf : MarkedLeaf) → is_paragraph (marked_kind leaf) ≡ false

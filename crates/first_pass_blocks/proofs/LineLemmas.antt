@@ -134,8 +134,3 @@ continued_by false start byte number r none = list_finished_none start r
 pub list_continued_none : (start byte number : ℕ) (r : Reading) → (list_continued start byte number r).empty_item ≡ None
 unfolding list_continued
 list_continued_none start byte number r = continued_by (is_list_of byte (top_body (item_finished r).tree)) start byte number (item_finished r) (finished_none r)
-
--- where the next line begins after an empty item
-pub opened_next : (A : Type 0) (o : Option ℕ) (e next : ℕ) → o ≡ Some next → MatchOption o A (λ n. n ≡ e) → next ≡ e
-opened_next A None e next is h = cc
-opened_next A (Some n) e next is h = (let z : n ≡ next = cc in sym z ∙ h)

@@ -271,9 +271,6 @@ ordered_at_later text r at b later within h =
     let l = later_by text r at b r.empty_item refl later within h.ordered h.later in
     record { ordered = l.0; later = l.1; within = within; innermost = h.innermost }
 
-plain_of : (text : List ℕ) (r : Reading) (at : ℕ) → r.empty_item ≡ None → IsOrderedAt text r at → IsOrderedTo text r.tree at
-plain_of text r at none h = subst (λ (o : Option ℕ). IsOrderedTo text r.tree (reached o at)) none h.ordered
-
 -- the innermost open node closed
 popped_plain : (text : List ℕ) (r : Reading) (at e : ℕ) (s : List TreeIndex)
     → r.tree.spine ≡ s → (r.empty_item ≡ None) ⊎ (is_item (top_body r.tree) ≡ true) → at ≤ e → e ≤ length text → IsCharBoundary text e
@@ -493,28 +490,3 @@ other_popped r f ix None list item = refl
 other_popped r f ix (Some (ListBody flags byte number)) list item = cc
 other_popped r f ix (Some (ListItemBody columns)) list item = cc
 other_popped r f ix (Some b) list item = refl
-
--- the innermost open node closed, where that is no list and no item
-pub popped_other : (r : Reading) (e : ℕ) (ix : TreeIndex) (s : List TreeIndex) (b : Option ItemBody)
-    → r.tree.spine ≡ s → slice_get s 0 ≡ Some ix → body_at (closed_by r.tree e s).nodes ix.0 ≡ b → is_list b ≡ false → is_item b ≡ false
-    → popped e r ≡ record r { tree = closed_by r.tree e s }
-unfolding popped
-popped_other r e ix [] b spine top is list item = cc
-popped_other r e ix (jx ∷ rest) b spine top is list item =
-    let same : jx ≡ ix = cc in
-    let f : Forest Item = closed_by r.tree e (jx ∷ rest) in
-    let is' : body_at f.nodes jx.0 ≡ b = ap (λ (i : TreeIndex). body_at f.nodes i.0) same ∙ is in
-    ap (popped_at e r) spine ∙ ap (popped_by r f jx) is' ∙ other_popped r f jx b list item
-
--- the same from what the calls answer
-pub popped_other_calls : (r q : Reading) (e : ℕ) (ix : TreeIndex) (x : Item) → slice_get r.tree.spine 0 ≡ Some ix → q.tree ≡ closed_by r.tree e r.tree.spine
-    → q.empty_item ≡ r.empty_item → q.blank ≡ r.blank → item_at q.tree ix ≡ Some x
-    → is_list (Some x.body) ≡ false → is_item (Some x.body) ≡ false → q ≡ popped e r
-popped_other_calls r q e ix x top tree empty blank at list item =
-    let body : body_at (closed_by r.tree e r.tree.spine).nodes ix.0 ≡ Some x.body =
-    ap (λ (f : Forest Item). body_at f.nodes ix.0) (sym tree) ∙ body_of q.tree ix x at in
-    let is : popped e r ≡ record r { tree = closed_by r.tree e r.tree.spine } = popped_other r e ix r.tree.spine (Some x.body) refl top body list item in
-    let same : q ≡ record r { tree = closed_by r.tree e r.tree.spine } =
-    ap (λ (f : Forest Item). remembered f q.empty_item q.blank) tree ∙ ap (λ (o : Option ℕ). remembered (closed_by r.tree e r.tree.spine) o q.blank) empty
-    ∙ ap (λ (t : Bool). remembered (closed_by r.tree e r.tree.spine) r.empty_item t) blank in
-    same ∙ sym is

@@ -119,10 +119,6 @@ pub task_shows : (body : ItemBody) → is_task_marker body ≡ true → ShowsNot
 task_shows (TaskListMarker checked) h = λ names depth start end. refl
 task_shows body h = cc
 
-task_no_row : (body : ItemBody) → is_task_marker body ≡ true → is_row body ≡ false
-task_no_row (TaskListMarker checked) h = refl
-task_no_row body h = cc
-
 module _ (names : Names) where
   marks_ended : (nodes : List (ℕ × Item)) (place e : ℕ) → IsNoRow nodes place
       → marks names (modify nodes place (λ x. record x { «end» = e })) ≡ marks names nodes

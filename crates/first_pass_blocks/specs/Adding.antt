@@ -18,8 +18,8 @@ use Rattle.first_pass_names.specs.TableEntries.{names_of, NamesMore}
 use Rattle.first_pass_blocks.specs.declared.state.BlockPass.{BlockPass}
 use Rattle.first_pass_blocks.specs.Views.{allocs_of, reading_of, source_of, source_options, source_text, tree_of}
 
--- A leaf block of a kind, which begins at a place, is a last child of the innermost open node, whatever more is named: with this end of a list before it,
--- with or without blank lines at its end, and the lines from an offset on left.
+-- A leaf block of a kind, which begins at a place, is a last child of the innermost open node, whatever more is named: with or without blank
+-- lines at its end, and the lines from an offset on left.
 pub record AddsKind (d : Document) (p : Place) (kind : Kind) (gap : Bool) (old new : Forest Item) (next : ℕ) : Type 0 where
   pub items : List (ℕ × Item)
   pub tree_is : new ≡ added old items

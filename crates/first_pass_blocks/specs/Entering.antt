@@ -29,7 +29,7 @@ pub record ClosesAt (old new : Reading) (kept ix : ℕ) : Type 0 where
   pub whole : (names : Names) → HasWholeTables names old.tree → HasWholeTables names new.tree
   pub all_kept : kept ≡ length old.tree.spine → new ≡ old
 
--- The line that begins at an offset is entered, and no item is empty at the place that is left of it; or it is blank, and read.
+-- The line that begins at an offset is entered, and no item is empty at the place that is left of it; or reading has passed it.
 abbrev pub EntersLine : Source → Reading → Reading → ℕ → Option Place → Type 0
 EntersLine source old new start None = ReadsTo source start old new (LineAt start) (LineAt (start + line_len (drop start source.text.now)))
 EntersLine source old new start (Some p) =

@@ -1,4 +1,4 @@
--- Where a reading of lines has come to, and what holds there (private functions alone cite this).
+-- Where a reading of lines has come to, and what holds there (of public calls `parse_block` alone cites this, before a line).
 use Rattle.std.specs.Prelude.{◌≡◌, ◌⊎◌, ℕ, ◌<◌, ◌≤◌, false, List, Option, Some, None, if◌then◌else◌, IsCharBoundary}
 use Rattle.first_pass_items.specs.declared.item.Item.{Item}
 use Rattle.first_pass_items.specs.declared.item.BlockQuoteKind.{BlockQuoteKind}
@@ -40,18 +40,18 @@ pub record ReadyText (d : Document) (defined : Tables) (r : Reading) (marker : I
   pub ready : ReadyAt d defined r.tree false (At p (TextOf marker)) lines
   pub plain : IsPlain ready.frames
 
--- a block quote with a tag is innermost, before blocks continue these lines
+-- a block quote is innermost, whose blocks continue from there on these lines
 pub record ReadyInQuote (d : Document) (defined : Tables) (r : Reading) (from : From) (lines : List Place) : Type 0 where
   pub kind : Option BlockQuoteKind
   pub quote : top_body r.tree ≡ Some (BlockQuoteBody kind)
   pub blank : r.blank ≡ false
   pub ready : ReadyAt d defined r.tree false from lines
 
--- before the line after its tag
+-- before the line after the tag of a block quote
 abbrev pub ReadyTagged : Document → Tables → Reading → List Place → Type 0
 ReadyTagged d defined r lines = ReadyInQuote d defined r (behind_tag (context_of d.options r.tree) lines).0 (behind_tag (context_of d.options r.tree) lines).1
 
--- in that line, at the place of a leaf
+-- in that line, at the place of a leaf block that belongs to the quote
 abbrev pub ReadyLazy : Document → Tables → Reading → Place → List Place → Type 0
 ReadyLazy d defined r p lines = ReadyInQuote d defined r (At p ALeafAlone) lines
 
@@ -106,7 +106,8 @@ GrowsTo text line old new (LeafAt p) = GrowsBy line (offset p) old new
 GrowsTo text line old new (TaskAt p marker) = GrowsText text line old new marker (offset p)
 GrowsTo text line old new (TaggedAt n) = GrowsBy line n old new
 
--- nodes became others, at most four more of their own for each byte from a position up to an offset
+-- nodes became others, at most four more of their own for each byte from a position up to an offset; before the text of a task, from wherever its marker
+-- may stand
 abbrev pub GrowsFrom : List ℕ → Position → ℕ → List (ℕ × Item) → List (ℕ × Item) → Type 0
 GrowsFrom text (LineAt n) next old new = GrowsBy n next old new
 GrowsFrom text (InLine p) next old new = GrowsBy (offset p) next old new

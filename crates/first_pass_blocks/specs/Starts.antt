@@ -69,9 +69,7 @@ after_at p e TagAlone = TaggedAt e
 -- the same where no other container begins
 abbrev pub last_at : Place → ℕ → AfterMarker → Position
 last_at p e OnLine = LeafAt p
-last_at p e (TaskText marker) = TaskAt p marker
-last_at p e (LineEnds marker) = LineAt e
-last_at p e TagAlone = TaggedAt e
+last_at p e after = after_at p e after
 
 -- no item is empty then, but one whose line is over after its marker; the marker of a task stands in an item
 abbrev pub IsAfter : AfterMarker → Reading → Type 0

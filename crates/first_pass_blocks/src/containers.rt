@@ -11,7 +11,7 @@ use crate::openers::{AfterMarker, Opener, Start, start_at};
 use first_pass_lines::lines::scan_blank_line;
 use first_pass_lines::places::{next_line, rest_of};
 use first_pass_lists::reading::Reading;
-pub use first_pass_open::containers::scan_containers;
+use first_pass_open::containers::scan_containers;
 use first_pass_open::place::Place;
 use first_pass_open::source::Source;
 use first_pass_scan::line_start::LineStart;

@@ -1,6 +1,7 @@
 //! Leaf blocks that are told by their mark (CommonMark 4.1, 4.2, 4.4 to 4.6, and metadata).
 
-ghost use Rattle.std.specs.Prelude.{IfOk};
+ghost use Rattle.std.specs.Prelude.{IfOk, ℕ};
+ghost use Rattle.first_pass_lines.specs.Places.{Place};
 ghost use Rattle.first_pass_grammar.specs.Kinds.{HtmlToEnd as HtmlKind};
 ghost use Rattle.first_pass_text.specs.Found.{marked_kind};
 ghost use Rattle.first_pass_text.specs.declared.kinds.MarkedLeaf.TheVariants.{IndentedCode, Metadata, HtmlToEnd, ThematicBreak, AtxHeading, FencedCode};
@@ -33,23 +34,23 @@ impl<'a> BlockPass<'a> {
     {
         match leaf {
             MarkedLeaf::IndentedCode => {
-                let next = self.append_code(place, columns, at)?;
+                let next = self.append_code(place)?;
                 Ok(next)
             }
             MarkedLeaf::Metadata(byte) => {
-                let next = self.append_metadata(&place, byte, columns, at)?;
+                let next = self.append_metadata(byte, at)?;
                 Ok(next)
             }
             MarkedLeaf::HtmlToEnd(end) => {
-                let next = self.append_html(&place, end, columns, at)?;
+                let next = self.append_html(end, columns, at)?;
                 Ok(next)
             }
             MarkedLeaf::ThematicBreak(size) => {
-                let next = self.append_rule(&place, size, columns, at)?;
+                let next = self.append_rule(size, at)?;
                 Ok(next)
             }
             MarkedLeaf::AtxHeading(level) => {
-                let next = self.append_heading(&place, level, columns, at)?;
+                let next = self.append_heading(level, at)?;
                 Ok(next)
             }
             MarkedLeaf::FencedCode(count, byte) => {
@@ -58,20 +59,15 @@ impl<'a> BlockPass<'a> {
                     byte,
                     count,
                 };
-                let next = self.append_fenced_code(&place, fence, at)?;
+                let next = self.append_fenced_code(fence, at)?;
                 Ok(next)
             }
         }
     }
 
-    // Appends indented code.
-    fn append_code(
-        &mut self,
-        place: Place<'a>,
-        columns: usize,
-        at: usize,
-    ) -> Result<usize, AllocError>
-        requires { IsFoundIn self.old place IndentedCode columns at }
+    // Appends the indented code that is found at a place.
+    fn append_code(&mut self, place: Place<'a>) -> Result<usize, AllocError>
+        requires { (columns : ℕ) × (at : ℕ) × IsFoundIn self.old place IndentedCode columns at }
         ensures { IfOk result (λ next. AddsLeaf self.old self.new place.entry (marked_kind IndentedCode) next) }
     {
         self.source.is_short();
@@ -90,16 +86,11 @@ impl<'a> BlockPass<'a> {
         Ok(next)
     }
 
-    // Appends the metadata block of this byte.
-    fn append_metadata(
-        &mut self,
-        place: &Place<'a>,
-        byte: u8,
-        columns: usize,
-        at: usize,
-    ) -> Result<usize, AllocError>
-        requires { IsFoundIn self.old place.now (Metadata byte) columns at }
-        ensures { IfOk result (λ next. AddsLeaf self.old self.new place.now (marked_kind (Metadata byte)) next) }
+    // Appends the metadata block of this byte that is found at the offset `at`.
+    fn append_metadata(&mut self, byte: u8, at: usize) -> Result<usize, AllocError>
+        requires { (p : Place) × (columns : ℕ) × IsFoundIn self.old p (Metadata byte) columns at }
+        ensures { IfOk result (λ next. (p : Place) (columns : ℕ) → IsFoundIn self.old p (Metadata byte) columns at
+            → AddsLeaf self.old self.new p (marked_kind (Metadata byte)) next) }
     {
         let next = parse_metadata_block(
             &mut self.reading.tree,
@@ -112,16 +103,16 @@ impl<'a> BlockPass<'a> {
         Ok(next)
     }
 
-    // Appends the HTML block that this text ends.
+    // Appends the HTML block that this text ends, after so many columns, which is found at the offset `at`.
     fn append_html(
         &mut self,
-        place: &Place<'a>,
         end: &'static str,
         columns: usize,
         at: usize,
     ) -> Result<usize, AllocError>
-        requires { IsFoundIn self.old place.now (HtmlToEnd end) columns at }
-        ensures { IfOk result (λ next. AddsLeaf self.old self.new place.now HtmlKind next) }
+        requires { (p : Place) × IsFoundIn self.old p (HtmlToEnd end) columns at }
+        ensures { IfOk result (λ next. (p : Place) → IsFoundIn self.old p (HtmlToEnd end.entry) columns at
+            → AddsLeaf self.old self.new p HtmlKind next) }
     {
         let next = parse_html_block_type_1_to_5(
             &mut self.reading.tree,
@@ -135,32 +126,22 @@ impl<'a> BlockPass<'a> {
         Ok(next)
     }
 
-    // Appends the thematic break of so many bytes.
-    fn append_rule(
-        &mut self,
-        place: &Place<'a>,
-        size: usize,
-        columns: usize,
-        at: usize,
-    ) -> Result<usize, AllocError>
-        requires { IsFoundIn self.old place.now (ThematicBreak size) columns at }
-        ensures { IfOk result (λ next. AddsLeaf self.old self.new place.now (marked_kind (ThematicBreak size)) next) }
+    // Appends the thematic break of so many bytes that is found at the offset `at`.
+    fn append_rule(&mut self, size: usize, at: usize) -> Result<usize, AllocError>
+        requires { (p : Place) × (columns : ℕ) × IsFoundIn self.old p (ThematicBreak size) columns at }
+        ensures { IfOk result (λ next. (p : Place) (columns : ℕ) → IsFoundIn self.old p (ThematicBreak size) columns at
+            → AddsLeaf self.old self.new p (marked_kind (ThematicBreak size)) next) }
     {
         self.source.is_short();
         let next = parse_hrule(&mut self.reading.tree, size, at)?;
         Ok(next)
     }
 
-    // Appends the ATX heading of this level.
-    fn append_heading(
-        &mut self,
-        place: &Place<'a>,
-        level: HeadingLevel,
-        columns: usize,
-        at: usize,
-    ) -> Result<usize, AllocError>
-        requires { IsFoundIn self.old place.now (AtxHeading level) columns at }
-        ensures { IfOk result (λ next. AddsLeaf self.old self.new place.now (marked_kind (AtxHeading level)) next) }
+    // Appends the ATX heading of this level that is found at the offset `at`.
+    fn append_heading(&mut self, level: HeadingLevel, at: usize) -> Result<usize, AllocError>
+        requires { (p : Place) × (columns : ℕ) × IsFoundIn self.old p (AtxHeading level) columns at }
+        ensures { IfOk result (λ next. (p : Place) (columns : ℕ) → IsFoundIn self.old p (AtxHeading level) columns at
+            → AddsLeaf self.old self.new p (marked_kind (AtxHeading level)) next) }
     {
         let next = parse_atx_heading(
             self.alloc,
@@ -174,16 +155,12 @@ impl<'a> BlockPass<'a> {
         Ok(next)
     }
 
-    // Appends the fenced code block with this fence.
-    fn append_fenced_code(
-        &mut self,
-        place: &Place<'a>,
-        fence: Fence,
-        at: usize,
-    ) -> Result<usize, AllocError>
-        requires { IsFoundIn self.old place.now (FencedCode fence.count fence.byte) fence.indent at }
-        ensures { IfOk result (λ next.
-            AddsLeaf self.old self.new place.now (marked_kind (FencedCode fence.count fence.byte)) next) }
+    // Appends the fenced code block with this fence, which is found at the offset `at`.
+    fn append_fenced_code(&mut self, fence: Fence, at: usize) -> Result<usize, AllocError>
+        requires { (p : Place) × IsFoundIn self.old p (FencedCode fence.count fence.byte) fence.indent at }
+        ensures { IfOk result (λ next. (p : Place)
+            → IsFoundIn self.old p (FencedCode fence.count fence.byte) fence.indent at
+            → AddsLeaf self.old self.new p (marked_kind (FencedCode fence.count fence.byte)) next) }
     {
         let next = parse_fenced_code_block(
             self.alloc,

@@ -1,7 +1,7 @@
 //! The block pass of CommonMark: a text goes in, the tree of its blocks comes out (`pass::run_first_pass`).
 #![tactic(auto)]
 
-pub mod containers;
+mod containers;
 pub mod definition;
 pub mod laws;
 mod leaf;

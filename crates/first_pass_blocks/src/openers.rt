@@ -1,6 +1,6 @@
 //! Which container begins at a place (CommonMark 5.1, 5.2).
 
-ghost use Rattle.std.specs.Prelude.{◌≡◌, Some, None, MatchOption, IsUtf8, if◌then◌else◌};
+ghost use Rattle.std.specs.Prelude.{◌≡◌, Some, None, MatchOption, IsUtf8};
 ghost use Rattle.first_pass_lines.specs.Places.{IsPlaceOf};
 ghost use Rattle.first_pass_grammar.specs.Containers.{at_rest};
 ghost use Rattle.first_pass_grammar.specs.Kinds.{item_at};

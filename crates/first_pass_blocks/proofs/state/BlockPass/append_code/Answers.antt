@@ -16,7 +16,7 @@ use Rattle.first_pass_blocks.proofs.state.BlockPass.append_code.Goals as goal
 
 pub offset-requires : goal.offset-requires
 offset-requires c =
-    let i = columns_keep c.args.self.now.source.text.now 4 c.args.place c.requires.utf8 c.requires.place in
+    let i = columns_keep c.args.self.now.source.text.now 4 c.args.place c.requires.2.utf8 c.requires.2.place in
     let e = read_to (after_columns 4) _ c.args.place _ c.scan_space_upto.new.self refl c.scan_space_upto.ensures.rest c.place.view_is in
     let short = c.is_short.ensures in
     omega (arith, i.within, e)
@@ -24,17 +24,17 @@ offset-requires c =
 pub parse_indented_code_block-requires-clause-boundary : goal.parse_indented_code_block-requires-clause-boundary
 parse_indented_code_block-requires-clause-boundary c =
     let text = c.args.self.now.source.text.now in
-    let i = columns_keep text 4 c.args.place c.requires.utf8 c.requires.place in
+    let i = columns_keep text 4 c.args.place c.requires.2.utf8 c.requires.2.place in
     let e = read_to (after_columns 4) _ c.args.place _ _ c.offset.ensures c.scan_space_upto.ensures.rest c.place.view_is in
     subst (IsCharBoundary text) (sym e) i.boundary
 
 pub parse_indented_code_block-requires-clause-code : goal.parse_indented_code_block-requires-clause-code
 parse_indented_code_block-requires-clause-code c =
     let text = c.args.self.now.source.text.now in
-    let i = columns_keep text 4 c.args.place c.requires.utf8 c.requires.place in
+    let i = columns_keep text 4 c.args.place c.requires.2.utf8 c.requires.2.place in
     let e = read_to (after_columns 4) _ c.args.place _ _ c.offset.ensures c.scan_space_upto.ensures.rest c.place.view_is in
     ap (λ n. is_blank_line (drop n text)) e ∙ ap is_blank_line (sym i.left) ∙ blank_columns 4 c.args.place.rest
-    ∙ (found_says c.args.self.now.source.options c.args.place IndentedCode c.args.columns c.args.at c.requires.found).0
+    ∙ (found_says c.args.self.now.source.options c.args.place IndentedCode c.requires.0 c.requires.1 c.requires.2.found).0
 
 pub returns : goal.returns
 returns c =
@@ -43,7 +43,7 @@ returns c =
     let options = self.source.options in
     let p : Place = c.args.place in
     let q : Place = moved_columns 4 p in
-    let f = c.requires in
+    let f = c.requires.2 in
     let e = c.in_ok-next.ensures in
     let next = c.in_ok-next.next in
     let names = names_of c.parse_indented_code_block.new.allocs in

@@ -12,18 +12,16 @@ use Rattle.first_pass_blocks.proofs.state.BlockPass.append_fenced_code.Goals as 
 
 pub parse_fenced_code_block-requires : goal.parse_fenced_code_block-requires
 parse_fenced_code_block-requires c = record {
-  boundary = found_boundary _ _ _ c.requires.utf8 c.requires.place c.requires.found.at_is;
-  fence = fence_found c.args.self.now c.args.place.now c.args.fence.count c.args.fence.byte c.args.fence.indent c.args.at c.requires;
+  boundary = found_boundary _ _ _ c.requires.1.utf8 c.requires.1.place c.requires.1.found.at_is;
+  fence = fence_found c.args.self.now c.requires.0 c.args.fence.count c.args.fence.byte c.args.fence.indent c.args.at c.requires.1;
 }
 
 pub returns : goal.returns
-returns c =
+returns c = λ p f.
     let self = c.args.self.now in
     let text = self.source.text.now in
-    let p : Place = c.args.place.now in
     let fence : Fence = c.args.fence in
     let leaf : MarkedLeaf = FencedCode fence.count fence.byte in
-    let f = c.requires in
     let e = c.in_ok-next.ensures in
     let next = c.in_ok-next.next in
     let names = names_of c.parse_fenced_code_block.new.allocs in

@@ -13,19 +13,17 @@ use Rattle.first_pass_blocks.proofs.state.BlockPass.append_html.Goals as goal
 
 pub parse_html_block_type_1_to_5-requires : goal.parse_html_block_type_1_to_5-requires
 parse_html_block_type_1_to_5-requires c = record {
-  boundary = found_boundary _ _ _ c.requires.utf8 c.requires.place c.requires.found.at_is;
-  columns = (columns_are _ _ c.requires.found.columns_are (found_says _ _ (HtmlToEnd c.args.«end») _ _ c.requires.found)).1;
+  boundary = found_boundary _ _ _ c.requires.1.utf8 c.requires.1.place c.requires.1.found.at_is;
+  columns = (columns_are _ _ c.requires.1.found.columns_are (found_says _ _ (HtmlToEnd c.args.«end») _ _ c.requires.1.found)).1;
 }
 
 pub returns : goal.returns
-returns c =
+returns c = λ p f.
     let self = c.args.self.now in
     let text = self.source.text.now in
     let options = self.source.options in
-    let p : Place = c.args.place.now in
     let leaf : MarkedLeaf = HtmlToEnd c.args.«end» in
     let tag = c.args.«end».now in
-    let f = c.requires in
     let e = c.in_ok-next.ensures in
     let next = c.in_ok-next.next in
     let at = c.args.at in
