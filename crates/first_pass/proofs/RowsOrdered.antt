@@ -8,7 +8,7 @@ use Rattle.first_pass_grammar.specs.OpenOrder.{IsOrderedTo}
 use Rattle.first_pass_grammar.specs.Order.{GrowsBy}
 use Rattle.first_pass_grammar.proofs.OwnNodes.{own_ended, own_added}
 use Rattle.first_pass_open.specs.OpenBlock.{IsJustPushed, closed_by}
-use Rattle.first_pass_text.specs.Between.{AddsBetween}
+use Rattle.first_pass_open.specs.Between.{AddsBetween}
 use Rattle.first_pass_tables.specs.Appends.{with_below, ClosesBetween}
 use Rattle.first_pass.specs.Holds.{behind_row}
 use Rattle.first_pass_blocks.proofs.CountLemmas.{block_count}

@@ -26,7 +26,7 @@ use Rattle.first_pass_grammar.specs.Texts.{by_backslash}
 use Rattle.first_pass_open.specs.OpenBlock.{begun_item, with_child}
 use Rattle.first_pass_open.specs.Path.{path_of}
 use Rattle.first_pass_open.proofs.PathLemmas.{get_front}
-use Rattle.first_pass_text.specs.Between.{StandsBefore}
+use Rattle.first_pass_open.specs.Between.{StandsBefore}
 use Rattle.first_pass_text.specs.CutTexts.{BecomesHeading, CutsBlock, cut_chain}
 use Rattle.first_pass_text.proofs.OrderParagraph.{TextInOrder, text_is_in_order, chain_end_place}
 use Rattle.first_pass_text.proofs.OrderPlain.{cut_marker, kept_place, marked_end}

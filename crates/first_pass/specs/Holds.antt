@@ -12,8 +12,8 @@ use Rattle.first_pass_open.specs.Path.{path_of}
 use Rattle.first_pass_tokens.specs.Braces.{no_braces}
 use Rattle.first_pass_tokens.specs.LineTokens.{spot}
 use Rattle.first_pass_tokens.specs.TreeTokens.{chained}
-use Rattle.first_pass_text.specs.Appends.{line_end_at}
-use Rattle.first_pass_text.specs.Between.{StandsBefore}
+use Rattle.first_pass_open.specs.Between.{line_end_at}
+use Rattle.first_pass_open.specs.Between.{StandsBefore}
 
 -- where reading continues after the row of a table: at its end, or at an offset where there is none (this project)
 abbrev pub behind_row : Option (ℕ × TreeIndex) → ℕ → ℕ

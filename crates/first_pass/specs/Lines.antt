@@ -13,7 +13,7 @@ use Rattle.first_pass_grammar.specs.TableHeads.{headed_table}
 use Rattle.first_pass_flank.specs.declared.flank.TableParseMode.{TableParseMode}
 use Rattle.first_pass_flank.specs.declared.flank.TableParseMode.TheVariants.{Scan, Active, Disabled}
 use Rattle.first_pass_names.specs.TableEntries.{names_of, with_alignments, AddsTexts}
-use Rattle.first_pass_text.specs.Appends.{line_end_at}
+use Rattle.first_pass_open.specs.Between.{line_end_at}
 use Rattle.first_pass.specs.declared.state.FirstPass.{FirstPass}
 use Rattle.first_pass.specs.Views.{allocs_of, braces_of, context_in, source_options, source_text, tree_of}
 

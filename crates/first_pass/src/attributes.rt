@@ -21,7 +21,7 @@ use crate::state::FirstPass;
 use first_pass_attributes::attrs::HeadingAttributes;
 use first_pass_lines::places::rest_of;
 use first_pass_scan::leaf_scan::scan_setext_heading;
-use first_pass_text::attributes;
+use first_pass_text::attributes::{self, Underlined};
 use first_pass_tree::tree_index::TreeIndex;
 use std::alloc::AllocError;
 
@@ -43,8 +43,7 @@ impl<'a> FirstPass<'a> {
             (source_options self.now) (slice_range (source_text self.now) header_start header_end)) }
     {
         let answer = attributes::extract_and_parse_heading_attribute_block(
-            self.pass.alloc,
-            self.pass.source,
+            &self.pass.source,
             header_start,
             header_end,
         )?;
@@ -88,14 +87,16 @@ impl<'a> FirstPass<'a> {
         let Some((length, level)) = scan_setext_heading(bytes) else {
             return Ok(None);
         };
+        let underlined = Underlined {
+            level,
+            broken: has_trailing_content,
+        };
         attributes::make_heading(
-            pass.alloc,
-            pass.source,
+            &pass.source,
             &mut pass.reading.tree,
             &mut pass.allocs,
             node_ix,
-            level,
-            has_trailing_content,
+            underlined,
         )?;
         Ok(Some(ix + length))
     }

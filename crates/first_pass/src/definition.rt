@@ -9,7 +9,7 @@ ghost use Rattle.first_pass_links.specs.Labels.{label_at};
 ghost use Rattle.first_pass_links.specs.Texts.{Borrows};
 ghost use Rattle.first_pass_tree.specs.Forest.{in_table};
 ghost use Rattle.first_pass_grammar.specs.Definitions.{prefix_crossed, space_at, title_at, target_at, reference_at};
-ghost use Rattle.first_pass_text.specs.Rests.{IsRestOf};
+ghost use Rattle.first_pass_kinds.specs.Rests.{IsRestOf};
 ghost use Rattle.first_pass_definitions.specs.Found.{IsTarget, IsReference, BorrowsLabel};
 ghost use Rattle.first_pass_definitions.specs.Memory.{LabelAsks, TargetAsks, ReferenceAsks, space_asks, title_asks};
 ghost use Rattle.first_pass.specs.Views.{context_in, source_text, tree_of};
@@ -46,12 +46,8 @@ impl<'a> FirstPass<'a> {
         ensures err { OnErr result (ReferenceAsks (in_table (tree_of self.old).nodes (tree_of self.old).spine)
             (context_in self.old) (drop start (source_text self.old))) }
     {
-        reference::parse_refdef_total(
-            self.pass.alloc,
-            self.pass.source,
-            &self.pass.reading.tree,
-            start,
-        )
+        let pass = &self.pass;
+        reference::parse_refdef_total(&pass.source, &pass.reading.tree, start)
     }
 
     /// The label after the `[` that stands before the offset `start` into the text: how many bytes it has from there
@@ -76,12 +72,7 @@ impl<'a> FirstPass<'a> {
         ensures err { OnErr result (LabelAsks (context_in self.now)
             (in_table (tree_of self.now).nodes (tree_of self.now).spine) (drop start (source_text self.now))) }
     {
-        label::parse_refdef_label(
-            self.pass.alloc,
-            self.pass.source,
-            &self.pass.reading.tree,
-            start,
-        )
+        label::parse_refdef_label(&self.pass.source, &self.pass.reading.tree, start)
     }
 
     /// What a definition has after its colon, before the offset `start` into the text: white space, a destination, and
@@ -106,8 +97,7 @@ impl<'a> FirstPass<'a> {
             (context_in self.now) (drop start (source_text self.now))) }
     {
         target::scan_refdef(
-            self.pass.alloc,
-            self.pass.source,
+            &self.pass.source,
             &self.pass.reading.tree,
             span_start,
             start,
@@ -132,12 +122,7 @@ impl<'a> FirstPass<'a> {
         ensures err { OnErr result (space_asks (context_in self.now) (drop i (source_text self.now)) ≡ true) }
     {
         let _ = bytes;
-        space::scan_refdef_space(
-            self.pass.alloc,
-            self.pass.source,
-            &self.pass.reading.tree,
-            i,
-        )
+        space::scan_refdef_space(&self.pass.source, &self.pass.reading.tree, i)
     }
 
     /// The title that `text` begins with, all that the whole text has from a place on: how many bytes it has, what
@@ -158,11 +143,6 @@ impl<'a> FirstPass<'a> {
             list_any is_line_end (text_of found.1) ≡ false → Borrows (text_of found.1) found.1)) }
         ensures err { OnErr result (title_asks (context_in self.now) text.now ≡ true) }
     {
-        title::scan_refdef_title(
-            self.pass.alloc,
-            self.pass.source,
-            &self.pass.reading.tree,
-            text,
-        )
+        title::scan_refdef_title(&self.pass.source, &self.pass.reading.tree, text)
     }
 }

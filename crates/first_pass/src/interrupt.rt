@@ -1,23 +1,47 @@
 //! Which lines end a paragraph before them, as calls of the pass.
 
-ghost use Rattle.std.specs.Prelude.{◌≡◌, ◌&&◌, ◌||◌, not, true, Some, None, IfOk, OnErr, if◌then◌else◌};
+ghost use Rattle.std.specs.Prelude.{◌≡◌, ◌&&◌, ◌||◌, not, true, Some, None, IfOk, IsOk, OnErr, if◌then◌else◌};
 ghost use Rattle.first_pass_lines.specs.Places.{line_rest};
 ghost use Rattle.first_pass_grammar.specs.Containers.{front};
 ghost use Rattle.first_pass_grammar.specs.Kinds.{all_taken, ends_tag, interrupts_with, is_blank_rest};
 ghost use Rattle.first_pass_grammar.specs.TableHeads.{table_interrupts};
-ghost use Rattle.first_pass_text.specs.Rests.{IsRestOf};
-ghost use Rattle.first_pass_text.specs.Memory.{may_head, line_may_head};
+ghost use Rattle.first_pass_kinds.specs.Rests.{IsRestOf};
+ghost use Rattle.first_pass_kinds.specs.Memory.{may_head, line_may_head};
 ghost use Rattle.first_pass_tree.specs.Forest.{in_table};
 ghost use Rattle.first_pass.specs.Views.{context_in, source_text, tree_of};
 
 use crate::state::FirstPass;
 use bitflags::Flags;
 use first_pass_blocks::definition::scan_next_line_or_lazy_continuation;
+use first_pass_items::item::Item;
 use first_pass_items::option_set::Options;
+use first_pass_kinds::interrupt::interrupts_without_table;
+use first_pass_kinds::table_start::interrupts_as_table;
 use first_pass_scan::line_start::LineStart;
-use first_pass_text::interrupt::scan_paragraph_interrupt_no_table;
-use first_pass_text::table_start::interrupts_as_table;
-use std::alloc::AllocError;
+use first_pass_tree::forest::Tree;
+use std::alloc::{AllocError, Global};
+
+/// Whether `text`, what is left of a line after its indentation of under four columns, interrupts a
+/// paragraph: its line ends, or a thematic break, an ATX heading, a code fence, a block quote, a list item or an HTML
+/// block of the kinds 1 to 6 begins. An item interrupts where the line doesn't continue all containers, and in a
+/// table; else only a bullet or the number 1 does, and only with a rest that isn't blank (CommonMark 4.8, 4.1, 4.2,
+/// 4.5, 5.1, 5.2, 4.6; GFM 4.10). There is no error: no memory is asked for.
+pub fn scan_paragraph_interrupt_no_table(
+    _alloc: Global,
+    text: &str,
+    current_container: bool,
+    _has_footnote: bool,
+    _definition_list: bool,
+    tree: &Tree<Item>,
+    _tree_position: usize,
+) -> Result<bool, AllocError>
+    ensures value { IfOk result (λ yes. yes
+        ≡ interrupts_with (current_container && not (in_table tree.now.nodes tree.now.spine)) text.now) }
+    ensures ok { IsOk result }
+{
+    let whole = current_container && !tree.is_in_table();
+    Ok(interrupts_without_table(text.as_bytes(), whole))
+}
 
 impl<'a> FirstPass<'a> {
     /// Whether `text`, what is left of a line after its indentation of under four columns and all that the whole text
@@ -37,7 +61,7 @@ impl<'a> FirstPass<'a> {
         ensures err { OnErr result (may_head (context_in self.now) text.now ≡ true) }
     {
         if scan_paragraph_interrupt_no_table(
-            self.pass.alloc,
+            self.pass.source.alloc,
             text,
             current_container,
             self.pass.source.options.contains(Options::ENABLE_FOOTNOTES),
@@ -50,13 +74,7 @@ impl<'a> FirstPass<'a> {
         )? {
             return Ok(true);
         }
-        let options = self.pass.source.options;
-        interrupts_as_table(
-            self.pass.alloc,
-            options,
-            &self.pass.reading.tree,
-            text.as_bytes(),
-        )
+        interrupts_as_table(&self.pass.source, &self.pass.reading.tree, text.as_bytes())
     }
 
     /// Enters the line that `bytes` begin with, all that the text has from the line on: a line that continues a
@@ -76,11 +94,7 @@ impl<'a> FirstPass<'a> {
             else Some (all_taken line))) }
         ensures err { OnErr result (line_may_head (context_in self.old) (line_rest bytes.now) ≡ true) }
     {
-        scan_next_line_or_lazy_continuation(
-            self.pass.alloc,
-            self.pass.source,
-            bytes,
-            &self.pass.reading.tree,
-        )
+        let pass = &self.pass;
+        scan_next_line_or_lazy_continuation(&pass.source, bytes, &pass.reading.tree)
     }
 }

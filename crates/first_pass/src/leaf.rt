@@ -7,15 +7,15 @@ ghost use Rattle.first_pass_names.specs.TableEntries.{names_of};
 ghost use Rattle.first_pass_grammar.specs.Leaves.{document, rule_block};
 ghost use Rattle.first_pass_lists.specs.Closing.{with_block};
 ghost use Rattle.first_pass_text.specs.Appends.{AddsHeading};
-ghost use Rattle.first_pass_tables.specs.TextsAdded.{AddsText};
-ghost use Rattle.first_pass_text.specs.Between.{AddsBetween, IsInItem, StandsBefore};
+ghost use Rattle.first_pass_blocks.specs.TextsAdded.{AddsText};
+ghost use Rattle.first_pass_open.specs.Between.{AddsBetween, IsInItem, StandsBefore};
 ghost use Rattle.first_pass_blocks.specs.Ordered.{IsOrderedAt};
 ghost use Rattle.first_pass.specs.Kept.{KeepsNames, KeepsTables};
 ghost use Rattle.first_pass.specs.Views.{allocs_of, reading_of, source_options, source_text, tree_of};
 
 use crate::state::FirstPass;
+use first_pass_blocks::text;
 use first_pass_items::item::{HeadingLevel, Item};
-use first_pass_tables::text;
 use first_pass_text::{heading, rule};
 use std::alloc::AllocError;
 
@@ -46,9 +46,7 @@ impl<'a> FirstPass<'a> {
     {
         let pass = &mut self.pass;
         let next = text::parse_paragraph(
-            pass.alloc,
-            pass.source,
-            &pass.lookup_table,
+            &pass.source,
             &mut pass.reading.tree,
             &mut pass.allocs,
             start_ix,
@@ -80,9 +78,7 @@ impl<'a> FirstPass<'a> {
     {
         let pass = &mut self.pass;
         let next = heading::parse_atx_heading(
-            pass.alloc,
-            pass.source,
-            &pass.lookup_table,
+            &pass.source,
             &mut pass.reading.tree,
             &mut pass.allocs,
             start,

@@ -11,9 +11,9 @@ ghost use Rattle.first_pass.specs.Views.{reading_of, source_text, tree_of};
 use crate::state::FirstPass;
 use first_pass_flank::flank::TableParseMode;
 use first_pass_items::item::{Item, ItemBody};
+use first_pass_kinds::table_start::scan_headed_line;
 use first_pass_lines::lines::content_len;
 use first_pass_lines::places::{next_line, rest_of};
-use first_pass_text::table_start::scan_headed_line;
 use first_pass_tokens::line::text_upto;
 use first_pass_tokens::pieces::Content;
 use std::alloc::AllocError;
@@ -93,17 +93,18 @@ impl<'a> FirstPass<'a> {
     {
         let pass = &mut self.pass;
         pass.reading.tree.is_forest();
+        let source = &pass.source;
         let content = Content {
-            options: pass.source.options,
+            options: source.options,
+            whole: source.text,
+            special: &source.special,
             start,
             end,
             row: false,
         };
-        let lut = &pass.lookup_table;
         let tree = &mut pass.reading.tree;
-        let text = pass.source.text;
         let braces = &mut self.braces;
-        let line = pass.allocs.append_line(text, content, lut, tree, braces)?;
+        let line = pass.allocs.append_line(content, tree, braces)?;
         pass.reading.empty_item = None;
         Ok(line)
     }
@@ -125,17 +126,18 @@ impl<'a> FirstPass<'a> {
     {
         let pass = &mut self.pass;
         pass.reading.tree.is_forest();
+        let source = &pass.source;
         let content = Content {
-            options: pass.source.options,
+            options: source.options,
+            whole: source.text,
+            special: &source.special,
             start,
             end,
             row: true,
         };
-        let lut = &pass.lookup_table;
         let tree = &mut pass.reading.tree;
-        let text = pass.source.text;
         let braces = &mut self.braces;
-        let stop = pass.allocs.append_cell(text, content, lut, tree, braces)?;
+        let stop = pass.allocs.append_cell(content, tree, braces)?;
         pass.reading.empty_item = None;
         Ok(stop)
     }
@@ -163,8 +165,8 @@ impl<'a> FirstPass<'a> {
     {
         let bytes = text_upto(self.pass.source.text, end);
         let line = rest_of(bytes, start);
-        let options = self.pass.source.options;
-        let found = scan_headed_line(self.pass.alloc, options, &self.pass.reading.tree, line)?;
+        let pass = &self.pass;
+        let found = scan_headed_line(&pass.source, &pass.reading.tree, line)?;
         let (next, line_break) = self.append_content(start, end)?;
         let Some(alignments) = found else {
             return Ok((next, line_break));

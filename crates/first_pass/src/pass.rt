@@ -13,12 +13,12 @@ ghost use Rattle.first_pass_blocks.specs.Progress.{ReadsBlock};
 ghost use Rattle.first_pass_blocks.specs.State.{Ready};
 ghost use Rattle.first_pass.specs.Views.{allocs_of, pass_of, reading_of, source_options, source_text, tree_of};
 
+pub use crate::interrupt::scan_paragraph_interrupt_no_table;
 pub use crate::state::FirstPass;
 pub use first_pass_below::below::{count_header_cols, get_html_end_tag};
 pub use first_pass_blocks::pass::run_first_pass;
 use first_pass_blocks::state::BlockPass;
 use first_pass_items::option_set::Options;
-pub use first_pass_text::interrupt::scan_paragraph_interrupt_no_table;
 use first_pass_tokens::braces::BraceContexts;
 pub use first_pass_tree::tight::surgerize_tight_list;
 use std::alloc::{AllocError, Global};

@@ -13,7 +13,7 @@ ghost use Rattle.first_pass_names.specs.TableEntries.{names_of};
 ghost use Rattle.first_pass_raw.specs.RawBlocks.{range_of, AppendsRaw, IsPlaceAt, AddsIndented, AddsRaw, behind_line_at, fenced_behind, metadata_behind, html_to_end, html_to_blank};
 ghost use Rattle.first_pass_grammar.specs.Order.{GrowsBy};
 ghost use Rattle.first_pass_lists.specs.Closing.{with_block};
-ghost use Rattle.first_pass_text.specs.Between.{AddsBetween};
+ghost use Rattle.first_pass_open.specs.Between.{AddsBetween};
 ghost use Rattle.first_pass_blocks.specs.Ordered.{IsOrderedAt, IsOrderedFrom};
 ghost use Rattle.first_pass.specs.Kept.{KeepsNames};
 ghost use Rattle.first_pass.specs.Views.{allocs_of, context_in, reading_of, source_options, source_text, tree_of};
@@ -21,7 +21,8 @@ ghost use Rattle.first_pass.specs.Views.{allocs_of, context_in, reading_of, sour
 use crate::state::FirstPass;
 use first_pass_open::place::Place;
 use first_pass_raw::fenced_code::Fence;
-use first_pass_raw::raw_line::{RawKind, append_raw_line};
+use first_pass_raw::html_block::HtmlStart;
+use first_pass_raw::raw_line::{RawKind, RawLine, append_raw_line};
 use first_pass_raw::{fenced_code, html_block, indented_code, metadata_block};
 use std::alloc::AllocError;
 
@@ -92,14 +93,17 @@ impl<'a> FirstPass<'a> {
         let pass = &mut self.pass;
         pass.reading.tree.is_forest();
         pass.source.is_short();
+        let line = RawLine {
+            kind,
+            owed: remaining_space,
+            start,
+            end,
+        };
         append_raw_line(
             &mut pass.reading.tree,
             &mut pass.allocs,
             pass.source.text,
-            kind,
-            remaining_space,
-            start,
-            end,
+            line,
         )?;
         pass.reading.empty_item = None;
         Ok(())
@@ -132,10 +136,9 @@ impl<'a> FirstPass<'a> {
     {
         let pass = &mut self.pass;
         let (next, blank) = indented_code::parse_indented_code_block(
+            &pass.source,
             &mut pass.reading.tree,
             &mut pass.allocs,
-            pass.source.text,
-            pass.source.options,
             start_ix,
             remaining_space,
         )?;
@@ -178,11 +181,9 @@ impl<'a> FirstPass<'a> {
             count: n_fence_char,
         };
         let next = fenced_code::parse_fenced_code_block(
-            pass.alloc,
+            &pass.source,
             &mut pass.reading.tree,
             &mut pass.allocs,
-            pass.source.text,
-            pass.source.options,
             start_ix,
             fence,
         )?;
@@ -216,10 +217,9 @@ impl<'a> FirstPass<'a> {
     {
         let pass = &mut self.pass;
         let next = metadata_block::parse_metadata_block(
+            &pass.source,
             &mut pass.reading.tree,
             &mut pass.allocs,
-            pass.source.text,
-            pass.source.options,
             start_ix,
             metadata_block_ch,
         )?;
@@ -256,14 +256,16 @@ impl<'a> FirstPass<'a> {
             → IsOrderedAt (source_text self.old) (reading_of self.new) next) }
     {
         let pass = &mut self.pass;
+        let start = HtmlStart {
+            at: start_ix,
+            columns: remaining_space.max(indent),
+        };
         let next = html_block::parse_html_block_type_1_to_5(
+            &pass.source,
             &mut pass.reading.tree,
             &mut pass.allocs,
-            pass.source.text,
-            pass.source.options,
-            start_ix,
+            start,
             html_end_tag,
-            remaining_space.max(indent),
         )?;
         pass.reading.empty_item = None;
         Ok(next)
@@ -301,13 +303,15 @@ impl<'a> FirstPass<'a> {
     {
         let pass = &mut self.pass;
         pass.reading.tree.is_forest();
+        let start = HtmlStart {
+            at: start_ix,
+            columns: remaining_space.max(indent),
+        };
         let next = html_block::parse_html_block_type_6_or_7(
+            &pass.source,
             &mut pass.reading.tree,
             &mut pass.allocs,
-            pass.source.text,
-            pass.source.options,
-            start_ix,
-            remaining_space.max(indent),
+            start,
         )?;
         pass.reading.empty_item = None;
         Ok(next)

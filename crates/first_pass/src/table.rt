@@ -9,16 +9,19 @@ ghost use Rattle.first_pass_grammar.specs.OpenOrder.{IsOrderedTo};
 ghost use Rattle.first_pass_grammar.specs.Order.{GrowsBy};
 ghost use Rattle.first_pass_grammar.specs.Tables.{most_filled};
 ghost use Rattle.first_pass_open.specs.OpenBlock.{IsJustPushed};
-ghost use Rattle.first_pass_text.specs.Appends.{line_end_at};
+ghost use Rattle.first_pass_open.specs.Between.{line_end_at};
 ghost use Rattle.first_pass.specs.Holds.{behind_row};
 ghost use Rattle.first_pass_tables.specs.Appends.{IsOpenNode, open_table, ReadsRow, ReadsRowLine, AppendsRows, AddsWholeRows};
 ghost use Rattle.first_pass.specs.Kept.{KeepsNames};
 ghost use Rattle.first_pass.specs.Views.{allocs_of, braces_of, reading_of, source_options, source_text, tree_of, with_tree};
 
 use crate::state::FirstPass;
-use first_pass_tables::{row, rows};
+use first_pass_tables::row::{self, CellsWanted, TableSoFar};
+use first_pass_tables::rows::{self, TableRows};
+use first_pass_tokens::braces::BraceContexts;
 use first_pass_tree::tree_index::TreeIndex;
 use std::alloc::AllocError;
+use std::mem::replace;
 
 impl<'a> FirstPass<'a> {
     /// Appends the rows of a table of `table_cols` columns to the table, the innermost open node, which was just
@@ -57,16 +60,12 @@ impl<'a> FirstPass<'a> {
             table_cols head_start (tree_of self.old) (tree_of self.new) next)) }
     {
         let pass = &mut self.pass;
-        let next = rows::parse_table(
-            pass.alloc,
-            pass.source,
-            &pass.lookup_table,
-            &mut pass.reading.tree,
-            &mut pass.allocs,
-            table_cols,
+        let rows = TableRows {
+            columns: table_cols,
             head_start,
             body_start,
-        )?;
+        };
+        let next = rows::parse_table(&pass.source, &mut pass.reading.tree, &mut pass.allocs, rows)?;
         Ok(Some(next))
     }
 
@@ -98,18 +97,25 @@ impl<'a> FirstPass<'a> {
         ensures few { IfOk result (λ row. (from : ℕ) → from ≤ ix → from < behind_row row ix
             → GrowsBy from (behind_row row ix) (tree_of self.old).nodes (tree_of self.new).nodes) }
     {
+        let mut table = TableSoFar {
+            missing_empty_cells: *missing_empty_cells,
+            braces: replace(&mut self.braces, BraceContexts::new()),
+        };
+        let wanted = CellsWanted {
+            start: ix,
+            most: row_cells,
+        };
         let pass = &mut self.pass;
         let row = rows::parse_table_row(
-            pass.alloc,
-            pass.source,
-            &pass.lookup_table,
+            &pass.source,
             &mut pass.reading.tree,
             &mut pass.allocs,
-            &mut self.braces,
-            ix,
-            row_cells,
-            missing_empty_cells,
-        )?;
+            &mut table,
+            wanted,
+        );
+        self.braces = table.braces;
+        *missing_empty_cells = table.missing_empty_cells;
+        let row = row?;
         Ok(row)
     }
 
@@ -142,17 +148,25 @@ impl<'a> FirstPass<'a> {
             → from < behind_row row ix
             → GrowsBy from (behind_row row ix) (tree_of self.old).nodes (tree_of self.new).nodes) }
     {
+        let mut table = TableSoFar {
+            missing_empty_cells: *missing_empty_cells,
+            braces: replace(&mut self.braces, BraceContexts::new()),
+        };
+        let wanted = CellsWanted {
+            start: ix,
+            most: row_cells,
+        };
         let pass = &mut self.pass;
         let row = row::parse_table_row_inner(
-            pass.source,
-            &pass.lookup_table,
+            &pass.source,
             &mut pass.reading.tree,
             &mut pass.allocs,
-            &mut self.braces,
-            ix,
-            row_cells,
-            missing_empty_cells,
-        )?;
+            &mut table,
+            wanted,
+        );
+        self.braces = table.braces;
+        *missing_empty_cells = table.missing_empty_cells;
+        let row = row?;
         Ok(row)
     }
 }

@@ -25,7 +25,7 @@ use Rattle.first_pass_tree.specs.Forest.{in_table}
 use Rattle.first_pass_open.specs.Path.{context_of}
 use Rattle.first_pass_open.specs.declared.source.Source.{Source}
 use Rattle.first_pass_lists.specs.declared.reading.Reading.{Reading}
-use Rattle.first_pass_text.specs.Rests.{IsRestOf}
+use Rattle.first_pass_kinds.specs.Rests.{IsRestOf}
 use Rattle.first_pass_blocks.specs.declared.state.BlockPass.{BlockPass}
 use Rattle.first_pass_blocks.specs.Views.{reading_of, source_of, source_text, tree_of, context_in}
 use Rattle.first_pass_blocks.proofs.TagLemmas.{tag_end}

@@ -25,7 +25,7 @@ use Rattle.first_pass_grammar.specs.Skeleton.{end_before}
 use Rattle.first_pass_grammar.specs.Derivation.{Tables, node_of}
 use Rattle.first_pass_grammar.specs.Completion.{Frame, InContainer, InList, containers_of, AreBelow}
 use Rattle.first_pass_grammar.proofs.Finishes.{CompletesAt}
-use Rattle.first_pass_text.proofs.KindLemmas.{blank_kind}
+use Rattle.first_pass_kinds.proofs.KindLemmas.{blank_kind}
 use Rattle.first_pass_grammar.proofs.Completions.{counts_in, completes-enter, completes-blank_line, completes-only_blank}
 use Rattle.first_pass_open.specs.OpenBlock.{closed_by}
 use Rattle.first_pass_lists.specs.Closing.{top_body, is_item, popped_by, popped, item_finished_by, item_finished, emptied, blank_read_by, blank_read}

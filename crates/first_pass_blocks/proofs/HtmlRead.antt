@@ -14,7 +14,7 @@ use Rattle.first_pass_open.proofs.PlaceLemmas.{all_keep}
 use Rattle.first_pass_raw.specs.RawBlocks.{IsPlaceAt, behind_line_at, html_to_blank}
 use Rattle.first_pass_lists.specs.Closing.{list_finished}
 use Rattle.first_pass_lists.specs.declared.reading.Reading.{Reading}
-use Rattle.first_pass_text.proofs.KindLemmas.{kind_says}
+use Rattle.first_pass_kinds.proofs.KindLemmas.{kind_says}
 use Rattle.first_pass_blocks.specs.declared.state.BlockPass.{BlockPass}
 use Rattle.first_pass_blocks.specs.Views.{allocs_of, reading_of, source_of, source_options, source_text, tree_of}
 use Rattle.first_pass_blocks.specs.Progress.{ReadsLeaf}

@@ -28,10 +28,10 @@ use Rattle.first_pass_open.specs.Path.{path_of, context_of}
 use Rattle.first_pass_raw.specs.RawBlocks.{IsPlaceAt, behind_line_at, code_behind, AddsIndented, AddsRaw, metadata_behind, fenced_behind, html_to_end}
 use Rattle.first_pass_raw.specs.RawBlocks.{html_to_blank}
 use Rattle.first_pass_blocks.specs.Adding.{AddsKind}
-use Rattle.first_pass_text.specs.Found.{marked_kind}
-use Rattle.first_pass_text.specs.declared.kinds.MarkedLeaf.{MarkedLeaf}
-use Rattle.first_pass_text.specs.declared.kinds.MarkedLeaf.TheVariants.{IndentedCode as MarkedCode, Metadata as MarkedMetadata, HtmlToEnd as MarkedHtml}
-use Rattle.first_pass_text.specs.declared.kinds.MarkedLeaf.TheVariants.{ThematicBreak as MarkedBreak, AtxHeading as MarkedHeading, FencedCode as MarkedFence}
+use Rattle.first_pass_kinds.specs.Found.{marked_kind}
+use Rattle.first_pass_kinds.specs.declared.kinds.MarkedLeaf.{MarkedLeaf}
+use Rattle.first_pass_kinds.specs.declared.kinds.MarkedLeaf.TheVariants.{IndentedCode as MarkedCode, Metadata as MarkedMetadata, HtmlToEnd as MarkedHtml}
+use Rattle.first_pass_kinds.specs.declared.kinds.MarkedLeaf.TheVariants.{ThematicBreak as MarkedBreak, AtxHeading as MarkedHeading, FencedCode as MarkedFence}
 use Rattle.first_pass_text.specs.Appends.{AddsHeading}
 use Rattle.first_pass_lists.specs.Closing.{remembered, list_finished}
 use Rattle.first_pass_lists.specs.declared.reading.Reading.{Reading}

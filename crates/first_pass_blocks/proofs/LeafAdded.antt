@@ -6,15 +6,15 @@ use Rattle.first_pass_grammar.specs.Leaves.{document}
 use Rattle.first_pass_grammar.specs.Kinds.{unindented}
 use Rattle.first_pass_names.specs.TableEntries.{names_of, NamesMore}
 use Rattle.first_pass_raw.specs.RawBlocks.{behind_line_at}
-use Rattle.first_pass_text.specs.Between.{AddsBetween}
-use Rattle.first_pass_text.specs.Found.{IsFoundAt, marked_kind}
-use Rattle.first_pass_text.specs.declared.kinds.Found.TheVariants.{Marked}
-use Rattle.first_pass_text.specs.declared.kinds.MarkedLeaf.{MarkedLeaf}
-use Rattle.first_pass_text.specs.declared.kinds.MarkedLeaf.TheVariants.{FencedCode, AtxHeading}
+use Rattle.first_pass_open.specs.Between.{AddsBetween}
+use Rattle.first_pass_kinds.specs.Found.{IsFoundAt, marked_kind}
+use Rattle.first_pass_kinds.specs.declared.kinds.Found.TheVariants.{Marked}
+use Rattle.first_pass_kinds.specs.declared.kinds.MarkedLeaf.{MarkedLeaf}
+use Rattle.first_pass_kinds.specs.declared.kinds.MarkedLeaf.TheVariants.{FencedCode, AtxHeading}
 use Rattle.first_pass_items.specs.declared.item.HeadingLevel.{HeadingLevel}
 use Rattle.first_pass_lines.specs.Lines.{atx_level}
 use Rattle.first_pass_scan.specs.LeafLines.{code_fence}
-use Rattle.first_pass_text.proofs.KindLemmas.{Says, kind_says}
+use Rattle.first_pass_kinds.proofs.KindLemmas.{Says, kind_says}
 use Rattle.first_pass_open.proofs.PlaceLemmas.{all_keep, place_end}
 use Rattle.first_pass_blocks.specs.declared.state.BlockPass.{BlockPass}
 use Rattle.first_pass_blocks.specs.Views.{allocs_of, reading_of, source_of, source_options, source_text, tree_of}

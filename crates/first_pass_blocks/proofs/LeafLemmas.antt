@@ -32,8 +32,9 @@ use Rattle.first_pass_grammar.specs.Texts.{IsText}
 use Rattle.first_pass_grammar.specs.Completion.{lines_from, Frame, containers_of, AreBelow}
 use Rattle.first_pass_grammar.proofs.Finishes.{CompletesAt}
 use Rattle.first_pass_grammar.proofs.Completions.{leaf_closes, completes-leaf, completes-blank, completes-block, completes-text, counts_in}
-use Rattle.first_pass_text.specs.Appends.{line_end_at, AddsHeading}
-use Rattle.first_pass_tables.specs.TextsAdded.{IsTextAt}
+use Rattle.first_pass_open.specs.Between.{line_end_at}
+use Rattle.first_pass_text.specs.Appends.{AddsHeading}
+use Rattle.first_pass_blocks.specs.TextsAdded.{IsTextAt}
 use Rattle.first_pass_lists.specs.Closing.{remembered, top_body, is_list, list_finished, blank_read_by, blank_read}
 use Rattle.first_pass_lists.specs.declared.reading.Reading.{Reading}
 use Rattle.first_pass_open.specs.Path.{path_of, context_of}
@@ -42,7 +43,7 @@ use Rattle.first_pass_blocks.specs.Positions.{ReadyText, ReadyLazy, ReadyLeaf}
 use Rattle.first_pass_blocks.proofs.LineLemmas.{list_finished_none}
 use Rattle.first_pass_blocks.proofs.HandedOn.{list_finished_blank}
 use Rattle.first_pass_blocks.proofs.OpenLemmas.{open_path, open_below, frame-append}
-use Rattle.first_pass_text.proofs.KindLemmas.{kind_says}
+use Rattle.first_pass_kinds.proofs.KindLemmas.{kind_says}
 use Rattle.first_pass_blocks.proofs.RuleLemmas.{rule_line}
 use Rattle.first_pass_blocks.proofs.StateLemmas.{ready_plain}
 use Rattle.first_pass_blocks.proofs.FinishLemmas.{EndsListAt, plain_by, ready_finished, path_finished}

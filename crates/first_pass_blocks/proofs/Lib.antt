@@ -26,5 +26,6 @@ pub mod StartLemmas
 pub mod StateLemmas
 pub mod TagLemmas
 pub mod TextLemmas
+pub mod TextsAre
 pub mod WholeKept
 pub mod WrittenLemmas

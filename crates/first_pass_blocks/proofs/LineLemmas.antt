@@ -84,17 +84,13 @@ finished_none r = none_by r r.empty_item refl
 pub same_place : (text : List ℕ) (p q : Place) → p ≡ q → IsPlaceOf text q → IsPlaceOf text p
 same_place text p q same i = subst (IsPlaceOf text) (sym same) i
 
--- the place in the line after what it continues
-pub line_kept : (options : Options) (text bytes rest : List ℕ) (start kept : ℕ) (f : Forest Item) (line r : Rest) → IsUtf8 bytes → bytes ≡ text
-    → rest ≡ drop start bytes → line ≡ line_rest rest → IsCharBoundary text start → after (path_in options f.nodes (outer kept f.spine)) line ≡ Some r
+-- a line has what is left of it after what it continues
+pub line_kept : (options : Options) (text : List ℕ) (start kept : ℕ) (f : Forest Item) (r : Rest) → IsUtf8 text → IsCharBoundary text start
+    → after (path_in options f.nodes (outer kept f.spine)) (line_rest (drop start text)) ≡ Some r
     → IsPlaceOf text (place_at start r) × (line_end (place_at start r) ≡ start + line_len (drop start text))
-line_kept options text bytes rest start kept f line r u bytes_is rest_is line_is boundary taken =
-    let utf8 : IsUtf8 text = subst IsUtf8 bytes_is u in
-    let from : line ≡ line_rest (drop start text) = line_is ∙ ap line_rest (rest_is ∙ ap (drop start) bytes_is) in
-    let taken' : after (path_in options f.nodes (outer kept f.spine)) (line_rest (drop start text)) ≡ Some r =
-    ap (after (path_in options f.nodes (outer kept f.spine))) (sym from) ∙ taken in
+line_kept options text start kept f r utf8 boundary taken =
     let k =
-    after_keeps text start (path_in options f.nodes (outer kept f.spine)) (line_rest (drop start text)) r utf8 taken' (line_is_place text start boundary) in
+    after_keeps text start (path_in options f.nodes (outer kept f.spine)) (line_rest (drop start text)) r utf8 taken (line_is_place text start boundary) in
     (k.0, k.1 ∙ line_start_end text start)
 
 -- Nothing that is closed or opened makes an item empty.

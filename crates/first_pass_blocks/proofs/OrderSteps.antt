@@ -28,7 +28,7 @@ use Rattle.first_pass_grammar.specs.Openers.{after_task}
 use Rattle.first_pass_blocks.specs.Positions.{line_or, OrderedOn}
 use Rattle.first_pass_blocks.specs.Starts.{after_told, after_at}
 use Rattle.first_pass_blocks.specs.Ordered.{reached, IsOrderedAt}
-use Rattle.first_pass_text.specs.Between.{AddsBetween, StandsBefore}
+use Rattle.first_pass_open.specs.Between.{AddsBetween, StandsBefore}
 use Rattle.first_pass_open.proofs.PathLemmas.{get_front}
 use Rattle.first_pass_blocks.proofs.OpenLemmas.{get_end}
 use Rattle.first_pass_open.proofs.PlaceLemmas.{all_keep, task_keeps, option_on, quote_less}

@@ -27,7 +27,7 @@ use Rattle.first_pass_open.specs.Path.{path_of, context_of}
 use Rattle.first_pass_blocks.specs.State.{frame_of, AreOpen, ReadyAt, Ready}
 use Rattle.first_pass_blocks.specs.Positions.{ReadyInQuote, ReadyTagged, ReadyLazy}
 use Rattle.first_pass_open.proofs.PathLemmas.{front-end}
-use Rattle.first_pass_text.proofs.ParagraphLemmas.{ends_past}
+use Rattle.first_pass_open.proofs.PlaceLemmas.{ends_past}
 use Rattle.first_pass_blocks.proofs.StateLemmas.{ready_plain}
 
 left_none : (at : ℕ) (r : Reading) (t : Bool) → t ≡ false → (if t then popped at r else r) ≡ r

@@ -23,7 +23,7 @@ use Rattle.first_pass_names.specs.TableEntries.{tables, told_by, names_of, refde
 use Rattle.first_pass_definitions.specs.Found.{AreWritten}
 use Rattle.first_pass_lists.specs.Closing.{list_finished}
 use Rattle.first_pass_lists.specs.declared.reading.Reading.{Reading}
-use Rattle.first_pass_text.specs.Between.{AddsBetween}
+use Rattle.first_pass_open.specs.Between.{AddsBetween}
 use Rattle.first_pass_blocks.specs.declared.state.BlockPass.{BlockPass}
 use Rattle.first_pass_blocks.specs.declared.definition.RunEnd.TheVariants.{NextLine, Paragraph as TextBehind}
 use Rattle.first_pass_blocks.specs.Views.{allocs_of, context_in, reading_of, source_of, source_options, source_text, tree_of}
@@ -35,8 +35,8 @@ use Rattle.first_pass_grammar.specs.LinkRuns.{Beyond}
 use Rattle.first_pass_grammar.specs.Names.{Extends, AreNamed}
 use Rattle.first_pass_grammar.proofs.TextsNamed.{text_named}
 use Rattle.first_pass_names.proofs.NameLemmas.{extends_equal, extends_none}
-use Rattle.first_pass_text.specs.Appends.{line_end_at}
-use Rattle.first_pass_tables.specs.TextsAdded.{AddsText}
+use Rattle.first_pass_open.specs.Between.{line_end_at}
+use Rattle.first_pass_blocks.specs.TextsAdded.{AddsText}
 use Rattle.first_pass_blocks.specs.Ordered.{IsOrderedAt}
 use Rattle.first_pass_blocks.proofs.OrderLemmas.{ordered_later, ordered_none}
 use Rattle.first_pass_blocks.proofs.OrderSteps.{line_or-below, ordered_finished, ordered_leaf, place_before_end, unindented_later}

@@ -10,10 +10,10 @@ use Rattle.first_pass_grammar.specs.Blocks.{leaf_block}
 use Rattle.first_pass_grammar.specs.Skeleton.{Line, OpensLeaf, OpensAs}
 use Rattle.first_pass_grammar.specs.Completion.{lines_from}
 use Rattle.first_pass_open.specs.Path.{path_of}
-use Rattle.first_pass_text.specs.Between.{AddsBetween}
-use Rattle.first_pass_text.specs.Found.{IsFoundAt}
-use Rattle.first_pass_text.specs.declared.kinds.Found.TheVariants.{Marked}
-use Rattle.first_pass_text.specs.declared.kinds.MarkedLeaf.{MarkedLeaf}
+use Rattle.first_pass_open.specs.Between.{AddsBetween}
+use Rattle.first_pass_kinds.specs.Found.{IsFoundAt}
+use Rattle.first_pass_kinds.specs.declared.kinds.Found.TheVariants.{Marked}
+use Rattle.first_pass_kinds.specs.declared.kinds.MarkedLeaf.{MarkedLeaf}
 use Rattle.first_pass_names.specs.TableEntries.{names_of, NamesMore}
 use Rattle.first_pass_blocks.specs.declared.state.BlockPass.{BlockPass}
 use Rattle.first_pass_blocks.specs.Views.{allocs_of, reading_of, source_of, source_options, source_text, tree_of}

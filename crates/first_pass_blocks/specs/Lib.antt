@@ -7,4 +7,5 @@ pub mod Progress
 pub mod Runs
 pub mod Starts
 pub mod State
+pub mod TextsAdded
 pub mod Views

@@ -19,7 +19,7 @@ use Rattle.first_pass_grammar.specs.Skeleton.{From, Inside, At, ALeafAlone, Text
 use Rattle.first_pass_grammar.specs.Completion.{lines_from, IsPlain}
 use Rattle.first_pass_open.specs.Path.{context_of}
 use Rattle.first_pass_open.specs.declared.source.Source.{Source}
-use Rattle.first_pass_text.specs.Between.{StandsBefore}
+use Rattle.first_pass_open.specs.Between.{StandsBefore}
 use Rattle.first_pass_lists.specs.Closing.{top_body, is_list}
 use Rattle.first_pass_lists.specs.declared.reading.Reading.{Reading}
 use Rattle.first_pass_blocks.specs.State.{Ready, ReadyAt}

@@ -9,12 +9,11 @@ ghost use Rattle.first_pass_blocks.specs.Starts.{start_opened, last_at, IsAfter}
 
 use crate::openers::{AfterMarker, Opener, Start, start_at};
 use first_pass_lines::lines::scan_blank_line;
-use first_pass_lines::places::{next_line, rest_of};
+use first_pass_lines::places::next_line;
 use first_pass_lists::reading::Reading;
-use first_pass_open::containers::scan_containers;
+use first_pass_open::front::scan_front;
 use first_pass_open::place::Place;
 use first_pass_open::source::Source;
-use first_pass_scan::line_start::LineStart;
 use first_pass_text::paragraph::append_item;
 use std::alloc::AllocError;
 
@@ -34,25 +33,24 @@ pub(crate) fn close_containers(reading: &mut Reading, kept: usize, ix: usize)
 /// those that it continues; `None` where it is a blank line, which is read then.
 pub(crate) fn enter_line<'a>(
     reading: &mut Reading,
-    source: Source<'a>,
+    source: &Source<'a>,
     start_ix: usize,
 ) -> Option<Place<'a>>
-    requires within { start_ix < length source.text.now }
-    requires boundary { IsCharBoundary source.text.now start_ix }
-    ensures utf8 { IsUtf8 source.entry.text.now }
-    ensures entered { EntersLine source.entry reading.old reading.new start_ix result }
+    requires within { start_ix < length source.now.text.now }
+    requires boundary { IsCharBoundary source.now.text.now start_ix }
+    ensures utf8 { IsUtf8 source.now.text.now }
+    ensures entered { EntersLine source.now reading.old reading.new start_ix result }
 {
-    let mut line_start = LineStart::new(rest_of(source.text.as_bytes(), start_ix));
-    let kept = scan_containers(&reading.tree, &mut line_start, source.options, false);
-    close_containers(reading, kept, start_ix);
-    if scan_blank_line(line_start.left()).is_some() {
+    let front = scan_front(source, &reading.tree, start_ix);
+    close_containers(reading, front.kept, start_ix);
+    if scan_blank_line(front.rest.left()).is_some() {
         reading.read_blank_line();
         return None;
     }
     reading.finish_empty_list_item();
     Some(Place {
         line: start_ix,
-        rest: line_start,
+        rest: front.rest,
     })
 }
 
@@ -60,15 +58,15 @@ pub(crate) fn enter_line<'a>(
 /// the last: more of the line, in which no other begins, or what its marker ends with (CommonMark 5).
 pub(crate) fn open_containers<'a>(
     reading: &mut Reading,
-    source: Source<'a>,
+    source: &Source<'a>,
     place: &mut Place<'a>,
 ) -> Result<AfterMarker, AllocError>
-    requires utf8 { IsUtf8 source.text.now }
-    requires place { IsPlaceOf source.text.now place.old }
+    requires utf8 { IsUtf8 source.now.text.now }
+    requires place { IsPlaceOf source.now.text.now place.old }
     requires no_empty { reading.old.empty_item ≡ None }
     ensures after { IfOk result (λ after. IsAfter after reading.new) }
-    ensures place { OnOk result (IsInLine source.entry.text.now place.old.line (line_end place.old) place.new) }
-    ensures opened { IfOk result (λ after. ReadsTo source.entry place.old.line reading.old reading.new
+    ensures place { OnOk result (IsInLine source.now.text.now place.old.line (line_end place.old) place.new) }
+    ensures opened { IfOk result (λ after. ReadsTo source.now place.old.line reading.old reading.new
         (InLine place.old) (last_at place.new (line_end place.old) after)) }
 {
     loop {
@@ -89,11 +87,11 @@ pub(crate) fn open_containers<'a>(
 #[inline(always)]
 fn open_start<'a>(
     reading: &mut Reading,
-    source: Source<'a>,
+    source: &Source<'a>,
     place: &Place<'a>,
     start: Start,
 ) -> Result<(), AllocError>
-    requires { IsPlaceOf source.text.now place.now }
+    requires { IsPlaceOf source.now.text.now place.now }
     ensures { OnOk result (reading.new ≡ start_opened place.now.line start (line_end place.now) reading.old) }
 {
     match start.opener {
@@ -108,8 +106,8 @@ fn open_start<'a>(
 }
 
 /// Where the line of a place is over: the offset at which the next one begins.
-pub(crate) fn line_over<'a>(source: Source<'a>, place: &Place<'a>) -> usize
-    requires { IsPlaceOf source.text.now place.now }
+pub(crate) fn line_over<'a>(source: &Source<'a>, place: &Place<'a>) -> usize
+    requires { IsPlaceOf source.now.text.now place.now }
     ensures { result ≡ line_end place.now }
 {
     source.is_short();

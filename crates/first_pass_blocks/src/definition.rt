@@ -7,21 +7,21 @@ ghost use Rattle.first_pass_grammar.specs.Kinds.{all_taken, ends_tag, is_blank_r
 ghost use Rattle.first_pass_open.specs.Path.{context_of};
 ghost use Rattle.first_pass_tree.specs.Forest.{in_table};
 ghost use Rattle.first_pass_names.specs.TableEntries.{tables};
-ghost use Rattle.first_pass_text.specs.Rests.{IsRestOf};
-ghost use Rattle.first_pass_text.specs.Memory.{line_may_head};
+ghost use Rattle.first_pass_kinds.specs.Rests.{IsRestOf};
+ghost use Rattle.first_pass_kinds.specs.Memory.{line_may_head};
 ghost use Rattle.first_pass_blocks.specs.Runs.{PutsDefinitions, ReadsRun};
 ghost use Rattle.first_pass_blocks.specs.Views.{allocs_of, context_in, source_text, tree_of};
 
 use crate::state::BlockPass;
 use first_pass_definitions::reference::parse_refdef_total;
 use first_pass_items::item::Item;
+use first_pass_kinds::interrupt::scan_line_behind_tag;
 use first_pass_lines::lines::scan_blank_line;
 use first_pass_lines::places::{next_line, rest_of};
 use first_pass_open::source::Source;
 use first_pass_scan::line_start::LineStart;
-use first_pass_text::interrupt::scan_line_behind_tag;
 use first_pass_tree::forest::Tree;
-use std::alloc::{AllocError, Global};
+use std::alloc::AllocError;
 
 /// What stands after link definitions.
 #[derive(Clone, Copy)]
@@ -39,21 +39,20 @@ pub(crate) enum RunEnd {
 /// read as any other, and where what is left is blank, as at the text's end. The error is want of memory, where the
 /// line may head a table (CommonMark 4.7, 4.8, 5.1).
 pub fn scan_next_line_or_lazy_continuation<'input>(
-    alloc: Global,
-    source: Source<'_>,
+    source: &Source<'_>,
     bytes: &'input [u8],
     tree: &Tree<Item>,
 ) -> Result<Option<LineStart<'input>>, AllocError>
-    requires { IsRestOf source.text.now bytes.now }
-    ensures value { IfOk result (λ rest. let around = context_of source.entry.options tree.now in
+    requires { IsRestOf source.now.text.now bytes.now }
+    ensures value { IfOk result (λ rest. let around = context_of source.now.options tree.now in
         let line = front around.path (line_rest bytes.now) in
         rest ≡ (if ends_tag around (line_rest bytes.now) || is_blank_rest (all_taken line)
         then None
         else Some (all_taken line))) }
-    ensures err { OnErr result (line_may_head (context_of source.entry.options tree.now)
+    ensures err { OnErr result (line_may_head (context_of source.now.options tree.now)
         (line_rest bytes.now) ≡ true) }
 {
-    let line = scan_line_behind_tag(alloc, source, bytes, tree)?;
+    let line = scan_line_behind_tag(source, bytes, tree)?;
     let Some(rest) = line else {
         return Ok(None);
     };
@@ -80,8 +79,7 @@ impl<'a> BlockPass<'a> {
         let mut line = line;
         let mut at = at;
         while let Some((size, label, definition)) = parse_refdef_total(
-            self.alloc,
-            self.source,
+            &self.source,
             &self.reading.tree,
             at,
         )? {
@@ -89,8 +87,7 @@ impl<'a> BlockPass<'a> {
             let bytes = self.source.text.as_bytes();
             let next = next_line(bytes, at + size);
             let rest = scan_next_line_or_lazy_continuation(
-                self.alloc,
-                self.source,
+                &self.source,
                 rest_of(bytes, next),
                 &self.reading.tree,
             )?;

@@ -3,19 +3,19 @@
 ghost use Rattle.std.specs.Prelude.{IfOk, ℕ};
 ghost use Rattle.first_pass_lines.specs.Places.{Place};
 ghost use Rattle.first_pass_grammar.specs.Kinds.{HtmlToEnd as HtmlKind};
-ghost use Rattle.first_pass_text.specs.Found.{marked_kind};
-ghost use Rattle.first_pass_text.specs.declared.kinds.MarkedLeaf.TheVariants.{IndentedCode, Metadata, HtmlToEnd, ThematicBreak, AtxHeading, FencedCode};
+ghost use Rattle.first_pass_kinds.specs.Found.{marked_kind};
+ghost use Rattle.first_pass_kinds.specs.declared.kinds.MarkedLeaf.TheVariants.{IndentedCode, Metadata, HtmlToEnd, ThematicBreak, AtxHeading, FencedCode};
 ghost use Rattle.first_pass_blocks.specs.Adding.{AddsLeaf, IsFoundIn};
 
 use crate::state::BlockPass;
 use first_pass_items::item::HeadingLevel;
+use first_pass_kinds::kinds::MarkedLeaf;
 use first_pass_open::place::Place;
 use first_pass_raw::fenced_code::{Fence, parse_fenced_code_block};
-use first_pass_raw::html_block::parse_html_block_type_1_to_5;
+use first_pass_raw::html_block::{HtmlStart, parse_html_block_type_1_to_5};
 use first_pass_raw::indented_code::parse_indented_code_block;
 use first_pass_raw::metadata_block::parse_metadata_block;
 use first_pass_text::heading::parse_atx_heading;
-use first_pass_text::kinds::MarkedLeaf;
 use first_pass_text::rule::parse_hrule;
 use std::alloc::AllocError;
 
@@ -75,10 +75,9 @@ impl<'a> BlockPass<'a> {
         place.rest.scan_space_upto(4);
         let owed = place.rest.remaining_space();
         let (next, blank) = parse_indented_code_block(
+            &self.source,
             &mut self.reading.tree,
             &mut self.allocs,
-            self.source.text,
-            self.source.options,
             place.offset(),
             owed,
         )?;
@@ -93,10 +92,9 @@ impl<'a> BlockPass<'a> {
             → AddsLeaf self.old self.new p (marked_kind (Metadata byte)) next) }
     {
         let next = parse_metadata_block(
+            &self.source,
             &mut self.reading.tree,
             &mut self.allocs,
-            self.source.text,
-            self.source.options,
             at,
             byte,
         )?;
@@ -115,13 +113,11 @@ impl<'a> BlockPass<'a> {
             → AddsLeaf self.old self.new p HtmlKind next) }
     {
         let next = parse_html_block_type_1_to_5(
+            &self.source,
             &mut self.reading.tree,
             &mut self.allocs,
-            self.source.text,
-            self.source.options,
-            at,
+            HtmlStart { at, columns },
             end,
-            columns,
         )?;
         Ok(next)
     }
@@ -144,9 +140,7 @@ impl<'a> BlockPass<'a> {
             → AddsLeaf self.old self.new p (marked_kind (AtxHeading level)) next) }
     {
         let next = parse_atx_heading(
-            self.alloc,
-            self.source,
-            &self.lookup_table,
+            &self.source,
             &mut self.reading.tree,
             &mut self.allocs,
             at,
@@ -163,11 +157,9 @@ impl<'a> BlockPass<'a> {
             → AddsLeaf self.old self.new p (marked_kind (FencedCode fence.count fence.byte)) next) }
     {
         let next = parse_fenced_code_block(
-            self.alloc,
+            &self.source,
             &mut self.reading.tree,
             &mut self.allocs,
-            self.source.text,
-            self.source.options,
             at,
             fence,
         )?;

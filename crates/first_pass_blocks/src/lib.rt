@@ -8,3 +8,4 @@ mod leaf;
 mod openers;
 pub mod pass;
 pub mod state;
+pub mod text;

@@ -52,10 +52,10 @@ pub(crate) struct Start {
 /// The container that begins at a place: a list item where one does, else a block quote where one does. Its marker is
 /// taken, and that of a task; `None` where no container begins there, and then nothing is taken.
 #[inline(always)]
-pub(crate) fn start_at<'a>(source: Source<'a>, place: &mut Place<'a>) -> Option<Start>
-    requires utf8 { IsUtf8 source.text.now }
-    requires place { IsPlaceOf source.text.now place.old }
-    ensures { MatchOption (start_at source.entry.options place.old) ((result ≡ None) × (place.new ≡ place.old))
+pub(crate) fn start_at<'a>(source: &Source<'a>, place: &mut Place<'a>) -> Option<Start>
+    requires utf8 { IsUtf8 source.now.text.now }
+    requires place { IsPlaceOf source.now.text.now place.old }
+    ensures { MatchOption (start_at source.now.options place.old) ((result ≡ None) × (place.new ≡ place.old))
         (λ s. (result ≡ Some (start_told s)) × (place.new ≡ at_rest place.old s.rest)) }
 {
     source.is_short();
@@ -114,12 +114,12 @@ fn scan_tag<'a>(options: Options, line_start: &LineStart<'a>) -> Option<BlockQuo
 
 // Takes the task list item marker after an item's own, where one is there and the option is on, and returns it; else
 // takes nothing.
-fn scan_task<'a>(source: Source<'a>, place: &mut Place<'a>) -> Option<Item>
-    requires utf8 { IsUtf8 source.text.now }
-    requires place { IsPlaceOf source.text.now place.old }
-    ensures marker { result ≡ (task_behind source.entry.options place.old.line place.old.rest).0 }
+fn scan_task<'a>(source: &Source<'a>, place: &mut Place<'a>) -> Option<Item>
+    requires utf8 { IsUtf8 source.now.text.now }
+    requires place { IsPlaceOf source.now.text.now place.old }
+    ensures marker { result ≡ (task_behind source.now.options place.old.line place.old.rest).0 }
     ensures place { place.new
-        ≡ at_rest place.old (task_behind source.entry.options place.old.line place.old.rest).1 }
+        ≡ at_rest place.old (task_behind source.now.options place.old.line place.old.rest).1 }
 {
     if !source.options.contains(Options::ENABLE_TASKLISTS) {
         return None;

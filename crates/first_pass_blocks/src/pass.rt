@@ -12,7 +12,7 @@ ghost use Rattle.first_pass_grammar.specs.Order.{IsOrdered};
 ghost use Rattle.first_pass_grammar.specs.Names.{Names, AreNamed};
 ghost use Rattle.first_pass_names.specs.TableEntries.{tables, names_of, refdefs_of};
 ghost use Rattle.first_pass_definitions.specs.Found.{AreWritten};
-ghost use Rattle.first_pass_text.specs.Found.{IsFoundAt};
+ghost use Rattle.first_pass_kinds.specs.Found.{IsFoundAt};
 ghost use Rattle.first_pass_blocks.specs.declared.openers.AfterMarker.TheVariants.{TaskText};
 ghost use Rattle.first_pass_blocks.specs.State.{Ready};
 ghost use Rattle.first_pass_blocks.specs.Ordered.{IsOrderedAt};
@@ -25,21 +25,20 @@ use crate::containers::{close_containers, enter_line, line_over, open_containers
 use crate::definition::RunEnd;
 use crate::openers::AfterMarker;
 use crate::state::BlockPass;
+use crate::text::parse_paragraph;
 use first_pass_items::item::Item;
 use first_pass_items::option_set::Options;
+use first_pass_kinds::interrupt::scan_line_behind_tag;
+use first_pass_kinds::kinds::{Found, kind_at};
 use first_pass_lines::places::{next_line, rest_of};
 use first_pass_lists::reading::Reading;
+use first_pass_metadata::metadata_search::MetadataEnds;
 use first_pass_names::items::Allocations;
 use first_pass_open::indentation::scan_indentation;
 use first_pass_open::place::Place;
 use first_pass_open::source::Source;
-use first_pass_raw::html_block::parse_html_block_type_6_or_7;
-use first_pass_scan::metadata_search::MetadataEnds;
-use first_pass_tables::text::parse_paragraph;
-use first_pass_text::interrupt::scan_line_behind_tag;
-use first_pass_text::kinds::{Found, kind_at};
+use first_pass_raw::html_block::{HtmlStart, parse_html_block_type_6_or_7};
 use first_pass_tree::forest::Tree;
-use first_pass_walk::walk::special_bytes;
 use std::alloc::{AllocError, Global};
 use std::cmp::max;
 
@@ -63,15 +62,13 @@ impl<'a> BlockPass<'a> {
         let root = tree.root();
         tree.set_end(root, text.len());
         Ok(BlockPass {
-            alloc,
-            source: Source { text, options },
+            source: Source::new(alloc, text, options),
             reading: Reading {
                 tree,
                 empty_item: None,
                 blank: false,
             },
             allocs: Allocations::new(alloc),
-            lookup_table: special_bytes(&options),
             metadata_ends: MetadataEnds::new(),
         })
     }
@@ -96,10 +93,10 @@ impl<'a> BlockPass<'a> {
         requires boundary { IsCharBoundary (source_text self.old) start_ix }
         ensures { IfOk result (λ next. ReadsBlock self.old self.new (1 + start_ix) (LineAt start_ix) next) }
     {
-        let Some(mut place) = enter_line(&mut self.reading, self.source, start_ix) else {
+        let Some(mut place) = enter_line(&mut self.reading, &self.source, start_ix) else {
             return Ok(next_line(self.source.text.as_bytes(), start_ix));
         };
-        match open_containers(&mut self.reading, self.source, &mut place)? {
+        match open_containers(&mut self.reading, &self.source, &mut place)? {
             AfterMarker::OnLine => {
                 let next = self.parse_leaf(place)?;
                 Ok(next)
@@ -108,9 +105,10 @@ impl<'a> BlockPass<'a> {
                 let next = self.parse_task_text(place, marker)?;
                 Ok(next)
             }
-            AfterMarker::LineEnds(_) => Ok(line_over(self.source, &place)),
+            AfterMarker::LineEnds(_) => Ok(line_over(&self.source, &place)),
             AfterMarker::TagAlone => {
-                let next = self.parse_tagged(line_over(self.source, &place))?;
+                let behind = line_over(&self.source, &place);
+                let next = self.parse_tagged(behind)?;
                 Ok(next)
             }
         }
@@ -124,7 +122,7 @@ impl<'a> BlockPass<'a> {
         ensures { IfOk result (λ next. ReadsBlock self.old self.new start (TaggedAt start) next) }
     {
         let bytes = rest_of(self.source.text.as_bytes(), start);
-        match scan_line_behind_tag(self.alloc, self.source, bytes, &self.reading.tree)? {
+        match scan_line_behind_tag(&self.source, bytes, &self.reading.tree)? {
             None => Ok(start),
             Some(rest) => {
                 let next = self.parse_leaf(Place { line: start, rest })?;
@@ -145,9 +143,7 @@ impl<'a> BlockPass<'a> {
         let mut place = place;
         scan_indentation(&mut place.rest);
         let next = parse_paragraph(
-            self.alloc,
-            self.source,
-            &self.lookup_table,
+            &self.source,
             &mut self.reading.tree,
             &mut self.allocs,
             place.offset(),
@@ -166,7 +162,7 @@ impl<'a> BlockPass<'a> {
     {
         self.source.is_short();
         let mut behind = place.copy();
-        let (found, columns) = kind_at(self.source, &mut behind, &mut self.metadata_ends);
+        let (found, columns) = kind_at(&self.source, &mut behind, &mut self.metadata_ends);
         let next = self.parse_kind(place, found, columns, behind.offset())?;
         Ok(next)
     }
@@ -201,12 +197,10 @@ impl<'a> BlockPass<'a> {
                 self.reading.finish_list(place.line);
                 self.reading.tree.is_forest();
                 let next = parse_html_block_type_6_or_7(
+                    &self.source,
                     &mut self.reading.tree,
                     &mut self.allocs,
-                    self.source.text,
-                    self.source.options,
-                    at,
-                    columns,
+                    HtmlStart { at, columns },
                 )?;
                 Ok(next)
             }
@@ -237,9 +231,7 @@ impl<'a> BlockPass<'a> {
             RunEnd::Paragraph(text) => {
                 self.reading.finish_list(text);
                 let next = parse_paragraph(
-                    self.alloc,
-                    self.source,
-                    &self.lookup_table,
+                    &self.source,
                     &mut self.reading.tree,
                     &mut self.allocs,
                     text,
@@ -278,11 +270,9 @@ pub fn run_first_pass<'a>(
     }
     close_containers(&mut pass.reading, 0, text.len());
     let BlockPass {
-        alloc: _,
         source: _,
         reading,
         allocs,
-        lookup_table: _,
         metadata_ends: _,
     } = pass;
     let Reading { tree, .. } = reading;

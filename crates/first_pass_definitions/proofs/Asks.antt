@@ -1,6 +1,6 @@
 -- What asks for memory as a definition is read.
-use Rattle.std.proofs.Common.{◌≡◌, ◌⊎◌, inl, inr, ℕ, zero, suc, ◌+◌, ◌<◌, ◌==◌, ◌&&◌, ◌||◌, not, Bool, true, false, List, length, drop, slice_index, Option}
-use Rattle.std.proofs.Common.{Some, None, Ok, Err, Result, OnErr, is_some, IsSomeAnd, MatchOption, IsCharBoundary, refl, sym, ap, subst, ◌∙◌, arith}
+use Rattle.std.proofs.Common.{◌≡◌, ◌⊎◌, inl, inr, ℕ, zero, suc, ◌+◌, ◌<◌, ◌==◌, ◌||◌, Bool, true, false, List, drop, Option}
+use Rattle.std.proofs.Common.{Some, None, Ok, Err, Result, OnErr, is_some, IsSomeAnd, IsCharBoundary, refl, sym, ap, subst, ◌∙◌, arith}
 use Rattle.std.specs.Borrow.{Bor}
 use Rattle.std.specs.declared.alloc.AllocError.{AllocError}
 use Rattle.std.proofs.lemmas.Bool.{cases_Bool}
@@ -8,21 +8,21 @@ use Rattle.std.proofs.lemmas.List.{drop-drop}
 use Rattle.first_pass_links.specs.Labels.{label_at, CanErr, ErrsBehind, IsRewritten, HasNoBracket}
 use Rattle.first_pass_links.proofs.Labels.{place_behind}
 use Rattle.std.specs.Option.{option_map, option_map_or, option_and_then}
-use Rattle.first_pass_lines.specs.Lines.{begins, ends_line, eol_len, blank_len}
+use Rattle.first_pass_lines.specs.Lines.{begins, eol_len, blank_len}
 use Rattle.first_pass_lines.specs.Places.{line_rest}
 use Rattle.first_pass_links.specs.Destinations.{unescaped_upto, destination_at}
 use Rattle.first_pass_items.specs.OptionWords.{gfm_footnotes}
 use Rattle.first_pass_links.specs.Footnotes.{begins_footnote}
 use Rattle.first_pass_grammar.specs.Containers.{Context}
-use Rattle.first_pass_grammar.specs.Definitions.{title_prefix, title_end, title_at, title_behind, title_beyond, alone_behind, space_at, target_at}
+use Rattle.first_pass_grammar.specs.Definitions.{title_prefix, title_at, title_behind, title_beyond, alone_behind, space_at, target_at}
 use Rattle.first_pass_grammar.specs.Definitions.{deepest_nesting, prefix_crossed, LinkReference, reference_at}
-use Rattle.first_pass_text.specs.Memory.{line_may_head}
+use Rattle.first_pass_kinds.specs.Memory.{line_may_head}
 use Rattle.first_pass_labels.specs.declared.label_table.LinkDef.{LinkDef}
 use Rattle.first_pass_definitions.specs.Reading.{stops_title, goes_on_at}
 use Rattle.first_pass_items.specs.declared.cow_str.CowStr.{CowStr}
 use Rattle.first_pass_definitions.proofs.Targets.{shifted, IsLabelAnswer, IsReferenceAnswer, label_found, IsTitleRead, read_to, IsDest, space_found, dest_found}
 use Rattle.first_pass_definitions.proofs.Targets.{TargetFound}
-use Rattle.first_pass_definitions.specs.Memory.{LabelAsks, TargetAsks, ReferenceAsks, BehindAsks, PartsAsk, line_asks, text_asks, title_asks, space_asks}
+use Rattle.first_pass_definitions.specs.Memory.{LabelAsks, TargetAsks, ReferenceAsks, BehindAsks, PartsAsk, line_asks, text_asks}
 use Rattle.first_pass_definitions.specs.Memory.{behind_asks, MeetsTable}
 
 -- a fact of an error

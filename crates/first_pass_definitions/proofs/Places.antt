@@ -8,7 +8,7 @@ use Rattle.first_pass_lines.specs.Lines.{begins, eol_len, blank_len}
 use Rattle.first_pass_lines.specs.Rest.{Rest}
 use Rattle.first_pass_lines.specs.Places.{place_at, IsPlaceOf}
 use Rattle.first_pass_links.proofs.Labels.{place_behind}
-use Rattle.first_pass_text.specs.Rests.{IsRestOf}
+use Rattle.first_pass_kinds.specs.Rests.{IsRestOf}
 
 pub part_boundary : (text : List ℕ) (a n : ℕ) → a ≤ length text → IsCharBoundary text (a + n) → IsCharBoundary (drop a text) n
 part_boundary text a n l b =

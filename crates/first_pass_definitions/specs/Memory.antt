@@ -1,5 +1,5 @@
 -- What asks for memory as a link reference definition is read (CommonMark 4.7).
-use Rattle.std.specs.Prelude.{◌≡◌, ◌≢◌, ◌⊎◌, ◌<◌, ◌+◌, ◌==◌, ◌&&◌, ◌||◌, not, ℕ, Bool, true, false, List, length, drop, slice_get, slice_index, Option, Some}
+use Rattle.std.specs.Prelude.{◌≡◌, ◌≢◌, ◌⊎◌, ◌<◌, ◌+◌, ◌==◌, ◌&&◌, ◌||◌, not, ℕ, Bool, true, false, List, length, drop, slice_get, slice_index, Some}
 use Rattle.std.specs.Prelude.{IsSomeAnd, is_some}
 use Rattle.std.specs.List.{list_any, prefix_len}
 use Rattle.std.specs.Option.{option_map_or, option_and_then}
@@ -14,7 +14,7 @@ use Rattle.first_pass_links.specs.Footnotes.{begins_footnote}
 use Rattle.first_pass_grammar.specs.Containers.{Context}
 use Rattle.first_pass_grammar.specs.Footnotes.{footnote_prefix}
 use Rattle.first_pass_grammar.specs.Definitions.{Target, title_end, title_prefix, prefix_crossed, space_at, target_at, deepest_nesting, reference_at}
-use Rattle.first_pass_text.specs.Memory.{line_may_head}
+use Rattle.first_pass_kinds.specs.Memory.{line_may_head}
 use Rattle.first_pass_definitions.specs.Reading.{stops_title}
 
 -- some line after a line end of the text may head a table (this project)

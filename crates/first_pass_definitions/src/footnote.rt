@@ -8,7 +8,7 @@ ghost use Rattle.first_pass_grammar.specs.Footnotes.{footnote_prefix, footnote_a
 ghost use Rattle.first_pass_open.specs.Path.{context_of};
 ghost use Rattle.first_pass_items.specs.OptionWords.{gfm_footnotes};
 ghost use Rattle.first_pass_lines.specs.Places.{line_rest};
-ghost use Rattle.first_pass_text.specs.Memory.{line_may_head};
+ghost use Rattle.first_pass_kinds.specs.Memory.{line_may_head};
 ghost use Rattle.first_pass_definitions.specs.Memory.{FootnoteAsks};
 
 use crate::label::scan_label_prefix;
@@ -17,7 +17,7 @@ use first_pass_items::item::Item;
 use first_pass_links::footnote::scan_footnote_head;
 use first_pass_open::source::Source;
 use first_pass_tree::forest::Tree;
-use std::alloc::{AllocError, Global};
+use std::alloc::AllocError;
 
 /// The head of the footnote definition that begins at the offset `start` into the text, up to after its colon: how
 /// many bytes it has, and its label. As GitHub has footnotes, its label holds no line end; in their old form it
@@ -26,30 +26,29 @@ use std::alloc::{AllocError, Global};
 /// `None` where no head begins. The error is want of memory, where after `[^` the label has to be written, or, in the
 /// old form, where no bracket ends it and some later line of the text may head a table (this project).
 pub fn scan_footnote<'a>(
-    alloc: Global,
-    source: Source<'a>,
+    source: &Source<'a>,
     tree: &Tree<Item>,
     start: usize,
 ) -> Result<Option<(usize, CowStr<'a>)>, AllocError>
-    requires { IsCharBoundary source.text.now start }
+    requires { IsCharBoundary source.now.text.now start }
     ensures value { IfOk result (λ answer. MatchOption
-        (footnote_at (in_table tree.now.nodes tree.now.spine) (context_of source.entry.options tree.now)
-        (drop start source.entry.text.now))
+        (footnote_at (in_table tree.now.nodes tree.now.spine) (context_of source.now.options tree.now)
+        (drop start source.now.text.now))
         (answer ≡ None)
         (λ head. IsSomeAnd answer (λ found. (found.0 ≡ head.0) × (text_of found.1 ≡ head.1)))) }
     ensures fits { IfOk result (λ answer. IfSome answer (λ found.
-        (3 < found.0) × IsCharBoundary source.entry.text.now (start + found.0))) }
+        (3 < found.0) × IsCharBoundary source.now.text.now (start + found.0))) }
     ensures borrowed { IfOk result (λ answer. IfSome answer (λ found.
-        text_of found.1 ≡ take (found.0 - 4) (drop (start + 2) source.entry.text.now)
-        → Borrows (take (found.0 - 4) (drop (start + 2) source.entry.text.now)) found.1)) }
-    ensures err { OnErr result (FootnoteAsks (context_of source.entry.options tree.now)
-        (in_table tree.now.nodes tree.now.spine) (drop start source.entry.text.now)) }
+        text_of found.1 ≡ take (found.0 - 4) (drop (start + 2) source.now.text.now)
+        → Borrows (take (found.0 - 4) (drop (start + 2) source.now.text.now)) found.1)) }
+    ensures err { OnErr result (FootnoteAsks (context_of source.now.options tree.now)
+        (in_table tree.now.nodes tree.now.spine) (drop start source.now.text.now)) }
 {
     let in_table = tree.is_in_table();
     scan_footnote_head(
-        alloc,
+        source.alloc,
         &source.text[start..],
-        |behind: &[u8]| scan_footnote_prefix(alloc, source, tree, behind),
+        |behind: &[u8]| scan_footnote_prefix(source, tree, behind),
         in_table,
     )
 }
@@ -57,23 +56,22 @@ pub fn scan_footnote<'a>(
 // How many bytes the line that `bytes` begin with, all that the text has from the line on, has before the place
 // where the label of a footnote continues in it; `None` where it doesn't.
 fn scan_footnote_prefix(
-    alloc: Global,
-    source: Source<'_>,
+    source: &Source<'_>,
     tree: &Tree<Item>,
     bytes: &[u8],
 ) -> Result<Option<usize>, AllocError>
-    ensures value { IfOk result (λ answer. (at : ℕ) → IsCharBoundary source.entry.text.now at
-        → bytes.now ≡ drop at source.entry.text.now
-        → footnote_prefix (context_of source.entry.options tree.now) bytes.now ≡ answer) }
-    ensures place { IfOk result (λ answer. IfSome answer (λ n. (at : ℕ) → IsCharBoundary source.entry.text.now at
-        → bytes.now ≡ drop at source.entry.text.now → IsCharBoundary bytes.now n)) }
-    ensures old { OnErr result (gfm_footnotes source.entry.options ≡ false) }
-    ensures err { OnErr result ((at : ℕ) → IsCharBoundary source.entry.text.now at
-        → bytes.now ≡ drop at source.entry.text.now
-        → line_may_head (context_of source.entry.options tree.now) (line_rest bytes.now) ≡ true) }
+    ensures value { IfOk result (λ answer. (at : ℕ) → IsCharBoundary source.now.text.now at
+        → bytes.now ≡ drop at source.now.text.now
+        → footnote_prefix (context_of source.now.options tree.now) bytes.now ≡ answer) }
+    ensures place { IfOk result (λ answer. IfSome answer (λ n. (at : ℕ) → IsCharBoundary source.now.text.now at
+        → bytes.now ≡ drop at source.now.text.now → IsCharBoundary bytes.now n)) }
+    ensures old { OnErr result (gfm_footnotes source.now.options ≡ false) }
+    ensures err { OnErr result ((at : ℕ) → IsCharBoundary source.now.text.now at
+        → bytes.now ≡ drop at source.now.text.now
+        → line_may_head (context_of source.now.options tree.now) (line_rest bytes.now) ≡ true) }
 {
     if source.options.has_gfm_footnotes() {
         return Ok(None);
     }
-    scan_label_prefix(alloc, source, tree, bytes)
+    scan_label_prefix(source, tree, bytes)
 }

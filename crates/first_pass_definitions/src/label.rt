@@ -1,6 +1,6 @@
 //! The label of a link reference definition.
 
-ghost use Rattle.std.specs.Prelude.{◌≡◌, ℕ, ◌+◌, ◌-◌, ◌<◌, ◌≤◌, take, drop, None, IfOk, IfSome, OnErr, IsSomeAnd, MatchOption, IsCharBoundary, true};
+ghost use Rattle.std.specs.Prelude.{◌≡◌, ℕ, ◌+◌, ◌-◌, ◌<◌, take, drop, None, IfOk, IfSome, OnErr, IsSomeAnd, MatchOption, IsCharBoundary, true};
 ghost use Rattle.first_pass_items.specs.CowText.{text_of};
 ghost use Rattle.first_pass_links.specs.Labels.{label_at};
 ghost use Rattle.first_pass_links.specs.Texts.{Borrows};
@@ -8,16 +8,16 @@ ghost use Rattle.first_pass_tree.specs.Forest.{in_table};
 ghost use Rattle.first_pass_grammar.specs.Definitions.{prefix_crossed};
 ghost use Rattle.first_pass_open.specs.Path.{context_of};
 ghost use Rattle.first_pass_lines.specs.Places.{line_rest};
-ghost use Rattle.first_pass_text.specs.Memory.{line_may_head};
+ghost use Rattle.first_pass_kinds.specs.Memory.{line_may_head};
 ghost use Rattle.first_pass_definitions.specs.Memory.{LabelAsks};
 
 use first_pass_items::cow_str::CowStr;
 use first_pass_items::item::Item;
+use first_pass_kinds::interrupt::scan_line_crossed;
 use first_pass_links::label::scan_link_label_rest;
 use first_pass_open::source::Source;
-use first_pass_text::interrupt::scan_line_crossed;
 use first_pass_tree::forest::Tree;
-use std::alloc::{AllocError, Global};
+use std::alloc::AllocError;
 
 /// The label after the `[` that stands before the offset `start` into the text: how many bytes it has from there
 /// on, its `]` too, and its text, in which each run of white space is one space and backslashes stay; in a table one
@@ -30,30 +30,29 @@ use std::alloc::{AllocError, Global};
 /// written since it is read otherwise than it stands, or where no bracket ends it and some later line of the text may
 /// head a table (CommonMark 4.7).
 pub fn parse_refdef_label<'a>(
-    alloc: Global,
-    source: Source<'a>,
+    source: &Source<'a>,
     tree: &Tree<Item>,
     start: usize,
 ) -> Result<Option<(usize, CowStr<'a>)>, AllocError>
-    requires { IsCharBoundary source.text.now start }
+    requires { IsCharBoundary source.now.text.now start }
     ensures value { IfOk result (λ answer. MatchOption
-        (label_at (prefix_crossed true (context_of source.entry.options tree.now))
-        (in_table tree.now.nodes tree.now.spine) (drop start source.entry.text.now))
+        (label_at (prefix_crossed true (context_of source.now.options tree.now))
+        (in_table tree.now.nodes tree.now.spine) (drop start source.now.text.now))
         (answer ≡ None)
         (λ label. IsSomeAnd answer (λ found. (found.0 ≡ label.0) × (text_of found.1 ≡ label.1)))) }
     ensures fits { IfOk result (λ answer. IfSome answer (λ found.
-        (0 < found.0) × IsCharBoundary source.entry.text.now (start + found.0))) }
+        (0 < found.0) × IsCharBoundary source.now.text.now (start + found.0))) }
     ensures borrowed { IfOk result (λ answer. IfSome answer (λ found.
-        text_of found.1 ≡ take (found.0 - 1) (drop start source.entry.text.now)
-        → Borrows (take (found.0 - 1) (drop start source.entry.text.now)) found.1)) }
-    ensures err { OnErr result (LabelAsks (context_of source.entry.options tree.now)
-        (in_table tree.now.nodes tree.now.spine) (drop start source.entry.text.now)) }
+        text_of found.1 ≡ take (found.0 - 1) (drop start source.now.text.now)
+        → Borrows (take (found.0 - 1) (drop start source.now.text.now)) found.1)) }
+    ensures err { OnErr result (LabelAsks (context_of source.now.options tree.now)
+        (in_table tree.now.nodes tree.now.spine) (drop start source.now.text.now)) }
 {
     let in_table = tree.is_in_table();
     scan_link_label_rest(
-        alloc,
+        source.alloc,
         &source.text[start..],
-        |behind: &[u8]| scan_label_prefix(alloc, source, tree, behind),
+        |behind: &[u8]| scan_label_prefix(source, tree, behind),
         in_table,
     )
 }
@@ -61,25 +60,24 @@ pub fn parse_refdef_label<'a>(
 // How many bytes the line that `bytes` begin with, all that the text has from the line on, has before the place
 // where a label continues in it; `None` where it doesn't.
 pub(crate) fn scan_label_prefix(
-    alloc: Global,
-    source: Source<'_>,
+    source: &Source<'_>,
     tree: &Tree<Item>,
     bytes: &[u8],
 ) -> Result<Option<usize>, AllocError>
-    ensures value { IfOk result (λ answer. (at : ℕ) → IsCharBoundary source.entry.text.now at
-        → bytes.now ≡ drop at source.entry.text.now
-        → prefix_crossed true (context_of source.entry.options tree.now) bytes.now ≡ answer) }
-    ensures place { IfOk result (λ answer. IfSome answer (λ n. (at : ℕ) → IsCharBoundary source.entry.text.now at
-        → bytes.now ≡ drop at source.entry.text.now → IsCharBoundary bytes.now n)) }
-    ensures err { OnErr result ((at : ℕ) → IsCharBoundary source.entry.text.now at
-        → bytes.now ≡ drop at source.entry.text.now
-        → line_may_head (context_of source.entry.options tree.now) (line_rest bytes.now) ≡ true) }
+    ensures value { IfOk result (λ answer. (at : ℕ) → IsCharBoundary source.now.text.now at
+        → bytes.now ≡ drop at source.now.text.now
+        → prefix_crossed true (context_of source.now.options tree.now) bytes.now ≡ answer) }
+    ensures place { IfOk result (λ answer. IfSome answer (λ n. (at : ℕ) → IsCharBoundary source.now.text.now at
+        → bytes.now ≡ drop at source.now.text.now → IsCharBoundary bytes.now n)) }
+    ensures err { OnErr result ((at : ℕ) → IsCharBoundary source.now.text.now at
+        → bytes.now ≡ drop at source.now.text.now
+        → line_may_head (context_of source.now.options tree.now) (line_rest bytes.now) ≡ true) }
 {
     let whole = source.text.len();
     if bytes.len() > whole || !source.text.is_char_boundary(whole - bytes.len()) {
         return Ok(None);
     }
-    match scan_line_crossed(alloc, source, tree, whole - bytes.len(), true)? {
+    match scan_line_crossed(source, tree, whole - bytes.len(), true)? {
         Some(rest) => Ok(Some(rest.bytes_scanned())),
         None => Ok(None),
     }

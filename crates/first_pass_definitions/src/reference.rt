@@ -18,7 +18,7 @@ use first_pass_lines::lines::begins;
 use first_pass_lines::places::rest_of;
 use first_pass_open::source::Source;
 use first_pass_tree::forest::Tree;
-use std::alloc::{AllocError, Global};
+use std::alloc::AllocError;
 
 /// The link reference definition that begins at the offset `start` into the text: how many bytes it has, up to
 /// after its destination or title, its label, and what it says, with a span from `start` on. The tree is that of
@@ -30,66 +30,64 @@ use std::alloc::{AllocError, Global};
 /// 4.7).
 #[inline(always)]
 pub fn parse_refdef_total<'a>(
-    alloc: Global,
-    source: Source<'a>,
+    source: &Source<'a>,
     tree: &Tree<Item>,
     start: usize,
 ) -> Result<Option<(usize, LabelKey<'a>, LinkDef<'a>)>, AllocError>
-    requires { IsCharBoundary source.text.now start }
+    requires { IsCharBoundary source.now.text.now start }
     ensures value { IfOk result (λ answer. let nested = in_table tree.now.nodes tree.now.spine in
-        MatchOption (reference_at nested (context_of source.entry.options tree.now) (drop start source.entry.text.now))
+        MatchOption (reference_at nested (context_of source.now.options tree.now) (drop start source.now.text.now))
         (answer ≡ None)
         (λ reference. IsSomeAnd answer (IsReference nested start reference))) }
     ensures fits { IfOk result (λ answer. IfSome answer (λ found.
-        (0 < found.0) × IsCharBoundary source.entry.text.now (start + found.0))) }
+        (0 < found.0) × IsCharBoundary source.now.text.now (start + found.0))) }
     ensures borrowed { IfOk result (λ answer. IfSome answer (λ found.
-        BorrowsLabel (context_of source.entry.options tree.now) (in_table tree.now.nodes tree.now.spine)
-        (drop (start + 1) source.entry.text.now) found.1)) }
+        BorrowsLabel (context_of source.now.options tree.now) (in_table tree.now.nodes tree.now.spine)
+        (drop (start + 1) source.now.text.now) found.1)) }
     ensures err { OnErr result (ReferenceAsks (in_table tree.now.nodes tree.now.spine)
-        (context_of source.entry.options tree.now) (drop start source.entry.text.now)) }
+        (context_of source.now.options tree.now) (drop start source.now.text.now)) }
 {
     if !begins(b'[', rest_of(source.text.as_bytes(), start)) {
         return Ok(None);
     }
-    parse_behind_bracket(alloc, source, tree, start)
+    parse_behind_bracket(source, tree, start)
 }
 
 // The definition whose `[` stands at an offset.
 fn parse_behind_bracket<'a>(
-    alloc: Global,
-    source: Source<'a>,
+    source: &Source<'a>,
     tree: &Tree<Item>,
     start: usize,
 ) -> Result<Option<(usize, LabelKey<'a>, LinkDef<'a>)>, AllocError>
-    requires place { IsCharBoundary source.text.now start }
-    requires bracket { begins left_bracket (drop start source.text.now) ≡ true }
+    requires place { IsCharBoundary source.now.text.now start }
+    requires bracket { begins left_bracket (drop start source.now.text.now) ≡ true }
     ensures value { IfOk result (λ answer. let nested = in_table tree.now.nodes tree.now.spine in
-        MatchOption (reference_at nested (context_of source.entry.options tree.now) (drop start source.entry.text.now))
+        MatchOption (reference_at nested (context_of source.now.options tree.now) (drop start source.now.text.now))
         (answer ≡ None)
         (λ reference. IsSomeAnd answer (IsReference nested start reference))) }
     ensures fits { IfOk result (λ answer. IfSome answer (λ found.
-        (0 < found.0) × IsCharBoundary source.entry.text.now (start + found.0))) }
+        (0 < found.0) × IsCharBoundary source.now.text.now (start + found.0))) }
     ensures borrowed { IfOk result (λ answer. IfSome answer (λ found.
-        BorrowsLabel (context_of source.entry.options tree.now) (in_table tree.now.nodes tree.now.spine)
-        (drop (start + 1) source.entry.text.now) found.1)) }
+        BorrowsLabel (context_of source.now.options tree.now) (in_table tree.now.nodes tree.now.spine)
+        (drop (start + 1) source.now.text.now) found.1)) }
     ensures err { OnErr result (ReferenceAsks (in_table tree.now.nodes tree.now.spine)
-        (context_of source.entry.options tree.now) (drop start source.entry.text.now)) }
+        (context_of source.now.options tree.now) (drop start source.now.text.now)) }
 {
     source.is_short();
     let bytes = source.text.as_bytes();
-    let Some((label_len, label)) = parse_refdef_label(alloc, source, tree, start + 1)? else {
+    let Some((label_len, label)) = parse_refdef_label(source, tree, start + 1)? else {
         return Ok(None);
     };
     let colon = start + 1 + label_len;
     if !begins(b':', rest_of(bytes, colon)) {
         return Ok(None);
     }
-    let Some((len, definition)) = scan_refdef(alloc, source, tree, start, colon + 1)? else {
+    let Some((len, definition)) = scan_refdef(source, tree, start, colon + 1)? else {
         return Ok(None);
     };
     Ok(Some((
         label_len + 2 + len,
-        LabelKey::new(alloc, label)?,
+        LabelKey::new(source.alloc, label)?,
         definition,
     )))
 }

@@ -2,17 +2,17 @@
 
 ghost use Rattle.std.specs.Prelude.{◌≡◌, ◌+◌, drop, true, IfOk, IfSome, OnErr, IsCharBoundary};
 ghost use Rattle.std.specs.Option.{option_map};
-ghost use Rattle.first_pass_grammar.specs.Definitions.{space_at, space_beyond};
+ghost use Rattle.first_pass_grammar.specs.Definitions.{space_at};
 ghost use Rattle.first_pass_open.specs.Path.{context_of};
 ghost use Rattle.first_pass_definitions.specs.Memory.{space_asks};
 
 use first_pass_items::item::Item;
+use first_pass_kinds::interrupt::scan_line_crossed;
 use first_pass_lines::lines::{scan_eol, scan_whitespace_no_nl};
 use first_pass_lines::places::rest_of;
 use first_pass_open::source::Source;
-use first_pass_text::interrupt::scan_line_crossed;
 use first_pass_tree::forest::Tree;
-use std::alloc::{AllocError, Global};
+use std::alloc::AllocError;
 
 /// The white space at the offset `start` into the text, with at most one line end: the offset after it, and how many
 /// line ends it has, 0 or 1. After a line end it continues where the definition continues in the next line.
@@ -20,18 +20,17 @@ use std::alloc::{AllocError, Global};
 /// `None` where a second line end follows, or where no line follows in which the definition continues. The error is
 /// want of memory, where the line after the first line end may head a table (CommonMark 4.7).
 pub fn scan_refdef_space(
-    alloc: Global,
-    source: Source<'_>,
+    source: &Source<'_>,
     tree: &Tree<Item>,
     start: usize,
 ) -> Result<Option<(usize, usize)>, AllocError>
-    requires { IsCharBoundary source.text.now start }
+    requires { IsCharBoundary source.now.text.now start }
     ensures value { IfOk result (λ answer.
         answer ≡ option_map (λ s. (start + s.0, s.1))
-        (space_at (context_of source.entry.options tree.now) (drop start source.entry.text.now))) }
-    ensures place { IfOk result (λ answer. IfSome answer (λ s. IsCharBoundary source.entry.text.now s.0)) }
-    ensures err { OnErr result (space_asks (context_of source.entry.options tree.now)
-        (drop start source.entry.text.now) ≡ true) }
+        (space_at (context_of source.now.options tree.now) (drop start source.now.text.now))) }
+    ensures place { IfOk result (λ answer. IfSome answer (λ s. IsCharBoundary source.now.text.now s.0)) }
+    ensures err { OnErr result (space_asks (context_of source.now.options tree.now)
+        (drop start source.now.text.now) ≡ true) }
 {
     source.is_short();
     let bytes = source.text.as_bytes();
@@ -40,7 +39,7 @@ pub fn scan_refdef_space(
         return Ok(Some((end, 0)));
     };
     let next = end + line_end;
-    let Some(rest) = scan_line_crossed(alloc, source, tree, next, false)? else {
+    let Some(rest) = scan_line_crossed(source, tree, next, false)? else {
         return Ok(None);
     };
     let behind = next + rest.bytes_scanned();

@@ -1,10 +1,10 @@
 //! What a link reference definition has after its colon.
 
-ghost use Rattle.std.specs.Prelude.{◌≡◌, ℕ, ◌+◌, ◌≤◌, List, Option, length, drop, None, Some, IfOk, IfSome, OnErr, true, ◌⊎◌, IsSomeAnd, MatchOption, IsCharBoundary};
+ghost use Rattle.std.specs.Prelude.{◌≡◌, ℕ, ◌+◌, ◌≤◌, List, Option, drop, None, Some, IfOk, IfSome, OnErr, true, ◌⊎◌, IsSomeAnd, MatchOption, IsCharBoundary};
 ghost use Rattle.std.specs.Box.{boxed_str_bytes};
 ghost use Rattle.first_pass_items.specs.CowText.{text_of};
 ghost use Rattle.first_pass_tree.specs.Forest.{in_table};
-ghost use Rattle.first_pass_grammar.specs.Definitions.{target_at, behind_destination, title_behind, deepest_nesting};
+ghost use Rattle.first_pass_grammar.specs.Definitions.{target_at, behind_destination, title_behind};
 ghost use Rattle.first_pass_links.specs.Escapes.{unescaped};
 ghost use Rattle.first_pass_open.specs.Path.{context_of};
 ghost use Rattle.first_pass_definitions.specs.Found.{HasTitle, IsTarget};
@@ -39,38 +39,37 @@ const DEEPEST_NESTING: usize = 32;
 /// stands, where a title has a line end, or where after a line end a line begins that may head a table (CommonMark
 /// 4.7).
 pub fn scan_refdef<'a>(
-    alloc: Global,
-    source: Source<'a>,
+    source: &Source<'a>,
     tree: &Tree<Item>,
     span_start: usize,
     start: usize,
 ) -> Result<Option<(usize, LinkDef<'a>)>, AllocError>
-    requires { IsCharBoundary source.text.now start }
+    requires { IsCharBoundary source.now.text.now start }
     ensures value { IfOk result (λ answer. MatchOption
-        (target_at (context_of source.entry.options tree.now) (drop start source.entry.text.now))
+        (target_at (context_of source.now.options tree.now) (drop start source.now.text.now))
         (answer ≡ None)
         (λ target. IsSomeAnd answer
         (IsTarget (in_table tree.now.nodes tree.now.spine) span_start start target))) }
     ensures fits { IfOk result (λ answer. IfSome answer (λ found.
-        IsCharBoundary source.entry.text.now (start + found.0))) }
+        IsCharBoundary source.now.text.now (start + found.0))) }
     ensures err { OnErr result (TargetAsks (in_table tree.now.nodes tree.now.spine)
-        (context_of source.entry.options tree.now) (drop start source.entry.text.now)) }
+        (context_of source.now.options tree.now) (drop start source.now.text.now)) }
 {
     source.is_short();
-    let Some((dest_start, _)) = scan_refdef_space(alloc, source, tree, start)? else {
+    let Some((dest_start, _)) = scan_refdef_space(source, tree, start)? else {
         return Ok(None);
     };
     let Some((dest_len, dest)) = scan_link_dest(source.text, dest_start, DEEPEST_NESTING) else {
         return Ok(None);
     };
     let dest_end = dest_start + dest_len;
-    let Some((end, title)) = scan_behind_destination(alloc, source, tree, dest_end)? else {
+    let Some((end, title)) = scan_behind_destination(source, tree, dest_end)? else {
         return Ok(None);
     };
     let in_table = tree.is_in_table();
     let definition = LinkDef {
-        dest: unescape(alloc, dest, in_table)?,
-        title: unescape_title(alloc, title, in_table)?,
+        dest: unescape(source.alloc, dest, in_table)?,
+        title: unescape_title(source.alloc, title, in_table)?,
         span: span_start..end,
     };
     Ok(Some((end - start, definition)))
@@ -78,22 +77,21 @@ pub fn scan_refdef<'a>(
 
 // What ends a definition after its destination, at the offset `at`: the offset at which it ends, and its title.
 fn scan_behind_destination<'a>(
-    alloc: Global,
-    source: Source<'a>,
+    source: &Source<'a>,
     tree: &Tree<Item>,
     at: usize,
 ) -> Result<Option<(usize, Option<CowStr<'a>>)>, AllocError>
-    requires { IsCharBoundary source.text.now at }
+    requires { IsCharBoundary source.now.text.now at }
     ensures value { IfOk result (λ answer. MatchOption
-        (behind_destination (context_of source.entry.options tree.now) (drop at source.entry.text.now))
+        (behind_destination (context_of source.now.options tree.now) (drop at source.now.text.now))
         (answer ≡ None)
         (λ further. IsSomeAnd answer (λ found. (found.0 ≡ at + further.0) × IsReadTitle further.1 found.1))) }
     ensures fits { IfOk result (λ answer. IfSome answer (λ found.
-        (at ≤ found.0) × IsCharBoundary source.entry.text.now found.0)) }
-    ensures err { OnErr result (behind_asks (context_of source.entry.options tree.now)
-        (drop at source.entry.text.now) ≡ true) }
+        (at ≤ found.0) × IsCharBoundary source.now.text.now found.0)) }
+    ensures err { OnErr result (behind_asks (context_of source.now.options tree.now)
+        (drop at source.now.text.now) ≡ true) }
 {
-    if let Some((end, title)) = scan_title_behind(alloc, source, tree, at)? {
+    if let Some((end, title)) = scan_title_behind(source, tree, at)? {
         return Ok(Some((end, Some(title))));
     }
     if scan_blank_line(rest_of(source.text.as_bytes(), at)).is_some() {
@@ -105,29 +103,28 @@ fn scan_behind_destination<'a>(
 // The title after a destination that ends at the offset `at`, which white space parts from it and after which the
 // rest of its line is blank: the offset after it, and its text.
 fn scan_title_behind<'a>(
-    alloc: Global,
-    source: Source<'a>,
+    source: &Source<'a>,
     tree: &Tree<Item>,
     at: usize,
 ) -> Result<Option<(usize, CowStr<'a>)>, AllocError>
-    requires { IsCharBoundary source.text.now at }
+    requires { IsCharBoundary source.now.text.now at }
     ensures value { IfOk result (λ answer. MatchOption
-        (title_behind (context_of source.entry.options tree.now) (drop at source.entry.text.now))
+        (title_behind (context_of source.now.options tree.now) (drop at source.now.text.now))
         (answer ≡ None)
         (λ title. IsSomeAnd answer (λ found. (found.0 ≡ at + title.0) × IsReadText title.1 found.1))) }
     ensures fits { IfOk result (λ answer. IfSome answer (λ found.
-        (at ≤ found.0) × IsCharBoundary source.entry.text.now found.0)) }
-    ensures err { OnErr result (behind_asks (context_of source.entry.options tree.now)
-        (drop at source.entry.text.now) ≡ true) }
+        (at ≤ found.0) × IsCharBoundary source.now.text.now found.0)) }
+    ensures err { OnErr result (behind_asks (context_of source.now.options tree.now)
+        (drop at source.now.text.now) ≡ true) }
 {
     source.is_short();
-    let Some((start, _)) = scan_refdef_space(alloc, source, tree, at)? else {
+    let Some((start, _)) = scan_refdef_space(source, tree, at)? else {
         return Ok(None);
     };
     if start == at {
         return Ok(None);
     }
-    let Some((len, title)) = scan_refdef_title(alloc, source, tree, &source.text[start..])? else {
+    let Some((len, title)) = scan_refdef_title(source, tree, &source.text[start..])? else {
         return Ok(None);
     };
     let end = start + len;

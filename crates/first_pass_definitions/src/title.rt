@@ -1,6 +1,6 @@
 //! The title of a link reference definition.
 
-ghost use Rattle.std.specs.Prelude.{◌≡◌, ◌+◌, ◌<◌, ◌≤◌, ◌++◌, ◌||◌, length, take, drop, None, Some, [], true, slice_get, IfOk, IfSome, OnErr, IsSomeAnd, MatchOption, IsCharBoundary, IsUtf8, false};
+ghost use Rattle.std.specs.Prelude.{◌≡◌, ◌+◌, ◌<◌, ◌≤◌, ◌++◌, ◌||◌, length, drop, None, Some, [], true, slice_get, IfOk, IfSome, OnErr, IsSomeAnd, MatchOption, IsCharBoundary, IsUtf8, false};
 ghost use Rattle.std.specs.List.{list_any};
 ghost use Rattle.std.specs.Option.{option_and_then, option_map_or};
 ghost use Rattle.std.specs.String.{string_bytes};
@@ -13,20 +13,20 @@ ghost use Rattle.first_pass_items.specs.Bytes.{line_feed};
 ghost use Rattle.first_pass_definitions.specs.Reading.{ClosesTitle, stops_title, goes_on_at};
 ghost use Rattle.first_pass_grammar.specs.Definitions.{title_at, title_end, title_text, title_prefix};
 ghost use Rattle.first_pass_open.specs.Path.{context_of};
-ghost use Rattle.first_pass_text.specs.Rests.{IsRestOf};
+ghost use Rattle.first_pass_kinds.specs.Rests.{IsRestOf};
 ghost use Rattle.first_pass_lines.specs.Places.{line_rest};
-ghost use Rattle.first_pass_text.specs.Memory.{line_may_head};
+ghost use Rattle.first_pass_kinds.specs.Memory.{line_may_head};
 ghost use Rattle.first_pass_definitions.specs.Memory.{title_asks, text_asks};
 
 use first_pass_items::cow_str::CowStr;
 use first_pass_items::item::Item;
+use first_pass_kinds::interrupt::scan_line_crossed;
 use first_pass_lines::lines::{begins, is_line_end, scan_blank_line, scan_eol};
 use first_pass_lines::places::rest_of;
 use first_pass_links::destination::unit_len;
 use first_pass_open::source::Source;
-use first_pass_text::interrupt::scan_line_crossed;
 use first_pass_tree::forest::Tree;
-use std::alloc::{AllocError, Global};
+use std::alloc::AllocError;
 
 /// The title that `text` begins with, all that the whole text has from a place on: how many bytes it has, what
 /// begins and ends it too (`'..'`, `".."` or `(..)`), and what stands between, not yet unescaped. It continues over
@@ -37,25 +37,24 @@ use std::alloc::{AllocError, Global};
 /// ends it, or in parentheses an unescaped `(`. The error is want of memory, where after the first line the title
 /// continues , or a line begins that may head a table (CommonMark 4.7, 6.3).
 pub fn scan_refdef_title<'t>(
-    alloc: Global,
-    source: Source<'_>,
+    source: &Source<'_>,
     tree: &Tree<Item>,
     text: &'t str,
 ) -> Result<Option<(usize, CowStr<'t>)>, AllocError>
-    requires { IsRestOf source.text.now text.now }
-    ensures value { IfOk result (λ answer. MatchOption (title_at (context_of source.entry.options tree.now) text.now)
+    requires { IsRestOf source.now.text.now text.now }
+    ensures value { IfOk result (λ answer. MatchOption (title_at (context_of source.now.options tree.now) text.now)
         (answer ≡ None)
         (λ title. IsSomeAnd answer (λ found. (found.0 ≡ title.0) × (text_of found.1 ≡ title.1)))) }
     ensures fits { IfOk result (λ answer. IfSome answer (λ found. (1 < found.0) × IsCharBoundary text.now found.0)) }
     ensures borrowed { IfOk result (λ answer. IfSome answer (λ found.
         list_any is_line_end (text_of found.1) ≡ false → Borrows (text_of found.1) found.1)) }
-    ensures err { OnErr result (title_asks (context_of source.entry.options tree.now) text.now ≡ true) }
+    ensures err { OnErr result (title_asks (context_of source.now.options tree.now) text.now ≡ true) }
 {
     let bytes = text.as_bytes();
     let Some(close) = title_end(bytes) else {
         return Ok(None);
     };
-    match scan_title_text(alloc, source, tree, &text[1..], close)? {
+    match scan_title_text(source, tree, &text[1..], close)? {
         Some((len, title)) => Ok(Some((len + 1, title))),
         None => Ok(None),
     }
@@ -77,32 +76,31 @@ fn title_end(bytes: &[u8]) -> Option<u8>
 
 // The title after what begins it, with the byte that ends it: how many bytes it has, its end too, and its text.
 fn scan_title_text<'t>(
-    alloc: Global,
-    source: Source<'_>,
+    source: &Source<'_>,
     tree: &Tree<Item>,
     text: &'t str,
     close: u8,
 ) -> Result<Option<(usize, CowStr<'t>)>, AllocError>
-    requires rest { IsRestOf source.text.now text.now }
+    requires rest { IsRestOf source.now.text.now text.now }
     requires close { ClosesTitle close }
     ensures value { IfOk result (λ answer. MatchOption
-        (title_text (title_prefix (context_of source.entry.options tree.now)) close text.now)
+        (title_text (title_prefix (context_of source.now.options tree.now)) close text.now)
         (answer ≡ None)
         (λ title. IsSomeAnd answer (λ found. (found.0 ≡ title.0) × (text_of found.1 ≡ title.1)))) }
     ensures fits { IfOk result (λ answer. IfSome answer (λ found. (0 < found.0) × IsCharBoundary text.now found.0)) }
     ensures borrowed { IfOk result (λ answer. IfSome answer (λ found.
         list_any is_line_end (text_of found.1) ≡ false → Borrows (text_of found.1) found.1)) }
-    ensures err { OnErr result (text_asks (context_of source.entry.options tree.now) close text.now ≡ true) }
+    ensures err { OnErr result (text_asks (context_of source.now.options tree.now) close text.now ≡ true) }
 {
     let bytes = text.as_bytes();
-    let mut written = String::new(alloc);
+    let mut written = String::new(source.alloc);
     let mut from = 0;
     loop {
         let at = from + scan_title_line(rest_of(bytes, from), close);
         if begins(close, rest_of(bytes, at)) {
             return Ok(Some((at + 1, finish(written, text, from, at)?)));
         }
-        let Some(next) = scan_title_break(alloc, source, tree, bytes, at)? else {
+        let Some(next) = scan_title_break(source, tree, bytes, at)? else {
             return Ok(None);
         };
         written.push_str(&text[from..at])?;
@@ -134,27 +132,26 @@ fn stops_title(byte: u8, close: u8) -> bool
 // The offset at which a title continues after the line end at the offset `at`; `None` where no line ends there, or
 // where the title doesn't continue.
 fn scan_title_break(
-    alloc: Global,
-    source: Source<'_>,
+    source: &Source<'_>,
     tree: &Tree<Item>,
     bytes: &[u8],
     at: usize,
 ) -> Result<Option<usize>, AllocError>
-    requires rest { IsRestOf source.text.now bytes.now }
+    requires rest { IsRestOf source.now.text.now bytes.now }
     requires utf8 { IsUtf8 bytes.now }
     requires at { IsCharBoundary bytes.now at }
     ensures value { IfOk result (λ answer. answer
-        ≡ goes_on_at (title_prefix (context_of source.entry.options tree.now)) bytes.now at) }
+        ≡ goes_on_at (title_prefix (context_of source.now.options tree.now)) bytes.now at) }
     ensures place { IfOk result (λ answer. IfSome answer (λ next. (at < next) × IsCharBoundary bytes.now next)) }
     ensures texts { IfOk result (λ answer. IfSome answer (λ next. begins line_feed (drop next bytes.now) ≡ false)) }
-    ensures err { OnErr result (option_map_or (λ e. line_may_head (context_of source.entry.options tree.now)
+    ensures err { OnErr result (option_map_or (λ e. line_may_head (context_of source.now.options tree.now)
         (line_rest (drop (at + e) bytes.now))) (eol_len (drop at bytes.now)) false ≡ true) }
 {
     let Some(line_end) = scan_eol(rest_of(bytes, at)) else {
         return Ok(None);
     };
     let next = at + line_end;
-    match scan_title_prefix(alloc, source, tree, rest_of(bytes, next))? {
+    match scan_title_prefix(source, tree, rest_of(bytes, next))? {
         Some(prefix) => Ok(Some(next + prefix)),
         None => Ok(None),
     }
@@ -163,20 +160,19 @@ fn scan_title_break(
 // How many bytes the line that `bytes` begin with, all that the text has from the line on, has before its text,
 // where a title continues in it.
 fn scan_title_prefix(
-    alloc: Global,
-    source: Source<'_>,
+    source: &Source<'_>,
     tree: &Tree<Item>,
     bytes: &[u8],
 ) -> Result<Option<usize>, AllocError>
-    requires { IsRestOf source.text.now bytes.now }
+    requires { IsRestOf source.now.text.now bytes.now }
     ensures value { IfOk result (λ answer.
-        answer ≡ title_prefix (context_of source.entry.options tree.now) bytes.now) }
+        answer ≡ title_prefix (context_of source.now.options tree.now) bytes.now) }
     ensures place { IfOk result (λ answer. IfSome answer (λ n. IsCharBoundary bytes.now n)) }
     ensures text { IfOk result (λ answer. IfSome answer (λ n. blank_len (drop n bytes.now) ≡ None)) }
-    ensures err { OnErr result (line_may_head (context_of source.entry.options tree.now) (line_rest bytes.now) ≡ true) }
+    ensures err { OnErr result (line_may_head (context_of source.now.options tree.now) (line_rest bytes.now) ≡ true) }
 {
     let start = source.text.len() - bytes.len();
-    let Some(rest) = scan_line_crossed(alloc, source, tree, start, false)? else {
+    let Some(rest) = scan_line_crossed(source, tree, start, false)? else {
         return Ok(None);
     };
     let mut text = rest;

@@ -11,7 +11,8 @@ use Rattle.first_pass_items.specs.declared.item.MetadataBlockKind.{MetadataBlock
 use Rattle.first_pass_items.specs.declared.item.MetadataBlockKind.TheVariants.{YamlStyle, PlusesStyle}
 use Rattle.first_pass_items.specs.declared.item.ItemBody.TheVariants.{IndentCodeBlock, FencedCodeBlock, MetadataBlock}
 use Rattle.first_pass_lines.specs.Lines.{is_white, is_ascii_white, line_len}
-use Rattle.first_pass_scan.specs.LeafLines.{closing_fence_len, closing_metadata_len}
+use Rattle.first_pass_scan.specs.LeafLines.{closing_fence_len}
+use Rattle.first_pass_metadata.specs.Metadata.{closing_metadata_len}
 use Rattle.first_pass_lines.specs.Rest.{indent}
 use Rattle.first_pass_lines.specs.Places.{Place, offset, line_end, moved_columns}
 use Rattle.first_pass_links.specs.Escapes.{unescaped}

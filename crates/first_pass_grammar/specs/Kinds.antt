@@ -7,7 +7,8 @@ use Rattle.first_pass_html.specs.Starts.{html_end, begins_block_tag}
 use Rattle.first_pass_html.specs.Tags.{BeginsTagLine}
 use Rattle.first_pass_items.specs.Bytes.{less_than, greater_than}
 use Rattle.first_pass_lines.specs.Lines.{at_line_end, begins, blank_len, atx_level}
-use Rattle.first_pass_scan.specs.LeafLines.{hrule_len, code_fence, metadata_byte, setext_underline}
+use Rattle.first_pass_scan.specs.LeafLines.{hrule_len, code_fence, setext_underline}
+use Rattle.first_pass_metadata.specs.Metadata.{metadata_byte}
 use Rattle.first_pass_lines.specs.Rest.{Rest, indent, after_columns}
 use Rattle.first_pass_lines.specs.Places.{Place, offset, moved_columns}
 use Rattle.first_pass_scan.specs.Markers.{is_bullet, listitem, item_of}

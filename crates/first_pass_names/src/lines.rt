@@ -24,26 +24,24 @@ impl<'a> Allocations<'a> {
     #[inline(always)]
     pub fn append_line(
         &mut self,
-        whole: &str,
-        content: Content,
-        lut: &[bool; 256],
+        content: Content<'_>,
         tree: &mut Tree<Item>,
         braces: &mut BraceContexts,
     ) -> Result<(usize, Option<Item>), AllocError>
-        requires set { IfSome content.«end» (λ e. e ≤ length whole.now) }
-        requires within { content.start ≤ length (text_upto whole.now content.«end») }
-        requires marks { MarksSpecial lut.now content.options }
+        requires set { IfSome content.«end» (λ e. e ≤ length content.whole.now) }
+        requires within { content.start ≤ length (text_upto content.whole.now content.«end») }
+        requires marks { MarksSpecial content.special.now content.options }
         requires no_cell { content.row ≡ false }
-        ensures utf8 { IsUtf8 whole.now }
+        ensures utf8 { IsUtf8 content.entry.whole.now }
         ensures line { IfOk result (λ answer.
-            AppendsLine (names_of self.new).texts (source whole.now content braces.old) tree.old tree.new answer
+            AppendsLine (names_of self.new).texts (source content.entry braces.old) tree.old tree.new answer
             braces.new) }
-        ensures ends { IfOk result (λ answer. EndsLine (source whole.now content braces.old) answer) }
+        ensures ends { IfOk result (λ answer. EndsLine (source content.entry braces.old) answer) }
         ensures names { OnOk result (Extends (names_of self.new) (names_of self.old)) }
         ensures texts { OnOk result (AddsTexts (names_of self.new) (names_of self.old)) }
         ensures entries { entries self.new ≡ entries self.old }
     {
-        line::append_line(whole, content, lut, tree, &mut self.texts, braces)
+        line::append_line(content, tree, &mut self.texts, braces)
     }
 
     /// Appends the tokens of one cell of a table's row to the innermost open node, and puts the texts that they name
@@ -53,24 +51,22 @@ impl<'a> Allocations<'a> {
     #[inline(always)]
     pub fn append_cell(
         &mut self,
-        whole: &str,
-        content: Content,
-        lut: &[bool; 256],
+        content: Content<'_>,
         tree: &mut Tree<Item>,
         braces: &mut BraceContexts,
     ) -> Result<usize, AllocError>
-        requires set { IfSome content.«end» (λ e. e ≤ length whole.now) }
-        requires within { content.start ≤ length (text_upto whole.now content.«end») }
-        requires marks { MarksSpecial lut.now content.options }
-        ensures utf8 { IsUtf8 whole.now }
+        requires set { IfSome content.«end» (λ e. e ≤ length content.whole.now) }
+        requires within { content.start ≤ length (text_upto content.whole.now content.«end») }
+        requires marks { MarksSpecial content.special.now content.options }
+        ensures utf8 { IsUtf8 content.entry.whole.now }
         ensures cell { IfOk result (λ end.
-            AppendsCell (names_of self.new).texts (source whole.now content braces.old) tree.old tree.new end
+            AppendsCell (names_of self.new).texts (source content.entry braces.old) tree.old tree.new end
             braces.new) }
-        ensures ends { IfOk result (λ end. EndsCell (source whole.now content braces.old) end) }
+        ensures ends { IfOk result (λ end. EndsCell (source content.entry braces.old) end) }
         ensures names { OnOk result (Extends (names_of self.new) (names_of self.old)) }
         ensures texts { OnOk result (AddsTexts (names_of self.new) (names_of self.old)) }
         ensures entries { entries self.new ≡ entries self.old }
     {
-        line::append_cell(whole, content, lut, tree, &mut self.texts, braces)
+        line::append_cell(content, tree, &mut self.texts, braces)
     }
 }

@@ -110,12 +110,6 @@ text_place text s path u b =
     let z : s + 0 ≡ s = omega arith in
     (all_keep text s r u f.0, columns_line_end (indent r) (place_at s r) ∙ f.1 ∙ ap (λ k. k + line_len (drop s text)) z)
 
--- what is left of a line after what it continues, read from the text
-pub front_read : (text bytes rest : List ℕ) (start : ℕ) (path : List Container) (line behind : Rest)
-    → bytes ≡ text → rest ≡ drop start bytes → line ≡ line_rest rest → behind ≡ front path line
-    → behind ≡ front path (line_rest (drop start text))
-front_read text bytes rest start path line behind a b e f = f ∙ ap (front path) (e ∙ ap line_rest (b ∙ ap (drop start) a))
-
 -- what begins a block quote takes a byte
 pub quote_less : (r s : Rest) (o : Option Rest) → past_quote r ≡ o → option_map (after_columns 1) o ≡ Some s → length s.left < length r.left
 quote_less r s None q e = absurd (none-some s e)
@@ -275,3 +269,10 @@ mark_is_task options line r x h = mark_by line r (if has options 16 then task_of
 pub read_end : (text : List ℕ) (start : ℕ) (r : Rest)
     → IsPlaceOf text (place_at start r) → start + r.taken + line_len (drop (start + r.taken) text) ≡ line_end (place_at start r)
 read_end text start r i = ap (λ bs. start + r.taken + line_len bs) (sym i.left)
+
+-- nothing is left past the end of a text
+pub ends_past : (text : List ℕ) (n : ℕ) → length text ≤ n → drop n text ≡ []
+ends_past [] zero h = refl
+ends_past [] (suc n) h = refl
+ends_past (b ∷ bs) zero h = absurd (omega arith)
+ends_past (b ∷ bs) (suc n) h = ends_past bs n (omega arith)

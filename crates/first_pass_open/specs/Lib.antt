@@ -1,2 +1,3 @@
+pub mod Between
 pub mod Path
 pub mod OpenBlock

@@ -2,6 +2,7 @@
 #![tactic(auto)]
 
 pub mod containers;
+pub mod front;
 pub mod indentation;
 pub mod open_block;
 pub mod place;

@@ -16,7 +16,8 @@ use Rattle.first_pass_grammar.specs.Leaves.{document, block_with}
 use Rattle.first_pass_grammar.specs.RawLines.{Ranges, IsRawLine, AreRawLines}
 use Rattle.first_pass_grammar.specs.Extents.{Extent, with_line, ends_at, Verdict, extent_by, extent, judged, in_containers}
 use Rattle.first_pass_grammar.specs.Completion.{lines_from}
-use Rattle.first_pass_raw.specs.RawBlocks.{said, AppendsRaw, AppendsLines, behind_line_at}
+use Rattle.first_pass_raw.specs.declared.raw_line.RawKind.{RawKind}
+use Rattle.first_pass_raw.specs.RawBlocks.{range_of, said, AppendsRaw, AppendsLines, behind_line_at}
 use Rattle.first_pass_open.specs.Path.{path_of, container_of, with_container}
 use Rattle.first_pass_items.specs.declared.item.ItemBody.{ItemBody}
 use Rattle.first_pass_open.specs.OpenBlock.{begun_item, opened_block, closed_by}
@@ -242,6 +243,11 @@ module _ (range : Ranges) (text : List ℕ) (options : Options) (names : Names) 
             (lines_more range text options names named whole rest ends (place_at at q) old now new owed from next apart s
             (rest_by IsLast last ∙ ap (λ k. with_line (place_at at q) (ends_at k (lines_from text next))) (sym next_is)) extends appends owed_is from_is
             next_is) refl
+
+-- a raw line, by a kind that equals its own
+pub line_as : (text : List ℕ) (names : Names) (kind named : RawKind) (owed from to : ℕ) (old new : Forest Item) → kind ≡ named
+    → AppendsRaw (range_of kind) text names owed from to old new → AppendsRaw (range_of named) text names owed from to old new
+line_as text names kind named owed from to old new is = subst (λ k. AppendsRaw (range_of k) text names owed from to old new) is
 
 -- where the line ends that has something at an offset
 pub first_read : (text bytes : List ℕ) (start first : ℕ) → IsUtf8 text → IsCharBoundary text start → bytes ≡ text → first ≡ start + line_len (drop start bytes)

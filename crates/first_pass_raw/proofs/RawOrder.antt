@@ -12,7 +12,8 @@ use Rattle.first_pass_items.specs.declared.item.Item.{Item}
 use Rattle.first_pass_items.specs.declared.item.ItemBody.{ItemBody}
 use Rattle.first_pass_items.specs.declared.item.ItemBody.TheVariants.{IndentCodeBlock, FencedCodeBlock, MetadataBlock, HtmlBlock}
 use Rattle.first_pass_lines.specs.Lines.{begins, is_content, is_blank, line_len, at_line_end}
-use Rattle.first_pass_scan.specs.LeafLines.{run_len, has_backquote, code_fence, three_of, closing_fence_len, closing_marks, closing_metadata_len}
+use Rattle.first_pass_scan.specs.LeafLines.{run_len, has_backquote, code_fence, closing_fence_len}
+use Rattle.first_pass_metadata.specs.Metadata.{three_of, closing_marks, closing_metadata_len}
 use Rattle.first_pass_lines.specs.Rest.{Rest, indent}
 use Rattle.first_pass_lines.specs.Places.{Place, offset, line_of, line_end, line_rest, line_place, place_at, moved_columns, start_of, IsPlaceOf}
 use Rattle.first_pass_lines.proofs.LineFacts.{line_len-parts, line_len-some, line_len-within, lines_at-line, lines_at-end}

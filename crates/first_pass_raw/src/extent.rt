@@ -8,15 +8,17 @@ ghost use Rattle.first_pass_grammar.specs.Completion.{lines_from};
 ghost use Rattle.first_pass_grammar.specs.Extents.{Verdict as Judgement, extent, in_containers};
 ghost use Rattle.first_pass_open.specs.Path.{path_of};
 ghost use Rattle.first_pass_names.specs.TableEntries.{names_of, NamesMore};
+ghost use Rattle.first_pass_raw.specs.declared.raw_line.RawKind.{RawKind};
 ghost use Rattle.first_pass_raw.specs.RawBlocks.{range_of, said, AppendsLines};
 
-use crate::raw_line::{RawKind, append_raw_line};
+use crate::raw_line::{RawKind, RawLine, append_raw_line};
 use crate::verdict::Verdict;
 use first_pass_items::item::Item;
-use first_pass_items::option_set::Options;
 use first_pass_lines::places::next_line;
 use first_pass_names::items::Allocations;
-use first_pass_open::open_block::{BlockLines, go_on};
+use first_pass_open::front::scan_continued;
+use first_pass_open::open_block::BlockLines;
+use first_pass_open::source::Source;
 use first_pass_scan::line_start::LineStart;
 use first_pass_tree::forest::Tree;
 use std::alloc::AllocError;
@@ -25,6 +27,13 @@ use std::alloc::AllocError;
 pub trait JudgesLines {
     // What a line is to the block, and the place after its containers.
     ghost judges: { Self → Place → Place → Judgement };
+
+    // What its lines are.
+    ghost kinds: { Self → RawKind };
+
+    /// What the lines of the block are, as which their bytes are appended.
+    fn kind(&self) -> RawKind
+        ensures { result ≡ kinds self.now };
 
     /// What the line of the text is to the block that begins at the offset `start`, before the one at `next`, and of
     /// which this is left after its containers. A line of the block's is left where its text begins.
@@ -44,42 +53,47 @@ pub trait JudgesLines {
         ensures next { next ≡ line_end (place_at start line_start.new) };
 }
 
-/// Appends the lines of a block from the one on that begins at the offset `start`.
+/// Appends the lines of a block from the one on that begins at the offset `start` into the text, as `judge` judges
+/// them.
 pub fn read_lines<'a, J: JudgesLines>(
     judge: &J,
-    kind: RawKind,
+    source: &Source<'a>,
     tree: &mut Tree<Item>,
     allocs: &mut Allocations<'a>,
-    text: &'a str,
-    options: Options,
     start: usize,
 ) -> Result<BlockLines, AllocError>
-    requires boundary { IsCharBoundary text.now start }
+    requires boundary { IsCharBoundary source.now.text.now start }
     requires apart { JoinsNone tree.old }
-    ensures lines { IfOk result (λ lines. AppendsLines (range_of kind) (document text.now options (names_of allocs.new))
-        (extent (in_containers (path_of options tree.old) (J.judges judge.now)) (length text.now)
-        (lines_from text.now start))
+    ensures lines { IfOk result (λ lines. AppendsLines (range_of (J.kinds judge.now))
+        (document source.now.text.now source.now.options (names_of allocs.new))
+        (extent (in_containers (path_of source.now.options tree.old) (J.judges judge.now)) (length source.now.text.now)
+        (lines_from source.now.text.now start))
         tree.old tree.new lines.«end» lines.next) }
-    ensures boundary { IfOk result (λ lines. (start ≤ lines.next) × IsCharBoundary text.now lines.next) }
+    ensures boundary { IfOk result (λ lines. (start ≤ lines.next) × IsCharBoundary source.now.text.now lines.next) }
     ensures more { OnOk result (NamesMore allocs.old allocs.new) }
 {
     tree.is_forest();
+    let kind = judge.kind();
     let mut ix = start;
-    while ix < text.len() {
-        let Some(mut line_start) = go_on(text, ix, tree, options) else {
+    while ix < source.text.len() {
+        let Some(mut line_start) = scan_continued(source, tree, ix) else {
             return Ok(BlockLines { end: ix, next: ix });
         };
-        let next = next_line(text.as_bytes(), ix);
-        let verdict = judge.judge(text, ix, next, &mut line_start);
+        let next = next_line(source.text.as_bytes(), ix);
+        let verdict = judge.judge(source.text, ix, next, &mut line_start);
         if let Verdict::Stops(end) = verdict {
             return Ok(BlockLines { end, next: ix });
         }
         if let Verdict::Closes(end) = verdict {
             return Ok(BlockLines { end, next });
         }
-        let at = ix + line_start.bytes_scanned();
-        let owed = line_start.remaining_space();
-        append_raw_line(tree, allocs, text, kind, owed, at, next)?;
+        let line = RawLine {
+            kind,
+            owed: line_start.remaining_space(),
+            start: ix + line_start.bytes_scanned(),
+            end: next,
+        };
+        append_raw_line(tree, allocs, source.text, line)?;
         if let Verdict::IsLast = verdict {
             return Ok(BlockLines { end: next, next });
         }

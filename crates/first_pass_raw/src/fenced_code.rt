@@ -15,17 +15,17 @@ use crate::extent::{JudgesLines, read_lines};
 use crate::raw_line::RawKind;
 use crate::verdict::Verdict;
 use first_pass_items::item::{Item, ItemBody};
-use first_pass_items::option_set::Options;
 use first_pass_lines::lines::{is_ascii_white, scan_whitespace_no_nl};
 use first_pass_lines::places::{next_line, rest_of};
 use first_pass_links::escape::unescape;
 use first_pass_names::items::Allocations;
 use first_pass_open::indentation::scan_indentation;
 use first_pass_open::open_block::{close_block, open_block};
+use first_pass_open::source::Source;
 use first_pass_scan::leaf_scan::scan_closing_code_fence;
 use first_pass_scan::line_start::LineStart;
 use first_pass_tree::forest::Tree;
-use std::alloc::{AllocError, Global};
+use std::alloc::AllocError;
 
 /// A code fence that opens a block: the columns before it, its byte, and how many bytes it has.
 #[derive(Clone, Copy)]
@@ -38,31 +38,35 @@ pub struct Fence {
 /// Appends the fenced code block whose fence begins at the offset `start_ix`. Returns the offset at which the line
 /// begins that is not read, or the text's length (CommonMark 4.5).
 pub fn parse_fenced_code_block<'a>(
-    alloc: Global,
+    source: &Source<'a>,
     tree: &mut Tree<Item>,
     allocs: &mut Allocations<'a>,
-    text: &'a str,
-    options: Options,
     start_ix: usize,
     fence: Fence,
 ) -> Result<usize, AllocError>
-    requires boundary { IsCharBoundary text.now start_ix }
-    requires fence { code_fence (drop start_ix text.now) ≡ Some (fence.count, fence.byte) }
+    requires boundary { IsCharBoundary source.now.text.now start_ix }
+    requires fence { code_fence (drop start_ix source.now.text.now) ≡ Some (fence.count, fence.byte) }
     ensures block { IfOk result (λ next.
-        let e = fenced_behind text.now (path_of options tree.old) fence.indent fence.byte fence.count start_ix in
-        AddsRaw (document text.now options (names_of allocs.new)) (λ d.
+        let e = fenced_behind source.now.text.now (path_of source.now.options tree.old)
+        fence.indent fence.byte fence.count start_ix in
+        AddsRaw (document source.now.text.now source.now.options (names_of allocs.new)) (λ d.
         IsFencedCode d start_ix fence.count e.places e.«end») e.left tree.old tree.new next) }
-    ensures boundary { IfOk result (λ next. (behind_line_at text.now start_ix ≤ next) × IsCharBoundary text.now next) }
+    ensures boundary { IfOk result (λ next. (behind_line_at source.now.text.now start_ix ≤ next)
+        × IsCharBoundary source.now.text.now next) }
     ensures more { OnOk result (NamesMore allocs.old allocs.new) }
-    ensures utf8 { IsUtf8 text.now }
+    ensures utf8 { IsUtf8 source.now.text.now }
 {
     tree.is_forest();
-    let bytes = text.as_bytes();
-    let info = unescape(alloc, info_string(text, start_ix + fence.count), false)?;
+    let bytes = source.text.as_bytes();
+    let info = unescape(
+        source.alloc,
+        info_string(source.text, start_ix + fence.count),
+        false,
+    )?;
     let info_ix = allocs.allocate_cow(info)?;
     open_block(tree, start_ix, ItemBody::FencedCodeBlock(info_ix))?;
     let first = next_line(bytes, start_ix);
-    let lines = read_lines(&fence, RawKind::Code, tree, allocs, text, options, first)?;
+    let lines = read_lines(&fence, source, tree, allocs, first)?;
     close_block(tree, lines.end);
     Ok(lines.next)
 }
@@ -108,8 +112,16 @@ fn closing_fence(text: &str, start: usize, line_start: LineStart<'_>, fence: Fen
 
 impl JudgesLines for Fence {
     ghost use Rattle.first_pass_grammar.specs.CodeBlocks.{fence_judge};
+    ghost use Rattle.first_pass_raw.specs.declared.raw_line.RawKind.TheVariants.{Code};
 
     ghost judges = { λ fence. fence_judge fence.indent fence.byte fence.count };
+
+    ghost kinds = { λ fence. Code };
+
+    #[inline(always)]
+    fn kind(&self) -> RawKind {
+        RawKind::Code
+    }
 
     #[inline(always)]
     fn judge(

@@ -6,110 +6,123 @@ ghost use Rattle.first_pass_grammar.specs.Leaves.{document};
 ghost use Rattle.first_pass_open.specs.Path.{path_of};
 ghost use Rattle.first_pass_names.specs.TableEntries.{names_of, NamesMore};
 ghost use Rattle.first_pass_items.specs.declared.item.ItemBody.TheVariants.{HtmlBlock};
+ghost use Rattle.first_pass_items.specs.declared.option_set.Options.{Options};
 ghost use Rattle.first_pass_grammar.specs.RawLines.{range_html};
 ghost use Rattle.first_pass_grammar.specs.HtmlBlocks.{IsHtml};
 ghost use Rattle.first_pass_tokens.specs.TreeTokens.{JoinsNone};
 ghost use Rattle.first_pass_open.specs.OpenBlock.{opened_block};
-ghost use Rattle.first_pass_raw.specs.RawBlocks.{IsPlaceAt, AppendsRaw, AddsRaw, html_to_end, html_to_blank, behind_line_at};
+ghost use Rattle.first_pass_raw.specs.RawBlocks.{IsPlaceAt, AppendsRaw, AddsRaw, html_to_end, html_to_blank};
+ghost use Rattle.first_pass_raw.specs.RawBlocks.{behind_line_at};
 
 use crate::extent::{JudgesLines, read_lines};
-use crate::raw_line::{RawKind, append_raw_line};
+use crate::raw_line::{RawKind, RawLine, append_raw_line};
 use crate::verdict::Verdict;
 use first_pass_items::item::{Item, ItemBody};
-use first_pass_items::option_set::Options;
 use first_pass_lines::lines::scan_blank_line;
 use first_pass_lines::places::next_line;
 use first_pass_names::items::Allocations;
 use first_pass_open::open_block::{close_block, open_block};
+use first_pass_open::source::Source;
 use first_pass_scan::line_start::LineStart;
 use first_pass_tree::forest::Tree;
 use std::alloc::AllocError;
 
-/// Appends the HTML block of the kinds 1 to 5 that begins at the offset `start_ix` after so many columns, at most 3,
-/// and continues to the line that holds `html_end_tag`. Returns the offset at which the line begins that is not read,
-/// or the text's length (CommonMark 4.6).
+/// Where an HTML block begins.
+#[derive(Clone, Copy)]
+pub struct HtmlStart {
+    /// The offset of its first byte.
+    pub at: usize,
+    /// The columns before that, at most 3.
+    pub columns: usize,
+}
+
+/// Appends the HTML block of the kinds 1 to 5 that begins at `start` and continues to the line that holds
+/// `html_end_tag`. Returns the offset at which the line begins that is not read, or the text's length (CommonMark
+/// 4.6).
 pub fn parse_html_block_type_1_to_5<'a>(
+    source: &Source<'a>,
     tree: &mut Tree<Item>,
     allocs: &mut Allocations<'a>,
-    text: &'a str,
-    options: Options,
-    start_ix: usize,
+    start: HtmlStart,
     html_end_tag: &str,
-    columns: usize,
 ) -> Result<usize, AllocError>
-    requires boundary { IsCharBoundary text.now start_ix }
-    requires columns { columns ≤ 3 }
-    ensures block { IfOk result (λ next. (p : Place) → IsPlaceAt text.now start_ix p
-        → let e = html_to_end text.now (path_of options tree.old) html_end_tag.now p in
-        AddsRaw (document text.now options (names_of allocs.new)) (λ d.
-        IsHtml d start_ix columns e.places e.«end») e.left tree.old tree.new next) }
-    ensures boundary { IfOk result (λ next. (behind_line_at text.now start_ix ≤ next) × IsCharBoundary text.now next) }
+    requires boundary { IsCharBoundary source.now.text.now start.at }
+    requires columns { start.columns ≤ 3 }
+    ensures block { IfOk result (λ next. (p : Place) → IsPlaceAt source.now.text.now start.at p
+        → let e = html_to_end source.now.text.now (path_of source.now.options tree.old) html_end_tag.now p in
+        AddsRaw (document source.now.text.now source.now.options (names_of allocs.new)) (λ d.
+        IsHtml d start.at start.columns e.places e.«end») e.left tree.old tree.new next) }
+    ensures boundary { IfOk result (λ next. (behind_line_at source.now.text.now start.at ≤ next)
+        × IsCharBoundary source.now.text.now next) }
     ensures more { OnOk result (NamesMore allocs.old allocs.new) }
-    ensures utf8 { IsUtf8 text.now }
+    ensures utf8 { IsUtf8 source.now.text.now }
 {
-    let end = open_html_block(tree, allocs, text, start_ix, columns)?;
-    if text[start_ix..end].contains(html_end_tag) {
+    let end = open_html_block(tree, allocs, source.text, start)?;
+    if source.text[start.at..end].contains(html_end_tag) {
         close_block(tree, end);
         return Ok(end);
     }
     let block = ToTag { tag: html_end_tag };
-    let lines = read_lines(&block, RawKind::Html, tree, allocs, text, options, end)?;
+    let lines = read_lines(&block, source, tree, allocs, end)?;
     close_block(tree, lines.end);
     Ok(lines.next)
 }
 
-/// Appends the HTML block of the kinds 6 and 7 that begins at the offset `start_ix` after so many columns, at most 3,
-/// and continues to a blank line. Returns the offset at which the line begins that is not read, or the text's length:
-/// where the block ends after what the containers take of that blank line, its end is after the answer (CommonMark
-/// 4.6).
+/// Appends the HTML block of the kinds 6 and 7 that begins at `start` and continues to a blank line. Returns the
+/// offset at which the line begins that is not read, or the text's length: where the block ends after what the
+/// containers take of that blank line, its end is after the answer (CommonMark 4.6).
 pub fn parse_html_block_type_6_or_7<'a>(
+    source: &Source<'a>,
     tree: &mut Tree<Item>,
     allocs: &mut Allocations<'a>,
-    text: &'a str,
-    options: Options,
-    start_ix: usize,
-    columns: usize,
+    start: HtmlStart,
 ) -> Result<usize, AllocError>
-    requires boundary { IsCharBoundary text.now start_ix }
-    requires columns { columns ≤ 3 }
-    ensures block { IfOk result (λ next. (p : Place) → IsPlaceAt text.now start_ix p
-        → let e = html_to_blank text.now (path_of options tree.old) p in
-        AddsRaw (document text.now options (names_of allocs.new)) (λ d.
-        IsHtml d start_ix columns e.places e.«end») e.left tree.old tree.new next) }
-    ensures boundary { IfOk result (λ next. (behind_line_at text.now start_ix ≤ next) × IsCharBoundary text.now next) }
+    requires boundary { IsCharBoundary source.now.text.now start.at }
+    requires columns { start.columns ≤ 3 }
+    ensures block { IfOk result (λ next. (p : Place) → IsPlaceAt source.now.text.now start.at p
+        → let e = html_to_blank source.now.text.now (path_of source.now.options tree.old) p in
+        AddsRaw (document source.now.text.now source.now.options (names_of allocs.new)) (λ d.
+        IsHtml d start.at start.columns e.places e.«end») e.left tree.old tree.new next) }
+    ensures boundary { IfOk result (λ next. (behind_line_at source.now.text.now start.at ≤ next)
+        × IsCharBoundary source.now.text.now next) }
     ensures more { OnOk result (NamesMore allocs.old allocs.new) }
-    ensures utf8 { IsUtf8 text.now }
+    ensures utf8 { IsUtf8 source.now.text.now }
 {
-    let next = open_html_block(tree, allocs, text, start_ix, columns)?;
-    let lines = read_lines(&ToBlank, RawKind::Html, tree, allocs, text, options, next)?;
+    let next = open_html_block(tree, allocs, source.text, start)?;
+    let lines = read_lines(&ToBlank, source, tree, allocs, next)?;
     close_block(tree, lines.end);
     Ok(lines.next)
 }
 
-// Opens the HTML block that begins at the offset `start` after so many columns, and appends its first line. Returns
-// where that ends.
+// Opens the HTML block that begins at `start`, and appends its first line. Returns where that ends.
 #[inline(always)]
 fn open_html_block<'a>(
     tree: &mut Tree<Item>,
     allocs: &mut Allocations<'a>,
     text: &str,
-    start: usize,
-    columns: usize,
+    start: HtmlStart,
 ) -> Result<usize, AllocError>
-    requires boundary { IsCharBoundary text.now start }
-    requires columns { columns ≤ 3 }
-    ensures next { IfOk result (λ next. (next ≡ behind_line_at text.now start) × IsCharBoundary text.now next) }
-    ensures line { IfOk result (λ next. AppendsRaw range_html text.now (names_of allocs.new) columns start next
-        (opened_block tree.old start HtmlBlock) tree.new) }
+    requires boundary { IsCharBoundary text.now start.at }
+    requires columns { start.columns ≤ 3 }
+    ensures next { IfOk result (λ next. (next ≡ behind_line_at text.now start.at) × IsCharBoundary text.now next) }
+    ensures line { IfOk result (λ next. AppendsRaw range_html text.now (names_of allocs.new) start.columns start.at next
+        (opened_block tree.old start.at HtmlBlock) tree.new) }
     ensures path { OnOk result ((options : Options) → path_of options tree.new ≡ path_of options tree.old) }
     ensures apart { OnOk result (JoinsNone tree.new) }
     ensures more { OnOk result (NamesMore allocs.old allocs.new) }
+    ensures utf8 { IsUtf8 text.now }
 {
     tree.is_forest();
-    open_block(tree, start, ItemBody::HtmlBlock)?;
+    open_block(tree, start.at, ItemBody::HtmlBlock)?;
     tree.is_forest();
-    let next = next_line(text.as_bytes(), start);
-    append_raw_line(tree, allocs, text, RawKind::Html, columns, start, next)?;
+    let next = next_line(text.as_bytes(), start.at);
+    let line = RawLine {
+        kind: RawKind::Html,
+        owed: start.columns,
+        start: start.at,
+        end: next,
+    };
+    append_raw_line(tree, allocs, text, line)?;
     Ok(next)
 }
 
@@ -121,8 +134,16 @@ struct ToTag<'t> {
 
 impl JudgesLines for ToTag<'_> {
     ghost use Rattle.first_pass_grammar.specs.HtmlBlocks.{tag_judge};
+    ghost use Rattle.first_pass_raw.specs.declared.raw_line.RawKind.TheVariants.{Html};
 
     ghost judges = { λ block. tag_judge block.tag.now };
+
+    ghost kinds = { λ block. Html };
+
+    #[inline(always)]
+    fn kind(&self) -> RawKind {
+        RawKind::Html
+    }
 
     #[inline(always)]
     fn judge(
@@ -150,8 +171,16 @@ struct ToBlank;
 
 impl JudgesLines for ToBlank {
     ghost use Rattle.first_pass_grammar.specs.HtmlBlocks.{blank_judge};
+    ghost use Rattle.first_pass_raw.specs.declared.raw_line.RawKind.TheVariants.{Html};
 
     ghost judges = { λ block. blank_judge };
+
+    ghost kinds = { λ block. Html };
+
+    #[inline(always)]
+    fn kind(&self) -> RawKind {
+        RawKind::Html
+    }
 
     #[inline(always)]
     fn judge(

@@ -1,6 +1,7 @@
 //! Indented code blocks (CommonMark 4.4).
 
-ghost use Rattle.std.specs.Prelude.{◌≡◌, ◌≤◌, length, drop, Some, false, if◌then◌else◌, IfOk, OnOk, IfSome, IsCharBoundary, IsUtf8};
+ghost use Rattle.std.specs.Prelude.{◌≡◌, ◌≤◌, length, drop, Some, false, if◌then◌else◌, IfOk, OnOk, IfSome};
+ghost use Rattle.std.specs.Prelude.{IsCharBoundary, IsUtf8};
 ghost use Rattle.first_pass_tree.specs.Forest.{IsChild, kept_after, with_end_at};
 ghost use Rattle.first_pass_lines.specs.Places.{Place, place_at, offset, IsPlaceOf};
 ghost use Rattle.first_pass_grammar.specs.Leaves.{document};
@@ -10,40 +11,44 @@ ghost use Rattle.first_pass_names.specs.TableEntries.{names_of, NamesMore};
 ghost use Rattle.first_pass_lines.specs.Lines.{is_blank_line};
 ghost use Rattle.first_pass_raw.specs.RawBlocks.{code_rest_at, IsPlaceAt, AppendsRaw, AddsIndented, behind_line_at};
 
-use crate::raw_line::{RawKind, append_raw_line};
+use crate::raw_line::{RawKind, RawLine, append_raw_line};
 use first_pass_items::item::{Item, ItemBody};
-use first_pass_items::option_set::Options;
 use first_pass_lines::lines::scan_blank_line;
 use first_pass_lines::places::next_line;
 use first_pass_names::items::Allocations;
-use first_pass_open::open_block::{close_block, go_on, open_block};
+use first_pass_open::front::scan_continued;
+use first_pass_open::open_block::{close_block, open_block};
+use first_pass_open::source::Source;
 use first_pass_scan::line_start::LineStart;
 use first_pass_tree::forest::Tree;
 use first_pass_tree::tree_index::TreeIndex;
 use std::alloc::AllocError;
 
 /// Appends the indented code whose first line's text begins at the offset `start_ix`, after its four columns,
-/// with so many columns owed there. Returns the offset at which the line begins that is not read, or the text's
-/// length, and whether the last line read is blank: such lines are no part of the block (CommonMark 4.4).
+/// with `remaining_space` columns, at most 3, owed there. Returns the offset at which the line begins that is not
+/// read, or the text's length, and whether the last line read is blank: such lines are no part of the block
+/// (CommonMark 4.4).
 pub fn parse_indented_code_block<'a>(
+    source: &Source<'a>,
     tree: &mut Tree<Item>,
     allocs: &mut Allocations<'a>,
-    text: &'a str,
-    options: Options,
     start_ix: usize,
     remaining_space: usize,
 ) -> Result<(usize, bool), AllocError>
-    requires boundary { IsCharBoundary text.now start_ix }
+    requires boundary { IsCharBoundary source.now.text.now start_ix }
     requires owed { remaining_space ≤ 3 }
-    requires code { is_blank_line (drop start_ix text.now) ≡ false }
-    ensures block { IfOk result (λ answer. (p : Place) → IsPlaceAt text.now start_ix p → p.rest.owed ≡ remaining_space
-        → AddsIndented (document text.now options (names_of allocs.new)) p tree.old tree.new answer.0 answer.1) }
-    ensures boundary { IfOk result (λ answer. (behind_line_at text.now start_ix ≤ answer.0)
-        × IsCharBoundary text.now answer.0) }
+    requires code { is_blank_line (drop start_ix source.now.text.now) ≡ false }
+    ensures block { IfOk result (λ answer. (p : Place)
+        → IsPlaceAt source.now.text.now start_ix p → p.rest.owed ≡ remaining_space
+        → AddsIndented (document source.now.text.now source.now.options (names_of allocs.new)) p
+        tree.old tree.new answer.0 answer.1) }
+    ensures boundary { IfOk result (λ answer. (behind_line_at source.now.text.now start_ix ≤ answer.0)
+        × IsCharBoundary source.now.text.now answer.0) }
     ensures more { OnOk result (NamesMore allocs.old allocs.new) }
-    ensures utf8 { IsUtf8 text.now }
+    ensures utf8 { IsUtf8 source.now.text.now }
 {
     tree.is_forest();
+    let text = source.text;
     open_block(tree, start_ix, ItemBody::IndentCodeBlock)?;
     tree.is_forest();
     let mut next = append_line(tree, allocs, text, start_ix, remaining_space)?;
@@ -52,7 +57,7 @@ pub fn parse_indented_code_block<'a>(
         end: next,
     };
     let mut blank = false;
-    'lines: while let Some(line_start) = indented_line(text, next, tree, options) {
+    'lines: while let Some(line_start) = indented_line(source, tree, next) {
         let at = next + line_start.bytes_scanned();
         blank = scan_blank_line(line_start.left()).is_some();
         next = append_line(tree, allocs, text, at, line_start.remaining_space())?;
@@ -86,9 +91,16 @@ fn append_line<'a>(
     ensures line { IfOk result (λ next. AppendsRaw range_text text.now (names_of allocs.new) owed at next tree.old
         tree.new) }
     ensures more { OnOk result (NamesMore allocs.old allocs.new) }
+    ensures utf8 { IsUtf8 text.now }
 {
     let next = next_line(text.as_bytes(), at);
-    append_raw_line(tree, allocs, text, RawKind::Code, owed, at, next)?;
+    let line = RawLine {
+        kind: RawKind::Code,
+        owed,
+        start: at,
+        end: next,
+    };
+    append_raw_line(tree, allocs, text, line)?;
     Ok(next)
 }
 
@@ -118,20 +130,15 @@ fn cut_behind(tree: &mut Tree<Item>, kept: Kept)
 
 // What is left of the line that begins at the offset `start`, after its containers and four columns or fewer, where
 // it continues indented code.
-fn indented_line<'a>(
-    text: &'a str,
-    start: usize,
-    tree: &Tree<Item>,
-    options: Options,
-) -> Option<LineStart<'a>>
-    requires { IsCharBoundary text.now start }
-    ensures value { result ≡ code_rest_at text.now (path_of options tree.now) start }
-    ensures place { IfSome result (λ line_start. IsPlaceOf text.now (place_at start line_start)) }
+fn indented_line<'a>(source: &Source<'a>, tree: &Tree<Item>, start: usize) -> Option<LineStart<'a>>
+    requires { IsCharBoundary source.now.text.now start }
+    ensures value { result ≡ code_rest_at source.now.text.now (path_of source.now.options tree.now) start }
+    ensures place { IfSome result (λ line_start. IsPlaceOf source.now.text.now (place_at start line_start)) }
 {
-    if start == text.len() {
+    if start == source.text.len() {
         return None;
     }
-    let mut line_start = go_on(text, start, tree, options)?;
+    let mut line_start = scan_continued(source, tree, start)?;
     if !line_start.scan_space(4) && !line_start.is_at_eol() {
         return None;
     }

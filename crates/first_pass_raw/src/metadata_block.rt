@@ -11,11 +11,11 @@ use crate::extent::{JudgesLines, read_lines};
 use crate::raw_line::RawKind;
 use crate::verdict::Verdict;
 use first_pass_items::item::{Item, ItemBody, MetadataBlockKind};
-use first_pass_items::option_set::Options;
 use first_pass_lines::places::{next_line, rest_of};
+use first_pass_metadata::metadata_scan::scan_closing_metadata_block;
 use first_pass_names::items::Allocations;
 use first_pass_open::open_block::{close_block, open_block};
-use first_pass_scan::leaf_scan::scan_closing_metadata_block;
+use first_pass_open::source::Source;
 use first_pass_scan::line_start::LineStart;
 use first_pass_tree::forest::Tree;
 use std::alloc::AllocError;
@@ -31,36 +31,37 @@ fn metadata_kind(byte: u8) -> MetadataBlockKind
     }
 }
 
-/// Appends the metadata block of this byte that begins at the offset `start_ix`. Returns the offset at which the
-/// line begins that is not read, or the text's length.
+/// Appends the metadata block whose marks have the byte `metadata_block_ch` and that begins at the offset `start_ix`.
+/// Returns the offset at which the line begins that is not read, or the text's length.
 pub fn parse_metadata_block<'a>(
+    source: &Source<'a>,
     tree: &mut Tree<Item>,
     allocs: &mut Allocations<'a>,
-    text: &'a str,
-    options: Options,
     start_ix: usize,
     metadata_block_ch: u8,
 ) -> Result<usize, AllocError>
-    requires boundary { IsCharBoundary text.now start_ix }
+    requires boundary { IsCharBoundary source.now.text.now start_ix }
     ensures block { IfOk result (λ next.
-        let e = metadata_behind text.now (path_of options tree.old) metadata_block_ch start_ix in
-        AddsRaw (document text.now options (names_of allocs.new)) (λ d.
+        let e = metadata_behind source.now.text.now (path_of source.now.options tree.old)
+        metadata_block_ch start_ix in
+        AddsRaw (document source.now.text.now source.now.options (names_of allocs.new)) (λ d.
         IsMetadata d start_ix metadata_block_ch e.places e.«end») e.left tree.old tree.new next) }
-    ensures boundary { IfOk result (λ next. (behind_line_at text.now start_ix ≤ next) × IsCharBoundary text.now next) }
+    ensures boundary { IfOk result (λ next. (behind_line_at source.now.text.now start_ix ≤ next)
+        × IsCharBoundary source.now.text.now next) }
     ensures more { OnOk result (NamesMore allocs.old allocs.new) }
-    ensures utf8 { IsUtf8 text.now }
+    ensures utf8 { IsUtf8 source.now.text.now }
 {
     tree.is_forest();
+    let first = next_line(source.text.as_bytes(), start_ix);
     open_block(
         tree,
         start_ix,
         ItemBody::MetadataBlock(metadata_kind(metadata_block_ch)),
     )?;
-    let first = next_line(text.as_bytes(), start_ix);
     let metadata = Metadata {
         byte: metadata_block_ch,
     };
-    let lines = read_lines(&metadata, RawKind::Code, tree, allocs, text, options, first)?;
+    let lines = read_lines(&metadata, source, tree, allocs, first)?;
     close_block(tree, lines.end);
     Ok(lines.next)
 }
@@ -73,8 +74,16 @@ struct Metadata {
 
 impl JudgesLines for Metadata {
     ghost use Rattle.first_pass_grammar.specs.CodeBlocks.{metadata_judge};
+    ghost use Rattle.first_pass_raw.specs.declared.raw_line.RawKind.TheVariants.{Code};
 
     ghost judges = { λ metadata. metadata_judge metadata.byte };
+
+    ghost kinds = { λ metadata. Code };
+
+    #[inline(always)]
+    fn kind(&self) -> RawKind {
+        RawKind::Code
+    }
 
     #[inline(always)]
     fn judge(

@@ -52,6 +52,19 @@ pub enum RawKind {
     Html,
 }
 
+/// A raw line.
+#[derive(Clone, Copy)]
+pub struct RawLine {
+    /// What it is of.
+    pub kind: RawKind,
+    /// The columns that are owed before it, at most 3.
+    pub owed: usize,
+    /// The offset at which its bytes begin.
+    pub start: usize,
+    /// The offset at which they end, after its line end if it has one.
+    pub end: usize,
+}
+
 // Appends a range of a raw line's bytes.
 #[inline(always)]
 fn append_range(
@@ -76,30 +89,28 @@ fn append_range(
     Ok(())
 }
 
-/// Appends a raw line to the innermost open node: the columns that are owed before it, at most 3, and its bytes from
-/// the offset `start` up to `end`, without a `\r` before a `\n` at their end.
+/// Appends a raw line of the text to the innermost open node: the columns that are owed before it, and its bytes,
+/// without a `\r` before a `\n` at their end.
+#[inline(always)]
 pub fn append_raw_line<'a>(
     tree: &mut Tree<Item>,
     allocs: &mut Allocations<'a>,
     text: &str,
-    kind: RawKind,
-    remaining_space: usize,
-    start: usize,
-    end: usize,
+    line: RawLine,
 ) -> Result<(), AllocError>
-    requires owed { remaining_space ≤ 3 }
-    requires order { start ≤ end }
-    requires within { end ≤ length text.now }
-    ensures line { OnOk result (AppendsRaw (range_of kind) text.now (names_of allocs.new) remaining_space start end
-        tree.old tree.new) }
+    requires owed { line.owed ≤ 3 }
+    requires order { line.start ≤ line.«end» }
+    requires within { line.«end» ≤ length text.now }
+    ensures line { OnOk result (AppendsRaw (range_of line.kind) text.now (names_of allocs.new) line.owed line.start
+        line.«end» tree.old tree.new) }
     ensures more { OnOk result (NamesMore allocs.old allocs.new) }
 {
-    append_columns(tree, allocs, remaining_space, start)?;
-    if ends_with_both(text.as_bytes(), start, end) {
-        append_range(tree, kind, start, end - 2)?;
-        append_range(tree, kind, end - 1, end)?;
+    append_columns(tree, allocs, line.owed, line.start)?;
+    if ends_with_both(text.as_bytes(), line.start, line.end) {
+        append_range(tree, line.kind, line.start, line.end - 2)?;
+        append_range(tree, line.kind, line.end - 1, line.end)?;
     } else {
-        append_range(tree, kind, start, end)?;
+        append_range(tree, line.kind, line.start, line.end)?;
     }
     Ok(())
 }

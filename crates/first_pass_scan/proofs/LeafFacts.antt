@@ -1,23 +1,13 @@
--- Facts on closing lines, and on the spaces and tabs that bytes begin with.
-use Rattle.std.proofs.Common.{◌≡◌, ℕ, ◌+◌, ◌<◌, ◌≤◌, Bool, true, false, ◌==◌, ◌||◌, List, [], ◌∷◌, ◌++◌, length, take, drop, get_or, refl, sym, ap, ◌∙◌, arith}
+-- Facts on the spaces and tabs that bytes begin with.
+use Rattle.std.proofs.Common.{◌≡◌, ℕ, ◌+◌, ◌<◌, ◌≤◌, Bool, true, ◌==◌, List, [], ◌∷◌, ◌++◌, length, take, drop, get_or, refl, sym, ap, ◌∙◌, arith}
 use Rattle.std.proofs.Common.{append_assoc, inl, inr, if◌then◌else◌}
-use Rattle.std.specs.List.{list_any, list_all}
+use Rattle.std.specs.List.{list_all}
 use Rattle.std.proofs.lemmas.Bool.{cases_lt, and_parts}
 use Rattle.std.proofs.lemmas.Bool.Decides.{nat_tests}
 use Rattle.std.proofs.lemmas.List.{take_more, append-nil, length-take-le, drop_more, get_or-take, take-append-drop, take-take}
 use Rattle.first_pass_lines.specs.Rest.{columns_of}
-use Rattle.first_pass_lines.specs.Places.{Place, line_place, lines_at}
 use Rattle.first_pass_lines.specs.Lines.{is_blank}
-use Rattle.first_pass_scan.specs.LeafLines.{blank_columns, closes_metadata, any_line_closes, IsIndent, IsLongestIndent}
-
--- a line closes, or one after it does
-pub any_line-first : (c start : ℕ) (text : List ℕ) (more : List Place) (t : Bool) → lines_at start (drop start text) ≡ line_place start (drop start text) ∷ more
-    → t ≡ closes_metadata c (drop start text) → any_line_closes c start (drop start text) ≡ (t || list_any (λ line. closes_metadata c line.rest.left) more)
-any_line-first c start text more t h e =
-    ap (list_any (λ line. closes_metadata c line.rest.left)) h ∙ ap (λ u. u || list_any (λ line. closes_metadata c line.rest.left) more) (sym e)
-
-pub any_line-none : (c start : ℕ) (text : List ℕ) → lines_at start (drop start text) ≡ [] → any_line_closes c start (drop start text) ≡ false
-any_line-none c start text h = ap (list_any (λ line. closes_metadata c line.rest.left)) h
+use Rattle.first_pass_scan.specs.LeafLines.{blank_columns, IsIndent, IsLongestIndent}
 
 -- the first n bytes are spaces and tabs of so many columns, and what follows them begins so many bytes after the last tab
 pub record IsFront (bs : List ℕ) (n : ℕ) (columns : ℕ) (column : ℕ) : Type 0 where

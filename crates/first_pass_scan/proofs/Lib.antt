@@ -1,7 +1,5 @@
-pub mod KnownFacts
 pub mod LeafFacts
 pub mod MarkerFacts
 pub mod MarkerPlaces
 pub mod RuleFacts
-pub mod MetadataFacts
 pub mod PlainFacts

@@ -1,12 +1,12 @@
 -- With a plain byte no line end, marker, break, heading or fence begins, and with an inert byte no column and no container.
-use Rattle.std.proofs.Common.{◌≡◌, inl, inr, ℕ, zero, suc, ◌&&◌, if◌then◌else◌, ◌+◌, ◌==◌, ◌||◌, not, Bool, true, false, true≢false, List, [], ◌∷◌, Option}
+use Rattle.std.proofs.Common.{◌≡◌, inl, inr, ℕ, zero, suc, if◌then◌else◌, ◌+◌, ◌==◌, ◌||◌, not, Bool, true, false, true≢false, List, [], ◌∷◌}
 use Rattle.std.proofs.Common.{None, refl, sym, ap, ◌∙◌, arith}
 use Rattle.std.proofs.lemmas.Bool.{cases_eq, ne_eqb}
 use Rattle.std.proofs.lemmas.Bool.Decides.{nat_tests}
 use Rattle.std.specs.Char.{is_ascii_digit}
 use Rattle.first_pass_lines.specs.Rest.{Rest, column_of_byte, next_column, columns_of, after_columns, indent, past_quote_byte, past_quote}
 use Rattle.first_pass_lines.specs.Lines.{is_white, begins, eol_len, blank_len, atx_level}
-use Rattle.first_pass_scan.specs.LeafLines.{hrule_len, code_fence, metadata_byte}
+use Rattle.first_pass_scan.specs.LeafLines.{hrule_len, code_fence}
 use Rattle.first_pass_scan.specs.Markers.{content_indent, item_by, list_marker, listitem, item_of}
 use Rattle.first_pass_lines.specs.Plain.{is_plain, begins_plain, is_inert, begins_inert}
 
@@ -60,15 +60,6 @@ pub plain_fence : (bs : List ℕ) → begins_plain bs ≡ true → code_fence bs
 unfolding code_fence is_plain
 plain_fence [] h = absurd (true≢false (sym h))
 plain_fence (b ∷ bs) h = rw (isnt is_plain b 96 h refl) (rw (isnt is_plain b 126 h refl) refl)
-
-and_none : (yaml : Bool) (t : Bool) (x y : Option ℕ) → t ≡ false → (if yaml && t then x else y) ≡ y
-and_none true t x y e = rw e refl
-and_none false t x y e = refl
-
-pub plain_metadata : (yaml pluses : Bool) (bs : List ℕ) → begins_plain bs ≡ true → metadata_byte yaml pluses bs ≡ None
-unfolding metadata_byte is_plain
-plain_metadata yaml pluses bs h =
-    and_none yaml (begins 45 bs) _ _ (plain_begins 45 bs h refl) ∙ and_none pluses (begins 43 bs) _ _ (plain_begins 43 bs h refl)
 
 -- the last of the tests that hold of no inert byte
 last_off : (p q r s t u v : Bool) → not (p || q || r || s || t || u || v) ≡ true → v ≡ false

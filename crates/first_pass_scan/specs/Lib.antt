@@ -1,3 +1,2 @@
 pub mod LeafLines
 pub mod Markers
-pub mod MetadataSearch

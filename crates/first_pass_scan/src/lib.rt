@@ -5,4 +5,3 @@
 pub mod leaf_scan;
 pub mod line_start;
 mod markers;
-pub mod metadata_search;

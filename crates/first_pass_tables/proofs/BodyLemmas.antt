@@ -9,7 +9,7 @@ use Rattle.std.proofs.lemmas.Bool.Decides.{nat_tests}
 use Rattle.first_pass_items.specs.declared.item.Item.{Item}
 use Rattle.first_pass_items.specs.declared.item.ItemBody.TheVariants.{TableHead, TableRow}
 use Rattle.first_pass_tree.specs.declared.tree_index.TreeIndex.{TreeIndex}
-use Rattle.first_pass_tree.specs.Forest.{Forest, added, at_depth, with_end_at, in_table}
+use Rattle.first_pass_tree.specs.Forest.{Forest, added, at_depth, with_end_at}
 use Rattle.first_pass_tree.proofs.Blocks.{at_depth-append}
 use Rattle.first_pass_tree.proofs.Callers.{more-added}
 use Rattle.first_pass_lines.specs.Lines.{line_len}
@@ -34,7 +34,7 @@ use Rattle.first_pass_open.proofs.PathLemmas.{AreIn, path_in-append}
 use Rattle.first_pass_open.proofs.PlaceLemmas.{line_start_end}
 use Rattle.first_pass_tables.specs.Appends.{with_below, AddsHead, keeps_row, OpenTable, open_table, so_far, ReadsRow, ReadsRowLine, AppendsRows}
 use Rattle.first_pass_tables.specs.RowsRead.{AppendsBody, BodySoFar}
-use Rattle.first_pass_tables.proofs.RowPlaces.{begins_row, in_table-append, row_within}
+use Rattle.first_pass_tables.proofs.RowPlaces.{begins_row, row_within}
 use Rattle.first_pass_items.specs.declared.option_set.Options.{Options}
 
 -- a row ends where its line ends
@@ -51,10 +51,6 @@ pub same_path : (options : Options) (f g : Forest Item) (more : List (ℕ × Ite
     → g.nodes ≡ f.nodes ++ more → g.spine ≡ f.spine → AreIn (length f.nodes) f.spine → path_of options g ≡ path_of options f
 same_path options f g more nodes spine there =
     ap (path_in options g.nodes) spine ∙ ap (λ ns. path_in options ns f.spine) nodes ∙ path_in-append options f.nodes more f.spine there
-
-pub same_table : (f g : Forest Item) (more : List (ℕ × Item))
-    → g.nodes ≡ f.nodes ++ more → g.spine ≡ f.spine → AreIn (length f.nodes) f.spine → in_table f.nodes f.spine ≡ true → in_table g.nodes g.spine ≡ true
-same_table f g more nodes spine there h = ap (in_table g.nodes) spine ∙ ap (λ ns. in_table ns f.spine) nodes ∙ in_table-append f.nodes more f.spine there ∙ h
 
 some_by : {A : Type 0} (o : Option A) → (o ≡ None → ⊥) → is_some o ≡ true
 some_by None h = absurd (h refl)

@@ -6,7 +6,6 @@ pub mod BodyLemmas
 pub mod RowsFit
 pub mod RowsAdded
 pub mod TableFits
-pub mod TextsAre
 pub mod RowCells
 pub mod RowClosed
 pub mod RowDrops

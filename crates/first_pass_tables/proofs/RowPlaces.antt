@@ -1,12 +1,9 @@
 -- Where the text of a row begins, and what stays as it is while rows are added.
-use Rattle.std.proofs.Common.{◌≡◌, ◌⊎◌, inl, inr, ℕ, ◌+◌, ◌<◌, ◌&&◌, not, Bool, true, false, true≢false, List, [], ◌∷◌, ◌++◌, length, drop, slice_get, Option}
+use Rattle.std.proofs.Common.{◌≡◌, ◌⊎◌, inl, inr, ℕ, ◌+◌, ◌<◌, Bool, true, false, true≢false, List, [], length, drop, Option}
 use Rattle.std.proofs.Common.{Some, None, IsUtf8, IsCharBoundary, refl, sym, ap, subst, ◌∙◌, if◌then◌else◌}
 use Rattle.std.specs.Option.{option_map, option_and_then}
 use Rattle.std.proofs.lemmas.Bool.{cases_lt}
 use Rattle.std.proofs.lemmas.Option.{none-some}
-use Rattle.first_pass_items.specs.declared.item.Item.{Item}
-use Rattle.first_pass_tree.specs.declared.tree_index.TreeIndex.{TreeIndex}
-use Rattle.first_pass_tree.specs.Forest.{in_table_by, in_table}
 use Rattle.first_pass_lines.specs.Rest.{Rest, indent, after_columns}
 use Rattle.first_pass_lines.specs.Places.{Place, offset, line_end, line_rest, line_place, place_at, IsPlaceOf}
 use Rattle.first_pass_lines.proofs.Columns.{after-none}
@@ -15,9 +12,9 @@ use Rattle.first_pass_grammar.specs.declared.kind.Container.{Container}
 use Rattle.first_pass_grammar.specs.Containers.{at_rest, after}
 use Rattle.first_pass_grammar.specs.Kinds.{all_taken, unindented, interrupts_with}
 use Rattle.first_pass_grammar.specs.Tables.{row_text}
-use Rattle.first_pass_open.proofs.PathLemmas.{AreIn, get_front, after-end}
+use Rattle.first_pass_open.proofs.PathLemmas.{after-end}
 use Rattle.first_pass_open.proofs.PlaceLemmas.{after_keeps, all_keep}
-use Rattle.first_pass_text.proofs.ParagraphLemmas.{ends_past}
+use Rattle.first_pass_open.proofs.PlaceLemmas.{ends_past}
 
 -- the place at which the text of a row begins
 pub record BeginsRow (text : List ℕ) (path : List Container) (n start : ℕ) : Type 0 where
@@ -52,13 +49,6 @@ pub begins_row : (text : List ℕ) (path : List Container) (n start : ℕ)
     → IsUtf8 text → IsCharBoundary text n → row_text path (line_place n (drop n text)) ≡ Some start → BeginsRow text path n start
 begins_row text path n start utf8 boundary h = begins_by text path n start (after path (line_rest (drop n text))) utf8 boundary refl h
 
--- an open table stays one, whatever is added after its nodes
-pub in_table-append : (ns more : List (ℕ × Item)) (spine : List TreeIndex) → AreIn (length ns) spine → in_table (ns ++ more) spine ≡ in_table ns spine
-in_table-append ns more [] a = refl
-in_table-append ns more (ix ∷ spine) a =
-    ap (λ n. in_table_by (in_table (ns ++ more) spine) (option_map (λ n. n.1.body) n)) (get_front ns more ix.0 a.0)
-    ∙ ap (λ t. in_table_by t (option_map (λ n. n.1.body) (slice_get ns ix.0))) (in_table-append ns more spine a.1)
-
 -- the place of the text in a line that continues the path
 pub text_stands : (text : List ℕ) (n at : ℕ) (r s : Rest)
     → IsUtf8 text → IsPlaceOf text (place_at n r) → at ≡ offset (place_at n s) → s ≡ after_columns (indent r) r
@@ -68,13 +58,6 @@ text_stands text n at r s utf8 i is taken = (all_keep text n r utf8 i, is ∙ ap
 pub text_bounds : (text : List ℕ) (n at : ℕ) (r s : Rest)
     → IsUtf8 text → IsPlaceOf text (place_at n r) → at ≡ offset (place_at n s) → s ≡ after_columns (indent r) r → IsCharBoundary text at
 text_bounds text n at r s utf8 i is taken = let t = text_stands text n at r s utf8 i is taken in subst (IsCharBoundary text) (sym t.1) t.0.boundary
-
--- what the text of a line says that continues the path
-text_says : (text read : List ℕ) (n at : ℕ) (r : Rest) (t stops : Bool)
-    → IsPlaceOf text (unindented (place_at n r)) → at ≡ offset (unindented (place_at n r)) → read ≡ drop at text → t ≡ true
-    → stops ≡ interrupts_with (true && not t) read → interrupts_with false (unindented (place_at n r)).rest.left ≡ stops
-text_says text read n at r t stops i at_is read_is opened e =
-    ap (interrupts_with false) (i.left ∙ ap (λ k. drop k text) (sym at_is) ∙ sym read_is) ∙ ap (λ z. interrupts_with (not z) read) (sym opened) ∙ sym e
 
 row_at : (path : List Container) (line : Place) (o : Option Rest) (r : Rest) → o ≡ after path line.rest → o ≡ Some r
     → row_text path line ≡ (if interrupts_with false (unindented (at_rest line r)).rest.left then None else Some (offset (unindented (at_rest line r))))
@@ -87,14 +70,13 @@ row_none path line o e f =
     sym (ap (λ (o : Option Rest). option_and_then (λ (p : Place). if interrupts_with false (unindented p).rest.left then None else Some (offset (unindented p)))
     (option_map (at_rest line) o)) (sym e ∙ f))
 
-module _ (text read : List ℕ) (path : List Container) (n at : ℕ) (o : Option Rest) (r : Rest) (t stops : Bool)
-    (e : o ≡ after path (line_rest (drop n text))) (f : o ≡ Some r) (i : IsPlaceOf text (unindented (place_at n r)))
-    (at_is : at ≡ offset (unindented (place_at n r))) (read_is : read ≡ drop at text)
-    (opened : t ≡ true) (says : stops ≡ interrupts_with (true && not t) read) where
+module _ (text : List ℕ) (path : List Container) (n at : ℕ) (o : Option Rest) (r : Rest) (stops : Bool)
+    (e : o ≡ after path (line_rest (drop n text))) (f : o ≡ Some r) (at_is : at ≡ offset (unindented (place_at n r)))
+    (says : stops ≡ interrupts_with false (unindented (place_at n r)).rest.left) where
   value_is : row_text path (line_place n (drop n text)) ≡ (if stops then None else Some at)
   value_is =
       row_at path (line_place n (drop n text)) o r e f
-      ∙ ap (λ b. if b then None else Some (offset (unindented (place_at n r)))) (text_says text read n at r t stops i at_is read_is opened says)
+      ∙ ap (λ b. if b then None else Some (offset (unindented (place_at n r)))) (sym says)
       ∙ ap (λ k. if stops then None else Some k) (sym at_is)
 
   pub row_stops : stops ≡ true → None ≡ row_text path (line_place n (drop n text))

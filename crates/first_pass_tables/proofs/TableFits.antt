@@ -17,7 +17,7 @@ use Rattle.first_pass_grammar.specs.Tables.{filled, row_block, taking, table_so_
 use Rattle.first_pass_grammar.proofs.Orders.{between-any}
 use Rattle.first_pass_grammar.proofs.OwnNodes.{own_join}
 use Rattle.first_pass_grammar.proofs.RowEnds.{row_ends_its_line}
-use Rattle.first_pass_text.specs.Appends.{line_end_at}
+use Rattle.first_pass_open.specs.Between.{line_end_at}
 use Rattle.first_pass_tables.proofs.CellsFit.{OneRow, between-order, between-join, between-wider, between-block, own_block, row_fits}
 use Rattle.first_pass_tables.proofs.RowsFit.{RowsBetween, rows_fit}
 

@@ -1,5 +1,4 @@
 -- What the contracts of this crate say.
 pub mod Appends
 pub mod RowsRead
-pub mod TextsAdded
 pub mod Reading

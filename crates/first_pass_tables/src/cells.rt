@@ -1,7 +1,6 @@
 //! The cells of a row, one by one (GFM 4.10).
 
 ghost use Rattle.std.specs.Prelude.{◌≡◌, ◌≤◌, length, replicate, IfOk, OnOk, IfSome};
-ghost use Rattle.first_pass_walk.specs.Walk.{MarksSpecial};
 ghost use Rattle.first_pass_tree.specs.Forest.{IsChild};
 ghost use Rattle.first_pass_tokens.specs.LineTokens.{spot};
 ghost use Rattle.first_pass_tokens.specs.TreeTokens.{chained};
@@ -36,36 +35,41 @@ pub fn cell_start(bytes: &[u8], at: usize) -> usize
     }
 }
 
-/// Appends the cell that begins at the offset `start` into the text, and whose content begins at `text`, to the
-/// innermost open node, with its tokens; returns the offset at which it ends. The texts that tokens name are put among
-/// `allocs`; the table `lut` is that of the special bytes. `braces`, the brace contexts before the cell, become those
-/// after it. The error is want of memory (GFM 4.10).
+/// Where a cell begins, and where its content does: offsets into the text.
+#[derive(Clone, Copy)]
+pub struct CellStart {
+    pub at: usize,
+    pub content: usize,
+}
+
+/// Appends the cell that begins there to the innermost open node, with its tokens; returns the offset at which it ends.
+/// The texts that tokens name are put among `allocs`. `braces`, the brace contexts before the cell, become those after
+/// it. The error is want of memory (GFM 4.10).
 pub fn append_table_cell(
-    source: Source<'_>,
-    lut: &[bool; 256],
+    source: &Source<'_>,
     tree: &mut Tree<Item>,
     allocs: &mut Allocations<'_>,
     braces: &mut BraceContexts,
-    start: usize,
-    text: usize,
+    cell: CellStart,
 ) -> Result<usize, AllocError>
-    requires within { text ≤ length source.text.now }
-    requires marks { MarksSpecial lut.now source.options }
+    requires within { cell.content ≤ length source.now.text.now }
     ensures cell { IfOk result (λ stop.
-        AddsCell (document source.entry.text.now source.entry.options (names_of allocs.new)) start
-        (spot text braces.old) tree.old tree.new (spot stop braces.new)) }
+        AddsCell (document source.now.text.now source.now.options (names_of allocs.new)) cell.at
+        (spot cell.content braces.old) tree.old tree.new (spot stop braces.new)) }
     ensures more { OnOk result (NamesMore allocs.old allocs.new) }
     ensures texts { OnOk result (AddsTexts (names_of allocs.new) (names_of allocs.old)) }
 {
     tree.is_forest();
-    open_block(tree, start, ItemBody::TableCell)?;
+    open_block(tree, cell.at, ItemBody::TableCell)?;
     let content = Content {
         options: source.options,
-        start: text,
+        whole: source.text,
+        special: &source.special,
+        start: cell.content,
         end: None,
         row: true,
     };
-    let end = allocs.append_cell(source.text, content, lut, tree, braces)?;
+    let end = allocs.append_cell(content, tree, braces)?;
     close_block(tree, end);
     Ok(end)
 }

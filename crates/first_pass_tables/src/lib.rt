@@ -4,4 +4,3 @@
 pub mod cells;
 pub mod row;
 pub mod rows;
-pub mod text;

@@ -1,18 +1,17 @@
 //! A row of a table (GFM 4.10).
 
 ghost use Rattle.std.specs.Prelude.{◌≡◌, ◌≤◌, ◌&&◌, ◌||◌, not, nat_lt, nat_le, IsTrue, ℕ, length, OnOk, IfOk, IfSome, IsUtf8, IsCharBoundary};
-ghost use Rattle.first_pass_walk.specs.Walk.{MarksSpecial};
 ghost use Rattle.first_pass_tree.specs.declared.tree_index.TreeIndex.{TreeIndex};
 ghost use Rattle.first_pass_tokens.specs.LineTokens.{spot};
 ghost use Rattle.first_pass_names.specs.TableEntries.{names_of, AddsTexts, NamesMore};
 ghost use Rattle.first_pass_grammar.specs.Leaves.{document};
 ghost use Rattle.first_pass_grammar.specs.Tables.{most_filled};
 ghost use Rattle.first_pass_open.specs.OpenBlock.{IsJustPushed};
-ghost use Rattle.first_pass_text.specs.Between.{AddsBetween};
+ghost use Rattle.first_pass_open.specs.Between.{AddsBetween};
 ghost use Rattle.first_pass_tables.specs.Appends.{AppendsCells, AddsHead, IsOpenNode, open_table, ReadsRow};
 ghost use Rattle.first_pass_tables.specs.Reading.{AppendsSome};
 
-use crate::cells::{append_table_cell, cell_start, drop_behind, fill_row};
+use crate::cells::{CellStart, append_table_cell, cell_start, drop_behind, fill_row};
 use first_pass_items::item::{Item, ItemBody};
 use first_pass_lines::lines::{scan_eol, scan_whitespace_no_nl};
 use first_pass_lines::places::rest_of;
@@ -27,6 +26,24 @@ use std::alloc::AllocError;
 /// How many cells are filled into the rows of one table at the most.
 pub const MAX_AUTOCOMPLETED_CELLS: usize = 1 << 18;
 
+/// Which cells of a row are kept.
+#[derive(Clone, Copy)]
+pub struct CellsWanted {
+    /// The offset into the text from which on they are read.
+    pub start: usize,
+    /// How many are kept at most: as many as the table has columns.
+    pub most: usize,
+}
+
+/// What of an open table counts for the rows that follow.
+#[derive(Drop)]
+pub struct TableSoFar {
+    /// How many cells are filled into its rows so far.
+    pub missing_empty_cells: usize,
+    /// The brace contexts after its last cell.
+    pub braces: BraceContexts,
+}
+
 // How far the cells of a row were read: where the row ends, if it does, or the next cell is looked for; and how many.
 #[derive(Clone, Copy, Drop)]
 struct CellsRead {
@@ -35,31 +52,27 @@ struct CellsRead {
     ended: bool,
 }
 
-// Appends the cells of the row that begins at the offset `start` to the innermost open node, up to so many. The texts
-// that their tokens name are put among `allocs`; `braces`, the brace contexts before those cells, become those after
-// them.
+// Appends the cells of a row that are wanted to the innermost open node. The texts that their tokens name are put among
+// `allocs`; `braces`, the brace contexts before those cells, become those after them.
 fn append_some_cells(
-    source: Source<'_>,
-    lut: &[bool; 256],
+    source: &Source<'_>,
     tree: &mut Tree<Item>,
     allocs: &mut Allocations<'_>,
     braces: &mut BraceContexts,
-    start: usize,
-    most: usize,
+    wanted: CellsWanted,
 ) -> Result<CellsRead, AllocError>
-    requires within { start ≤ length source.text.now }
-    requires marks { MarksSpecial lut.now source.options }
+    requires within { wanted.start ≤ length source.now.text.now }
     ensures cells { IfOk result (λ read.
-        AppendsSome (document source.entry.text.now source.entry.options (names_of allocs.new)) most
-        (spot start braces.old) tree.old tree.new (read, braces.new)) }
+        AppendsSome (document source.now.text.now source.now.options (names_of allocs.new)) wanted.most
+        (spot wanted.start braces.old) tree.old tree.new (read, braces.new)) }
     ensures more { OnOk result (NamesMore allocs.old allocs.new) }
     ensures texts { OnOk result (AddsTexts (names_of allocs.new) (names_of allocs.old)) }
-    ensures utf8 { OnOk result (IsUtf8 source.entry.text.now) }
+    ensures utf8 { OnOk result (IsUtf8 source.now.text.now) }
 {
     let bytes = source.text.as_bytes();
-    let mut at = start;
+    let mut at = wanted.start;
     let mut count = 0;
-    while count < most {
+    while count < wanted.most {
         let cell = cell_start(bytes, at);
         let text = cell + scan_whitespace_no_nl(rest_of(bytes, cell));
         if let Some(eol) = scan_eol(rest_of(bytes, text)) {
@@ -69,7 +82,11 @@ fn append_some_cells(
                 ended: true,
             });
         }
-        at = append_table_cell(source, lut, tree, allocs, braces, cell, text)?;
+        let start = CellStart {
+            at: cell,
+            content: text,
+        };
+        at = append_table_cell(source, tree, allocs, braces, start)?;
         count += 1;
     }
     Ok(CellsRead {
@@ -79,70 +96,68 @@ fn append_some_cells(
     })
 }
 
-// Appends the cells of the row that begins at the offset `start` to the innermost open node, which was just opened,
-// but no more of them than there are columns. Returns where the row ends, and how many cells it has. The texts that
-// the tokens of all its cells name are put among `allocs`; `braces`, the brace contexts before the row, become those
-// after all its cells.
+// Appends the cells of a row that are wanted to the innermost open node, which was just opened. Returns where the row
+// ends, and how many cells it has. The texts that the tokens of all its cells name are put among `allocs`; `braces`,
+// the brace contexts before the row, become those after all its cells.
 fn append_cells(
-    source: Source<'_>,
-    lut: &[bool; 256],
+    source: &Source<'_>,
     tree: &mut Tree<Item>,
     allocs: &mut Allocations<'_>,
     braces: &mut BraceContexts,
-    start: usize,
-    columns: usize,
+    wanted: CellsWanted,
 ) -> Result<(usize, usize), AllocError>
-    requires within { start ≤ length source.text.now }
-    requires marks { MarksSpecial lut.now source.options }
+    requires within { wanted.start ≤ length source.now.text.now }
     requires fresh { (ix : TreeIndex) × IsJustPushed tree.old ix }
     ensures cells { IfOk result (λ answer.
-        AppendsCells (document source.entry.text.now source.entry.options (names_of allocs.new)) columns
-        (spot start braces.old) tree.old tree.new (spot answer.0 braces.new, answer.1)) }
+        AppendsCells (document source.now.text.now source.now.options (names_of allocs.new)) wanted.most
+        (spot wanted.start braces.old) tree.old tree.new (spot answer.0 braces.new, answer.1)) }
     ensures more { OnOk result (NamesMore allocs.old allocs.new) }
     ensures texts { OnOk result (AddsTexts (names_of allocs.new) (names_of allocs.old)) }
-    ensures utf8 { OnOk result (IsUtf8 source.entry.text.now) }
+    ensures utf8 { OnOk result (IsUtf8 source.now.text.now) }
 {
     source.is_short();
-    let kept = append_some_cells(source, lut, tree, allocs, braces, start, columns)?;
+    let kept = append_some_cells(source, tree, allocs, braces, wanted)?;
     if kept.ended {
         return Ok((kept.at, kept.count));
     }
     tree.is_forest();
     let last = tree.cur();
-    let excess = append_some_cells(source, lut, tree, allocs, braces, kept.at, usize::MAX)?;
+    let others = CellsWanted {
+        start: kept.at,
+        most: usize::MAX,
+    };
+    let excess = append_some_cells(source, tree, allocs, braces, others)?;
     if excess.count > 0 {
         drop_behind(tree, last);
     }
     Ok((excess.at, kept.count + excess.count))
 }
 
-/// Appends the header row of a table of so many columns, which begins at the offset `start` into the text, to the
-/// innermost open node, filled with empty cells where it has too few. Returns how many are filled in; the error is
-/// want of memory. The texts that tokens name are put among `allocs`; the table `lut` is that of the special bytes;
-/// `braces`, the brace contexts before the row, become those after it (GFM 4.10).
+/// Appends the header row of a table, which begins where cells are wanted from, to the innermost open node, filled with
+/// empty cells where it has too few; `table` says then how many are filled in. The error is want of memory. The texts
+/// that tokens name are put among `allocs`; the brace contexts before the row become those after it (GFM 4.10).
 pub fn append_head_row(
-    source: Source<'_>,
-    lut: &[bool; 256],
+    source: &Source<'_>,
     tree: &mut Tree<Item>,
     allocs: &mut Allocations<'_>,
-    braces: &mut BraceContexts,
-    start: usize,
-    columns: usize,
-) -> Result<usize, AllocError>
-    requires within { start ≤ length source.text.now }
-    requires marks { MarksSpecial lut.now source.options }
-    ensures head { IfOk result (λ missing.
-        AddsHead (document source.entry.text.now source.entry.options (names_of allocs.new)) columns
-        (spot start braces.old) tree.old (open_table tree.new missing braces.new)) }
+    table: &mut TableSoFar,
+    wanted: CellsWanted,
+) -> Result<(), AllocError>
+    requires within { wanted.start ≤ length source.now.text.now }
+    ensures head { OnOk result (
+        AddsHead (document source.now.text.now source.now.options (names_of allocs.new)) wanted.most
+        (spot wanted.start table.old.braces) tree.old
+        (open_table tree.new table.new.missing_empty_cells table.new.braces)) }
     ensures more { OnOk result (NamesMore allocs.old allocs.new) }
     ensures texts { OnOk result (AddsTexts (names_of allocs.new) (names_of allocs.old)) }
 {
-    open_block(tree, start, ItemBody::TableHead)?;
-    let (end, count) = append_cells(source, lut, tree, allocs, braces, start, columns)?;
-    let missing = columns.saturating_sub(count);
+    open_block(tree, wanted.start, ItemBody::TableHead)?;
+    let (end, count) = append_cells(source, tree, allocs, &mut table.braces, wanted)?;
+    let missing = wanted.most.saturating_sub(count);
     fill_row(tree, end, missing)?;
     close_block(tree, end);
-    Ok(missing)
+    table.missing_empty_cells = missing;
+    Ok(())
 }
 
 // Whether a row with so many cells is kept: it has one, or no row is before it in its table, and no more are missing
@@ -154,42 +169,38 @@ fn is_kept(behind: bool, count: usize, missing: usize, most: usize) -> bool
     (!behind || count > 0) && missing <= most
 }
 
-/// Appends the row of a table of `row_cells` columns that begins at the offset `ix` into the text, after what the
-/// containers take of its line, to the innermost open node, filled with empty cells where it has too few; they are
-/// added to `missing_empty_cells`, how many are filled in so far. Returns the offset at which the row ends and the
-/// row's index; `None`, and nothing is appended, where it has no cell and is not the table's first row, or more than
-/// 262,144 cells would be filled in. The texts that tokens name are put among `allocs`, those of a row that isn't
-/// appended too; `braces`, the brace contexts before the row, become those after its cells, be it appended or not. The
-/// error is want of memory (GFM 4.10).
+/// Appends the row that begins where cells are wanted from, after what the containers take of its line, to the
+/// innermost open node, filled with empty cells where it has too few; they are added to those of `table`. Returns the
+/// offset at which the row ends and the row's index; `None`, and nothing is appended, where it has no cell and is not
+/// the table's first row, or more than 262,144 cells would be filled in. The texts that tokens name are put among
+/// `allocs`, those of a row that isn't appended too; the brace contexts of `table` become those after its cells, be it
+/// appended or not. The error is want of memory (GFM 4.10).
 pub fn parse_table_row_inner(
-    source: Source<'_>,
-    lut: &[bool; 256],
+    source: &Source<'_>,
     tree: &mut Tree<Item>,
     allocs: &mut Allocations<'_>,
-    braces: &mut BraceContexts,
-    ix: usize,
-    row_cells: usize,
-    missing_empty_cells: &mut usize,
+    table: &mut TableSoFar,
+    wanted: CellsWanted,
 ) -> Result<Option<(usize, TreeIndex)>, AllocError>
-    requires within { ix ≤ length source.text.now }
-    requires marks { MarksSpecial lut.now source.options }
+    requires within { wanted.start ≤ length source.now.text.now }
     requires open { IsOpenNode tree.old }
-    requires few { missing_empty_cells.old ≤ most_filled }
+    requires few { table.old.missing_empty_cells ≤ most_filled }
     ensures row { IfOk result (λ row.
-        ReadsRow (document source.entry.text.now source.entry.options (names_of allocs.new)) row_cells ix
-        (open_table tree.old missing_empty_cells.old braces.old)
-        (open_table tree.new missing_empty_cells.new braces.new) row) }
+        ReadsRow (document source.now.text.now source.now.options (names_of allocs.new)) wanted.most wanted.start
+        (open_table tree.old table.old.missing_empty_cells table.old.braces)
+        (open_table tree.new table.new.missing_empty_cells table.new.braces) row) }
     ensures more { OnOk result (NamesMore allocs.old allocs.new) }
     ensures texts { OnOk result (AddsTexts (names_of allocs.new) (names_of allocs.old)) }
-    ensures fits { IfOk result (λ row. IsCharBoundary source.entry.text.now ix → (from : ℕ) → from ≤ ix
-        → IfSome row (λ r. AddsBetween source.entry.text.now from r.0 tree.old tree.new)) }
+    ensures fits { IfOk result (λ row. IsCharBoundary source.now.text.now wanted.start → (from : ℕ)
+        → from ≤ wanted.start
+        → IfSome row (λ r. AddsBetween source.now.text.now from r.0 tree.old tree.new)) }
 {
     tree.is_forest();
     let before = tree.cur();
-    open_block(tree, ix, ItemBody::TableRow)?;
-    let (end, count) = append_cells(source, lut, tree, allocs, braces, ix, row_cells)?;
-    let missing = row_cells.saturating_sub(count);
-    let most = MAX_AUTOCOMPLETED_CELLS - *missing_empty_cells;
+    open_block(tree, wanted.start, ItemBody::TableRow)?;
+    let (end, count) = append_cells(source, tree, allocs, &mut table.braces, wanted)?;
+    let missing = wanted.most.saturating_sub(count);
+    let most = MAX_AUTOCOMPLETED_CELLS - table.missing_empty_cells;
     if !is_kept(before.is_some(), count, missing, most) {
         tree.pop();
         drop_behind(tree, before);
@@ -197,6 +208,6 @@ pub fn parse_table_row_inner(
     }
     fill_row(tree, end, missing)?;
     close_block(tree, end);
-    *missing_empty_cells += missing;
+    table.missing_empty_cells += missing;
     Ok(tree.cur().map(|row| (end, row)))
 }

@@ -31,7 +31,8 @@ use Rattle.first_pass_lines.proofs.LineFacts.{line_len-fits}
 use Rattle.first_pass_tokens.specs.LineTokens.{IsLine}
 use Rattle.first_pass_text.proofs.AttributeEnds.{content_read, text_read}
 use Rattle.std.specs.Option.{option_map}
-use Rattle.first_pass_text.specs.Appends.{line_end_at, with_closed_break, AppendsHeading}
+use Rattle.first_pass_open.specs.Between.{line_end_at}
+use Rattle.first_pass_text.specs.Appends.{with_closed_break, AppendsHeading}
 use Rattle.first_pass_open.specs.OpenBlock.{IsJustPushed}
 use Rattle.first_pass_text.proofs.ParagraphLemmas.{with_closed_break-chained}
 

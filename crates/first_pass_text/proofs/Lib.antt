@@ -1,12 +1,9 @@
 pub mod AttributeEnds
-pub mod KindLemmas
 pub mod HeadingLemmas
 pub mod KeptBytes
 pub mod OrderHeading
 pub mod OrderParagraph
 pub mod OrderPlain
 pub mod ParagraphLemmas
-pub mod PlainKinds
 pub mod PlainTexts
-pub mod TableLemmas
 pub mod TextFronts

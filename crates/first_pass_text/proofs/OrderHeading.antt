@@ -43,8 +43,9 @@ use Rattle.std.specs.Option.{option_map_or}
 use Rattle.std.proofs.lemmas.Str.{IsCharBoundary-before_ascii}
 use Rattle.first_pass_grammar.specs.OpenOrder.{within_top}
 use Rattle.first_pass_grammar.proofs.Orders.{block_fits}
-use Rattle.first_pass_text.specs.Appends.{AddsHeading, line_end_at}
-use Rattle.first_pass_text.specs.Between.{AddsBetween}
+use Rattle.first_pass_text.specs.Appends.{AddsHeading}
+use Rattle.first_pass_open.specs.Between.{line_end_at}
+use Rattle.first_pass_open.specs.Between.{AddsBetween}
 use Rattle.first_pass_open.proofs.PlaceLemmas.{place_end, line_start_end}
 
 -- the run of bytes that pass at the end of a front of a list: it is empty, or its first byte passes

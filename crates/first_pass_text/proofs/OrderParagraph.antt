@@ -21,7 +21,7 @@ use Rattle.first_pass_grammar.specs.Kinds.{unindented}
 use Rattle.first_pass_grammar.specs.Leaves.{Document, content_at, add_break, TextLines, text_lines, AreTextLines}
 use Rattle.first_pass_grammar.specs.Completion.{lines_from}
 use Rattle.first_pass_grammar.specs.Headings.{chain_end}
-use Rattle.first_pass_text.specs.Appends.{line_end_at}
+use Rattle.first_pass_open.specs.Between.{line_end_at}
 use Rattle.first_pass_text.proofs.ParagraphLemmas.{line_end-text}
 use Rattle.first_pass_open.proofs.PlaceLemmas.{text_place}
 use Rattle.first_pass_items.specs.declared.item.ItemBody.{ItemBody}

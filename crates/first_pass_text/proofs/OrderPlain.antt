@@ -21,7 +21,7 @@ use Rattle.first_pass_grammar.specs.Order.{FitsBetween, IsBetween}
 use Rattle.first_pass_grammar.specs.OpenOrder.{is_in_item, within_top}
 use Rattle.first_pass_text.specs.Appends.{AddsPlainText}
 use Rattle.first_pass_grammar.proofs.Orders.{length-block, row_of, row_of-laid, row_of-fits}
-use Rattle.first_pass_text.specs.Between.{AddsBetween, IsInItem, StandsBefore}
+use Rattle.first_pass_open.specs.Between.{AddsBetween, IsInItem, StandsBefore}
 use Rattle.first_pass_open.specs.Path.{path_of}
 use Rattle.first_pass_items.specs.declared.item.ItemBody.{ItemBody}
 use Rattle.first_pass_items.specs.declared.item.ItemBody.TheVariants.{TaskListMarker, Paragraph as ParagraphBody, Heading as HeadingBody}

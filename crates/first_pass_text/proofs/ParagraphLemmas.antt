@@ -1,5 +1,5 @@
 -- The lines of a text, one after the other.
-use Rattle.std.proofs.Common.{◌≡◌, ◌⊎◌, inl, inr, ℕ, zero, suc, ◌+◌, ◌<◌, ◌≤◌, ◌==◌, ◌&&◌, Bool, true, false, List, [], ◌∷◌, ◌++◌, length, drop, ◌^◌}
+use Rattle.std.proofs.Common.{◌≡◌, ◌⊎◌, inl, inr, ℕ, ◌+◌, ◌<◌, ◌≤◌, ◌==◌, ◌&&◌, Bool, true, false, List, [], ◌∷◌, ◌++◌, length, drop, ◌^◌}
 use Rattle.std.proofs.Common.{if◌then◌else◌, Option, Some, None, is_some, IfSome, IsUtf8, IsCharBoundary, refl, sym, ap, subst, ◌∙◌, arith, ◌||◌}
 use Rattle.std.proofs.lemmas.Bool.{cases_lt, false≢true, cond-false, cond_both, and_left, and_right}
 use Rattle.std.proofs.lemmas.Str.{IsCharBoundary-end}
@@ -28,30 +28,26 @@ use Rattle.first_pass_tokens.specs.Braces.{MathBraces, no_braces}
 use Rattle.first_pass_tokens.specs.LineTokens.{Spot, spot}
 use Rattle.first_pass_grammar.specs.Leaves.{Document, document, around, content_at, add_break, TextLines, text_lines, AreTextLines}
 use Rattle.first_pass_grammar.specs.Completion.{lines_from}
-use Rattle.first_pass_text.specs.Appends.{line_end_at, with_closed_break, AppendsLines}
+use Rattle.first_pass_open.specs.Between.{line_end_at}
+use Rattle.first_pass_text.specs.Appends.{with_closed_break, AppendsLines}
 use Rattle.first_pass_open.specs.OpenBlock.{with_child}
 use Rattle.first_pass_open.specs.Path.{container_of, with_container, path_of}
-use Rattle.first_pass_text.specs.Reading.{LinesSoFar, next_by, next_line_of}
+use Rattle.first_pass_text.specs.Reading.{LinesSoFar}
+use Rattle.first_pass_kinds.specs.NextLines.{next_by, next_line_of}
 use Rattle.first_pass_open.proofs.PathLemmas.{AreIn, front-end, path_in-append, path_of-chained, path_of-opened, opened_in}
-use Rattle.first_pass_open.proofs.PlaceLemmas.{text_place}
+use Rattle.first_pass_open.proofs.PlaceLemmas.{ends_past, text_place}
 use Rattle.first_pass_items.specs.declared.item.HeadingLevel.{HeadingLevel}
 use Rattle.first_pass_grammar.specs.Texts.{underline_first}
 use Rattle.first_pass_scan.specs.LeafLines.{setext_underline}
 use Rattle.std.specs.Option.{option_map}
 use Rattle.std.proofs.lemmas.Option.{none-some}
-use Rattle.first_pass_text.specs.declared.interrupt.NextLine.{NextLine}
-use Rattle.first_pass_text.specs.declared.interrupt.NextLine.TheVariants.{More, Underline, Other}
+use Rattle.first_pass_kinds.specs.declared.interrupt.NextLine.{NextLine}
+use Rattle.first_pass_kinds.specs.declared.interrupt.NextLine.TheVariants.{More, Underline, Other}
 
 -- At the end of the text a paragraph ends.
 interrupts-end : (around : Context) (whole : Bool) → interrupts around whole (line_rest []) ≡ true
 unfolding interrupts
 interrupts-end around whole = refl
-
-pub ends_past : (text : List ℕ) (n : ℕ) → length text ≤ n → drop n text ≡ []
-ends_past [] zero h = refl
-ends_past [] (suc n) h = refl
-ends_past (b ∷ bs) zero h = absurd (omega arith)
-ends_past (b ∷ bs) (suc n) h = ends_past bs n (omega arith)
 
 pub goes_within : (around : Context) (text : List ℕ) (n : ℕ) → ends_paragraph around (line_rest (drop n text)) ≡ false → n < length text
 goes_within around text n h =

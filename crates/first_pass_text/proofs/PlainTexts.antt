@@ -21,7 +21,8 @@ use Rattle.first_pass_grammar.specs.Texts.{heading_children, IsUnderlined}
 use Rattle.first_pass_grammar.specs.Tables.{Taken, taking}
 use Rattle.first_pass_grammar.specs.Completion.{lines_from}
 use Rattle.first_pass_open.specs.Path.{path_of}
-use Rattle.first_pass_text.specs.Appends.{line_end_at, AddsPlainText, with_closed_break, AppendsLines}
+use Rattle.first_pass_open.specs.Between.{line_end_at}
+use Rattle.first_pass_text.specs.Appends.{AddsPlainText, with_closed_break, AppendsLines}
 use Rattle.first_pass_text.proofs.ParagraphLemmas.{underline_there, underline_within, with_closed_break-chained, closed_behind, path_of-paragraph}
 use Rattle.std.proofs.lemmas.Option.{same_Some}
 use Rattle.first_pass_tree.specs.declared.tree_index.TreeIndex.{TreeIndex}

@@ -1,11 +1,11 @@
 -- What the leaf parsers append to the tree.
-use Rattle.std.specs.Prelude.{◌≡◌, ◌≤◌, ℕ, ◌+◌, List, [], drop, Option, Some, None, false, IsCharBoundary, if◌then◌else◌, ◌<◌, ◌^◌, IfSome}
+use Rattle.std.specs.Prelude.{◌≡◌, ◌≤◌, ℕ, ◌+◌, List, [], Option, Some, None, false, IsCharBoundary, if◌then◌else◌, ◌<◌, ◌^◌, IfSome}
 use Rattle.first_pass_items.specs.declared.cow_str.CowStr.{CowStr}
 use Rattle.first_pass_items.specs.declared.item.Item.{Item}
 use Rattle.first_pass_items.specs.declared.item.HeadingIndex.{HeadingIndex}
 use Rattle.first_pass_items.specs.declared.item.HeadingLevel.{HeadingLevel}
 use Rattle.first_pass_tree.specs.Forest.{Forest, added, with_text}
-use Rattle.first_pass_lines.specs.Lines.{line_len, level_number}
+use Rattle.first_pass_lines.specs.Lines.{level_number}
 use Rattle.first_pass_tokens.specs.Chains.{is_backslash_break, add_tokens, close_break}
 use Rattle.first_pass_tokens.specs.Braces.{MathBraces, no_braces}
 use Rattle.first_pass_tokens.specs.LineTokens.{spot, IsLine}
@@ -14,6 +14,7 @@ use Rattle.first_pass_tokens.specs.TreeTokens.{chained}
 use Rattle.first_pass_grammar.specs.Leaves.{Document, document, IsHeading, kept_len, heading_chain, heading_text_at, heading_block, text_lines, AreTextLines}
 use Rattle.first_pass_grammar.specs.Names.{Names, Extends}
 use Rattle.first_pass_grammar.specs.Completion.{lines_from}
+use Rattle.first_pass_open.specs.Between.{line_end_at}
 use Rattle.first_pass_open.specs.Path.{path_of}
 use Rattle.std.specs.Option.{option_map}
 use Rattle.first_pass_grammar.specs.Texts.{underline_first, IsPlainText}
@@ -24,10 +25,6 @@ use Rattle.first_pass_text.specs.declared.paragraph.TextEnd.{TextEnd}
 abbrev pub with_closed_break : Forest Item → Option Item → Forest Item
 with_closed_break f None = f
 with_closed_break f (Some x) = if is_backslash_break x.body then with_text f x.start (x.start + 1) false else f
-
--- where the line ends that has something at an offset
-abbrev pub line_end_at : List ℕ → ℕ → ℕ
-line_end_at text at = at + line_len (drop at text)
 
 -- The chain of the lines of a text that begins at an offset, whatever more is named, stands in the innermost open node, with the break after the last of them
 -- apart; they leave those from another offset on, the first of which is an underline or none (CommonMark 4.3, 4.8).

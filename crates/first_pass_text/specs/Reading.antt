@@ -1,22 +1,15 @@
 -- How far the reading of a paragraph's lines has come (private functions alone cite this).
-use Rattle.std.specs.Prelude.{◌≡◌, ◌⊎◌, ◌≤◌, ℕ, List, [], IsCharBoundary, Bool, true, false, Option, Some, None}
+use Rattle.std.specs.Prelude.{◌≡◌, ◌⊎◌, ◌≤◌, ℕ, List, [], IsCharBoundary}
 use Rattle.first_pass_items.specs.declared.item.Item.{Item}
 use Rattle.first_pass_tree.specs.Forest.{Forest}
-use Rattle.first_pass_lines.specs.Places.{offset, place_at}
 use Rattle.first_pass_tokens.specs.Braces.{no_braces}
 use Rattle.first_pass_tokens.specs.LineTokens.{Spot, spot}
 use Rattle.first_pass_tokens.specs.TreeTokens.{chained}
 use Rattle.first_pass_grammar.specs.Leaves.{Document, document, TextLines, AreTextLines}
 use Rattle.first_pass_grammar.specs.Names.{Names, Extends}
 use Rattle.first_pass_grammar.specs.Completion.{lines_from}
-use Rattle.first_pass_text.specs.Appends.{line_end_at}
+use Rattle.first_pass_open.specs.Between.{line_end_at}
 use Rattle.first_pass_open.specs.Path.{path_of}
-use Rattle.first_pass_grammar.specs.Kinds.{unindented, underline_of, ends_paragraph}
-use Rattle.first_pass_items.specs.declared.item.HeadingLevel.{HeadingLevel}
-use Rattle.first_pass_text.specs.declared.interrupt.NextLine.{NextLine}
-use Rattle.first_pass_text.specs.declared.interrupt.NextLine.TheVariants.{More, Underline, Other}
-use Rattle.first_pass_lines.specs.Rest.{Rest}
-use Rattle.first_pass_grammar.specs.Containers.{Context, front}
 
 -- The lines of a text are read up to where the text of another begins, with the brace contexts there: what they give from there on, whatever more is named, is
 -- what all of them give.
@@ -28,12 +21,3 @@ pub record LinesSoFar (d : Document) (start : ℕ) (old now : Forest Item) (to :
   pub goes_on : (more : Names) → Extends more d.names → (t : TextLines)
       → AreTextLines (document d.text d.options more) (path_of d.options old) to chain (lines_from d.text (line_end_at d.text to.at)) t
       → AreTextLines (document d.text d.options more) (path_of d.options old) (spot start no_braces) [] (lines_from d.text (line_end_at d.text start)) t
-
--- what the line that begins at an offset, and of which this is left, is to a text before it (CommonMark 4.3, 4.8)
-abbrev pub next_by : Option (ℕ × HeadingLevel) → Bool → ℕ → NextLine
-next_by (Some underline) ends at = Underline underline.1
-next_by None true at = Other
-next_by None false at = More at
-
-abbrev pub next_line_of : Context → ℕ → Rest → NextLine
-next_line_of around start r = next_by (underline_of around.path r) (ends_paragraph around r) (offset (unindented (place_at start (front around.path r))))

@@ -1,6 +1,6 @@
 //! The attributes that the text of a heading ends with (this project).
 
-ghost use Rattle.std.specs.Prelude.{◌≡◌, ◌≤◌, ◌<◌, ◌+◌, ◌-◌, ℕ, List, length, slice_get, IfOk, IfSome, OnOk, Some, None, if◌then◌else◌};
+ghost use Rattle.std.specs.Prelude.{◌≡◌, ◌≤◌, ◌<◌, ◌+◌, ◌-◌, List, length, slice_get, IfOk, IfSome, OnOk, Some, None, if◌then◌else◌};
 ghost use Rattle.std.specs.List.{slice_range, suffix_len};
 ghost use Rattle.first_pass_lines.specs.Lines.{is_white};
 ghost use Rattle.std.specs.Option.{option_map};
@@ -26,24 +26,23 @@ use first_pass_names::items::Allocations;
 use first_pass_open::source::Source;
 use first_pass_tree::forest::Tree;
 use first_pass_tree::tree_index::TreeIndex;
-use std::alloc::{AllocError, Global};
+use std::alloc::AllocError;
 
 /// Where the content of a heading ends whose text goes from the offset `header_start` into the text up to
 /// `header_end`, and its attributes: before its attribute block, after the white space there, and what the
 /// block gives. Without such a block, or where headings have none, the text's end and `None`; a text whose end lies
 /// before its start is empty. The error is want of memory (this project).
 pub fn extract_and_parse_heading_attribute_block<'a>(
-    alloc: Global,
-    source: Source<'a>,
+    source: &Source<'a>,
     header_start: usize,
     header_end: usize,
 ) -> Result<(usize, Option<HeadingAttributes<'a>>), AllocError>
-    requires from { header_start ≤ length source.text.now }
-    requires to { header_end ≤ length source.text.now }
+    requires from { header_start ≤ length source.now.text.now }
+    requires to { header_end ≤ length source.now.text.now }
     ensures content { IfOk result (λ answer. answer.0 ≡ header_start + length
-        (before_attributes source.entry.options (slice_range source.entry.text.now header_start header_end))) }
+        (before_attributes source.now.options (slice_range source.now.text.now header_start header_end))) }
     ensures attributes { IfOk result (λ answer. option_map attributes_in answer.1
-        ≡ heading_attributes_of source.entry.options (slice_range source.entry.text.now header_start header_end)) }
+        ≡ heading_attributes_of source.now.options (slice_range source.now.text.now header_start header_end)) }
 {
     if header_end <= header_start {
         return Ok((header_start, None));
@@ -57,7 +56,7 @@ pub fn extract_and_parse_heading_attribute_block<'a>(
         None => Ok((header_start + length, None)),
         Some(inside) => {
             let block = &source.text[header_start + inside.start..header_start + inside.end];
-            let attributes = parse_inside_attribute_block(alloc, block)?;
+            let attributes = parse_inside_attribute_block(source.alloc, block)?;
             Ok((header_start + length, attributes))
         }
     }
@@ -116,26 +115,23 @@ fn white_at_cut(content: &[u8], broken: bool) -> usize
 /// attributes are put among `allocs`, and the answer is their index; `None` where the text ends with no such block.
 /// No node is added. The error is want of memory (CommonMark 4.3, and this project).
 pub fn cut_attributes<'a>(
-    alloc: Global,
-    source: Source<'a>,
+    source: &Source<'a>,
     tree: &mut Tree<Item>,
     allocs: &mut Allocations<'a>,
     start: usize,
     broken: bool,
 ) -> Result<Option<HeadingIndex>, AllocError>
-    requires within { start ≤ length source.text.now }
+    requires within { start ≤ length source.now.text.now }
     ensures more { OnOk result (NamesMore allocs.old allocs.new) }
     ensures cut { IfOk result (λ index.
-        CutsBlock (document source.entry.text.now source.entry.options (names_of allocs.new)) start broken tree.old
+        CutsBlock (document source.now.text.now source.now.options (names_of allocs.new)) start broken tree.old
         tree.new index) }
     ensures open { OnOk result (tree.new.spine ≡ tree.old.spine) }
     ensures few { OnOk result (length tree.new.nodes ≤ length tree.old.nodes) }
 {
     // A marker before the text ends before it; no token ends after the whole text.
     let end = chain_end(tree, start).min(source.text.len());
-    let (content_end, attributes) = extract_and_parse_heading_attribute_block(
-        alloc, source, start, end,
-    )?;
+    let (content_end, attributes) = extract_and_parse_heading_attribute_block(source, start, end)?;
     if attributes.is_some() {
         let content = &source.text.as_bytes()[start..content_end];
         tree.truncate_siblings(content_end - white_at_cut(content, broken));
@@ -144,30 +140,38 @@ pub fn cut_attributes<'a>(
     Ok(index)
 }
 
-/// Makes the block `node_ix`, the innermost open node, in which the chain of its text stands, a heading of this level:
-/// the attribute block is cut off the chain, and the attributes are put among `allocs`. A backslash breaks the text's
-/// last line (`broken`) or doesn't. No node is added. The error is want of memory (CommonMark 4.3, and this project).
+/// A text that is underlined.
+#[derive(Clone, Copy)]
+pub struct Underlined {
+    /// The level of its underline.
+    pub level: HeadingLevel,
+    /// Whether a backslash breaks its last line.
+    pub broken: bool,
+}
+
+/// Makes the block `node_ix`, the innermost open node, in which the chain of an underlined text stands, a heading: the
+/// attribute block is cut off the chain, and the attributes are put among `allocs`. No node is added. The error is
+/// want of memory (CommonMark 4.3, and this project).
 pub fn make_heading<'a>(
-    alloc: Global,
-    source: Source<'a>,
+    source: &Source<'a>,
     tree: &mut Tree<Item>,
     allocs: &mut Allocations<'a>,
     node_ix: TreeIndex,
-    level: HeadingLevel,
-    broken: bool,
+    underlined: Underlined,
 ) -> Result<(), AllocError>
     requires open { slice_get tree.old.spine 0 ≡ Some node_ix }
-    requires start { IfSome (item_at tree.old node_ix) (λ x. x.start ≤ length source.text.now) }
+    requires start { IfSome (item_at tree.old node_ix) (λ x. x.start ≤ length source.now.text.now) }
     ensures more { OnOk result (NamesMore allocs.old allocs.new) }
     ensures heading { OnOk result (
-        BecomesHeading (document source.entry.text.now source.entry.options (names_of allocs.new)) level broken node_ix
+        BecomesHeading (document source.now.text.now source.now.options (names_of allocs.new)) underlined.level
+        underlined.broken node_ix
         tree.old tree.new) }
     ensures few { OnOk result (length tree.new.nodes ≤ length tree.old.nodes) }
 {
     tree.is_forest();
     let start = tree[node_ix].start;
-    let index = cut_attributes(alloc, source, tree, allocs, start, broken)?;
+    let index = cut_attributes(source, tree, allocs, start, underlined.broken)?;
     tree.is_forest();
-    tree.set_body(node_ix, ItemBody::Heading(level, index));
+    tree.set_body(node_ix, ItemBody::Heading(underlined.level, index));
     Ok(())
 }

@@ -6,7 +6,7 @@ ghost use Rattle.first_pass_walk.specs.Walk.{MarksSpecial};
 ghost use Rattle.first_pass_lines.specs.Lines.{atx_level as atx_level_of, level_number as number_of};
 ghost use Rattle.first_pass_names.specs.TableEntries.{names_of, NamesMore};
 ghost use Rattle.first_pass_grammar.specs.Leaves.{document, is_put_aside, kept_len as kept_len_of, heading_text_at};
-ghost use Rattle.first_pass_text.specs.Between.{AddsBetween};
+ghost use Rattle.first_pass_open.specs.Between.{AddsBetween};
 ghost use Rattle.first_pass_text.specs.Appends.{AppendsHeading, AddsHeading};
 ghost use Rattle.first_pass_open.specs.OpenBlock.{IsJustPushed};
 ghost use Rattle.first_pass_tokens.specs.Braces.{no_braces};
@@ -24,7 +24,7 @@ use first_pass_tokens::braces::BraceContexts;
 use first_pass_tokens::pieces::Content;
 use first_pass_tree::forest::Tree;
 use first_pass_tree::tree_index::TreeIndex;
-use std::alloc::{AllocError, Global};
+use std::alloc::AllocError;
 
 // How many spaces and line ends stand at the end.
 fn trailing_aside(text: &[u8]) -> usize
@@ -81,31 +81,27 @@ fn kept_len(text: &[u8]) -> usize
 
 /// Appends the ATX heading of this level that begins at the offset `start` into the text to the innermost open node
 /// of the tree, without its attribute block, and returns the offset at which its line ends (CommonMark 4.2). The
-/// attributes are put among `allocs`; `lut` is the table of the special bytes. The error is want of memory.
+/// attributes are put among `allocs`. The error is want of memory.
 pub fn parse_atx_heading<'a>(
-    alloc: Global,
-    source: Source<'a>,
-    lut: &[bool; 256],
+    source: &Source<'a>,
     tree: &mut Tree<Item>,
     allocs: &mut Allocations<'a>,
     start: usize,
     atx_level: HeadingLevel,
 ) -> Result<usize, AllocError>
-    requires within { start ≤ length source.text.now }
-    requires marks { MarksSpecial lut.now source.options }
-    requires heading { atx_level_of (drop start source.text.now) ≡ Some atx_level }
+    requires within { start ≤ length source.now.text.now }
+    requires heading { atx_level_of (drop start source.now.text.now) ≡ Some atx_level }
     ensures more { OnOk result (NamesMore allocs.old allocs.new) }
     ensures block { IfOk result (λ next.
-        AddsHeading (document source.entry.text.now source.entry.options (names_of allocs.new)) start atx_level
+        AddsHeading (document source.now.text.now source.now.options (names_of allocs.new)) start atx_level
         tree.old tree.new next) }
-    ensures fits { IfOk result (λ next. (from : ℕ) → from ≤ start → IsCharBoundary source.entry.text.now start
-        → AddsBetween source.entry.text.now from next tree.old tree.new) }
+    ensures fits { IfOk result (λ next. (from : ℕ) → from ≤ start → IsCharBoundary source.now.text.now start
+        → AddsBetween source.now.text.now from next tree.old tree.new) }
 {
     let bytes = source.text.as_bytes();
     let header_start = heading_text_start(bytes, start, atx_level);
     let end = next_line(bytes, header_start);
     let (content_end, attributes) = extract_and_parse_heading_attribute_block(
-        alloc,
         source,
         header_start,
         end,
@@ -125,11 +121,13 @@ pub fn parse_atx_heading<'a>(
     let kept = kept_len(&bytes[header_start..content_end]);
     let content = Content {
         options: source.options,
+        whole: source.text,
+        special: &source.special,
         start: header_start,
         end: Some(read_to),
         row: false,
     };
-    heading_text(source.text, content, lut, tree, allocs, kept, heading_ix)?;
+    heading_text(content, tree, allocs, kept, heading_ix)?;
     close_block(tree, end);
     Ok(end)
 }
@@ -137,25 +135,23 @@ pub fn parse_atx_heading<'a>(
 // Appends the chain of a heading whose text is this content, of which so many bytes are kept, to `node_ix`, the
 // innermost open node, which was just opened. The texts that its tokens name are put among `allocs`.
 fn heading_text(
-    whole: &str,
-    content: Content,
-    lut: &[bool; 256],
+    content: Content<'_>,
     tree: &mut Tree<Item>,
     allocs: &mut Allocations<'_>,
     kept: usize,
     node_ix: TreeIndex,
 ) -> Result<(), AllocError>
-    requires set { IfSome content.«end» (λ e. e ≤ length whole.now) }
-    requires within { content.start + kept ≤ length (text_upto whole.now content.«end») }
-    requires marks { MarksSpecial lut.now content.options }
+    requires set { IfSome content.«end» (λ e. e ≤ length content.whole.now) }
+    requires within { content.start + kept ≤ length (text_upto content.whole.now content.«end») }
+    requires marks { MarksSpecial content.special.now content.options }
     requires no_cell { content.row ≡ false }
     requires opened { IsJustPushed tree.old node_ix }
     ensures more { OnOk result (NamesMore allocs.old allocs.new) }
     ensures line { OnOk result ((bytes : List ℕ) → kept ≡ kept_len_of bytes
-        → AppendsHeading (names_of allocs.new).texts (source whole.now content no_braces) bytes tree.old tree.new) }
+        → AppendsHeading (names_of allocs.new).texts (source content.entry no_braces) bytes tree.old tree.new) }
 {
     let mut braces = BraceContexts::new();
-    let (_, line_break) = allocs.append_line(whole, content, lut, tree, &mut braces)?;
+    let (_, line_break) = allocs.append_line(content, tree, &mut braces)?;
     append_last_backslash(tree, line_break)?;
     if kept == 0 {
         tree.drop_children(node_ix);

@@ -1,11 +1,7 @@
-//! Which lines a paragraph, a heading or a thematic break has, and what interrupts a paragraph: the leaf blocks with
-//! tokens, and the kind of a place.
+//! The leaf blocks with tokens: the lines of a paragraph, a heading and its attributes, and thematic breaks.
 #![tactic(auto)]
 
 pub mod attributes;
 pub mod heading;
-pub mod interrupt;
-pub mod kinds;
 pub mod paragraph;
 pub mod rule;
-pub mod table_start;

@@ -1,7 +1,6 @@
 //! The lines of a paragraph, or of a heading that is underlined.
 
 ghost use Rattle.std.specs.Prelude.{◌≡◌, ◌<◌, ◌^◌, ℕ, false, IfOk, IfSome, OnOk, IsUtf8, IsCharBoundary};
-ghost use Rattle.first_pass_walk.specs.Walk.{MarksSpecial};
 ghost use Rattle.first_pass_tokens.specs.TreeTokens.{JoinsNone};
 ghost use Rattle.first_pass_names.specs.TableEntries.{names_of, NamesMore};
 ghost use Rattle.first_pass_grammar.specs.Texts.{by_backslash};
@@ -9,11 +8,11 @@ ghost use Rattle.first_pass_grammar.specs.Leaves.{document};
 ghost use Rattle.first_pass_tree.specs.Forest.{is_text};
 ghost use Rattle.first_pass_text.specs.Appends.{AppendsLines, AddsPlainText, with_closed_break};
 ghost use Rattle.first_pass_open.specs.OpenBlock.{with_child};
-ghost use Rattle.first_pass_text.specs.Between.{AddsBetween, IsInItem, StandsBefore};
+ghost use Rattle.first_pass_open.specs.Between.{AddsBetween, IsInItem, StandsBefore};
 
-use crate::attributes::make_heading;
-use crate::interrupt::{NextLine, scan_next_line};
+use crate::attributes::{Underlined, make_heading};
 use first_pass_items::item::{HeadingLevel, Item, ItemBody};
+use first_pass_kinds::interrupt::{NextLine, scan_next_line};
 use first_pass_lines::places::next_line;
 use first_pass_names::items::Allocations;
 use first_pass_open::open_block::close_block;
@@ -21,7 +20,7 @@ use first_pass_open::source::Source;
 use first_pass_tokens::braces::BraceContexts;
 use first_pass_tokens::pieces::Content;
 use first_pass_tree::forest::Tree;
-use std::alloc::{AllocError, Global};
+use std::alloc::AllocError;
 
 // Appends an item, if there is one: the break between two lines, or the marker of a task list item.
 pub fn append_item(tree: &mut Tree<Item>, item: Option<Item>) -> Result<(), AllocError>
@@ -81,27 +80,23 @@ struct TextEnd {
 /// Appends the paragraph, or the heading that is underlined, whose first line's text begins at the offset `start_ix`
 /// into the text to the innermost open node of the tree, with the marker of its task list item, if it has one, as its
 /// first child. Returns the offset at which the line begins that is after it, or the text's length (CommonMark 4.3,
-/// 4.8). The attributes of a heading and the texts that tokens name are put among `allocs`; `lut` is the table of the
-/// special bytes.
+/// 4.8). The attributes of a heading and the texts that tokens name are put among `allocs`.
 pub fn parse_paragraph<'a>(
-    alloc: Global,
-    source: Source<'a>,
-    lut: &[bool; 256],
+    source: &Source<'a>,
     tree: &mut Tree<Item>,
     allocs: &mut Allocations<'a>,
     start_ix: usize,
     tasklist_marker: Option<Item>,
 ) -> Result<usize, AllocError>
-    requires boundary { IsCharBoundary source.text.now start_ix }
-    requires marks { MarksSpecial lut.now source.options }
+    requires boundary { IsCharBoundary source.now.text.now start_ix }
     requires marker { IfSome tasklist_marker (λ x. is_text x.body ≡ false) }
     ensures more { OnOk result (NamesMore allocs.old allocs.new) }
     ensures block { IfOk result (λ next.
-        AddsPlainText (document source.entry.text.now source.entry.options (names_of allocs.new)) start_ix
+        AddsPlainText (document source.now.text.now source.now.options (names_of allocs.new)) start_ix
         tasklist_marker tree.old tree.new next) }
     ensures fits { IfOk result (λ next. IsInItem tree.old tasklist_marker → (from : ℕ)
-        → StandsBefore source.entry.text.now from start_ix tasklist_marker
-        → AddsBetween source.entry.text.now from next tree.old tree.new) }
+        → StandsBefore source.now.text.now from start_ix tasklist_marker
+        → AddsBetween source.now.text.now from next tree.old tree.new) }
 {
     tree.is_forest();
     tree.append(Item {
@@ -111,14 +106,17 @@ pub fn parse_paragraph<'a>(
     })?;
     let node_ix = tree.push()?;
     append_item(tree, tasklist_marker)?;
-    let end = append_text_lines(alloc, source, lut, tree, allocs, start_ix)?;
+    let end = append_text_lines(source, tree, allocs, start_ix)?;
     let Some(level) = end.underline else {
         append_last_backslash(tree, end.line_break)?;
         close_block(tree, end.next);
         return Ok(end.next);
     };
-    let broken = is_by_backslash(end.line_break);
-    make_heading(alloc, source, tree, allocs, node_ix, level, broken)?;
+    let underlined = Underlined {
+        level,
+        broken: is_by_backslash(end.line_break),
+    };
+    make_heading(source, tree, allocs, node_ix, underlined)?;
     append_last_backslash(tree, end.line_break)?;
     let behind = next_line(source.text.as_bytes(), end.next);
     close_block(tree, behind);
@@ -128,20 +126,17 @@ pub fn parse_paragraph<'a>(
 // Appends the chain of the lines of the text that begins at `start` to the innermost open node, but for the break
 // after the last of them. The texts that its tokens name are put among `allocs`.
 fn append_text_lines<'a>(
-    alloc: Global,
-    source: Source<'a>,
-    lut: &[bool; 256],
+    source: &Source<'a>,
     tree: &mut Tree<Item>,
     allocs: &mut Allocations<'a>,
     start: usize,
 ) -> Result<TextEnd, AllocError>
-    requires boundary { IsCharBoundary source.text.now start }
-    requires marks { MarksSpecial lut.now source.options }
+    requires boundary { IsCharBoundary source.now.text.now start }
     requires apart { JoinsNone tree.old }
-    ensures utf8 { OnOk result (IsUtf8 source.entry.text.now) }
+    ensures utf8 { OnOk result (IsUtf8 source.now.text.now) }
     ensures more { OnOk result (NamesMore allocs.old allocs.new) }
     ensures lines { IfOk result (λ end.
-        AppendsLines (document source.entry.text.now source.entry.options (names_of allocs.new)) start
+        AppendsLines (document source.now.text.now source.now.options (names_of allocs.new)) start
         tree.old tree.new end) }
 {
     source.is_short();
@@ -151,12 +146,14 @@ fn append_text_lines<'a>(
     'lines: loop {
         let content = Content {
             options: source.options,
+            whole: source.text,
+            special: &source.special,
             start: ix,
             end: None,
             row: false,
         };
-        let (next, line_break) = allocs.append_line(source.text, content, lut, tree, &mut braces)?;
-        match scan_next_line(alloc, source, next, tree)? {
+        let (next, line_break) = allocs.append_line(content, tree, &mut braces)?;
+        match scan_next_line(source, next, tree)? {
             NextLine::More(at) => {
                 append_item(tree, line_break)?;
                 ix = at;

@@ -391,13 +391,13 @@ read_line z old tree new pending end after plain r new_is = record {
 pub read_ended : {texts : List CowStr} (z : Source) (old tree new : Forest Item) (pending : Pending) (end : ℕ) (after : MathBraces)
     (r : Result (ℕ × Option Item) AllocError)
     → z.row ≡ false → IsReadTo texts z old tree (spot end after) pending
-    → OnOk r ((w : List ℕ) (b : MathBraces) → new ≡ with_text tree pending.begin (text_end (record z { whole = w; braces = b }) end) pending.escaped)
+    → OnOk r ((b : MathBraces) → new ≡ with_text tree pending.begin (text_end (record z { braces = b }) end) pending.escaped)
     → IfOk r (λ a.
-    (w : List ℕ) (b : MathBraces) → a ≡ (end + line_end_len (record z { whole = w; braces = b }) end, line_break (record z { whole = w; braces = b }) end))
+    (b : MathBraces) → a ≡ (end + line_end_len (record z { braces = b }) end, line_break (record z { braces = b }) end))
     → IfOk r (λ a. AppendsLine texts z old new a after)
 read_ended {texts} z old tree new pending end after (Ok a) plain read new_is is =
-    subst (λ (c : ℕ × Option Item). AppendsLine texts z old new c after) (sym (is z.whole z.braces))
-    (read_line z old tree new pending end after plain read (new_is z.whole z.braces))
+    subst (λ (c : ℕ × Option Item). AppendsLine texts z old new c after) (sym (is z.braces))
+    (read_line z old tree new pending end after plain read (new_is z.braces))
 read_ended z old tree new pending end after (Err e) plain read new_is is = tt
 
 -- a cell whose content is read, once the text that is pending is appended

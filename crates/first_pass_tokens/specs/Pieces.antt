@@ -36,13 +36,13 @@ abbrev pub text_upto : List ℕ → Option ℕ → List ℕ
 text_upto text None = text
 text_upto text (Some e) = take e text
 
--- the content that begins there in a whole text, of which this much is left to it, after these brace contexts (this project)
-abbrev pub content_in : List ℕ → List ℕ → Content → MathBraces → Source
-content_in whole text c braces = record { options = c.options; whole = whole; text = text; start = c.start; row = c.row; braces = braces }
+-- the content, where this much of its text is left to it, after these brace contexts (this project)
+abbrev pub content_in : List ℕ → Content → MathBraces → Source
+content_in text c braces = record { options = c.options; whole = c.whole.now; text = text; start = c.start; row = c.row; braces = braces }
 
--- the content that begins there in a text, after these brace contexts (this project)
-abbrev pub source : List ℕ → Content → MathBraces → Source
-source whole c braces = content_in whole (text_upto whole c.«end») c braces
+-- the content, after these brace contexts (this project)
+abbrev pub source : Content → MathBraces → Source
+source c braces = content_in (text_upto c.whole.now c.«end») c braces
 
 -- how many bytes like the one at a place stand there in a row (CommonMark 6.1, backtick string)
 unfoldable pub run_at : List ℕ → ℕ → ℕ

@@ -1,6 +1,6 @@
 //! The tokens of a line, appended to the tree.
 
-ghost use Rattle.std.specs.Prelude.{◌≡◌, ◌==◌, ◌&&◌, ◌%◌, nat_lt, ◌+◌, ◌<◌, ◌≤◌, ◌^◌, ℕ, List, true, false, IsTrue, IsUtf8, length, slice_index, OnOk, IfOk, IfSome};
+ghost use Rattle.std.specs.Prelude.{◌≡◌, ◌==◌, ◌&&◌, ◌%◌, nat_lt, ◌+◌, ◌<◌, ◌≤◌, ◌^◌, true, false, IsTrue, IsUtf8, length, OnOk, IfOk, IfSome};
 ghost use Rattle.std.specs.List.{suffix_len, slice_range};
 ghost use Rattle.first_pass_items.specs.Bytes.{backslash};
 ghost use Rattle.first_pass_lines.specs.Lines.{is_white as is_white_byte};
@@ -37,25 +37,23 @@ use std::alloc::AllocError;
 /// is dropped (2.4), and white space at the content's end is in no text. The error is want of memory.
 #[inline(always)]
 pub fn append_line(
-    whole: &str,
-    content: Content,
-    lut: &[bool; 256],
+    content: Content<'_>,
     tree: &mut Tree<Item>,
     texts: &mut Vec<CowStr<'_>>,
     braces: &mut BraceContexts,
 ) -> Result<(usize, Option<Item>), AllocError>
-    requires set { IfSome content.«end» (λ e. e ≤ length whole.now) }
-    requires within { content.start ≤ length (text_upto whole.now content.«end») }
-    requires marks { MarksSpecial lut.now content.options }
+    requires set { IfSome content.«end» (λ e. e ≤ length content.whole.now) }
+    requires within { content.start ≤ length (text_upto content.whole.now content.«end») }
+    requires marks { MarksSpecial content.special.now content.options }
     requires no_cell { content.row ≡ false }
-    ensures utf8 { IsUtf8 whole.now }
+    ensures utf8 { IsUtf8 content.entry.whole.now }
     ensures line { IfOk result (λ answer.
-        AppendsLine texts.new.items (source whole.now content braces.old) tree.old tree.new answer braces.new) }
+        AppendsLine texts.new.items (source content.entry braces.old) tree.old tree.new answer braces.new) }
     ensures more { OnOk result (AreMore texts.new.items texts.old.items) }
-    ensures ends { IfOk result (λ answer. EndsLine (source whole.now content braces.old) answer) }
+    ensures ends { IfOk result (λ answer. EndsLine (source content.entry braces.old) answer) }
 {
-    let text = text_upto(whole, content.end);
-    let (end, pending) = append_pieces(whole, text, content, lut, tree, texts, braces)?;
+    let text = text_upto(content.whole, content.end);
+    let (end, pending) = append_pieces(text, content, tree, texts, braces)?;
     end_line(text, content, end, pending, tree)
 }
 
@@ -69,24 +67,22 @@ pub fn append_line(
 /// space before it is in no text. The error is want of memory.
 #[inline(always)]
 pub fn append_cell(
-    whole: &str,
-    content: Content,
-    lut: &[bool; 256],
+    content: Content<'_>,
     tree: &mut Tree<Item>,
     texts: &mut Vec<CowStr<'_>>,
     braces: &mut BraceContexts,
 ) -> Result<usize, AllocError>
-    requires set { IfSome content.«end» (λ e. e ≤ length whole.now) }
-    requires within { content.start ≤ length (text_upto whole.now content.«end») }
-    requires marks { MarksSpecial lut.now content.options }
-    ensures utf8 { IsUtf8 whole.now }
+    requires set { IfSome content.«end» (λ e. e ≤ length content.whole.now) }
+    requires within { content.start ≤ length (text_upto content.whole.now content.«end») }
+    requires marks { MarksSpecial content.special.now content.options }
+    ensures utf8 { IsUtf8 content.entry.whole.now }
     ensures cell { IfOk result (λ end.
-        AppendsCell texts.new.items (source whole.now content braces.old) tree.old tree.new end braces.new) }
+        AppendsCell texts.new.items (source content.entry braces.old) tree.old tree.new end braces.new) }
     ensures more { OnOk result (AreMore texts.new.items texts.old.items) }
-    ensures ends { IfOk result (λ end. EndsCell (source whole.now content braces.old) end) }
+    ensures ends { IfOk result (λ end. EndsCell (source content.entry braces.old) end) }
 {
-    let text = text_upto(whole, content.end);
-    let (end, pending) = append_pieces(whole, text, content, lut, tree, texts, braces)?;
+    let text = text_upto(content.whole, content.end);
+    let (end, pending) = append_pieces(text, content, tree, texts, braces)?;
     let blanks = blanks_at_end(text, content.start, end);
     tree.append_text(pending.begin, end - blanks, pending.escaped)?;
     Ok(end)
@@ -103,7 +99,8 @@ struct Pending {
 #[inline(always)]
 pub fn text_upto(text: &str, end: Option<usize>) -> &[u8]
     requires { IfSome end (λ e. e ≤ length text.now) }
-    ensures { result.now ≡ text_upto text.now end }
+    ensures value { result.now ≡ text_upto text.now end }
+    ensures utf8 { IsUtf8 text.now }
 {
     let bytes = text.as_bytes();
     match end {
@@ -115,22 +112,21 @@ pub fn text_upto(text: &str, end: Option<usize>) -> &[u8]
 // Appends the tokens of a content, but for a text that is pending. Returns where the content ends.
 #[inline(always)]
 fn append_pieces(
-    whole: &str,
     text: &[u8],
-    content: Content,
-    lut: &[bool; 256],
+    content: Content<'_>,
     tree: &mut Tree<Item>,
     texts: &mut Vec<CowStr<'_>>,
     braces: &mut BraceContexts,
 ) -> Result<(usize, Pending), AllocError>
-    requires front { text.now ≡ text_upto whole.now content.«end» }
+    requires utf8 { IsUtf8 content.whole.now }
+    requires front { text.now ≡ text_upto content.whole.now content.«end» }
     requires within { content.start ≤ length text.now }
-    requires marks { MarksSpecial lut.now content.options }
+    requires marks { MarksSpecial content.special.now content.options }
     ensures read { IfOk result (λ answer.
-        IsReadTo texts.new.items (content_in whole.now text.now content braces.old) tree.old tree.new
+        IsReadTo texts.new.items (content_in text.now content.entry braces.old) tree.old tree.new
         (spot answer.0 braces.new) answer.1) }
     ensures more { OnOk result (AreMore texts.new.items texts.old.items) }
-    ensures order { IfOk result (λ answer. content.start ≤ answer.0) }
+    ensures order { IfOk result (λ answer. content.entry.start ≤ answer.0) }
     ensures within { IfOk result (λ answer. answer.0 ≤ length text.now) }
 {
     let mut pending = Pending {
@@ -138,11 +134,11 @@ fn append_pieces(
         escaped: false,
     };
     let mut from = content.start;
-    while let Some(at) = next_special_in_words(lut, text, from) {
+    while let Some(at) = next_special_in_words(content.special, text, from) {
         if ends_at(text, content, at) {
             return Ok((at, pending));
         }
-        let found = special_found(whole, text, content.start, content.row, at);
+        let found = special_found(text, content, at);
         let piece = named_piece(texts, braces, found)?;
         append_piece(tree, &mut pending, at, piece)?;
         from = at + piece_len(piece);
@@ -153,9 +149,9 @@ fn append_pieces(
 // Whether the content ends at a byte: at a line end, or at a pipe in a row.
 #[inline(always)]
 #[tactic(auto, unfolding(crate::specs::LineTokens::ends_at))]
-fn ends_at(text: &[u8], content: Content, at: usize) -> bool
+fn ends_at(text: &[u8], content: Content<'_>, at: usize) -> bool
     requires { at < length text.now }
-    ensures { (w : List ℕ) (b : MathBraces) → result ≡ ends_at (content_in w text.now content b) at }
+    ensures { (b : MathBraces) → result ≡ ends_at (content_in text.now content.entry b) at }
 {
     let byte = text[at];
     is_line_end(byte)
@@ -235,19 +231,19 @@ fn append_run(
 #[tactic(auto, unfolding(crate::specs::LineTokens::text_end, crate::specs::LineTokens::line_break, crate::specs::LineTokens::breaks_by_backslash, crate::specs::LineTokens::backslashes_at_end, crate::specs::LineTokens::blanks_at_end))]
 fn end_line(
     text: &[u8],
-    content: Content,
+    content: Content<'_>,
     end: usize,
     pending: Pending,
     tree: &mut Tree<Item>,
 ) -> Result<(usize, Option<Item>), AllocError>
     requires order { content.start ≤ end }
     requires within { end ≤ length text.now }
-    ensures tree { OnOk result ((w : List ℕ) (b : MathBraces) → tree.new
-        ≡ with_text tree.old pending.begin (text_end (content_in w text.now content b) end) pending.escaped) }
-    ensures answer { IfOk result (λ answer. (w : List ℕ) (b : MathBraces) → answer
+    ensures tree { OnOk result ((b : MathBraces) → tree.new
+        ≡ with_text tree.old pending.begin (text_end (content_in text.now content.entry b) end) pending.escaped) }
+    ensures answer { IfOk result (λ answer. (b : MathBraces) → answer
         ≡ (
-          end + line_end_len (content_in w text.now content b) end,
-          line_break (content_in w text.now content b) end,
+          end + line_end_len (content_in text.now content.entry b) end,
+          line_break (content_in text.now content.entry b) end,
         )) }
 {
     let next = end + line_end_len(text, end);
@@ -325,7 +321,7 @@ fn blanks_at_end(text: &[u8], start: usize, end: usize) -> usize
 #[tactic(auto, unfolding(crate::specs::LineTokens::line_end_len))]
 fn line_end_len(text: &[u8], end: usize) -> usize
     requires { end ≤ length text.now }
-    ensures value { (w : List ℕ) (c : Content) (b : MathBraces) → result ≡ line_end_len (content_in w text.now c b) end }
+    ensures value { (c : Content) (b : MathBraces) → result ≡ line_end_len (content_in text.now c b) end }
     ensures fits { end + result ≤ length text.now }
 {
     if end >= text.len() {

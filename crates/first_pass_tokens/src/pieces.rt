@@ -1,9 +1,9 @@
 //! The pieces that the content of a line is divided into: which one begins at a place.
 
-ghost use Rattle.std.specs.Prelude.{◌≡◌, ◌||◌, ◌+◌, ◌<◌, ◌≤◌, ◌^◌, true, length, slice_index, take, ℕ, List, Bool, IsCharBoundary};
+ghost use Rattle.std.specs.Prelude.{◌≡◌, ◌||◌, ◌+◌, ◌<◌, ◌≤◌, ◌^◌, true, length, slice_index, take, ℕ, List, IsCharBoundary, IsUtf8};
 ghost use Rattle.first_pass_items.specs.Bytes.{ampersand, backslash, backquote, hyphen, full_stop};
 ghost use Rattle.first_pass_tokens.specs.Braces.{MathBraces};
-ghost use Rattle.first_pass_tokens.specs.Pieces.{is_solid_at, dollar_found, special_found, reference_found, dash_found, found_size, FoundSolid, special_piece, backslash_piece, backslash_piece_in, backquote_piece, is_delimiter, char_before, run_in, run_size, is_quote, quote_piece, dot_piece, run_piece, delimiter_piece, bracket_piece, run_at, size, EndsSolid};
+ghost use Rattle.first_pass_tokens.specs.Pieces.{content_in, is_solid_at, dollar_found, special_found, reference_found, dash_found, found_size, FoundSolid, special_piece, backslash_piece, backslash_piece_in, backquote_piece, is_delimiter, char_before, run_in, run_size, is_quote, quote_piece, dot_piece, run_piece, delimiter_piece, bracket_piece, run_at, size, EndsSolid};
 
 use first_pass_flank::flank::{DelimiterRun, ends_with_pipe, first_char, last_char};
 use first_pass_items::item::ItemBody;
@@ -14,9 +14,13 @@ use first_pass_links::entity::scan_reference;
 
 /// The content of a line of text, or of a cell in a table's row.
 #[derive(Clone, Copy, Drop)]
-pub struct Content {
+pub struct Content<'t> {
     /// The options that it is read under.
     pub options: Options,
+    /// The whole text that it stands in, of which offsets speak.
+    pub whole: &'t str,
+    /// Which bytes are special under its options.
+    pub special: &'t [bool; 256],
     /// Where it begins: an offset into the text.
     pub start: usize,
     /// The offset into the text from which on no content is left; `None` where that is the text's end.
@@ -58,39 +62,38 @@ pub enum Found {
 
 /// What stands at a special byte of a content: a reference (CommonMark 2.5), four or more hyphens with smart
 /// punctuation, a dollar sign or a brace with math, or a piece (see `special_piece`). `at` is the byte's offset into
-/// the text `whole`, and `text` is that text up to the content's end.
+/// the whole text, and `text` is that text up to the content's end.
 #[inline(always)]
 #[tactic(auto, unfolding(crate::specs::Pieces::special_found))]
-pub fn special_found(whole: &str, text: &[u8], start: usize, row: bool, at: usize) -> Found
-    requires front { text.now ≡ take (length text.now) whole.now }
+pub fn special_found(text: &[u8], content: Content<'_>, at: usize) -> Found
+    requires utf8 { IsUtf8 content.whole.now }
+    requires front { text.now ≡ take (length text.now) content.whole.now }
     requires within { at < length text.now }
-    requires order { start ≤ at }
-    ensures value { (o : Options) (b : MathBraces) → result ≡ special_found
-        (record { options = o; whole = whole.now; text = text.now; start = start; row = row; braces = b }) at }
+    requires order { content.start ≤ at }
+    ensures value { (b : MathBraces) → result ≡ special_found (content_in text.now content.entry b) at }
     ensures fits { at + found_size result ≤ length text.now }
     ensures ends { FoundSolid text.now at result }
 {
     match text[at] {
         b'&' => reference_found(text, at),
         b'-' => dash_found(text, at),
-        b'$' => dollar_found(text, start, at),
+        b'$' => dollar_found(text, content, at),
         b'{' => Found::OpenBrace,
         b'}' => Found::CloseBrace,
-        _ => Found::Ready(special_piece(whole, text, start, row, at)),
+        _ => Found::Ready(special_piece(text, content, at)),
     }
 }
 
 // What stands at a dollar sign.
 #[tactic(auto, unfolding(crate::specs::Pieces::dollar_found))]
-fn dollar_found(text: &[u8], start: usize, at: usize) -> Found
+fn dollar_found(text: &[u8], content: Content<'_>, at: usize) -> Found
     requires { at < length text.now }
-    ensures value { (o : Options) (b : MathBraces) (w : List ℕ) (row : Bool) → result ≡ dollar_found
-        (record { options = o; whole = w; text = text.now; start = start; row = row; braces = b }) at }
+    ensures value { (b : MathBraces) → result ≡ dollar_found (content_in text.now content.entry b) at }
     ensures one { found_size result ≡ 1 }
     ensures ends { FoundSolid text.now at result }
 {
     let opens = is_solid_at(text, at + 1);
-    let closes = start < at && is_solid_at(text, at - 1);
+    let closes = content.start < at && is_solid_at(text, at - 1);
     Found::Dollar(opens, closes)
 }
 
@@ -139,21 +142,22 @@ fn dash_found(text: &[u8], at: usize) -> Found
 // and images (6.3, 6.4). With smart punctuation a quote is a token, and three full stops are a token of the character
 // that they stand for. A backslash before backquotes or other ASCII punctuation is dropped (2.4). In a row of a table
 // a backslash before a pipe is dropped, and so are two of them (GFM 4.10). Any other byte is left over.
+#[inline(always)]
 #[tactic(auto, unfolding(crate::specs::Pieces::special_piece))]
-fn special_piece(whole: &str, text: &[u8], start: usize, row: bool, at: usize) -> Piece
-    requires front { text.now ≡ take (length text.now) whole.now }
+fn special_piece(text: &[u8], content: Content<'_>, at: usize) -> Piece
+    requires utf8 { IsUtf8 content.whole.now }
+    requires front { text.now ≡ take (length text.now) content.whole.now }
     requires within { at < length text.now }
-    requires order { start ≤ at }
-    ensures value { (o : Options) (b : MathBraces) → result ≡ special_piece
-        (record { options = o; whole = whole.now; text = text.now; start = start; row = row; braces = b }) at }
+    requires order { content.start ≤ at }
+    ensures value { (b : MathBraces) → result ≡ special_piece (content_in text.now content.entry b) at }
     ensures fits { at + size result ≤ length text.now }
     ensures ends { EndsSolid text.now at result }
 {
     match text[at] {
-        b'\\' => backslash_piece_in(text, at, row),
+        b'\\' => backslash_piece_in(text, at, content.row),
         b'`' => backquote_piece(text, at),
-        b'*' | b'_' | b'~' | b'^' => delimiter_piece(whole, text, start, row, at),
-        b'"' | b'\'' => quote_piece(whole, text, start, row, at),
+        b'*' | b'_' | b'~' | b'^' => delimiter_piece(text, content, at),
+        b'"' | b'\'' => quote_piece(text, content, at),
         b'.' => dot_piece(text, at),
         _ => bracket_piece(text, at),
     }
@@ -224,17 +228,17 @@ fn backquote_piece(text: &[u8], at: usize) -> Piece
 
 // The piece at a delimiter.
 #[tactic(auto, unfolding(crate::specs::Pieces::delimiter_piece))]
-fn delimiter_piece(whole: &str, text: &[u8], start: usize, row: bool, at: usize) -> Piece
-    requires front { text.now ≡ take (length text.now) whole.now }
+fn delimiter_piece(text: &[u8], content: Content<'_>, at: usize) -> Piece
+    requires utf8 { IsUtf8 content.whole.now }
+    requires front { text.now ≡ take (length text.now) content.whole.now }
     requires within { at < length text.now }
-    requires order { start ≤ at }
+    requires order { content.start ≤ at }
     requires here { is_delimiter (slice_index text.now at) ≡ true }
-    ensures value { (o : Options) (b : MathBraces) → result ≡ delimiter_piece
-        (record { options = o; whole = whole.now; text = text.now; start = start; row = row; braces = b }) at }
+    ensures value { (b : MathBraces) → result ≡ delimiter_piece (content_in text.now content.entry b) at }
     ensures fits { at + size result ≤ length text.now }
     ensures ends { EndsSolid text.now at result }
 {
-    run_piece(&run_in(whole, text, start, row, at))
+    run_piece(&run_in(text, content, at))
 }
 
 // A delimiter run as a piece.
@@ -254,25 +258,25 @@ fn run_piece(run: &DelimiterRun) -> Piece
 }
 
 // The run of delimiters at a place, and what stands beside it.
+#[inline(always)]
 #[tactic(auto, unfolding(crate::specs::Pieces::run_in))]
-fn run_in(whole: &str, text: &[u8], start: usize, row: bool, at: usize) -> DelimiterRun
-    requires front { text.now ≡ take (length text.now) whole.now }
+fn run_in(text: &[u8], content: Content<'_>, at: usize) -> DelimiterRun
+    requires utf8 { IsUtf8 content.whole.now }
+    requires front { text.now ≡ take (length text.now) content.whole.now }
     requires within { at < length text.now }
-    requires order { start ≤ at }
+    requires order { content.start ≤ at }
     requires here { is_delimiter (slice_index text.now at) || is_quote (slice_index text.now at) ≡ true }
-    ensures value { (o : Options) (b : MathBraces) → result ≡ run_in
-        (record { options = o; whole = whole.now; text = text.now; start = start; row = row; braces = b })
-        at (run_size text.now at) }
+    ensures value { (b : MathBraces) → result ≡ run_in (content_in text.now content.entry b) at (run_size text.now at) }
     ensures some { 0 < result.size }
     ensures fits { at + result.size ≤ length text.now }
 {
     let size = run_size(text, at);
     DelimiterRun {
         delimiter: text[at],
-        in_row: row,
-        behind_pipe: ends_with_pipe(&text[start..at]),
-        before: char_before(whole, start, at),
-        after: first_char(&whole[at + size..]),
+        in_row: content.row,
+        behind_pipe: ends_with_pipe(&text[content.start..at]),
+        before: char_before(content, at),
+        after: first_char(&content.whole[at + size..]),
         size,
     }
 }
@@ -293,17 +297,17 @@ fn run_size(text: &[u8], at: usize) -> usize
 
 // The piece at a quote.
 #[tactic(auto, unfolding(crate::specs::Pieces::quote_piece))]
-fn quote_piece(whole: &str, text: &[u8], start: usize, row: bool, at: usize) -> Piece
-    requires front { text.now ≡ take (length text.now) whole.now }
+fn quote_piece(text: &[u8], content: Content<'_>, at: usize) -> Piece
+    requires utf8 { IsUtf8 content.whole.now }
+    requires front { text.now ≡ take (length text.now) content.whole.now }
     requires within { at < length text.now }
-    requires order { start ≤ at }
+    requires order { content.start ≤ at }
     requires here { is_quote (slice_index text.now at) ≡ true }
-    ensures value { (o : Options) (b : MathBraces) → result ≡ quote_piece
-        (record { options = o; whole = whole.now; text = text.now; start = start; row = row; braces = b }) at }
+    ensures value { (b : MathBraces) → result ≡ quote_piece (content_in text.now content.entry b) at }
     ensures fits { at + size result ≤ length text.now }
     ensures ends { EndsSolid text.now at result }
 {
-    let run = run_in(whole, text, start, row, at);
+    let run = run_in(text, content, at);
     Piece::Token(
         0,
         1,
@@ -328,14 +332,14 @@ fn dot_piece(text: &[u8], at: usize) -> Piece
 }
 
 // The character before a place of a content, if it is not its first.
+#[inline(always)]
 #[tactic(auto, unfolding(crate::specs::Pieces::char_before))]
-fn char_before(whole: &str, start: usize, at: usize) -> Option<char>
-    requires { IsCharBoundary whole.now at }
-    ensures { (o : Options) (b : MathBraces) (text : List ℕ) (row : Bool) → result ≡ char_before
-        (record { options = o; whole = whole.now; text = text; start = start; row = row; braces = b }) at }
+fn char_before(content: Content<'_>, at: usize) -> Option<char>
+    requires { IsCharBoundary content.whole.now at }
+    ensures { (b : MathBraces) (text : List ℕ) → result ≡ char_before (content_in text content.entry b) at }
 {
-    if start < at {
-        last_char(&whole[..at])
+    if content.start < at {
+        last_char(&content.whole[..at])
     } else {
         None
     }

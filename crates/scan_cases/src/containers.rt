@@ -1,14 +1,14 @@
-//! Calls of `first_pass_open` and `first_pass_text` with open containers, and the tree and the options that such calls
-//! are given.
+//! Calls of `first_pass_open` and `first_pass_kinds` with open containers, and the tree and the options that such
+//! calls are given.
 
 use bitflags::Flags;
 use first_pass_cases::answer::Answer;
 use first_pass_cases::given::Given;
 use first_pass_items::item::{CowIndex, Item, ItemBody};
 use first_pass_items::option_set::Options;
+use first_pass_kinds::interrupt::interrupts_without_table;
 use first_pass_open::containers::scan_containers;
 use first_pass_scan::line_start::LineStart;
-use first_pass_text::interrupt::scan_paragraph_interrupt_no_table;
 use first_pass_tree::forest::Tree;
 use std::alloc::{AllocError, Global};
 
@@ -22,13 +22,8 @@ pub fn answer_containers(
 ) -> Result<bool, AllocError> {
     match call {
         "scan_containers" => append_containers(alloc, text, given, answer)?,
-        "scan_paragraph_interrupt_no_table" => {
-            let tree = open_path(alloc, given.number(0))?;
-            let whole = given.flag(1);
-            let interrupts = scan_paragraph_interrupt_no_table(
-                alloc, text, whole, false, false, &tree, 0,
-            )?;
-            answer.flag(interrupts)?
+        "interrupts_without_table" => {
+            answer.flag(interrupts_without_table(text.as_bytes(), given.flag(0)))?
         }
         _ => return Ok(false),
     }

@@ -40,12 +40,9 @@ fn append_reference(
     if !text.is_char_boundary(start) {
         return answer.none();
     }
-    let source = Source {
-        text,
-        options: Options::empty(),
-    };
+    let source = Source::new(alloc, text, Options::empty());
     let tree = open_path(alloc, given.number(0))?;
-    match parse_refdef_total(alloc, source, &tree, start)? {
+    match parse_refdef_total(&source, &tree, start)? {
         Some((size, label, definition)) => {
             answer.number(size)?;
             answer.text(label.label())?;
@@ -78,12 +75,9 @@ fn append_footnote(
     if !text.is_char_boundary(start) {
         return answer.none();
     }
-    let source = Source {
-        text,
-        options: options_of(given.number(1)),
-    };
+    let source = Source::new(alloc, text, options_of(given.number(1)));
     let tree = open_path(alloc, given.number(0))?;
-    match scan_footnote(alloc, source, &tree, start)? {
+    match scan_footnote(&source, &tree, start)? {
         Some((size, label)) => {
             answer.number(size)?;
             append_cow(&label, answer)

@@ -1,15 +1,14 @@
-//! Calls of `first_pass_scan` for the lines that open or close a leaf block.
+//! Calls of `first_pass_scan` and `first_pass_metadata` for the lines that open or close a leaf block.
 
 use first_pass_cases::answer::Answer;
 use first_pass_cases::given::Given;
-use first_pass_items::item::HeadingLevel;
 use first_pass_lines::lines::level_number;
 use first_pass_lines::places::rest_of;
+use first_pass_metadata::metadata_scan::{scan_closing_metadata_block, scan_metadata_block};
+use first_pass_metadata::metadata_search::{MetadataEnds, metadata_at};
 use first_pass_scan::leaf_scan::{
-    calc_indent, scan_closing_code_fence, scan_closing_metadata_block, scan_code_fence, scan_hrule,
-    scan_metadata_block, scan_setext_heading,
+    calc_indent, scan_closing_code_fence, scan_code_fence, scan_hrule, scan_setext_heading,
 };
-use first_pass_scan::metadata_search::{MetadataEnds, metadata_at};
 use std::alloc::AllocError;
 
 /// Returns a call for a thematic break, an underline, a fence or an indent, or tells that it is another one.
@@ -21,8 +20,20 @@ pub fn answer_leaves(
 ) -> Result<bool, AllocError> {
     match call {
         "scan_hrule" => answer.length(scan_hrule(bytes))?,
-        "scan_setext_heading" => append_underline(scan_setext_heading(bytes), answer)?,
-        "scan_code_fence" => append_fence(scan_code_fence(bytes), answer)?,
+        "scan_setext_heading" => match scan_setext_heading(bytes) {
+            Some((len, level)) => {
+                answer.number(len)?;
+                answer.number(level_number(level))?
+            }
+            None => answer.none()?,
+        },
+        "scan_code_fence" => match scan_code_fence(bytes) {
+            Some((count, byte)) => {
+                answer.number(count)?;
+                answer.byte(byte)?
+            }
+            None => answer.none()?,
+        },
         "scan_closing_code_fence" => {
             answer.length(scan_closing_code_fence(bytes, given.byte(0), given.number(1)))?
         }
@@ -34,29 +45,6 @@ pub fn answer_leaves(
         _ => return Ok(false),
     }
     Ok(true)
-}
-
-fn append_underline(
-    found: Option<(usize, HeadingLevel)>,
-    answer: &mut Answer,
-) -> Result<(), AllocError> {
-    match found {
-        Some((len, level)) => {
-            answer.number(len)?;
-            answer.number(level_number(level))
-        }
-        None => answer.none(),
-    }
-}
-
-fn append_fence(found: Option<(usize, u8)>, answer: &mut Answer) -> Result<(), AllocError> {
-    match found {
-        Some((count, byte)) => {
-            answer.number(count)?;
-            answer.byte(byte)
-        }
-        None => answer.none(),
-    }
 }
 
 /// Returns a call for a metadata block, or tells that it is another one. The flags that are given turn on `---` and

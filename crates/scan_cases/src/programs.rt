@@ -6,11 +6,12 @@ use bitflags::Flags;
 use first_pass_cases::answer::Answer;
 use first_pass_host::option_word::parse_options;
 use first_pass_timing::report::append_report;
-use first_pass_timing::task::{Task, parse_task};
+use first_pass_timing::task::parse_task;
 use first_pass_timing::timing::Timing;
 use std::alloc::{AllocError, Global};
 
-/// Returns a call for words or for a line of `bench`, or tells that it is another one.
+/// Returns a call for words or for a line of `bench`, or tells that it is another one. Of a task these are the bits of
+/// the options, and how many runs are asked for.
 pub fn answer_programs(
     alloc: Global,
     call: &str,
@@ -19,7 +20,13 @@ pub fn answer_programs(
 ) -> Result<bool, AllocError> {
     match call {
         "parse_options" => append_bits(parse_options(words_of(alloc, text)?.as_slice()), answer)?,
-        "parse_task" => append_task(parse_task(words_of(alloc, text)?.as_slice()), answer)?,
+        "parse_task" => match parse_task(words_of(alloc, text)?.as_slice()) {
+            Some(task) => {
+                answer.number(task.options.bits() as usize)?;
+                answer.length(task.runs.map(|runs| runs as usize))?
+            }
+            None => answer.none()?,
+        },
         "append_report" => append_timing(alloc, text, answer)?,
         _ => return Ok(false),
     }
@@ -33,17 +40,6 @@ fn words_of(alloc: Global, text: &str) -> Result<Vec<String>, AllocError> {
         words.push(String::from_str(alloc, line)?)?;
     }
     Ok(words)
-}
-
-/// The bits of the options, and how many runs are asked for.
-fn append_task(found: Option<Task>, answer: &mut Answer) -> Result<(), AllocError> {
-    match found {
-        Some(task) => {
-            answer.number(task.options.bits() as usize)?;
-            answer.length(task.runs.map(|runs| runs as usize))
-        }
-        None => answer.none(),
-    }
 }
 
 /// The line of `bench` for four numbers: bytes, nodes, runs and nanoseconds.

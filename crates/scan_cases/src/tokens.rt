@@ -1,9 +1,6 @@
 //! Calls of `first_pass_tokens`: the tokens of lines and of cells.
 
-ghost use Rattle.std.specs.Prelude.{◌≡◌, None};
-
 use crate::containers::options_of;
-use bitflags::Flags;
 use first_pass_cases::answer::Answer;
 use first_pass_cases::given::Given;
 use first_pass_items::item::{Item, ItemBody};
@@ -34,21 +31,21 @@ pub fn answer_tokens(
 
 /// A paragraph of the lines of a text, each with its break.
 fn paragraph(alloc: Global, text: &str, options: Options) -> Result<Tree<Item>, AllocError> {
-    let lut = special_bytes(&options);
+    let special = special_bytes(&options);
     let mut tree = opened(alloc, ItemBody::Paragraph)?;
     let mut texts = Vec::new(alloc);
     let mut braces = BraceContexts::new();
     let mut at = 0;
     while at < text.len() {
-        let content = content(options, at, false);
-        let (next, line_break) = append_line(
-            text,
-            content,
-            &lut,
-            &mut tree,
-            &mut texts,
-            &mut braces,
-        )?;
+        let content = Content {
+            options,
+            whole: text,
+            special: &special,
+            start: at,
+            end: None,
+            row: false,
+        };
+        let (next, line_break) = append_line(content, &mut tree, &mut texts, &mut braces)?;
         if let Some(item) = line_break {
             tree.append(item)?;
         }
@@ -60,14 +57,21 @@ fn paragraph(alloc: Global, text: &str, options: Options) -> Result<Tree<Item>, 
 /// The cells of a row: a text without the pipe after which its first cell begins. Each begins after the pipe that ends
 /// the one before it, and a node `end` stands where each ends.
 fn row(alloc: Global, text: &str, options: Options) -> Result<Tree<Item>, AllocError> {
-    let lut = special_bytes(&options);
+    let special = special_bytes(&options);
     let mut tree = opened(alloc, ItemBody::TableRow)?;
     let mut texts = Vec::new(alloc);
     let mut braces = BraceContexts::new();
     let mut at = 0;
     while at < text.len() {
-        let content = content(options, at, true);
-        at = append_cell(text, content, &lut, &mut tree, &mut texts, &mut braces)?;
+        let content = Content {
+            options,
+            whole: text,
+            special: &special,
+            start: at,
+            end: None,
+            row: true,
+        };
+        at = append_cell(content, &mut tree, &mut texts, &mut braces)?;
         tree.append(Item {
             start: at,
             end: at,
@@ -76,18 +80,6 @@ fn row(alloc: Global, text: &str, options: Options) -> Result<Tree<Item>, AllocE
         at += 1;
     }
     Ok(tree)
-}
-
-/// The content of a line, or of a cell, that begins at an offset.
-fn content(options: Options, start: usize, row: bool) -> Content
-    ensures { result ≡ record { options = options; start = start; «end» = None; row = row } }
-{
-    Content {
-        options,
-        start,
-        end: None,
-        row,
-    }
 }
 
 /// A tree with one open block.

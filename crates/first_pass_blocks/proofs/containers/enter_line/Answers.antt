@@ -21,29 +21,26 @@ use Rattle.first_pass_blocks.proofs.LineLemmas.{IsAtLine, at_line, blank_line_re
 use Rattle.first_pass_blocks.proofs.containers.enter_line.Goals as goal
 use Rattle.first_pass_blocks.proofs.containers.enter_line.Goals.{After-is_some}
 
--- the line that is entered
-line_is : (c : After-is_some) → c.new-line_start.result ≡ line_rest (drop c.args.start_ix c.args.source.text.now)
-line_is c = c.new-line_start.ensures ∙ ap line_rest (c.rest_of.ensures.value ∙ ap (drop c.args.start_ix) c.as_bytes.ensures.value)
-
--- what is left of it, and whether that is blank
+-- what is left of the line, and whether that is blank
 abbrev left : After-is_some → Rest
-left c = c.scan_containers-kept.new.line_start
+left c = c.scan_front-front.result.rest
 
 blank : (c : After-is_some) → is_some (blank_len (left c).left) ≡ c.is_some.result
 blank c = ap (λ bs. is_some (blank_len bs)) (sym c.left.ensures) ∙ ap is_some (sym c.scan_blank_line.ensures.value) ∙ sym c.is_some.ensures
 
 at_its_line : (c : After-is_some) (names : Names) (defined : Tables)
-    → IsAtLine (document c.args.source.text.now c.args.source.options names) defined c.args.reading.now c.close_containers.new.reading c.args.start_ix (left c)
+    → IsAtLine (document c.args.source.now.text.now c.args.source.now.options names) defined c.args.reading.now c.close_containers.new.reading c.args.start_ix
+    (left c)
 at_its_line c names defined =
-    let d : Document = document c.args.source.text.now c.args.source.options names in
-    at_line d defined c.args.reading.now c.close_containers.new.reading c.args.start_ix c.scan_containers-kept.result c.new-line_start.result (left c)
-    (line_is c) c.requires.within c.close_containers.ensures.spine (c.close_containers.ensures.kept.paths c.args.source.options)
-    (λ e lines. c.close_containers.ensures.kept.ready e defined lines) c.scan_containers-kept.ensures.taken c.scan_containers-kept.ensures.stops
+    let d : Document = document c.args.source.now.text.now c.args.source.now.options names in
+    at_line d defined c.args.reading.now c.close_containers.new.reading c.args.start_ix c.scan_front-front.result.kept _ (left c)
+    refl c.requires.within c.close_containers.ensures.spine (c.close_containers.ensures.kept.paths c.args.source.now.options)
+    (λ e lines. c.close_containers.ensures.kept.ready e defined lines) c.scan_front-front.ensures.taken c.scan_front-front.ensures.stops
 
 pub returns-then-is_some-clause-entered : goal.returns-then-is_some-clause-entered
 returns-then-is_some-clause-entered c =
     let a : After-is_some = (goal.at.returns-then-is_some-clause-entered c).After-is_some in
-    let source = c.args.source in
+    let source = c.args.source.now in
     let text = source.text.now in
     let start = c.args.start_ix in
     let closed : Reading = c.close_containers.new.reading in
@@ -56,11 +53,11 @@ returns-then-is_some-clause-entered c =
           subst (λ q. Ready d defined q (lines_from text (start + line_len (drop start text)))) (sym c.read_blank_line.ensures)
           (blank_line_read d defined _ closed start _ (at_its_line a names defined) (blank a ∙ c.if-is_some.true) ready);
       order = λ ordered. inl (subst (λ (q : Reading). IsOrderedAt text q (start + line_len (drop start text))) (sym c.read_blank_line.ensures)
-          (ordered_blank_line source.options text c.args.reading.now closed start (subst IsUtf8 c.as_bytes.ensures.value c.as_bytes.ensures.utf8) w
+          (ordered_blank_line source.options text c.args.reading.now closed start c.scan_front-front.ensures.utf8 w
           c.requires.boundary (kept.order text (omega arith) c.requires.boundary)
-          (λ h. kept.all_kept (handed_whole source.options text c.args.reading.now start c.scan_containers-kept.result
-          c.new-line_start.result (left a) (line_is a) c.scan_containers-kept.ensures.within c.scan_containers-kept.ensures.taken
-          c.scan_containers-kept.ensures.stops h).0) ordered));
+          (λ h. kept.all_kept (handed_whole source.options text c.args.reading.now start c.scan_front-front.result.kept
+          _ (left a) refl c.scan_front-front.ensures.within c.scan_front-front.ensures.taken
+          c.scan_front-front.ensures.stops h).0) ordered));
       few = λ first grows. omega arith;
       named = λ names h. subst (AreReadNamed names) (sym c.read_blank_line.ensures) (blank_named names closed (kept.named names h));
       whole = λ names h. subst (IsReadWhole names) (sym c.read_blank_line.ensures) (blank_whole names closed (kept.whole names h));
@@ -69,7 +66,7 @@ returns-then-is_some-clause-entered c =
 pub returns-clause-entered : goal.returns-clause-entered
 returns-clause-entered c =
     let a : After-is_some = (goal.at.returns-clause-entered c).After-is_some in
-    let source = c.args.source in
+    let source = c.args.source.now in
     let text = source.text.now in
     let start = c.args.start_ix in
     let p : Place = place_at start (left a) in
@@ -77,8 +74,8 @@ returns-clause-entered c =
     let kept = c.close_containers.ensures.kept in
     let w = c.requires.within in
     let same = ap count c.finish_empty_list_item.ensures ∙ item_finished_count closed ∙ kept.count in
-    let here = line_kept source.options text _ _ start c.scan_containers-kept.result c.args.reading.now.tree _ (left a) c.as_bytes.ensures.utf8
-    c.as_bytes.ensures.value c.rest_of.ensures.value c.new-line_start.ensures c.requires.boundary c.scan_containers-kept.ensures.taken in (
+    let here = line_kept source.options text start c.scan_front-front.result.kept c.args.reading.now.tree (left a) c.scan_front-front.ensures.utf8
+    c.requires.boundary c.scan_front-front.ensures.taken in (
       (here.0, refl, here.1),
       ap (λ (q : Reading). q.empty_item) c.finish_empty_list_item.ensures ∙ finished_none closed,
       record {
@@ -90,8 +87,8 @@ returns-clause-entered c =
         order = λ ordered. ordered_at_place text _ start p refl c.requires.boundary here.0
             (subst (λ (q : Reading). IsOrderedTo text q.tree start) (sym c.finish_empty_list_item.ensures)
             (ordered_other_line source.options text c.args.reading.now closed start (kept.order text (omega arith) c.requires.boundary)
-            (λ h. let some = (handed_whole source.options text c.args.reading.now start c.scan_containers-kept.result c.new-line_start.result (left a)
-            (line_is a) c.scan_containers-kept.ensures.within c.scan_containers-kept.ensures.taken c.scan_containers-kept.ensures.stops h).1 in
+            (λ h. let some = (handed_whole source.options text c.args.reading.now start c.scan_front-front.result.kept _ (left a)
+            refl c.scan_front-front.ensures.within c.scan_front-front.ensures.taken c.scan_front-front.ensures.stops h).1 in
             let none = blank a ∙ c.if-is_some.false in cc) ordered));
         few = λ first grows. omega arith;
         named = λ names h. subst (AreReadNamed names) (sym c.finish_empty_list_item.ensures) (item_finished_named names closed (kept.named names h));

@@ -7,18 +7,18 @@ use Rattle.first_pass_blocks.specs.Positions.{Position, InLine, LeafAt, IsInLine
 use Rattle.first_pass_blocks.specs.Starts.{after_at, last_at, IsAfter}
 use Rattle.first_pass_blocks.proofs.StartLemmas.{start_opens, no_start, opened_start, start_found, start_missing, reads_both, reads_none}
 use Rattle.first_pass_blocks.proofs.containers.open_containers.Goals as goal
-use Rattle.first_pass_blocks.proofs.containers.open_containers.Goals.{In-Some, In_ok-open_start}
+use Rattle.first_pass_blocks.proofs.containers.open_containers.Goals.{In_ok-open_start}
 
 pub loop-start-init : goal.loop-start-init
 loop-start-init c = record {
   no_empty = c.requires.no_empty;
   here = (c.requires.place, refl, refl);
-  opened = reads_none c.args.source c.args.place.now.line c.args.reading.now (InLine c.args.place.now);
+  opened = reads_none c.args.source.now c.args.place.now.line c.args.reading.now (InLine c.args.place.now);
 }
 
 pub returns-in_default-clause-opened : goal.returns-in_default-clause-opened
 returns-in_default-clause-opened c =
-    let source = c.args.source in
+    let source = c.args.source.now in
     let first : Place = c.args.place.now in
     let r : Reading = c.loop-start.reading in
     let p : Place = c.loop-start.place in
@@ -34,17 +34,17 @@ open_start-requires c =
     let p : Place = c.loop-start.place in
     let i = c.loop-start.invariant in
     let found = start_found _ c.start_at.result c.in-Some.start p c.start_at.new.place c.in-Some.is c.start_at.ensures in
-    subst (λ (q : Place). IsPlaceOf c.args.source.text.now q) (sym found.3)
-    (start_opens c.args.source c.loop-start.reading p c.requires.utf8 i.here.0 c.is_forest.ensures i.no_empty found.0 found.1).2.0
+    subst (λ (q : Place). IsPlaceOf c.args.source.now.text.now q) (sym found.3)
+    (start_opens c.args.source.now c.loop-start.reading p c.requires.utf8 i.here.0 c.is_forest.ensures i.no_empty found.0 found.1).2.0
 
 -- one more container is open
 step : (c : In_ok-open_start) → IsAfter c.in-Some.start.after c.open_start.new.reading ×
     (length c.start_at.new.place.rest.left < length c.loop-start.place.rest.left)
-    × IsInLine c.args.source.text.now c.args.place.now.line (line_end c.args.place.now) c.start_at.new.place
-    × ReadsTo c.args.source c.args.place.now.line c.args.reading.now c.open_start.new.reading (InLine c.args.place.now)
+    × IsInLine c.args.source.now.text.now c.args.place.now.line (line_end c.args.place.now) c.start_at.new.place
+    × ReadsTo c.args.source.now c.args.place.now.line c.args.reading.now c.open_start.new.reading (InLine c.args.place.now)
     (after_at c.start_at.new.place (line_end c.args.place.now) c.in-Some.start.after)
 step c =
-    let source = c.args.source in
+    let source = c.args.source.now in
     let first : Place = c.args.place.now in
     let r : Reading = c.loop-start.reading in
     let p : Place = c.loop-start.place in
@@ -72,7 +72,7 @@ loop-start-preserved c =
     record {
       no_empty = subst (λ (a : AfterMarker). IsAfter a c.open_start.new.reading) c.in-OnLine.is s.0;
       here = s.2;
-      opened = subst (λ (a : AfterMarker). ReadsTo c.args.source c.args.place.now.line c.args.reading.now c.open_start.new.reading (InLine c.args.place.now)
+      opened = subst (λ (a : AfterMarker). ReadsTo c.args.source.now c.args.place.now.line c.args.reading.now c.open_start.new.reading (InLine c.args.place.now)
           (after_at c.start_at.new.place (line_end c.args.place.now) a)) c.in-OnLine.is s.3;
     }
 
@@ -89,7 +89,7 @@ returns-in_default-after c =
     record {
       after = s.0;
       place = s.2;
-      opened = subst (λ (there : Position). ReadsTo c.args.source c.args.place.now.line c.args.reading.now c.open_start.new.reading
+      opened = subst (λ (there : Position). ReadsTo c.args.source.now c.args.place.now.line c.args.reading.now c.open_start.new.reading
           (InLine c.args.place.now) there)
           (last_is c.start_at.new.place (line_end c.args.place.now) c.in-Some.start.after c.in_default-after.not-OnLine) s.3;
     }

@@ -27,13 +27,13 @@ taken c = item_found _ c.scan_item.result c.in-Some.marker c.place.inside.rest c
 
 pub scan_task-task-requires-clause-place : goal.scan_task-task-requires-clause-place
 scan_task-task-requires-clause-place c =
-    (item_keeps c.args.source.text.now c.place.inside.line c.place.inside.rest _ c.requires.utf8
+    (item_keeps c.args.source.now.text.now c.place.inside.line c.place.inside.rest _ c.requires.utf8
     (taken (goal.at.scan_task-task-requires-clause-place c).In-Some) (same_place _ _ _ c.place.view_is c.requires.place)).0
 
 pub returns-in-Some : goal.returns-in-Some
 returns-in-Some c =
     let p : Place = place_at c.place.inside.line c.place.inside.rest in
-    let options = c.args.source.options in
+    let options = c.args.source.now.options in
     let marker = c.in-Some.marker in
     let task : Option Item × Rest = task_behind options c.place.inside.line c.scan_item.new.line_start in
     let start : ℕ → AfterMarker → Option Start = λ n after. Some (record { opener = ItemOpener marker; start = n; after = after }) in
@@ -55,13 +55,13 @@ returns-in_err-quote c =
     item_absent (item_at c.place.inside.rest) c.scan_item.result c.place.inside.rest c.scan_item.new.line_start c.in_default.is c.scan_item.ensures in
     let quote = quote_absent _ c.scan_quote.result _ c.scan_item.new.line_start c.scan_quote.new.line_start c.in_err-quote.was c.scan_quote.ensures in
     rw (← c.place.view_is) (matches_none _ _ _
-    (start_none c.args.source.options p item.0 (ap (prefix (BlockQuote None)) (sym item.1) ∙ quote.0))
+    (start_none c.args.source.now.options p item.0 (ap (prefix (BlockQuote None)) (sym item.1) ∙ quote.0))
     (c.from_residual.ensures, ap (place_at c.place.inside.line) (quote.1 ∙ item.1)))
 
 pub returns : goal.returns
 returns c =
     let p : Place = place_at c.place.inside.line c.place.inside.rest in
-    let options = c.args.source.options in
+    let options = c.args.source.now.options in
     let inside : Rest = c.scan_quote.new.line_start in
     let here = quote_here c.place.inside.rest c.scan_item.new.line_start inside c.scan_item.result c.scan_quote.result c.in_ok-quote.quote c.in_default.is
     c.scan_item.ensures c.in_ok-quote.was c.scan_quote.ensures in

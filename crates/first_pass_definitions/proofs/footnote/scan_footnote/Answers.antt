@@ -1,4 +1,4 @@
-use Rattle.std.proofs.Common.{rules, true, OnErr, refl, sym, ◌≡◌, ℕ, ◌+◌, ◌-◌, List, take, drop, IfOk, IfSome, ap, subst, ◌∙◌}
+use Rattle.std.proofs.Common.{rules, OnErr, refl, sym, ◌≡◌, ℕ, ◌+◌, ◌-◌, List, take, drop, IfOk, IfSome, ap, subst, ◌∙◌}
 use Rattle.std.proofs.lemmas.List.{drop-drop}
 use Rattle.first_pass_items.specs.CowText.{text_of}
 use Rattle.first_pass_links.specs.Texts.{Borrows}
@@ -8,15 +8,15 @@ use Rattle.first_pass_links.proofs.Footnotes.{behind_mark}
 use Rattle.first_pass_tree.specs.Forest.{in_table}
 use Rattle.first_pass_grammar.specs.Footnotes.{footnote_prefix}
 use Rattle.first_pass_open.specs.Path.{context_of}
-use Rattle.first_pass_text.specs.Memory.{line_may_head}
+use Rattle.first_pass_kinds.specs.Memory.{line_may_head}
 use Rattle.first_pass_definitions.specs.Memory.{FootnoteAsks}
 use Rattle.first_pass_definitions.proofs.Asks.{footnote_asks, place_from}
 use Rattle.first_pass_definitions.proofs.footnote.scan_footnote.Goals as goal
 
 pub returns-clause-borrowed : goal.returns-clause-borrowed
 returns-clause-borrowed c =
-    let there : drop 2 c.range_from.result.now ≡ drop (c.args.start + 2) c.args.source.text.now =
-    ap (drop 2) c.range_from.ensures.value ∙ drop-drop 2 c.args.start c.args.source.text.now in
+    let there : drop 2 c.range_from.result.now ≡ drop (c.args.start + 2) c.args.source.now.text.now =
+    ap (drop 2) c.range_from.ensures.value ∙ drop-drop 2 c.args.start c.args.source.now.text.now in
     subst (λ (xs : List ℕ).
     IfOk c.scan_footnote_head.result (λ answer. IfSome answer (λ found. text_of found.1 ≡ take (found.0 - 4) xs → Borrows (take (found.0 - 4) xs) found.1)))
     there
@@ -24,8 +24,8 @@ returns-clause-borrowed c =
 
 pub returns-clause-err : goal.returns-clause-err
 returns-clause-err c =
-    let text = c.args.source.text.now in
-    let around = context_of c.args.source.options c.args.tree.now in
+    let text = c.args.source.now.text.now in
+    let around = context_of c.args.source.now.options c.args.tree.now in
     let bs = c.range_from.result.now in
     subst (λ (xs : List ℕ). OnErr c.scan_footnote_head.result (FootnoteAsks around (in_table c.args.tree.now.nodes c.args.tree.now.spine) xs))
     c.range_from.ensures.value

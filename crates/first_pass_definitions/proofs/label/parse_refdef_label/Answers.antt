@@ -1,10 +1,10 @@
-use Rattle.std.proofs.Common.{rules, ◌≡◌, ℕ, ◌+◌, List, true, OnErr, sym, ap, subst, ◌∙◌}
+use Rattle.std.proofs.Common.{rules, ℕ, ◌+◌, List, true, OnErr, sym, ap, subst, ◌∙◌}
 use Rattle.std.proofs.lemmas.Result.{on_err_weaker}
 use Rattle.first_pass_lines.specs.Places.{line_rest}
 use Rattle.first_pass_tree.specs.Forest.{in_table}
 use Rattle.first_pass_grammar.specs.Definitions.{prefix_crossed}
 use Rattle.first_pass_open.specs.Path.{context_of}
-use Rattle.first_pass_text.specs.Memory.{line_may_head}
+use Rattle.first_pass_kinds.specs.Memory.{line_may_head}
 use Rattle.first_pass_definitions.specs.Memory.{LabelAsks}
 use Rattle.first_pass_definitions.proofs.Asks.{label_asks, place_from}
 use Rattle.first_pass_definitions.proofs.Places.{label_fits}
@@ -12,13 +12,13 @@ use Rattle.first_pass_definitions.proofs.label.parse_refdef_label.Goals as goal
 
 pub returns-clause-fits : goal.returns-clause-fits
 returns-clause-fits c =
-    label_fits c.scan_link_label_rest.result c.args.source.text.now c.range_from.result.now c.args.start c.requires c.range_from.ensures.value
+    label_fits c.scan_link_label_rest.result c.args.source.now.text.now c.range_from.result.now c.args.start c.requires c.range_from.ensures.value
     c.scan_link_label_rest.ensures.within c.scan_link_label_rest.ensures.behind
 
 pub returns-clause-err : goal.returns-clause-err
 returns-clause-err c =
-    let text = c.args.source.text.now in
-    let around = context_of c.args.source.options c.args.tree.now in
+    let text = c.args.source.now.text.now in
+    let around = context_of c.args.source.now.options c.args.tree.now in
     let bs = c.range_from.result.now in
     subst (λ (xs : List ℕ). OnErr c.scan_link_label_rest.result (LabelAsks around (in_table c.args.tree.now.nodes c.args.tree.now.spine) xs))
     c.range_from.ensures.value

@@ -12,7 +12,7 @@ of_text f text bytes rest s x h i j = h ∙ ap f (i ∙ ap (drop s) j)
 
 module _ (g : After-scan_eol) where
   text : List ℕ
-  text = g.args.source.text.now
+  text = g.args.source.now.text.now
 
   is_text : IsUtf8 text
   unfolding text
@@ -21,23 +21,24 @@ module _ (g : After-scan_eol) where
   white_is : g.scan_whitespace_no_nl.result ≡ prefix_len is_white (drop g.args.start text)
   unfolding text
   white_is =
-      of_text (prefix_len is_white) g.args.source.text.now _ _ _ _ g.scan_whitespace_no_nl.ensures.value g.rest_of.ensures.value g.as_bytes-bytes.ensures.value
+      of_text (prefix_len is_white) g.args.source.now.text.now _ _ _ _ g.scan_whitespace_no_nl.ensures.value g.rest_of.ensures.value
+      g.as_bytes-bytes.ensures.value
 
   eol_is : g.scan_eol.result ≡ eol_len (drop (g.args.start + g.scan_whitespace_no_nl.result) text)
   unfolding text
-  eol_is = of_text eol_len g.args.source.text.now _ _ _ _ g.scan_eol.ensures.value g.rest_of-2.ensures.value g.as_bytes-bytes.ensures.value
+  eol_is = of_text eol_len g.args.source.now.text.now _ _ _ _ g.scan_eol.ensures.value g.rest_of-2.ensures.value g.as_bytes-bytes.ensures.value
 
   white_place : IsCharBoundary text (g.args.start + g.scan_whitespace_no_nl.result)
   unfolding text
   white_place =
-      subst (λ n. IsCharBoundary g.args.source.text.now (g.args.start + n)) (sym white_is)
-      (white_behind g.args.source.text.now g.args.start is_text g.requires)
+      subst (λ n. IsCharBoundary g.args.source.now.text.now (g.args.start + n)) (sym white_is)
+      (white_behind g.args.source.now.text.now g.args.start is_text g.requires)
 
 pub returns-in_default-clause-value : goal.returns-in_default-clause-value
 unfolding text
 returns-in_default-clause-value c =
     let at = (goal.at.returns-in_default-clause-value c).After-scan_eol in
-    space_plain (context_of c.args.source.options c.args.tree.now) c.args.source.text.now c.args.start c.scan_whitespace_no_nl.result (white_is at)
+    space_plain (context_of c.args.source.now.options c.args.tree.now) c.args.source.now.text.now c.args.start c.scan_whitespace_no_nl.result (white_is at)
     (sym (eol_is at) ∙ c.in_default.is)
 
 pub returns-in_default-clause-place : goal.returns-in_default-clause-place
@@ -48,39 +49,40 @@ pub scan_line_crossed-requires : goal.scan_line_crossed-requires
 unfolding text
 scan_line_crossed-requires c =
     let at = (goal.at.scan_line_crossed-requires c).After-scan_eol in
-    eol_behind c.args.source.text.now _ c.in-Some.line_end (is_text at) (white_place at) (sym (eol_is at) ∙ c.in-Some.is)
+    eol_behind c.args.source.now.text.now _ c.in-Some.line_end (is_text at) (white_place at) (sym (eol_is at) ∙ c.in-Some.is)
 
 pub returns-in_default-2-clause-value : goal.returns-in_default-2-clause-value
 unfolding text
 returns-in_default-2-clause-value c =
     let at = (goal.at.returns-in_default-2-clause-value c).After-scan_eol in
-    space_stops (context_of c.args.source.options c.args.tree.now) c.args.source.text.now c.args.start c.scan_whitespace_no_nl.result c.in-Some.line_end
+    space_stops (context_of c.args.source.now.options c.args.tree.now) c.args.source.now.text.now c.args.start c.scan_whitespace_no_nl.result c.in-Some.line_end
     (white_is at)
     (sym (eol_is at) ∙ c.in-Some.is)
     (sym c.in_default-2.is ∙ c.in_ok-rest.ensures.value)
 
 module _ (g : After-is_some) where
   behind_is : g.scan_whitespace_no_nl-2.result ≡ prefix_len is_white (drop (g.args.start + g.scan_whitespace_no_nl.result + g.in-Some.line_end +
-      g.in-Some-2.rest.taken) g.args.source.text.now)
+      g.in-Some-2.rest.taken) g.args.source.now.text.now)
   behind_is =
-      of_text (prefix_len is_white) g.args.source.text.now _ _ _ _ g.scan_whitespace_no_nl-2.ensures.value g.rest_of-3.ensures.value
+      of_text (prefix_len is_white) g.args.source.now.text.now _ _ _ _ g.scan_whitespace_no_nl-2.ensures.value g.rest_of-3.ensures.value
       g.as_bytes-bytes.ensures.value
-      ∙ ap (λ k. prefix_len is_white (drop (g.args.start + g.scan_whitespace_no_nl.result + g.in-Some.line_end + k) g.args.source.text.now))
+      ∙ ap (λ k. prefix_len is_white (drop (g.args.start + g.scan_whitespace_no_nl.result + g.in-Some.line_end + k) g.args.source.now.text.now))
       g.bytes_scanned.ensures
 
   ends_is : is_some g.scan_eol-2.result ≡ at_line_end (drop (g.args.start + g.scan_whitespace_no_nl.result + g.in-Some.line_end + g.in-Some-2.rest.taken +
-      g.scan_whitespace_no_nl-2.result) g.args.source.text.now)
+      g.scan_whitespace_no_nl-2.result) g.args.source.now.text.now)
   ends_is =
-      ap is_some (of_text eol_len g.args.source.text.now _ _ _ _ g.scan_eol-2.ensures.value g.rest_of-4.ensures.value g.as_bytes-bytes.ensures.value)
+      ap is_some (of_text eol_len g.args.source.now.text.now _ _ _ _ g.scan_eol-2.ensures.value g.rest_of-4.ensures.value g.as_bytes-bytes.ensures.value)
       ∙ ap (λ k. at_line_end (drop (g.args.start + g.scan_whitespace_no_nl.result + g.in-Some.line_end + k + g.scan_whitespace_no_nl-2.result)
-      g.args.source.text.now)) g.bytes_scanned.ensures
+      g.args.source.now.text.now)) g.bytes_scanned.ensures
 
 pub returns-then-is_some-clause-value : goal.returns-then-is_some-clause-value
 unfolding text
 returns-then-is_some-clause-value c =
     let at = (goal.at.returns-then-is_some-clause-value c).After-scan_eol in
     let last = (goal.at.returns-then-is_some-clause-value c).After-is_some in
-    space_over true (context_of c.args.source.options c.args.tree.now) c.args.source.text.now c.args.start c.scan_whitespace_no_nl.result c.in-Some.line_end
+    space_over true (context_of c.args.source.now.options c.args.tree.now) c.args.source.now.text.now c.args.start c.scan_whitespace_no_nl.result
+    c.in-Some.line_end
     c.scan_whitespace_no_nl-2.result c.in-Some-2.rest
     (white_is at) (sym (eol_is at) ∙ c.in-Some.is) (sym c.in-Some-2.is ∙ c.in_ok-rest.ensures.value) (behind_is last)
     (sym (ends_is last) ∙ sym c.is_some.ensures ∙ c.if-is_some.true)
@@ -91,7 +93,8 @@ returns-clause-value c =
     let at = (goal.at.returns-clause-value c).After-scan_eol in
     let last = (goal.at.returns-clause-value c).After-is_some in
     ap (λ k. Some (c.args.start + c.scan_whitespace_no_nl.result + c.in-Some.line_end + k + c.scan_whitespace_no_nl-2.result, 1)) c.bytes_scanned.ensures
-    ∙ space_over false (context_of c.args.source.options c.args.tree.now) c.args.source.text.now c.args.start c.scan_whitespace_no_nl.result c.in-Some.line_end
+    ∙ space_over false (context_of c.args.source.now.options c.args.tree.now) c.args.source.now.text.now c.args.start c.scan_whitespace_no_nl.result
+    c.in-Some.line_end
     c.scan_whitespace_no_nl-2.result c.in-Some-2.rest
     (white_is at) (sym (eol_is at) ∙ c.in-Some.is) (sym c.in-Some-2.is ∙ c.in_ok-rest.ensures.value) (behind_is last)
     (sym (ends_is last) ∙ sym c.is_some.ensures ∙ c.if-is_some.false)
@@ -102,6 +105,6 @@ returns-clause-place c =
     let at = (goal.at.returns-clause-place c).After-scan_eol in
     let last = (goal.at.returns-clause-place c).After-is_some in
     let place = rw c.in-Some-2.is at c.in_ok-rest.ensures.place in
-    subst (λ k. IsCharBoundary c.args.source.text.now (c.args.start + c.scan_whitespace_no_nl.result + c.in-Some.line_end + k +
+    subst (λ k. IsCharBoundary c.args.source.now.text.now (c.args.start + c.scan_whitespace_no_nl.result + c.in-Some.line_end + k +
     c.scan_whitespace_no_nl-2.result)) (sym c.bytes_scanned.ensures)
-    (place_white c.args.source.text.now _ c.scan_whitespace_no_nl-2.result c.in-Some-2.rest (is_text at) place (behind_is last))
+    (place_white c.args.source.now.text.now _ c.scan_whitespace_no_nl-2.result c.in-Some-2.rest (is_text at) place (behind_is last))

@@ -9,28 +9,29 @@ use Rattle.first_pass_definitions.proofs.target.scan_refdef.Goals as goal
 pub returns-in_default-clause-value : goal.returns-in_default-clause-value
 returns-in_default-clause-value c =
     let e =
-    no_space (context_of c.args.source.options c.args.tree.now) c.args.source.text.now c.args.start (sym c.in_default.is ∙ c.in_ok-dest_start.ensures.value) in
+    no_space (context_of c.args.source.now.options c.args.tree.now) c.args.source.now.text.now c.args.start
+    (sym c.in_default.is ∙ c.in_ok-dest_start.ensures.value) in
     rw e refl
 
 pub returns-in_default-scan_link_dest-clause-value : goal.returns-in_default-scan_link_dest-clause-value
 returns-in_default-scan_link_dest-clause-value c =
-    let e = no_dest (context_of c.args.source.options c.args.tree.now) c.args.source.text.now c.args.start c.in-Some.dest_start c.in-Some.field-0-1
+    let e = no_dest (context_of c.args.source.now.options c.args.tree.now) c.args.source.now.text.now c.args.start c.in-Some.dest_start c.in-Some.field-0-1
     (sym c.in-Some.is ∙ c.in_ok-dest_start.ensures.value) c.in_default-scan_link_dest.ensures.value in
     rw e refl
 
 pub returns-in_default-2-clause-value : goal.returns-in_default-2-clause-value
 returns-in_default-2-clause-value c =
-    let e = no_further (context_of c.args.source.options c.args.tree.now) c.args.source.text.now c.args.start c.in-Some.dest_start c.in-Some.field-0-1
+    let e = no_further (context_of c.args.source.now.options c.args.tree.now) c.args.source.now.text.now c.args.start c.in-Some.dest_start c.in-Some.field-0-1
     c.in-Some-scan_link_dest.dest_len c.in-Some-scan_link_dest.dest
     (sym c.in-Some.is ∙ c.in_ok-dest_start.ensures.value) c.in-Some-scan_link_dest.ensures.value (rw c.in_default-2.is at c.in_ok-end.ensures.value) in
     rw e refl
 
 pub returns-clause-value : goal.returns-clause-value
 returns-clause-value c =
-    let t = target_found (context_of c.args.source.options c.args.tree.now) c.args.source.text.now c.args.start c.in-Some.dest_start c.in-Some.field-0-1
+    let t = target_found (context_of c.args.source.now.options c.args.tree.now) c.args.source.now.text.now c.args.start c.in-Some.dest_start c.in-Some.field-0-1
     c.in-Some-scan_link_dest.dest_len c.in-Some-2.end c.in-Some-scan_link_dest.dest c.in-Some-2.title
     (sym c.in-Some.is ∙ c.in_ok-dest_start.ensures.value) c.in-Some-scan_link_dest.ensures.value (rw c.in-Some-2.is at c.in_ok-end.ensures.value) in
-    is_target (context_of c.args.source.options c.args.tree.now) c.args.source.text.now c.args.start c.in-Some-2.end c.args.span_start
+    is_target (context_of c.args.source.now.options c.args.tree.now) c.args.source.now.text.now c.args.start c.in-Some-2.end c.args.span_start
     c.in-Some-scan_link_dest.dest
     c.in-Some-2.title _ _ t
     (subst (λ nested. IsUnescaped nested c.in-Some-scan_link_dest.dest.now c.in_ok-unescape.field-0) c.is_in_table-in_table.ensures
@@ -42,27 +43,27 @@ returns-clause-value c =
 pub returns-in_err-end-clause-err : goal.returns-in_err-end-clause-err
 returns-in_err-end-clause-err c =
     on_err c.from_residual-in_err-end.result
-    (inr (inl (dest_asks (context_of c.args.source.options c.args.tree.now) c.args.source.text.now c.args.start c.in-Some.dest_start c.in-Some.field-0-1
+    (inr (inl (dest_asks (context_of c.args.source.now.options c.args.tree.now) c.args.source.now.text.now c.args.start c.in-Some.dest_start c.in-Some.field-0-1
     c.in-Some-scan_link_dest.dest_len c.in-Some-scan_link_dest.dest
     (sym c.in-Some.is ∙ c.in_ok-dest_start.ensures.value) c.in-Some-scan_link_dest.ensures.value c.in_err-end.ensures.err)))
 
 pub returns-in_err-unescape-clause-err : goal.returns-in_err-unescape-clause-err
 returns-in_err-unescape-clause-err c =
-    let around = context_of c.args.source.options c.args.tree.now in
-    let t = target_found around c.args.source.text.now c.args.start c.in-Some.dest_start c.in-Some.field-0-1
+    let around = context_of c.args.source.now.options c.args.tree.now in
+    let t = target_found around c.args.source.now.text.now c.args.start c.in-Some.dest_start c.in-Some.field-0-1
     c.in-Some-scan_link_dest.dest_len c.in-Some-2.end c.in-Some-scan_link_dest.dest c.in-Some-2.title
     (sym c.in-Some.is ∙ c.in_ok-dest_start.ensures.value) c.in-Some-scan_link_dest.ensures.value (rw c.in-Some-2.is at c.in_ok-end.ensures.value) in
     on_err c.from_residual-in_err-unescape.result
-    (inr (inr (parts_ask around c.args.source.text.now c.args.start c.in-Some-2.end c.in-Some-scan_link_dest.dest c.in-Some-2.title _ _
+    (inr (inr (parts_ask around c.args.source.now.text.now c.args.start c.in-Some-2.end c.in-Some-scan_link_dest.dest c.in-Some-2.title _ _
     c.is_in_table-in_table.ensures t
     (inl (λ z. c.in_err-unescape.ensures.borrowed (subst (λ xs. unescaped c.is_in_table-in_table.result xs ≡ xs) (sym t.dest_is) z))))))
 
 pub returns-in_err-unescape_title-clause-err : goal.returns-in_err-unescape_title-clause-err
 returns-in_err-unescape_title-clause-err c =
-    let around = context_of c.args.source.options c.args.tree.now in
-    let t = target_found around c.args.source.text.now c.args.start c.in-Some.dest_start c.in-Some.field-0-1
+    let around = context_of c.args.source.now.options c.args.tree.now in
+    let t = target_found around c.args.source.now.text.now c.args.start c.in-Some.dest_start c.in-Some.field-0-1
     c.in-Some-scan_link_dest.dest_len c.in-Some-2.end c.in-Some-scan_link_dest.dest c.in-Some-2.title
     (sym c.in-Some.is ∙ c.in_ok-dest_start.ensures.value) c.in-Some-scan_link_dest.ensures.value (rw c.in-Some-2.is at c.in_ok-end.ensures.value) in
     on_err c.from_residual-in_err-unescape_title.result
-    (inr (inr (parts_ask around c.args.source.text.now c.args.start c.in-Some-2.end c.in-Some-scan_link_dest.dest c.in-Some-2.title _ _
+    (inr (inr (parts_ask around c.args.source.now.text.now c.args.start c.in-Some-2.end c.in-Some-scan_link_dest.dest c.in-Some-2.title _ _
     c.is_in_table-in_table.ensures t (inr (c.in_err-unescape_title.ensures.err t.target.title t.title_is)))))

@@ -11,8 +11,8 @@ use Rattle.first_pass_definitions.proofs.target.scan_title_behind.Goals as goal
 
 pub returns-clause-value : goal.returns-clause-value
 returns-clause-value c =
-    let text = c.args.source.text.now in
-    let around = context_of c.args.source.options c.args.tree.now in
+    let text = c.args.source.now.text.now in
+    let around = context_of c.args.source.now.options c.args.tree.now in
     title_read around text c.args.at c.in-Some.start c.in-Some.field-0-1 c.in-Some-2.len c.in-Some-2.title
     (sym c.in-Some.is ∙ c.in_ok-start.ensures.value) c.if-start-at.false
     (subst (λ bs. IsTitleRead (title_at around bs) (read_to c.in-Some-2.len c.in-Some-2.title)) c.range_from.ensures.value
@@ -24,8 +24,8 @@ returns-clause-value c =
 
 pub returns-then-is_none-clause-value : goal.returns-then-is_none-clause-value
 returns-then-is_none-clause-value c =
-    let text = c.args.source.text.now in
-    let around = context_of c.args.source.options c.args.tree.now in
+    let text = c.args.source.now.text.now in
+    let around = context_of c.args.source.now.options c.args.tree.now in
     let e =
     title_crowded around text c.args.at c.in-Some.start c.in-Some.field-0-1 c.in-Some-2.len c.in-Some-2.title (sym c.in-Some.is ∙ c.in_ok-start.ensures.value)
     (subst (λ bs. IsTitleRead (title_at around bs) (read_to c.in-Some-2.len c.in-Some-2.title)) c.range_from.ensures.value

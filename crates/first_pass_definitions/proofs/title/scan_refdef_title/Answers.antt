@@ -9,7 +9,7 @@ use Rattle.first_pass_definitions.proofs.title.scan_refdef_title.Goals.{In-Some}
 
 pub returns-in_default-clause-value : goal.returns-in_default-clause-value
 returns-in_default-clause-value c =
-    let e = title_none (context_of c.args.source.options c.args.tree.now) c.args.text.now
+    let e = title_none (context_of c.args.source.now.options c.args.tree.now) c.args.text.now
     (c.in_default.ensures.value ∙ ap (λ xs. option_and_then title_end (slice_get xs 0))
     c.as_bytes-bytes.ensures.value) in
     rw e refl
@@ -22,21 +22,22 @@ range_from-requires c = λ h. behind_first c.args.text.now c.in-Some.close c.utf
 
 pub scan_title_text-requires-clause-rest : goal.scan_title_text-requires-clause-rest
 scan_title_text-requires-clause-rest c =
-    rest_further c.args.source.text.now c.args.text.now c.range_from.result.now 1 c.requires c.range_from.ensures.value
+    rest_further c.args.source.now.text.now c.args.text.now c.range_from.result.now 1 c.requires c.range_from.ensures.value
     (behind_first c.args.text.now c.in-Some.close c.utf8.text (first_is (goal.at.scan_title_text-requires-clause-rest c).In-Some))
 
 pub returns-in-Some-2-clause-value : goal.returns-in-Some-2-clause-value
 returns-in-Some-2-clause-value c =
-    let e = title_some (context_of c.args.source.options c.args.tree.now) c.args.text.now c.in-Some.close
+    let e = title_some (context_of c.args.source.now.options c.args.tree.now) c.args.text.now c.in-Some.close
     (first_is (goal.at.returns-in-Some-2-clause-value c).In-Some) in
     answer_some _ _ c.in-Some-2.len c.in-Some-2.title (rw c.in-Some-2.is at c.in_ok-len.ensures.value)
     (e ∙ ap (λ xs.
-    option_map (λ (t : ℕ × List ℕ). (t.0 + 1, t.1)) (title_text (title_prefix (context_of c.args.source.options c.args.tree.now)) c.in-Some.close xs))
+    option_map (λ (t : ℕ × List ℕ). (t.0 + 1, t.1)) (title_text (title_prefix (context_of c.args.source.now.options c.args.tree.now)) c.in-Some.close xs))
     (sym c.range_from.ensures.value))
 
 pub returns-in-None-clause-value : goal.returns-in-None-clause-value
 returns-in-None-clause-value c =
     let e =
-    title_some (context_of c.args.source.options c.args.tree.now) c.args.text.now c.in-Some.close (first_is (goal.at.returns-in-None-clause-value c).In-Some) in
+    title_some (context_of c.args.source.now.options c.args.tree.now) c.args.text.now c.in-Some.close
+    (first_is (goal.at.returns-in-None-clause-value c).In-Some) in
     answer_none _ _ (rw c.in-None.is at c.in_ok-len.ensures.value) (e ∙ ap (λ xs. option_map (λ (t : ℕ × List ℕ). (t.0 + 1, t.1))
-    (title_text (title_prefix (context_of c.args.source.options c.args.tree.now)) c.in-Some.close xs)) (sym c.range_from.ensures.value))
+    (title_text (title_prefix (context_of c.args.source.now.options c.args.tree.now)) c.in-Some.close xs)) (sym c.range_from.ensures.value))

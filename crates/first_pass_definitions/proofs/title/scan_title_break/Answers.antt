@@ -15,7 +15,7 @@ line_place c =
 
 pub scan_title_prefix-requires : goal.scan_title_prefix-requires
 scan_title_prefix-requires c =
-    rest_further c.args.source.text.now c.args.bytes.now c.rest_of-2.result.now (c.args.at + c.in-Some.line_end) c.requires.rest c.rest_of-2.ensures.value
+    rest_further c.args.source.now.text.now c.args.bytes.now c.rest_of-2.result.now (c.args.at + c.in-Some.line_end) c.requires.rest c.rest_of-2.ensures.value
     (line_place (goal.at.scan_title_prefix-requires c).After-rest_of-2)
 
 -- what is left there isn't blank

@@ -17,7 +17,7 @@ text_place : (c : After-bytes_scanned)
     → ((all_taken c.in-Some.rest).left ≡ drop (all_taken c.in-Some.rest).taken c.args.bytes.now) × IsCharBoundary c.args.bytes.now
     (all_taken c.in-Some.rest).taken
 text_place c =
-    let text = c.args.source.text.now in
+    let text = c.args.source.now.text.now in
     let s : ℕ = length text - length c.args.bytes.now in
     let place : IsPlaceOf text (place_at s c.in-Some.rest) = rw c.in-Some.is at c.in_ok-rest.ensures.place in
     rest_place text c.args.bytes.now s (all_taken c.in-Some.rest) (omega arith) c.requires.are (all_keep text s c.in-Some.rest c.in_ok-rest.ensures.utf8 place)

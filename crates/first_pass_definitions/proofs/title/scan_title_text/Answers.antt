@@ -11,7 +11,7 @@ use Rattle.first_pass_open.specs.Path.{context_of}
 use Rattle.first_pass_definitions.specs.Reading.{stops_title, goes_on_at}
 use Rattle.std.specs.Option.{option_map_or}
 use Rattle.first_pass_lines.specs.Places.{line_rest}
-use Rattle.first_pass_text.specs.Memory.{line_may_head}
+use Rattle.first_pass_kinds.specs.Memory.{line_may_head}
 use Rattle.first_pass_definitions.proofs.Titles.{behind_nothing, whole_title, stop_place, title_found, no_title, title_further, any_last, closes-low}
 use Rattle.first_pass_definitions.proofs.Asks.{goes_asks, meets_asks, none_or_some, on_err}
 use Rattle.first_pass_definitions.proofs.title.scan_title_text.Goals as goal
@@ -25,7 +25,7 @@ loop-bytes-init c =
       lines = λ l. absurd (omega arith);
       asked = λ l. absurd (omega arith);
       title = rw c.new-written.ensures.bytes
-          (behind_nothing _ ∙ whole_title (title_prefix (context_of c.args.source.options c.args.tree.now)) c.args.close c.args.text.now);
+          (behind_nothing _ ∙ whole_title (title_prefix (context_of c.args.source.now.options c.args.tree.now)) c.args.close c.args.text.now);
     }
 
 -- where the line stops
@@ -52,7 +52,8 @@ pub returns-then-begins-clause-value : goal.returns-then-begins-clause-value
 returns-then-begins-clause-value c =
     let at = (goal.at.returns-then-begins-clause-value c).After-begins in
     let e =
-    title_found (title_prefix (context_of c.args.source.options c.args.tree.now)) c.args.close c.loop-bytes.from (c.loop-bytes.from + c.scan_title_line.result)
+    title_found (title_prefix (context_of c.args.source.now.options c.args.tree.now)) c.args.close c.loop-bytes.from
+    (c.loop-bytes.from + c.scan_title_line.result)
     (string_bytes c.loop-bytes.written) c.args.text.now
     c.requires.close c.loop-bytes.invariant.title (line_stops at) (sym (stop_is at) ∙ c.if-begins.true) in
     rw e (refl, c.in_ok-finish.ensures.value)
@@ -72,10 +73,10 @@ scan_title_break-requires-clause-at c =
 pub returns-in_default-clause-value : goal.returns-in_default-clause-value
 returns-in_default-clause-value c =
     let at = (goal.at.returns-in_default-clause-value c).After-begins in
-    let k = sym c.in_default.is ∙ c.in_ok-next.ensures.value ∙ ap (λ xs. goes_on_at (title_prefix (context_of c.args.source.options c.args.tree.now)) xs
+    let k = sym c.in_default.is ∙ c.in_ok-next.ensures.value ∙ ap (λ xs. goes_on_at (title_prefix (context_of c.args.source.now.options c.args.tree.now)) xs
     (c.loop-bytes.from + c.scan_title_line.result)) c.as_bytes-bytes.ensures.value in
     let e =
-    no_title (title_prefix (context_of c.args.source.options c.args.tree.now)) c.args.close c.loop-bytes.from (c.loop-bytes.from + c.scan_title_line.result)
+    no_title (title_prefix (context_of c.args.source.now.options c.args.tree.now)) c.args.close c.loop-bytes.from (c.loop-bytes.from + c.scan_title_line.result)
     (string_bytes c.loop-bytes.written) c.args.text.now
     c.requires.close c.loop-bytes.invariant.title (line_stops at) (sym (stop_is at) ∙ c.if-begins.false) k in
     rw e refl
@@ -91,7 +92,7 @@ loop-bytes-preserved c =
     let further = place.0 in
     let plain : begins 10 (drop c.in-Some.next text) ≡ false = ap (λ xs. begins 10 (drop c.in-Some.next xs)) (sym c.as_bytes-bytes.ensures.value) ∙
     (rw c.in-Some.is at c.in_ok-next.ensures.texts) in
-    let k = sym c.in-Some.is ∙ c.in_ok-next.ensures.value ∙ ap (λ xs. goes_on_at (title_prefix (context_of c.args.source.options c.args.tree.now)) xs stop)
+    let k = sym c.in-Some.is ∙ c.in_ok-next.ensures.value ∙ ap (λ xs. goes_on_at (title_prefix (context_of c.args.source.now.options c.args.tree.now)) xs stop)
     c.as_bytes-bytes.ensures.value in
     let written : string_bytes c.push.new.self ≡ (string_bytes c.loop-bytes.written ++ part text c.loop-bytes.from stop) ++ 10 ∷ [] =
     c.in_ok-push.ensures.bytes ∙ ap (λ xs. string_bytes c.push_str.new.self ++ xs) (encode_ascii 10 (omega arith))
@@ -101,9 +102,9 @@ loop-bytes-preserved c =
       boundary = place.1;
       nothing = λ h. absurd (omega arith);
       lines = λ l. ap (list_any is_line_end) written ∙ any_last (string_bytes c.loop-bytes.written ++ part text c.loop-bytes.from stop);
-      asked = λ l. goes_asks (context_of c.args.source.options c.args.tree.now) c.args.close c.loop-bytes.from stop c.in-Some.next text
+      asked = λ l. goes_asks (context_of c.args.source.now.options c.args.tree.now) c.args.close c.loop-bytes.from stop c.in-Some.next text
           c.loop-bytes.invariant.asked (line_stops at) (sym k) (none_or_some c.loop-bytes.from);
-      title = title_further (title_prefix (context_of c.args.source.options c.args.tree.now)) c.args.close c.loop-bytes.from stop c.in-Some.next
+      title = title_further (title_prefix (context_of c.args.source.now.options c.args.tree.now)) c.args.close c.loop-bytes.from stop c.in-Some.next
           (string_bytes c.push.new.self)
           (string_bytes c.loop-bytes.written) text
           c.requires.close c.loop-bytes.invariant.title (line_stops at) (omega arith) k plain written;
@@ -113,7 +114,7 @@ loop-bytes-preserved c =
 pub returns-in_err-next-clause-err : goal.returns-in_err-next-clause-err
 returns-in_err-next-clause-err c =
     let at = (goal.at.returns-in_err-next-clause-err c).After-begins in
-    let around = context_of c.args.source.options c.args.tree.now in
+    let around = context_of c.args.source.now.options c.args.tree.now in
     let stop : ℕ = c.loop-bytes.from + c.scan_title_line.result in
     on_err c.from_residual-in_err-next.result
     (meets_asks around c.args.close c.loop-bytes.from stop c.args.text.now c.loop-bytes.invariant.asked (line_stops at)
@@ -124,7 +125,7 @@ returns-in_err-next-clause-err c =
 pub returns-in_err-push_str-clause-err : goal.returns-in_err-push_str-clause-err
 returns-in_err-push_str-clause-err c =
     let at = (goal.at.returns-in_err-push_str-clause-err c).After-begins in
-    let around = context_of c.args.source.options c.args.tree.now in
+    let around = context_of c.args.source.now.options c.args.tree.now in
     let stop : ℕ = c.loop-bytes.from + c.scan_title_line.result in
     let k = sym c.in-Some.is ∙ c.in_ok-next.ensures.value ∙ ap (λ xs. goes_on_at (title_prefix around) xs stop) c.as_bytes-bytes.ensures.value in
     on_err c.from_residual-in_err-push_str.result (goes_asks around c.args.close c.loop-bytes.from stop c.in-Some.next c.args.text.now
@@ -133,7 +134,7 @@ returns-in_err-push_str-clause-err c =
 pub returns-in_err-push-clause-err : goal.returns-in_err-push-clause-err
 returns-in_err-push-clause-err c =
     let at = (goal.at.returns-in_err-push-clause-err c).After-begins in
-    let around = context_of c.args.source.options c.args.tree.now in
+    let around = context_of c.args.source.now.options c.args.tree.now in
     let stop : ℕ = c.loop-bytes.from + c.scan_title_line.result in
     let k = sym c.in-Some.is ∙ c.in_ok-next.ensures.value ∙ ap (λ xs. goes_on_at (title_prefix around) xs stop) c.as_bytes-bytes.ensures.value in
     on_err c.from_residual-in_err-push.result (goes_asks around c.args.close c.loop-bytes.from stop c.in-Some.next c.args.text.now c.loop-bytes.invariant.asked

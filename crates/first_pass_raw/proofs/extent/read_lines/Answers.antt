@@ -5,7 +5,7 @@ use Rattle.first_pass_open.proofs.PathLemmas.{open_are_in}
 use Rattle.first_pass_names.proofs.NameLemmas.{extends_none, extends_both}
 use Rattle.first_pass_raw.specs.RawBlocks.{range_of}
 use Rattle.first_pass_raw.proofs.ExtentLemmas.{lines_start, line_read, behind_path, within_line, extent_from, goes_by, read_end, read_left, read_stops}
-use Rattle.first_pass_raw.proofs.ExtentLemmas.{read_closes, read_last, read_more}
+use Rattle.first_pass_raw.proofs.ExtentLemmas.{read_closes, read_last, read_more, line_as}
 use Rattle.first_pass_raw.proofs.extent.read_lines.Goals as goal
 
 pub loop-ix-init : goal.loop-ix-init
@@ -14,44 +14,51 @@ loop-ix-init g c = record {
   boundary = c.requires.boundary;
   names = extends_none (names_of c.args.allocs.now);
   same_entries = refl;
-  read = lines_start (range_of c.args.kind) c.args.text.now c.args.options (names_of c.args.allocs.now)
-      (extent_from c.args.text.now (path_of c.args.options c.args.tree.now) (g.J.JudgesLines.judges c.args.judge.now) c.args.start) c.args.tree.now;
+  read = lines_start (range_of (g.J.JudgesLines.kinds c.args.judge.now)) c.args.source.now.text.now c.args.source.now.options (names_of c.args.allocs.now)
+      (extent_from c.args.source.now.text.now (path_of c.args.source.now.options c.args.tree.now) (g.J.JudgesLines.judges c.args.judge.now) c.args.start)
+      c.args.tree.now;
 }
 
 pub returns-in_default-clause-lines : goal.returns-in_default-clause-lines
 returns-in_default-clause-lines g c =
-    read_left (range_of c.args.kind) c.args.text.now c.args.options (names_of c.loop-ix.allocs)
+    read_left (range_of (g.J.JudgesLines.kinds c.args.judge.now)) c.args.source.now.text.now c.args.source.now.options (names_of c.loop-ix.allocs)
     (g.J.JudgesLines.judges c.args.judge.now) c.args.start c.loop-ix.ix c.args.tree.now c.loop-ix.tree c.loop-ix.invariant.read _
     (open_are_in c.args.tree.now.nodes c.args.tree.now.spine c.is_forest.ensures.opened)
-    (line_read c.args.text.now c.args.text.now c.loop-ix.ix _ c.utf8.text c.loop-ix.invariant.boundary c.loop-ix-test.true refl refl)
-    c.go_on.result c.in_default.is c.go_on.ensures.value
+    (line_read c.args.source.now.text.now c.args.source.now.text.now c.loop-ix.ix _ c.scan_continued.ensures.utf8 c.loop-ix.invariant.boundary
+    c.loop-ix-test.true refl refl)
+    c.scan_continued.result c.in_default.is c.scan_continued.ensures.value
 
 pub judge-verdict-requires-clause-next : goal.judge-verdict-requires-clause-next
 judge-verdict-requires-clause-next g c =
-    let line = line_read c.args.text.now c.as_bytes.result.now c.loop-ix.ix _ c.utf8.text c.loop-ix.invariant.boundary c.loop-ix-test.true
+    let line = line_read c.args.source.now.text.now c.as_bytes.result.now c.loop-ix.ix _ c.scan_continued.ensures.utf8 c.loop-ix.invariant.boundary
+    c.loop-ix-test.true
     c.as_bytes.ensures.value c.next_line-next.ensures.value in
-    sym (behind_path c.args.text.now (path_of c.args.options c.loop-ix.tree) c.loop-ix.ix _ c.in-Some.line_start c.utf8.text line (sym c.in-Some.ensures.value))
+    sym (behind_path c.args.source.now.text.now (path_of c.args.source.now.options c.loop-ix.tree) c.loop-ix.ix _ c.in-Some.line_start
+    c.scan_continued.ensures.utf8 line (sym c.in-Some.ensures.value))
 
 pub judge-verdict-requires-clause-boundary : goal.judge-verdict-requires-clause-boundary
 judge-verdict-requires-clause-boundary g c =
-    (line_read c.args.text.now c.as_bytes.result.now c.loop-ix.ix _ c.utf8.text c.loop-ix.invariant.boundary c.loop-ix-test.true c.as_bytes.ensures.value
+    (line_read c.args.source.now.text.now c.as_bytes.result.now c.loop-ix.ix _ c.scan_continued.ensures.utf8 c.loop-ix.invariant.boundary
+    c.loop-ix-test.true c.as_bytes.ensures.value
     c.next_line-next.ensures.value).boundary
 
 pub returns-in-Stops-clause-lines : goal.returns-in-Stops-clause-lines
 returns-in-Stops-clause-lines g c =
-    read_stops (range_of c.args.kind) c.args.text.now c.args.options (names_of c.loop-ix.allocs)
+    read_stops (range_of (g.J.JudgesLines.kinds c.args.judge.now)) c.args.source.now.text.now c.args.source.now.options (names_of c.loop-ix.allocs)
     (g.J.JudgesLines.judges c.args.judge.now) c.args.start c.loop-ix.ix c.args.tree.now c.loop-ix.tree c.loop-ix.invariant.read c.next_line-next.result
-    (open_are_in c.args.tree.now.nodes c.args.tree.now.spine c.is_forest.ensures.opened) (line_read c.args.text.now c.as_bytes.result.now c.loop-ix.ix _
-    c.utf8.text c.loop-ix.invariant.boundary c.loop-ix-test.true c.as_bytes.ensures.value c.next_line-next.ensures.value)
+    (open_are_in c.args.tree.now.nodes c.args.tree.now.spine c.is_forest.ensures.opened)
+    (line_read c.args.source.now.text.now c.as_bytes.result.now c.loop-ix.ix _
+    c.scan_continued.ensures.utf8 c.loop-ix.invariant.boundary c.loop-ix-test.true c.as_bytes.ensures.value c.next_line-next.ensures.value)
     c.in-Some.line_start c.judge-verdict.new.line_start c.in-Some.ensures.value c.judge-verdict.result c.judge-verdict.ensures.verdict c.in-Stops.end
     c.in-Stops.is
 
 pub returns-in-Closes : goal.returns-in-Closes
 returns-in-Closes g c =
-    let line = line_read c.args.text.now c.as_bytes.result.now c.loop-ix.ix _ c.utf8.text c.loop-ix.invariant.boundary c.loop-ix-test.true
+    let line = line_read c.args.source.now.text.now c.as_bytes.result.now c.loop-ix.ix _ c.scan_continued.ensures.utf8 c.loop-ix.invariant.boundary
+    c.loop-ix-test.true
     c.as_bytes.ensures.value c.next_line-next.ensures.value in
     record {
-      lines = read_closes (range_of c.args.kind) c.args.text.now c.args.options (names_of c.loop-ix.allocs)
+      lines = read_closes (range_of (g.J.JudgesLines.kinds c.args.judge.now)) c.args.source.now.text.now c.args.source.now.options (names_of c.loop-ix.allocs)
           (g.J.JudgesLines.judges c.args.judge.now) c.args.start c.loop-ix.ix c.args.tree.now c.loop-ix.tree c.loop-ix.invariant.read c.next_line-next.result
           (open_are_in c.args.tree.now.nodes c.args.tree.now.spine c.is_forest.ensures.opened) line
           c.in-Some.line_start c.judge-verdict.new.line_start c.in-Some.ensures.value c.judge-verdict.result c.judge-verdict.ensures.verdict c.in-Closes.end
@@ -66,15 +73,18 @@ append_raw_line-requires-clause-order g c =
 
 pub returns-in-IsLast : goal.returns-in-IsLast
 returns-in-IsLast g c =
-    let line = line_read c.args.text.now c.as_bytes.result.now c.loop-ix.ix _ c.utf8.text c.loop-ix.invariant.boundary c.loop-ix-test.true
+    let line = line_read c.args.source.now.text.now c.as_bytes.result.now c.loop-ix.ix _ c.scan_continued.ensures.utf8 c.loop-ix.invariant.boundary
+    c.loop-ix-test.true
     c.as_bytes.ensures.value c.next_line-next.ensures.value in
     record {
-      lines = read_last (range_of c.args.kind) c.args.text.now c.args.options (names_of c.loop-ix.allocs)
+      lines = read_last (range_of (g.J.JudgesLines.kinds c.args.judge.now)) c.args.source.now.text.now c.args.source.now.options (names_of c.loop-ix.allocs)
           (g.J.JudgesLines.judges c.args.judge.now) c.args.start c.loop-ix.ix c.args.tree.now c.loop-ix.tree c.loop-ix.invariant.read c.next_line-next.result
           (open_are_in c.args.tree.now.nodes c.args.tree.now.spine c.is_forest.ensures.opened) line
           c.in-Some.line_start c.judge-verdict.new.line_start c.in-Some.ensures.value c.judge-verdict.result c.judge-verdict.ensures.verdict
           (names_of c.append_raw_line.new.allocs) _ _ c.append_raw_line.new.tree c.requires.apart c.in_ok-append_raw_line.ensures.more.names
-          c.in_ok-append_raw_line.ensures.line c.remaining_space-owed.ensures.value
+          (line_as c.args.source.now.text.now (names_of c.append_raw_line.new.allocs) c.kind-kind.result
+          (g.J.JudgesLines.kinds c.args.judge.now) _ _ _ c.loop-ix.tree c.append_raw_line.new.tree c.kind-kind.ensures c.in_ok-append_raw_line.ensures.line)
+          c.remaining_space.ensures.value
           (ap (λ n. c.loop-ix.ix + n) c.bytes_scanned.ensures) c.judge-verdict.ensures.next c.in-IsLast.is;
       boundary = (omega (arith, c.loop-ix.invariant.later, line.later), line.boundary);
       more = record {
@@ -85,25 +95,28 @@ returns-in-IsLast g c =
 
 pub loop-ix-preserved : goal.loop-ix-preserved
 loop-ix-preserved g c =
-    let line = line_read c.args.text.now c.as_bytes.result.now c.loop-ix.ix _ c.utf8.text c.loop-ix.invariant.boundary c.loop-ix-test.true
+    let line = line_read c.args.source.now.text.now c.as_bytes.result.now c.loop-ix.ix _ c.scan_continued.ensures.utf8 c.loop-ix.invariant.boundary
+    c.loop-ix-test.true
     c.as_bytes.ensures.value c.next_line-next.ensures.value in
     record {
       later = omega (arith, c.loop-ix.invariant.later, line.later);
       boundary = line.boundary;
       names = extends_both _ _ _ c.in_ok-append_raw_line.ensures.more.names c.loop-ix.invariant.names;
       same_entries = c.in_ok-append_raw_line.ensures.more.entries ∙ c.loop-ix.invariant.same_entries;
-      read = read_more (range_of c.args.kind) c.args.text.now c.args.options (names_of c.loop-ix.allocs)
+      read = read_more (range_of (g.J.JudgesLines.kinds c.args.judge.now)) c.args.source.now.text.now c.args.source.now.options (names_of c.loop-ix.allocs)
           (g.J.JudgesLines.judges c.args.judge.now) c.args.start c.loop-ix.ix c.args.tree.now c.loop-ix.tree c.loop-ix.invariant.read c.next_line-next.result
           (open_are_in c.args.tree.now.nodes c.args.tree.now.spine c.is_forest.ensures.opened) line
           c.in-Some.line_start c.judge-verdict.new.line_start c.in-Some.ensures.value c.judge-verdict.result c.judge-verdict.ensures.verdict
           (names_of c.append_raw_line.new.allocs) _ _ c.append_raw_line.new.tree c.requires.apart c.in_ok-append_raw_line.ensures.more.names
-          c.in_ok-append_raw_line.ensures.line c.remaining_space-owed.ensures.value
+          (line_as c.args.source.now.text.now (names_of c.append_raw_line.new.allocs) c.kind-kind.result
+          (g.J.JudgesLines.kinds c.args.judge.now) _ _ _ c.loop-ix.tree c.append_raw_line.new.tree c.kind-kind.ensures c.in_ok-append_raw_line.ensures.line)
+          c.remaining_space.ensures.value
           (ap (λ n. c.loop-ix.ix + n) c.bytes_scanned.ensures) c.judge-verdict.ensures.next
           (goes_by c.judge-verdict.result c.in_default-verdict.not-Stops c.in_default-verdict-2.not-Closes c.in_default-verdict-3.not-IsLast);
     }
 
 pub returns-clause-lines : goal.returns-clause-lines
 returns-clause-lines g c =
-    read_end (range_of c.args.kind) c.args.text.now c.args.options (names_of c.loop-ix.allocs)
+    read_end (range_of (g.J.JudgesLines.kinds c.args.judge.now)) c.args.source.now.text.now c.args.source.now.options (names_of c.loop-ix.allocs)
     (g.J.JudgesLines.judges c.args.judge.now) c.args.start c.loop-ix.ix c.args.tree.now c.loop-ix.tree c.loop-ix.invariant.read
     (omega (arith, c.loop-ix-test.false, c.loop-ix.invariant.boundary.0))

@@ -9,11 +9,12 @@ use Rattle.first_pass_raw.proofs.extent.read_lines.Given as goal
 abbrev pub invariant-loop-ix : goal.invariant-loop-ix
 invariant-loop-ix g l = record {
   later : l.start ≤ l.ix;
-  boundary : IsCharBoundary l.text l.ix;
+  boundary : IsCharBoundary l.source.text.now l.ix;
   names : Extends (names_of l.allocs) (names_of l.initial.allocs);
   same_entries : entries l.allocs ≡ entries l.initial.allocs;
-  read : ReadSoFar (range_of l.kind) l.text l.options (names_of l.allocs) (g.J.JudgesLines.judges l.judge) l.start l.ix l.initial.tree l.tree;
+  read : ReadSoFar (range_of (g.J.JudgesLines.kinds l.judge)) l.source.text.now l.source.options (names_of l.allocs) (g.J.JudgesLines.judges l.judge)
+      l.start l.ix l.initial.tree l.tree;
 }
 
 abbrev pub decreases-loop-ix : goal.decreases-loop-ix
-decreases-loop-ix g l = length l.text - l.ix
+decreases-loop-ix g l = length l.source.text.now - l.ix

@@ -1,4 +1,4 @@
-use Rattle.std.proofs.Common.{◌+◌, drop, length, ap, arith}
+use Rattle.std.proofs.Common.{◌+◌, drop, length, IsUtf8, ap, subst, arith}
 use Rattle.first_pass_items.specs.declared.item.ItemBody.TheVariants.{FencedCodeBlock}
 use Rattle.first_pass_grammar.specs.CodeBlocks.{fence_judge, info_string}
 use Rattle.first_pass_grammar.specs.RawLines.{range_text}
@@ -12,36 +12,41 @@ use Rattle.first_pass_raw.proofs.fenced_code.parse_fenced_code_block.Goals as go
 
 pub overflow_add-start_ix : goal.overflow_add-start_ix
 overflow_add-start_ix c =
-    let b = fence_end c.args.text.now c.args.start_ix c.args.fence.count c.args.fence.byte c.utf8.text c.requires.boundary c.requires.fence in
+    let b = fence_end c.args.source.now.text.now c.args.start_ix c.args.fence.count c.args.fence.byte
+    (subst IsUtf8 c.as_bytes-bytes.ensures.value c.as_bytes-bytes.ensures.utf8) c.requires.boundary c.requires.fence in
     omega (arith, b.0, c.as_bytes-bytes.ensures.len, ap length c.as_bytes-bytes.ensures.value)
 
 pub info_string-requires : goal.info_string-requires
 info_string-requires c = record {
-  boundary = fence_end c.args.text.now c.args.start_ix c.args.fence.count c.args.fence.byte c.utf8.text c.requires.boundary c.requires.fence;
+  boundary = fence_end c.args.source.now.text.now c.args.start_ix c.args.fence.count c.args.fence.byte
+      (subst IsUtf8 c.as_bytes-bytes.ensures.value c.as_bytes-bytes.ensures.utf8) c.requires.boundary c.requires.fence;
 }
 
 pub read_lines-requires-clause-boundary : goal.read_lines-requires-clause-boundary
-read_lines-requires-clause-boundary c = (first_read c.args.text.now c.as_bytes-bytes.result.now c.args.start_ix _ c.utf8.text c.requires.boundary
+read_lines-requires-clause-boundary c = (first_read c.args.source.now.text.now c.as_bytes-bytes.result.now c.args.start_ix _
+    (subst IsUtf8 c.as_bytes-bytes.ensures.value c.as_bytes-bytes.ensures.utf8) c.requires.boundary
     c.as_bytes-bytes.ensures.value c.next_line-first.ensures.value).1
 
 pub close_block-requires : goal.close_block-requires
 close_block-requires c =
-    block_open range_text c.args.text.now c.args.options
-    (names_of c.read_lines.new.allocs) (extent_from c.args.text.now (path_of c.args.options c.open_block.new.tree)
-    (fence_judge c.args.fence.indent c.args.fence.byte c.args.fence.count) c.next_line-first.result) c.args.tree.now c.open_block.new.tree c.read_lines.new.tree
+    block_open range_text c.args.source.now.text.now c.args.source.now.options
+    (names_of c.read_lines.new.allocs) (extent_from c.args.source.now.text.now (path_of c.args.source.now.options c.open_block.new.tree)
+    (fence_judge c.args.fence.indent c.args.fence.byte c.args.fence.count) c.next_line-first.result) c.args.tree.now c.open_block.new.tree
+    c.read_lines.new.tree
     c.args.start_ix (FencedCodeBlock c.in_ok-info_ix.info_ix) c.in_ok-lines.lines.«end» c.in_ok-lines.lines.next c.in_ok-open_block.ensures
     c.in_ok-lines.ensures.lines
 
 pub returns-clause-block : goal.returns-clause-block
 returns-clause-block c =
-    fenced_added c.args.text.now c.args.options (names_of c.allocate_cow.new.self)
+    fenced_added c.args.source.now.text.now c.args.source.now.options (names_of c.allocate_cow.new.self)
     (names_of c.read_lines.new.allocs) c.args.tree.now c.open_block.new.tree c.read_lines.new.tree c.close_block.new.tree
     c.args.start_ix c.args.fence.indent c.args.fence.byte c.args.fence.count c.next_line-first.result c.in_ok-lines.lines.«end» c.in_ok-lines.lines.next
     c.in_ok-info_ix.info_ix
     (open_are_in c.args.tree.now.nodes c.args.tree.now.spine c.is_forest.ensures.opened) c.in_ok-open_block.ensures
-    (first_read c.args.text.now c.as_bytes-bytes.result.now c.args.start_ix _ c.utf8.text c.requires.boundary c.as_bytes-bytes.ensures.value
+    (first_read c.args.source.now.text.now c.as_bytes-bytes.result.now c.args.start_ix _
+    (subst IsUtf8 c.as_bytes-bytes.ensures.value c.as_bytes-bytes.ensures.utf8) c.requires.boundary c.as_bytes-bytes.ensures.value
     c.next_line-first.ensures.value).0
     (λ more e. info_named (names_of c.args.allocs.now) (names_of c.allocate_cow.new.self) more c.in_ok-info_ix.info_ix c.in_ok-info.info
-    c.info_string.result.now (info_string (drop (c.args.start_ix + c.args.fence.count) c.args.text.now))
+    c.info_string.result.now (info_string (drop (c.args.start_ix + c.args.fence.count) c.args.source.now.text.now))
     c.in_ok-info_ix.ensures.index c.in_ok-info_ix.ensures.names c.info_string.ensures c.in_ok-info.ensures.value c.in_ok-info.ensures.borrowed e)
     c.in_ok-lines.ensures.more.names c.in_ok-lines.ensures.lines c.close_block.ensures

@@ -5,16 +5,19 @@ use Rattle.first_pass_raw.proofs.HtmlLemmas.{held_is, first_end, one_open, more_
 use Rattle.first_pass_raw.proofs.html_block.parse_html_block_type_1_to_5.Goals as goal
 
 pub close_block-requires : goal.close_block-requires
-close_block-requires c = one_open c.args.text.now c.args.options _ c.args.start_ix c.args.columns c.in_ok-end.«end» c.args.tree.now c.open_html_block.new.tree
+close_block-requires c = one_open c.args.source.now.text.now c.args.source.now.options _ c.args.start.at c.args.start.columns c.in_ok-end.«end»
+    c.args.tree.now c.open_html_block.new.tree
     c.in_ok-end.ensures.line c.in_ok-end.ensures.next.0
 
 pub returns-then-contains-clause-block : goal.returns-then-contains-clause-block
 returns-then-contains-clause-block c = λ p i.
-    let ends = first_end c.args.text.now c.args.options _ c.args.start_ix c.args.columns c.in_ok-end.«end» c.args.tree.now c.open_html_block.new.tree
+    let ends = first_end c.args.source.now.text.now c.args.source.now.options _ c.args.start.at c.args.start.columns c.in_ok-end.«end» c.args.tree.now
+    c.open_html_block.new.tree
     c.in_ok-end.ensures.line c.in_ok-end.ensures.next.0 p i in
-    let held = held_is c.args.text.now c.args.html_end_tag.now p c.args.start_ix c.in_ok-end.«end» c.contains.result _ i ends c.range.ensures.value
+    let held = held_is c.args.source.now.text.now c.args.html_end_tag.now p c.args.start.at c.in_ok-end.«end» c.contains.result _ i ends c.range.ensures.value
     c.contains.ensures.cases ∙ c.if-contains.true in
-    html_one c.args.text.now c.args.options _ c.args.start_ix c.args.columns c.in_ok-end.«end» c.args.tree.now c.open_html_block.new.tree
+    html_one c.args.source.now.text.now c.args.source.now.options _ c.args.start.at c.args.start.columns c.in_ok-end.«end» c.args.tree.now
+    c.open_html_block.new.tree
     c.in_ok-end.ensures.line c.in_ok-end.ensures.next.0 p i
     c.args.html_end_tag.now c.close_block.new.tree held c.close_block.ensures
 
@@ -23,20 +26,24 @@ returns-then-contains-clause-boundary c = (omega (arith, c.in_ok-end.ensures.nex
 
 pub close_block-requires-2 : goal.close_block-requires-2
 close_block-requires-2 c =
-    more_open c.args.text.now c.args.options _ c.args.start_ix c.args.columns c.in_ok-end.«end» c.args.tree.now c.open_html_block.new.tree
+    more_open c.args.source.now.text.now c.args.source.now.options _ c.args.start.at c.args.start.columns c.in_ok-end.«end» c.args.tree.now
+    c.open_html_block.new.tree
     c.in_ok-end.ensures.line c.in_ok-end.ensures.next.0
     _ _ c.read_lines.new.tree c.in_ok-lines.lines.«end» c.in_ok-lines.lines.next c.in_ok-lines.ensures.more.names c.in_ok-lines.ensures.lines
 
 pub returns-clause-block : goal.returns-clause-block
 returns-clause-block c = λ p i.
-    let ends = first_end c.args.text.now c.args.options _ c.args.start_ix c.args.columns c.in_ok-end.«end» c.args.tree.now c.open_html_block.new.tree
+    let ends = first_end c.args.source.now.text.now c.args.source.now.options _ c.args.start.at c.args.start.columns c.in_ok-end.«end» c.args.tree.now
+    c.open_html_block.new.tree
     c.in_ok-end.ensures.line c.in_ok-end.ensures.next.0 p i in
-    let held = held_is c.args.text.now c.args.html_end_tag.now p c.args.start_ix c.in_ok-end.«end» c.contains.result _ i ends c.range.ensures.value
+    let held = held_is c.args.source.now.text.now c.args.html_end_tag.now p c.args.start.at c.in_ok-end.«end» c.contains.result _ i ends c.range.ensures.value
     c.contains.ensures.cases ∙ c.if-contains.false in
-    html_more c.args.text.now c.args.options _ c.args.start_ix c.args.columns c.in_ok-end.«end» c.args.tree.now c.open_html_block.new.tree
+    html_more c.args.source.now.text.now c.args.source.now.options _ c.args.start.at c.args.start.columns c.in_ok-end.«end» c.args.tree.now
+    c.open_html_block.new.tree
     c.in_ok-end.ensures.line c.in_ok-end.ensures.next.0 p i
     _ (tag_judge c.args.html_end_tag.now) c.read_lines.new.tree _ c.in_ok-lines.lines.«end» c.in_ok-lines.lines.next
-    (c.in_ok-end.ensures.path c.args.options) c.in_ok-lines.ensures.lines
-    (tag_extent c.args.text.now c.args.options _ c.args.start_ix c.args.columns c.in_ok-end.«end» c.args.tree.now c.open_html_block.new.tree
-    c.in_ok-end.ensures.line c.in_ok-end.ensures.next.0 p i (path_of c.args.options c.args.tree.now) c.args.html_end_tag.now held)
+    (c.in_ok-end.ensures.path c.args.source.now.options) c.in_ok-lines.ensures.lines
+    (tag_extent c.args.source.now.text.now c.args.source.now.options _ c.args.start.at c.args.start.columns c.in_ok-end.«end» c.args.tree.now
+    c.open_html_block.new.tree
+    c.in_ok-end.ensures.line c.in_ok-end.ensures.next.0 p i (path_of c.args.source.now.options c.args.tree.now) c.args.html_end_tag.now held)
     c.close_block-2.new.tree c.in_ok-lines.ensures.more.names c.close_block-2.ensures

@@ -19,14 +19,16 @@ lines-init c =
     let e = c.in_ok-next.ensures.«end» in
     let opened : Forest Item = opened_block c.args.tree.now c.args.start_ix IndentCodeBlock in
     let line = subst (λ (f : Forest Item).
-    AppendsRaw range_text c.args.text.now (names_of c.append_line.new.allocs) c.args.remaining_space c.args.start_ix c.in_ok-next.next f c.append_line.new.tree)
+    AppendsRaw range_text c.args.source.now.text.now (names_of c.append_line.new.allocs) c.args.remaining_space c.args.start_ix c.in_ok-next.next f
+    c.append_line.new.tree)
     c.in_ok-open_block.ensures c.in_ok-next.ensures.line in
     record {
-      boundary = first_boundary c.args.text.now c.args.start_ix c.in_ok-next.next c.utf8.text c.requires.boundary c.requires.code e;
+      boundary = first_boundary c.args.source.now.text.now c.args.start_ix c.in_ok-next.next c.append_line.ensures.utf8 c.requires.boundary c.requires.code e;
       from = omega arith;
       named = c.in_ok-next.ensures.more.names;
       same_entries = c.in_ok-next.ensures.more.entries;
-      read = λ p at o. so_far_first c.args.text.now c.args.options (names_of c.append_line.new.allocs) p opened c.append_line.new.tree c.args.start_ix
+      read = λ p at o. so_far_first c.args.source.now.text.now c.args.source.now.options (names_of c.append_line.new.allocs) p opened c.append_line.new.tree
+          c.args.start_ix
           c.args.remaining_space c.in_ok-next.next c.cur.result at o c.requires.code
           (joins_none-fresh opened refl) e line c.cur.ensures;
     }
@@ -34,12 +36,13 @@ lines-init c =
 pub lines-preserved : goal.lines-preserved
 lines-preserved c =
     let i = c.lines.invariant in
-    let text = c.args.text.now in
+    let text = c.args.source.now.text.now in
     let opened : Forest Item = opened_block c.args.tree.now c.args.start_ix IndentCodeBlock in
     let forest = subst (IsForest {T = Item}) c.in_ok-open_block.ensures c.is_forest-2.ensures in
     let first = i.read (first_at text c.args.start_ix c.args.remaining_space) (first_is text c.args.start_ix c.args.remaining_space) refl in
     let goes = sym (next_rest _ _ _ _ _ _ _ _ _ c.indented_line.result first forest c.indented_line.ensures.value) ∙ c.in-Some.is in
-    let read = next_read text (path_of c.args.options opened) c.lines.next _ c.in_ok-next-2.next c.in-Some.line_start c.utf8.text i.boundary goes
+    let read = next_read text (path_of c.args.source.now.options opened) c.lines.next _ c.in_ok-next-2.next c.in-Some.line_start c.append_line.ensures.utf8
+    i.boundary goes
     c.in-Some.ensures.place c.bytes_scanned.ensures c.in_ok-next-2.ensures.«end» in
     let later : c.lines.next < c.in_ok-next-2.next = read.1 in
     let from : behind_line_at text c.args.start_ix ≤ c.lines.next = i.from in
@@ -48,9 +51,9 @@ lines-preserved c =
       from = omega arith;
       named = extends_both _ _ _ c.in_ok-next-2.ensures.more.names i.named;
       same_entries = c.in_ok-next-2.ensures.more.entries ∙ i.same_entries;
-      read = λ p at o. so_far_next text c.args.options (names_of c.lines.allocs)
+      read = λ p at o. so_far_next text c.args.source.now.options (names_of c.lines.allocs)
           (names_of c.append_line-in-Some.new.allocs) p opened c.lines.tree c.append_line-in-Some.new.tree c.lines.next c.in_ok-next-2.next _ _ c.lines.kept
-          c.lines.blank c.in-Some.line_start c.utf8.text i.boundary (joins_none-fresh opened refl)
+          c.lines.blank c.in-Some.line_start c.append_line.ensures.utf8 i.boundary (joins_none-fresh opened refl)
           (i.read p at o) goes c.in-Some.ensures.place c.in_ok-next-2.ensures.more.names
           c.remaining_space.ensures.value c.bytes_scanned.ensures c.in_ok-next-2.ensures.line c.in_ok-next-2.ensures.«end» c.is_some-blank.result
           c.kept_line-kept.result
@@ -60,12 +63,13 @@ lines-preserved c =
 pub lines-smaller : goal.lines-smaller
 lines-smaller c =
     let i = c.lines.invariant in
-    let text = c.args.text.now in
+    let text = c.args.source.now.text.now in
     let opened : Forest Item = opened_block c.args.tree.now c.args.start_ix IndentCodeBlock in
     let forest = subst (IsForest {T = Item}) c.in_ok-open_block.ensures c.is_forest-2.ensures in
     let first = i.read (first_at text c.args.start_ix c.args.remaining_space) (first_is text c.args.start_ix c.args.remaining_space) refl in
     let goes = sym (next_rest _ _ _ _ _ _ _ _ _ c.indented_line.result first forest c.indented_line.ensures.value) ∙ c.in-Some.is in
-    let read = next_read text (path_of c.args.options opened) c.lines.next _ c.in_ok-next-2.next c.in-Some.line_start c.utf8.text i.boundary goes
+    let read = next_read text (path_of c.args.source.now.options opened) c.lines.next _ c.in_ok-next-2.next c.in-Some.line_start c.append_line.ensures.utf8
+    i.boundary goes
     c.in-Some.ensures.place c.bytes_scanned.ensures c.in_ok-next-2.ensures.«end» in
     let later : c.lines.next < c.in_ok-next-2.next = read.1 in
     let within : c.in_ok-next-2.next ≤ length text = c.in_ok-next-2.ensures.within in
@@ -73,14 +77,14 @@ lines-smaller c =
 
 pub cut_behind-requires : goal.cut_behind-requires
 cut_behind-requires c =
-    let text = c.args.text.now in
+    let text = c.args.source.now.text.now in
     let opened : Forest Item = opened_block c.args.tree.now c.args.start_ix IndentCodeBlock in
     let first = c.lines.invariant.read (first_at text c.args.start_ix c.args.remaining_space) (first_is text c.args.start_ix c.args.remaining_space) refl in
     kept_child _ _ _ _ _ _ _ _ _ (opened_last opened (just_opened c.args.tree.now opened c.args.start_ix refl)) first
 
 pub close_block-requires : goal.close_block-requires
 close_block-requires c =
-    let text = c.args.text.now in
+    let text = c.args.source.now.text.now in
     let opened : Forest Item = opened_block c.args.tree.now c.args.start_ix IndentCodeBlock in
     let forest = subst (IsForest {T = Item}) c.in_ok-open_block.ensures c.is_forest-2.ensures in
     let first = c.lines.invariant.read (first_at text c.args.start_ix c.args.remaining_space) (first_is text c.args.start_ix c.args.remaining_space) refl in

@@ -11,13 +11,14 @@ use Rattle.first_pass_raw.proofs.indented_code.parse_indented_code_block.Given a
 -- the block is open, and its lines are read up to here
 abbrev pub invariant-lines : goal.invariant-lines
 invariant-lines l = record {
-  boundary : IsCharBoundary l.text l.next;
-  from : behind_line_at l.text l.start_ix ≤ l.next;
+  boundary : IsCharBoundary l.source.text.now l.next;
+  from : behind_line_at l.source.text.now l.start_ix ≤ l.next;
   named : Extends (names_of l.allocs) (names_of l.fn.allocs);
   same_entries : entries l.allocs ≡ entries l.fn.allocs;
-  read : (p : Place) → IsPlaceAt l.text l.start_ix p → p.rest.owed ≡ l.remaining_space
-      → IndentedSoFar l.text l.options (names_of l.allocs) p (opened_block l.fn.tree l.start_ix IndentCodeBlock) l.tree l.next l.kept l.blank;
+  read : (p : Place) → IsPlaceAt l.source.text.now l.start_ix p → p.rest.owed ≡ l.remaining_space
+      → IndentedSoFar l.source.text.now l.source.options (names_of l.allocs) p (opened_block l.fn.tree l.start_ix IndentCodeBlock) l.tree l.next l.kept
+      l.blank;
 }
 
 abbrev pub decreases-lines : goal.decreases-lines
-decreases-lines l = length l.text - l.next
+decreases-lines l = length l.source.text.now - l.next

@@ -16,7 +16,7 @@ close_block-requires c =
     let cell = c.in_ok-end.ensures.cell in
     let filled =
     appended_cell_alone cell (joins_none-fresh c.open_block.new.tree (ap (λ (f : Forest Item). f.current) opened)) ∙ ap (λ v. chained v cell.tokens) opened in
-    still_open g c.append_cell.new.tree (begun_item c.args.start TableCell) cell.tokens (record { 0 = length g.nodes }) refl filled
+    still_open g c.append_cell.new.tree (begun_item c.args.cell.at TableCell) cell.tokens (record { 0 = length g.nodes }) refl filled
 
 pub returns-clause-cell : goal.returns-clause-cell
 returns-clause-cell c =
@@ -28,6 +28,6 @@ returns-clause-cell c =
     record {
       tokens = cell.tokens;
       cell = cell.cell;
-      tree_is = block_closed g c.append_cell.new.tree (begun_item c.args.start TableCell) cell.tokens (record { 0 = length g.nodes }) refl filled
+      tree_is = block_closed g c.append_cell.new.tree (begun_item c.args.cell.at TableCell) cell.tokens (record { 0 = length g.nodes }) refl filled
           c.close_block.new.tree c.in_ok-end.end c.close_block.ensures;
     }

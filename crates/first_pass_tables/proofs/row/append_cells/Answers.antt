@@ -13,7 +13,7 @@ use Rattle.first_pass_tables.proofs.row.append_cells.Goals.{then-excess-gt0, els
 
 pub drop_behind-requires : goal.drop_behind-requires
 drop_behind-requires c =
-    let d = document c.args.source.text.now c.args.source.options (names_of c.append_some_cells-2.new.allocs) in
+    let d = document c.args.source.now.text.now c.args.source.now.options (names_of c.append_some_cells-2.new.allocs) in
     let tree = c.append_some_cells.new.tree in
     let over = c.append_some_cells-2.new.tree in
     let short = c.is_short.ensures in
@@ -26,8 +26,8 @@ drop_behind-requires c =
 
 pub returns-clause-cells : goal.returns-clause-cells
 returns-clause-cells c =
-    let before = document c.args.source.text.now c.args.source.options (names_of c.append_some_cells.new.allocs) in
-    let d = document c.args.source.text.now c.args.source.options (names_of c.append_some_cells-2.new.allocs) in
+    let before = document c.args.source.now.text.now c.args.source.now.options (names_of c.append_some_cells.new.allocs) in
+    let d = document c.args.source.now.text.now c.args.source.now.options (names_of c.append_some_cells-2.new.allocs) in
     let old = c.args.tree.now in
     let tree = c.append_some_cells.new.tree in
     let over = c.append_some_cells-2.new.tree in
@@ -36,7 +36,7 @@ returns-clause-cells c =
     let excess = c.in_ok-excess.excess in
     let short = c.is_short.ensures in
     let far = c.in_ok-kept.ensures.cells.first c.if-kept.false in
-    let start : Spot = spot c.args.start c.args.braces.now in
+    let start : Spot = spot c.args.wanted.start c.args.braces.now in
     let mid : Spot = spot kept.at c.append_some_cells.new.braces in
     let stop : Spot = spot excess.at c.append_some_cells-2.new.braces in
     let all = ended_within d _ mid tree over excess c.append_some_cells-2.new.braces (omega arith) c.in_ok-excess.ensures.cells in
@@ -52,7 +52,7 @@ returns-clause-cells c =
           let same = none_more d mid stop excess.count tree over (omega arith) all in
           (ap (λ (f : Forest Item). f.nodes) w.tree-is ∙ same.0, ap (λ (f : Forest Item). f.spine) w.tree-is ∙ same.1)
     ] in
-    first_kept d (names_of c.append_some_cells.new.allocs) c.args.columns start mid kept.count stop excess.count old tree over new
+    first_kept d (names_of c.append_some_cells.new.allocs) c.args.wanted.most start mid kept.count stop excess.count old tree over new
     c.in_ok-excess.ensures.more.names far.0 far.1 all same
 
 pub returns-clause-more : goal.returns-clause-more

@@ -11,7 +11,7 @@ use Rattle.first_pass_tables.proofs.row.append_some_cells.Goals as goal
 pub loop-count-init : goal.loop-count-init
 loop-count-init c =
     record {
-      read = none_read (document c.args.source.text.now c.args.source.options (names_of c.args.allocs.now)) (spot c.args.start c.args.braces.now)
+      read = none_read (document c.args.source.now.text.now c.args.source.now.options (names_of c.args.allocs.now)) (spot c.args.wanted.start c.args.braces.now)
           c.args.tree.now c.requires.within;
       few = omega arith;
       grown = texts_none (names_of c.args.allocs.now);
@@ -20,7 +20,7 @@ loop-count-init c =
 
 pub returns-in-Some-clause-cells : goal.returns-in-Some-clause-cells
 returns-in-Some-clause-cells c =
-    let text = c.args.source.text.now in
+    let text = c.args.source.now.text.now in
     let bytes = c.as_bytes-bytes.result.now in
     let at = c.loop-count.at in
     let cell = c.cell_start-cell.result in
@@ -33,7 +33,7 @@ returns-in-Some-clause-cells c =
     let eol = c.in-Some.ensures.within in
     record {
       few = c.loop-count.invariant.few;
-      all = λ ended. all_read (document text c.args.source.options (names_of c.loop-count.allocs)) (spot c.args.start c.args.braces.now)
+      all = λ ended. all_read (document text c.args.source.now.options (names_of c.loop-count.allocs)) (spot c.args.wanted.start c.args.braces.now)
           (spot at c.loop-count.braces) c.loop-count.count from c.in-Some.eol c.args.tree.now c.loop-count.tree
           c.loop-count.invariant.read (content_found text bytes c.rest_of.result.now at cell c.scan_whitespace_no_nl.result same
           c.cell_start-cell.ensures.value c.rest_of.ensures.value c.scan_whitespace_no_nl.ensures.value)
@@ -45,13 +45,14 @@ returns-in-Some-clause-cells c =
 
 -- one more cell is appended, and ends further on
 one_read : (c : goal.In_ok-at)
-    → AreAppended (document c.args.source.text.now c.args.source.options (names_of c.append_table_cell.new.allocs)) (spot c.args.start c.args.braces.now)
+    → AreAppended (document c.args.source.now.text.now c.args.source.now.options (names_of c.append_table_cell.new.allocs))
+    (spot c.args.wanted.start c.args.braces.now)
     c.args.tree.now c.append_table_cell.new.tree
     (spot c.in_ok-at.at c.append_table_cell.new.braces)
     (c.loop-count.count + 1)
     × (c.loop-count.at < c.in_ok-at.at)
 one_read c =
-    let text = c.args.source.text.now in
+    let text = c.args.source.now.text.now in
     let bytes = c.as_bytes-bytes.result.now in
     let at = c.loop-count.at in
     let cell = c.cell_start-cell.result in
@@ -59,8 +60,8 @@ one_read c =
     let same = c.as_bytes-bytes.ensures.value in
     let size : length bytes ≡ length text = ap length same in
     let whole = c.rest_of-in-loop-count.ensures.whole in
-    cell_read (document text c.args.source.options (names_of c.append_table_cell.new.allocs)) (names_of c.loop-count.allocs)
-    (spot c.args.start c.args.braces.now) (spot at c.loop-count.braces)
+    cell_read (document text c.args.source.now.options (names_of c.append_table_cell.new.allocs)) (names_of c.loop-count.allocs)
+    (spot c.args.wanted.start c.args.braces.now) (spot at c.loop-count.braces)
     c.loop-count.count cell from (spot c.in_ok-at.at c.append_table_cell.new.braces) c.args.tree.now
     c.loop-count.tree c.append_table_cell.new.tree c.in_ok-at.ensures.more.names c.loop-count.invariant.read
     (c.cell_start-cell.ensures.value ∙ ap (λ (bs : List ℕ). cell_start bs at) same)
@@ -74,7 +75,7 @@ one_read c =
 pub loop-count-smaller : goal.loop-count-smaller
 loop-count-smaller c =
     let read = one_read c in
-    let within : c.in_ok-at.at ≤ length c.args.source.text.now = read.0.within in
+    let within : c.in_ok-at.at ≤ length c.args.source.now.text.now = read.0.within in
     let later : c.loop-count.at < c.in_ok-at.at = read.1 in
     omega arith
 

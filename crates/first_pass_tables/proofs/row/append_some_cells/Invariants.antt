@@ -8,9 +8,9 @@ use Rattle.first_pass_tables.proofs.row.append_some_cells.Given as goal
 -- the cells up to here are appended
 abbrev pub invariant-loop-count : goal.invariant-loop-count
 invariant-loop-count l = record {
-  read : AreAppended (document l.source.text.now l.source.options (names_of l.allocs)) (spot l.start l.initial.braces) l.initial.tree l.tree
+  read : AreAppended (document l.source.text.now l.source.options (names_of l.allocs)) (spot l.wanted.start l.initial.braces) l.initial.tree l.tree
       (spot l.at l.braces) l.count;
-  few : l.count ≤ l.most;
+  few : l.count ≤ l.wanted.most;
   grown : AddsTexts (names_of l.allocs) (names_of l.initial.allocs);
   entries : entries l.allocs ≡ entries l.initial.allocs;
 }

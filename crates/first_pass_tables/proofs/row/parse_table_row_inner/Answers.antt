@@ -15,72 +15,75 @@ use Rattle.first_pass_tables.proofs.row.parse_table_row_inner.Goals as goal
 
 pub append_cells-requires-clause-fresh : goal.append_cells-requires-clause-fresh
 append_cells-requires-clause-fresh c =
-    (row_place c.args.tree.now, row_opened c.args.tree.now c.open_block.new.tree c.args.ix TableRow c.in_ok-open_block.ensures)
+    (row_place c.args.tree.now, row_opened c.args.tree.now c.open_block.new.tree c.args.wanted.start TableRow c.in_ok-open_block.ensures)
 
 pub close_block-requires : goal.close_block-requires
 close_block-requires c =
-    row_is_open (document c.args.source.text.now c.args.source.options (names_of c.append_cells.new.allocs)) c.args.row_cells
-    (spot c.args.ix c.args.braces.now) (spot c.in_ok-end.end c.append_cells.new.braces) c.in_ok-end.count c.saturating_sub-missing.result
+    row_is_open (document c.args.source.now.text.now c.args.source.now.options (names_of c.append_cells.new.allocs)) c.args.wanted.most
+    (spot c.args.wanted.start c.args.table.now.braces) (spot c.in_ok-end.end c.append_cells.new.braces) c.in_ok-end.count c.saturating_sub-missing.result
     TableRow c.args.tree.now c.open_block.new.tree c.append_cells.new.tree c.fill_row.new.tree c.in_ok-open_block.ensures c.in_ok-end.ensures.cells
     c.saturating_sub-missing.ensures c.in_ok-fill_row.ensures
 
 pub drop_behind-requires : goal.drop_behind-requires
 drop_behind-requires c =
-    let d = document c.args.source.text.now c.args.source.options (names_of c.append_cells.new.allocs) in
+    let d = document c.args.source.now.text.now c.args.source.now.options (names_of c.append_cells.new.allocs) in
     let old = c.args.tree.now in
     let back = c.pop.new.self in
-    let more = row_behind d c.args.row_cells (spot c.args.ix c.args.braces.now) TableRow old c.open_block.new.tree c.append_cells.new.tree back
+    let more = row_behind d c.args.wanted.most (spot c.args.wanted.start c.args.table.now.braces) TableRow old c.open_block.new.tree c.append_cells.new.tree
+    back
     (spot c.in_ok-end.end c.append_cells.new.braces, c.in_ok-end.count) c.pop.result
     c.in_ok-open_block.ensures c.in_ok-end.ensures.cells c.pop.ensures in
     subst (λ (o : Option TreeIndex). IfSome o (λ ix. IsChild back ix)) (sym c.cur-before.ensures) (current_is_child old back c.is_forest.ensures more)
 
 pub returns-then-not-is_kept-clause-row : goal.returns-then-not-is_kept-clause-row
 returns-then-not-is_kept-clause-row c =
-    let d = document c.args.source.text.now c.args.source.options (names_of c.append_cells.new.allocs) in
+    let d = document c.args.source.now.text.now c.args.source.now.options (names_of c.append_cells.new.allocs) in
     let old = c.args.tree.now in
     let back = c.pop.new.self in
     let adds = c.in_ok-end.ensures.cells in
-    let most = most_filled - c.args.missing_empty_cells.now in
-    let more = row_behind d c.args.row_cells (spot c.args.ix c.args.braces.now) TableRow old c.open_block.new.tree c.append_cells.new.tree back
+    let most = most_filled - c.args.table.now.missing_empty_cells in
+    let more = row_behind d c.args.wanted.most (spot c.args.wanted.start c.args.table.now.braces) TableRow old c.open_block.new.tree c.append_cells.new.tree
+    back
     (spot c.in_ok-end.end c.append_cells.new.braces, c.in_ok-end.count) c.pop.result
     c.in_ok-open_block.ensures adds c.pop.ensures in
-    let missing_is = c.saturating_sub-missing.ensures ∙ ap (λ (n : ℕ). c.args.row_cells - n) adds.count in
+    let missing_is = c.saturating_sub-missing.ensures ∙ ap (λ (n : ℕ). c.args.wanted.most - n) adds.count in
     let behind : c.is_some.result ≡ is_some old.current = c.is_some.ensures ∙ ap (λ (o : Option TreeIndex). is_some o) c.cur-before.ensures in
-    let test = same_test c.is_some.result c.args.row_cells most c.in_ok-end.count c.saturating_sub-missing.result adds.cells adds.count missing_is in
+    let test = same_test c.is_some.result c.args.wanted.most most c.in_ok-end.count c.saturating_sub-missing.result adds.cells adds.count missing_is in
     record {
       cells = adds.cells;
       row_end = c.in_ok-end.end;
       after = c.append_cells.new.braces;
       are_cells = adds.are_cells;
       adds = (
-        ap (λ (t : Bool). keeps_row t c.args.row_cells most adds.cells) (sym behind) ∙ sym test ∙ sym c.is_kept.ensures.value ∙ c.if-not-is_kept.true,
-        ap (λ (f : Forest Item). open_table f c.args.missing_empty_cells.now c.append_cells.new.braces)
+        ap (λ (t : Bool). keeps_row t c.args.wanted.most most adds.cells) (sym behind) ∙ sym test ∙ sym c.is_kept.ensures.value ∙ c.if-not-is_kept.true,
+        ap (λ (f : Forest Item). open_table f c.args.table.now.missing_empty_cells c.append_cells.new.braces)
             (c.drop_behind.ensures ∙ ap (without_behind back) c.cur-before.ensures ∙ dropped old back c.is_forest.ensures c.requires.open more),
       );
     }
 
 pub returns-clause-row : goal.returns-clause-row
 returns-clause-row c =
-    let d = document c.args.source.text.now c.args.source.options (names_of c.append_cells.new.allocs) in
+    let d = document c.args.source.now.text.now c.args.source.now.options (names_of c.append_cells.new.allocs) in
     let old = c.args.tree.now in
     let adds = c.in_ok-end.ensures.cells in
-    let most = most_filled - c.args.missing_empty_cells.now in
-    let missing_is = c.saturating_sub-missing.ensures ∙ ap (λ (n : ℕ). c.args.row_cells - n) adds.count in
+    let most = most_filled - c.args.table.now.missing_empty_cells in
+    let missing_is = c.saturating_sub-missing.ensures ∙ ap (λ (n : ℕ). c.args.wanted.most - n) adds.count in
     let behind : c.is_some.result ≡ is_some old.current = c.is_some.ensures ∙ ap (λ (o : Option TreeIndex). is_some o) c.cur-before.ensures in
-    let test = same_test c.is_some.result c.args.row_cells most c.in_ok-end.count c.saturating_sub-missing.result adds.cells adds.count missing_is in
-    row_read d c.args.row_cells c.args.ix c.in_ok-end.end (open_table old c.args.missing_empty_cells.now c.args.braces.now)
-    (open_table c.close_block.new.tree (c.args.missing_empty_cells.now + c.saturating_sub-missing.result) c.append_cells.new.braces) adds.cells c.cur.result
+    let test = same_test c.is_some.result c.args.wanted.most most c.in_ok-end.count c.saturating_sub-missing.result adds.cells adds.count missing_is in
+    row_read d c.args.wanted.most c.args.wanted.start c.in_ok-end.end (open_table old c.args.table.now.missing_empty_cells c.args.table.now.braces)
+    (open_table c.close_block.new.tree (c.args.table.now.missing_empty_cells + c.saturating_sub-missing.result) c.append_cells.new.braces) adds.cells
+    c.cur.result
     c.map.result adds.are_cells
-    (ap (λ (t : Bool). keeps_row t c.args.row_cells most adds.cells) (sym behind) ∙ sym test ∙ sym c.is_kept.ensures.value ∙ c.if-not-is_kept.false)
-    (row_closed d c.args.row_cells (spot c.args.ix c.args.braces.now) (spot c.in_ok-end.end c.append_cells.new.braces) c.in_ok-end.count
+    (ap (λ (t : Bool). keeps_row t c.args.wanted.most most adds.cells) (sym behind) ∙ sym test ∙ sym c.is_kept.ensures.value ∙ c.if-not-is_kept.false)
+    (row_closed d c.args.wanted.most (spot c.args.wanted.start c.args.table.now.braces) (spot c.in_ok-end.end c.append_cells.new.braces) c.in_ok-end.count
     c.saturating_sub-missing.result TableRow old
     c.open_block.new.tree c.append_cells.new.tree c.fill_row.new.tree c.in_ok-open_block.ensures adds c.saturating_sub-missing.ensures c.in_ok-fill_row.ensures
     c.close_block.new.tree c.close_block.ensures)
-    (ap (λ (n : ℕ). c.args.missing_empty_cells.now + n) missing_is) c.cur.ensures (search rules)
+    (ap (λ (n : ℕ). c.args.table.now.missing_empty_cells + n) missing_is) c.cur.ensures (search rules)
 
 pub returns-clause-fits : goal.returns-clause-fits
 returns-clause-fits c = λ begins from low.
-    row_between (document c.args.source.text.now c.args.source.options (names_of c.append_cells.new.allocs)) c.args.row_cells c.args.ix
-    (open_table c.args.tree.now c.args.missing_empty_cells.now c.args.braces.now)
-    (open_table c.close_block.new.tree (c.args.missing_empty_cells.now + c.saturating_sub-missing.result) c.append_cells.new.braces) c.map.result
+    row_between (document c.args.source.now.text.now c.args.source.now.options (names_of c.append_cells.new.allocs)) c.args.wanted.most c.args.wanted.start
+    (open_table c.args.tree.now c.args.table.now.missing_empty_cells c.args.table.now.braces)
+    (open_table c.close_block.new.tree (c.args.table.now.missing_empty_cells + c.saturating_sub-missing.result) c.append_cells.new.braces) c.map.result
     c.in_ok-end.ensures.utf8 begins (returns-clause-row c) from low

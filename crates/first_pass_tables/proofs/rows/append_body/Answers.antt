@@ -1,48 +1,43 @@
-use Rattle.std.proofs.Common.{◌+◌, ◌<◌, ◌≤◌, length, refl, subst, ◌∙◌, arith}
-use Rattle.first_pass_tree.specs.Forest.{at_depth}
+use Rattle.std.proofs.Common.{◌<◌, ◌≤◌, length, refl, subst, ◌∙◌, arith}
 use Rattle.first_pass_names.specs.TableEntries.{names_of}
 use Rattle.first_pass_grammar.specs.Leaves.{document}
 use Rattle.first_pass_open.proofs.PathLemmas.{open_are_in}
 use Rattle.first_pass_tables.specs.Appends.{open_table, ReadsRowLine}
 use Rattle.first_pass_tables.specs.RowsRead.{BodySoFar}
 use Rattle.first_pass_names.proofs.NameLemmas.{extends_texts, texts_none, texts_both}
-use Rattle.first_pass_tables.proofs.BodyLemmas.{same_table, body_none, body_more, body_over}
+use Rattle.first_pass_tables.proofs.BodyLemmas.{body_none, body_more, body_over}
 use Rattle.first_pass_tables.proofs.rows.append_body.Goals as goal
-
-pub parse_table_row-requires-clause-table : goal.parse_table_row-requires-clause-table
-parse_table_row-requires-clause-table c =
-    same_table c.args.tree.now c.rows.tree (at_depth (length c.args.tree.now.spine + 1) c.rows.invariant.read.body) c.rows.invariant.read.nodes
-    c.rows.invariant.read.spine
-    (open_are_in c.args.tree.now.nodes c.args.tree.now.spine c.is_forest.ensures.opened) c.requires.table
 
 pub rows-init : goal.rows-init
 rows-init c = record {
-  read = body_none (document c.args.source.text.now c.args.source.options (names_of c.args.allocs.now)) c.args.columns c.args.start
-      (open_table c.args.tree.now c.args.filled c.args.braces.now) c.requires.some c.requires.few c.requires.boundary;
+  read = body_none (document c.args.source.now.text.now c.args.source.now.options (names_of c.args.allocs.now)) c.args.wanted.most c.args.wanted.start
+      (open_table c.args.tree.now c.args.table.now.missing_empty_cells c.args.table.now.braces) c.requires.some c.requires.few c.requires.boundary;
   grown = texts_none (names_of c.args.allocs.now);
   entries = refl;
 }
 
 -- one more row is read, and ends further on
 one_read : (c : goal.In-Some)
-    → BodySoFar (document c.args.source.text.now c.args.source.options (names_of c.parse_table_row.new.allocs)) c.args.columns c.args.start
-    (open_table c.args.tree.now c.args.filled c.args.braces.now) (open_table c.parse_table_row.new.tree c.parse_table_row.new.missing_empty_cells
-    c.parse_table_row.new.braces) c.in-Some.next
+    → BodySoFar (document c.args.source.now.text.now c.args.source.now.options (names_of c.parse_table_row.new.allocs)) c.args.wanted.most c.args.wanted.start
+    (open_table c.args.tree.now c.args.table.now.missing_empty_cells c.args.table.now.braces)
+    (open_table c.parse_table_row.new.tree c.parse_table_row.new.table.missing_empty_cells
+    c.parse_table_row.new.table.braces) c.in-Some.next
     × (c.rows.ix < c.in-Some.next)
 one_read c =
-    let d = document c.args.source.text.now c.args.source.options (names_of c.parse_table_row.new.allocs) in
-    let old = open_table c.args.tree.now c.args.filled c.args.braces.now in
-    let now = open_table c.rows.tree c.rows.missing c.rows.braces in
-    let new = open_table c.parse_table_row.new.tree c.parse_table_row.new.missing_empty_cells c.parse_table_row.new.braces in
+    let d = document c.args.source.now.text.now c.args.source.now.options (names_of c.parse_table_row.new.allocs) in
+    let old = open_table c.args.tree.now c.args.table.now.missing_empty_cells c.args.table.now.braces in
+    let now = open_table c.rows.tree c.rows.table.missing_empty_cells c.rows.table.braces in
+    let new = open_table c.parse_table_row.new.tree c.parse_table_row.new.table.missing_empty_cells c.parse_table_row.new.table.braces in
     let there = open_are_in c.args.tree.now.nodes c.args.tree.now.spine c.is_forest.ensures.opened in
-    body_more d (names_of c.rows.allocs) c.args.columns c.args.start old now new c.rows.ix c.in_ok-next.ensures.utf8 there c.in_ok-next.ensures.more.names
+    body_more d (names_of c.rows.allocs) c.args.wanted.most c.args.wanted.start old now new c.rows.ix c.in_ok-next.ensures.utf8 there
+    c.in_ok-next.ensures.more.names
     c.rows.invariant.read c.in-Some.next c.in-Some.field-0-1
-    (subst (ReadsRowLine d c.args.columns c.rows.ix now new) c.in-Some.is c.in_ok-next.ensures.row)
+    (subst (ReadsRowLine d c.args.wanted.most c.rows.ix now new) c.in-Some.is c.in_ok-next.ensures.row)
 
 pub rows-smaller : goal.rows-smaller
 rows-smaller c =
     let read = one_read c in
-    let within : c.in-Some.next ≤ length c.args.source.text.now = read.0.boundary.0 in
+    let within : c.in-Some.next ≤ length c.args.source.now.text.now = read.0.boundary.0 in
     let later : c.rows.ix < c.in-Some.next = read.1 in
     omega arith
 
@@ -56,13 +51,14 @@ rows-preserved c = record {
 
 pub returns-in-None-clause-body : goal.returns-in-None-clause-body
 returns-in-None-clause-body c =
-    let d = document c.args.source.text.now c.args.source.options (names_of c.parse_table_row.new.allocs) in
-    let old = open_table c.args.tree.now c.args.filled c.args.braces.now in
-    let now = open_table c.rows.tree c.rows.missing c.rows.braces in
-    let new = open_table c.parse_table_row.new.tree c.parse_table_row.new.missing_empty_cells c.parse_table_row.new.braces in
+    let d = document c.args.source.now.text.now c.args.source.now.options (names_of c.parse_table_row.new.allocs) in
+    let old = open_table c.args.tree.now c.args.table.now.missing_empty_cells c.args.table.now.braces in
+    let now = open_table c.rows.tree c.rows.table.missing_empty_cells c.rows.table.braces in
+    let new = open_table c.parse_table_row.new.tree c.parse_table_row.new.table.missing_empty_cells c.parse_table_row.new.table.braces in
     let there = open_are_in c.args.tree.now.nodes c.args.tree.now.spine c.is_forest.ensures.opened in
-    body_over d (names_of c.rows.allocs) c.args.columns c.args.start old now new c.rows.ix c.in_ok-next.ensures.utf8 there c.in_ok-next.ensures.more.names
-    c.rows.invariant.read (subst (ReadsRowLine d c.args.columns c.rows.ix now new) c.in-None.is c.in_ok-next.ensures.row)
+    body_over d (names_of c.rows.allocs) c.args.wanted.most c.args.wanted.start old now new c.rows.ix c.in_ok-next.ensures.utf8 there
+    c.in_ok-next.ensures.more.names
+    c.rows.invariant.read (subst (ReadsRowLine d c.args.wanted.most c.rows.ix now new) c.in-None.is c.in_ok-next.ensures.row)
 
 pub returns-in-None-clause-texts : goal.returns-in-None-clause-texts
 returns-in-None-clause-texts c =

@@ -1,54 +1,45 @@
-use Rattle.std.proofs.Common.{◌+◌, length, ap, subst, ◌∙◌}
-use Rattle.first_pass_items.specs.declared.item.Item.{Item}
-use Rattle.first_pass_items.specs.declared.item.ItemBody.TheVariants.{TableHead}
-use Rattle.first_pass_tree.specs.Forest.{Forest, at_depth}
+use Rattle.std.proofs.Common.{subst, ◌∙◌}
 use Rattle.first_pass_names.specs.TableEntries.{names_of}
 use Rattle.first_pass_tokens.specs.LineTokens.{spot}
 use Rattle.first_pass_grammar.specs.Leaves.{document}
-use Rattle.first_pass_grammar.specs.Tables.{row_block, most_filled}
+use Rattle.first_pass_grammar.specs.Tables.{most_filled}
 use Rattle.first_pass_open.proofs.PathLemmas.{open_are_in}
 use Rattle.first_pass_names.proofs.NameLemmas.{extends_both, texts_both}
 use Rattle.first_pass_tables.specs.Appends.{AddsHead, open_table}
-use Rattle.first_pass_tables.proofs.BodyLemmas.{same_table, left_behind, rows_closed}
+use Rattle.first_pass_tables.proofs.BodyLemmas.{left_behind, rows_closed}
 use Rattle.first_pass_tables.proofs.RowsAdded.{rows_between}
 use Rattle.first_pass_tables.proofs.WholeRows.{added_whole}
 use Rattle.first_pass_tables.proofs.rows.parse_table.Goals as goal
 
-pub append_body-requires-clause-table : goal.append_body-requires-clause-table
-append_body-requires-clause-table c =
-    let h = c.in_ok-missing.ensures.head in
-    same_table c.args.tree.now c.append_head_row.new.tree
-    (at_depth (length c.args.tree.now.spine + 1) (row_block TableHead c.args.table_cols c.args.head_start h.cells h.row_end))
-    (ap (λ (f : Forest Item). f.nodes) h.tree_is) (ap (λ (f : Forest Item). f.spine) h.tree_is)
-    (open_are_in c.args.tree.now.nodes c.args.tree.now.spine c.is_forest.ensures.opened) c.requires.table
-
 pub returns-clause-rows : goal.returns-clause-rows
 returns-clause-rows c =
-    rows_closed (document c.args.source.text.now c.args.source.options (names_of c.append_body.new.allocs)) (names_of c.append_head_row.new.allocs)
-    c.args.table_cols c.args.head_start c.args.body_start c.min-filled.result c.in_ok-next.next
-    c.args.tree.now (open_table c.append_head_row.new.tree c.in_ok-missing.missing c.append_head_row.new.braces) c.append_body.new.tree
+    rows_closed (document c.args.source.now.text.now c.args.source.now.options (names_of c.append_body.new.allocs)) (names_of c.append_head_row.new.allocs)
+    c.args.rows.columns c.args.rows.head_start c.args.rows.body_start c.min.result c.in_ok-next.next
+    c.args.tree.now (open_table c.append_head_row.new.tree c.append_head_row.new.table.missing_empty_cells c.append_head_row.new.table.braces)
+    c.append_body.new.tree
     c.close_block.new.tree c.in_ok-next.ensures.more.names c.requires.open (open_are_in c.args.tree.now.nodes c.args.tree.now.spine c.is_forest.ensures.opened)
-    (subst (λ b. AddsHead (document c.args.source.text.now c.args.source.options (names_of c.append_head_row.new.allocs)) c.args.table_cols
-    (spot c.args.head_start b) c.args.tree.now
-    (open_table c.append_head_row.new.tree c.in_ok-missing.missing c.append_head_row.new.braces)) c.new-braces.ensures c.in_ok-missing.ensures.head)
-    (left_behind c.in_ok-missing.missing most_filled c.min-filled.result c.min-filled.ensures) c.in_ok-next.ensures.body c.close_block.ensures
+    (subst (λ b. AddsHead (document c.args.source.now.text.now c.args.source.now.options (names_of c.append_head_row.new.allocs)) c.args.rows.columns
+    (spot c.args.rows.head_start b) c.args.tree.now
+    (open_table c.append_head_row.new.tree c.append_head_row.new.table.missing_empty_cells c.append_head_row.new.table.braces)) c.new.ensures
+    c.in_ok-append_head_row.ensures.head)
+    (left_behind c.append_head_row.new.table.missing_empty_cells most_filled c.min.result c.min.ensures) c.in_ok-next.ensures.body c.close_block.ensures
 
 pub returns-clause-fits : goal.returns-clause-fits
 returns-clause-fits c = λ from low behind.
-    rows_between (document c.args.source.text.now c.args.source.options (names_of c.append_body.new.allocs)) c.args.table_cols c.args.head_start
-    c.args.body_start c.in_ok-next.next from c.args.tree.now
+    rows_between (document c.args.source.now.text.now c.args.source.now.options (names_of c.append_body.new.allocs)) c.args.rows.columns c.args.rows.head_start
+    c.args.rows.body_start c.in_ok-next.next from c.args.tree.now
     c.close_block.new.tree c.in_ok-next.ensures.utf8 c.requires.head c.requires.body (returns-clause-rows c) low behind
 
 pub returns-clause-whole : goal.returns-clause-whole
 returns-clause-whole c =
-    added_whole (document c.args.source.text.now c.args.source.options (names_of c.append_body.new.allocs)) c.args.table_cols c.args.head_start
-    c.args.body_start c.args.tree.now c.close_block.new.tree
+    added_whole (document c.args.source.now.text.now c.args.source.now.options (names_of c.append_body.new.allocs)) c.args.rows.columns c.args.rows.head_start
+    c.args.rows.body_start c.args.tree.now c.close_block.new.tree
     c.in_ok-next.next (returns-clause-rows c)
 
 pub returns-clause-more : goal.returns-clause-more
 returns-clause-more c =
     let body = c.in_ok-next.ensures.more in
-    let head = c.in_ok-missing.ensures.more in
+    let head = c.in_ok-append_head_row.ensures.more in
     record {
       names = extends_both (names_of c.append_body.new.allocs) (names_of c.append_head_row.new.allocs) (names_of c.args.allocs.now) body.names head.names;
       entries = body.entries ∙ head.entries;
@@ -57,4 +48,4 @@ returns-clause-more c =
 pub returns-clause-texts : goal.returns-clause-texts
 returns-clause-texts c =
     texts_both (names_of c.append_body.new.allocs) (names_of c.append_head_row.new.allocs) (names_of c.args.allocs.now) c.in_ok-next.ensures.texts
-    c.in_ok-missing.ensures.texts
+    c.in_ok-append_head_row.ensures.texts

@@ -7,11 +7,12 @@ use Rattle.first_pass_tables.proofs.rows.parse_table_row.Goals as goal
 
 pub returns-clause-fits : goal.returns-clause-fits
 returns-clause-fits c = λ from low.
-    let text = c.args.source.text.now in
-    let place = row_place text (path_of c.args.source.options c.args.tree.now) c.args.ix c.in-Some.at c.in_ok-at.ensures.utf8 c.requires.boundary
-    (sym c.in_ok-at.ensures.value ∙ c.in-Some.is) in
+    let text = c.args.source.now.text.now in
+    let place = row_place text (path_of c.args.source.now.options c.args.tree.now) c.args.wanted.start c.in-Some.at c.scan_row_text.ensures.utf8
+    c.requires.boundary
+    (sym c.scan_row_text.ensures.value ∙ c.in-Some.is) in
     let behind = place.behind in
-    let begins = subst (λ (o : Option ℕ). IfSome o (λ n. IsCharBoundary text n)) c.in-Some.is c.in_ok-at.ensures.place in
+    let begins = subst (λ (o : Option ℕ). IfSome o (λ n. IsCharBoundary text n)) c.in-Some.is c.scan_row_text.ensures.place in
     c.in_ok-row.ensures.fits begins from (omega arith)
 
 pub returns-in_default-clause-more : goal.returns-in_default-clause-more

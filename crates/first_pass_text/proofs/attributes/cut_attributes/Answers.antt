@@ -15,8 +15,8 @@ use Rattle.first_pass_text.proofs.attributes.cut_attributes.Goals as goal
 
 pub returns-clause-cut : goal.returns-clause-cut
 returns-clause-cut c f chain bare is =
-    let text : List ℕ = c.args.source.text.now in
-    let options = c.args.source.options in
+    let text : List ℕ = c.args.source.now.text.now in
+    let options = c.args.source.now.options in
     let start : ℕ = c.args.start in
     let bs : List ℕ = chain_bytes text start chain in
     let ends : c.min-end.result ≡ min (chain_end start chain) (length text) =

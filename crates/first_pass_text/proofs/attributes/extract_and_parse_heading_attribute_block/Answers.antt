@@ -13,30 +13,30 @@ use Rattle.first_pass_text.proofs.attributes.extract_and_parse_heading_attribute
 pub returns-then-header_end-header_start-clause-attributes :
     goal.returns-then-header_end-header_start-clause-attributes
 returns-then-header_end-header_start-clause-attributes c =
-    let options = c.args.source.options in
-    sym (ap (heading_attributes_of options) (none_between c.args.source.text.now c.args.header_start c.args.header_end c.if-header_end-header_start.true)
+    let options = c.args.source.now.options in
+    sym (ap (heading_attributes_of options) (none_between c.args.source.now.text.now c.args.header_start c.args.header_end c.if-header_end-header_start.true)
     ∙ given_none options [] (empty_braces options))
 
 pub returns-then-not-contains-clause-content : goal.returns-then-not-contains-clause-content
 returns-then-not-contains-clause-content c =
-    let options = c.args.source.options in
-    let bs : List ℕ = slice_range c.args.source.text.now c.args.header_start c.args.header_end in
+    let options = c.args.source.now.options in
+    let bs : List ℕ = slice_range c.args.source.now.text.now c.args.header_start c.args.header_end in
     let none = no_braces options bs (sym (c.contains.ensures tt) ∙ c.if-not-contains.true) in
-    let long = ap length (before_none options bs none) ∙ length_between c.args.source.text.now c.args.header_start c.args.header_end c.requires.to in
+    let long = ap length (before_none options bs none) ∙ length_between c.args.source.now.text.now c.args.header_start c.args.header_end c.requires.to in
     let less = c.if-header_end-header_start.false in
     omega arith
 
 pub returns-then-not-contains-clause-attributes : goal.returns-then-not-contains-clause-attributes
 returns-then-not-contains-clause-attributes c =
-    let options = c.args.source.options in
-    let bs : List ℕ = slice_range c.args.source.text.now c.args.header_start c.args.header_end in
+    let options = c.args.source.now.options in
+    let bs : List ℕ = slice_range c.args.source.now.text.now c.args.header_start c.args.header_end in
     sym (given_none options bs (no_braces options bs (sym (c.contains.ensures tt) ∙ c.if-not-contains.true)))
 
 -- the block was found
 pub range-block-requires-clause-start_boundary : goal.range-block-requires-clause-start_boundary
 range-block-requires-clause-start_boundary c some =
     let e = c.extract_attribute_block_content_from_header_text-length in
-    let text : List ℕ = c.args.source.text.now in
+    let text : List ℕ = c.args.source.now.text.now in
     let bs : List ℕ = slice_range c.as_bytes.result.now c.args.header_start c.args.header_end in
     let is : bs ≡ slice_range text c.args.header_start c.args.header_end =
     ap (λ (xs : List ℕ). slice_range xs c.args.header_start c.args.header_end) c.as_bytes.ensures.value in
@@ -49,37 +49,37 @@ range-block-requires-clause-start_boundary c some =
 
 pub returns-in-None-clause-content : goal.returns-in-None-clause-content
 returns-in-None-clause-content c =
-    let options = c.args.source.options in
+    let options = c.args.source.now.options in
     let e = c.extract_attribute_block_content_from_header_text-length in
     let on : has options heading_attributes ≡ true = sym (c.contains.ensures tt) ∙ c.if-not-contains.false in
-    content_before options c.args.source.text.now c.as_bytes.result.now c.args.header_start c.args.header_end e.result.0 on c.as_bytes.ensures.value
+    content_before options c.args.source.now.text.now c.as_bytes.result.now c.args.header_start c.args.header_end e.result.0 on c.as_bytes.ensures.value
     e.ensures.before
 
 pub returns-in-None-clause-attributes : goal.returns-in-None-clause-attributes
 returns-in-None-clause-attributes c =
-    let options = c.args.source.options in
+    let options = c.args.source.now.options in
     let e = c.extract_attribute_block_content_from_header_text-length in
     let on : has options heading_attributes ≡ true = sym (c.contains.ensures tt) ∙ c.if-not-contains.false in
     let none = subst (λ (o : Option (Range ℕ)).
     option_map (λ (r : Range ℕ). (r.start, r.«end»)) o ≡ inside_block (slice_range c.as_bytes.result.now c.args.header_start c.args.header_end)) c.in-None.is
     e.ensures.inside in
-    sym (given_not options (slice_range c.args.source.text.now c.args.header_start c.args.header_end) on
+    sym (given_not options (slice_range c.args.source.now.text.now c.args.header_start c.args.header_end) on
     (none ∙ ap (λ (xs : List ℕ). inside_block (slice_range xs c.args.header_start c.args.header_end)) c.as_bytes.ensures.value))
 
 pub returns-in_ok-attributes-in-Some-clause-content : goal.returns-in_ok-attributes-in-Some-clause-content
 returns-in_ok-attributes-in-Some-clause-content c =
-    let options = c.args.source.options in
+    let options = c.args.source.now.options in
     let e = c.extract_attribute_block_content_from_header_text-length in
     let on : has options heading_attributes ≡ true = sym (c.contains.ensures tt) ∙ c.if-not-contains.false in
-    content_before options c.args.source.text.now c.as_bytes.result.now c.args.header_start c.args.header_end e.result.0 on c.as_bytes.ensures.value
+    content_before options c.args.source.now.text.now c.as_bytes.result.now c.args.header_start c.args.header_end e.result.0 on c.as_bytes.ensures.value
     e.ensures.before
 
 pub returns-in_ok-attributes-in-Some-clause-attributes : goal.returns-in_ok-attributes-in-Some-clause-attributes
 returns-in_ok-attributes-in-Some-clause-attributes c =
-    let options = c.args.source.options in
+    let options = c.args.source.now.options in
     let e = c.extract_attribute_block_content_from_header_text-length in
     let on : has options heading_attributes ≡ true = sym (c.contains.ensures tt) ∙ c.if-not-contains.false in
-    let text : List ℕ = c.args.source.text.now in
+    let text : List ℕ = c.args.source.now.text.now in
     let found = subst (λ (o : Option (Range ℕ)).
     option_map (λ (r : Range ℕ). (r.start, r.«end»)) o ≡ inside_block (slice_range c.as_bytes.result.now c.args.header_start c.args.header_end)) c.in-Some.is
     e.ensures.inside in

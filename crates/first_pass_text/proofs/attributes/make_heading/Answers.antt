@@ -18,11 +18,12 @@ set_body-requires c =
 
 pub returns-clause-heading : goal.returns-clause-heading
 returns-clause-heading c =
-    let d = document c.args.source.text.now c.args.source.options (names_of c.cut_attributes.new.allocs) in
+    let d = document c.args.source.now.text.now c.args.source.now.options (names_of c.cut_attributes.new.allocs) in
     record {
       index = c.in_ok-index.index;
       cut = c.cut_attributes.new.tree;
-      cuts = subst (λ (o : Option Item). IfSome o (λ x. CutsBlock d x.start c.args.broken c.args.tree.now c.cut_attributes.new.tree c.in_ok-index.index))
+      cuts = subst (λ (o : Option Item). IfSome o (λ x. CutsBlock d x.start c.args.underlined.broken c.args.tree.now c.cut_attributes.new.tree
+          c.in_ok-index.index))
           (sym c.index.ensures) c.in_ok-index.ensures.cut;
       tree_is = c.set_body.ensures;
     }
@@ -31,5 +32,5 @@ pub returns-clause-few : goal.returns-clause-few
 returns-clause-few c =
     let cut : Forest Item = c.cut_attributes.new.tree in
     let same = ap (λ (f : Forest Item). length f.nodes) c.set_body.ensures
-    ∙ length-modify cut.nodes c.args.node_ix.0 (λ (x : Item). record x { body = Heading c.args.level c.in_ok-index.index }) in
+    ∙ length-modify cut.nodes c.args.node_ix.0 (λ (x : Item). record x { body = Heading c.args.underlined.level c.in_ok-index.index }) in
     subst (λ n. n ≤ length c.args.tree.now.nodes) (sym same) c.in_ok-index.ensures.few

@@ -11,22 +11,22 @@ use Rattle.first_pass_text.proofs.HeadingLemmas.{heading_open, heading_empty, he
 use Rattle.first_pass_text.proofs.heading.heading_text.Goals as goal
 
 -- the line is read after no brace contexts
-begun : {texts : List CowStr} {whole : List ℕ} (content : Content) {braces after : MathBraces} {old new : Forest Item} {answer : ℕ × Option Item}
+begun : {texts : List CowStr} (content : Content) {braces after : MathBraces} {old new : Forest Item} {answer : ℕ × Option Item}
     → braces ≡ no_braces
-    → AppendsLine texts (source whole content braces) old new answer after → AppendsLine texts (source whole content no_braces) old new answer after
-begun {texts} {whole} content {braces} {after} {old} {new} {answer} none line =
-    subst (λ (b : MathBraces). AppendsLine texts (source whole content b) old new answer after) none line
+    → AppendsLine texts (source content braces) old new answer after → AppendsLine texts (source content no_braces) old new answer after
+begun {texts} content {braces} {after} {old} {new} {answer} none line =
+    subst (λ (b : MathBraces). AppendsLine texts (source content b) old new answer after) none line
 
 pub drop_children-requires : goal.drop_children-requires
 drop_children-requires c =
-    let s : Source = source c.args.whole.now c.args.content no_braces in
+    let s : Source = source c.args.content no_braces in
     heading_open (names_of c.append_line.new.self).texts s c.args.kept c.args.tree.now c.append_line.new.tree c.append_last_backslash.new.tree
     (c.in_ok-line_break.field-0-0, c.in_ok-line_break.line_break) c.args.node_ix c.requires.opened
     (begun c.args.content c.new-braces.ensures c.in_ok-line_break.ensures.line) c.in_ok-append_last_backslash.ensures
 
 pub returns-then-kept-eq0-clause-line : goal.returns-then-kept-eq0-clause-line
 returns-then-kept-eq0-clause-line c =
-    let s : Source = source c.args.whole.now c.args.content no_braces in
+    let s : Source = source c.args.content no_braces in
     heading_empty (names_of c.append_line.new.self).texts s c.args.kept c.args.tree.now c.append_line.new.tree c.append_last_backslash.new.tree
     (c.in_ok-line_break.field-0-0, c.in_ok-line_break.line_break) c.args.node_ix c.requires.opened
     (begun c.args.content c.new-braces.ensures c.in_ok-line_break.ensures.line) c.in_ok-append_last_backslash.ensures c.drop_children.new.self
@@ -34,7 +34,7 @@ returns-then-kept-eq0-clause-line c =
 
 pub returns-clause-line : goal.returns-clause-line
 returns-clause-line c =
-    let s : Source = source c.args.whole.now c.args.content no_braces in
+    let s : Source = source c.args.content no_braces in
     heading_cut (names_of c.append_line.new.self).texts s c.args.kept c.args.tree.now c.append_line.new.tree c.append_last_backslash.new.tree
     (c.in_ok-line_break.field-0-0, c.in_ok-line_break.line_break) c.args.node_ix c.requires.opened
     (begun c.args.content c.new-braces.ensures c.in_ok-line_break.ensures.line) c.in_ok-append_last_backslash.ensures c.truncate_siblings.new.self

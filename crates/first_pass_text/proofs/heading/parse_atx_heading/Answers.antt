@@ -9,7 +9,7 @@ use Rattle.first_pass_grammar.specs.Headings.{before_attributes, heading_attribu
 use Rattle.first_pass_grammar.specs.Leaves.{document, kept_len, heading_chain, heading_text_at, IsHeading}
 use Rattle.first_pass_names.specs.TableEntries.{names_of}
 use Rattle.first_pass_grammar.proofs.MoreNames.{extends_both}
-use Rattle.first_pass_text.specs.Appends.{line_end_at}
+use Rattle.first_pass_open.specs.Between.{line_end_at}
 use Rattle.first_pass_text.proofs.OrderHeading.{heading_fits}
 use Rattle.first_pass_text.proofs.HeadingLemmas.{heading_read, heading_line_end, line_between}
 use Rattle.first_pass_open.proofs.BlockLemmas.{opened_at, opened_is, just_pushed, still_open, block_closed}
@@ -42,8 +42,8 @@ returns-clause-block c =
     let ix = c.in_ok-heading_ix.heading_ix in
     let at = opened_at g c.append.new.self x ix c.in_ok-append.ensures.ok c.in_ok-heading_ix.ensures.index in
     let opened = opened_is g c.append.new.self c.push.new.self x ix c.in_ok-append.ensures.ok c.in_ok-heading_ix.ensures.ok in
-    let text : List ℕ = c.args.source.text.now in
-    let options = c.args.source.options in
+    let text : List ℕ = c.args.source.now.text.now in
+    let options = c.args.source.now.options in
     let start : ℕ = c.heading_text_start-header_start.result in
     let bytes = c.as_bytes-bytes.ensures.value in
     let ends : c.next_line-end.result ≡ start + line_len (drop start text) = c.next_line-end.ensures.value ∙ ap (λ t. start + line_len (drop start t)) bytes in
@@ -77,7 +77,7 @@ returns-clause-block c =
 pub returns-clause-fits : goal.returns-clause-fits
 returns-clause-fits c from behind starts =
     let u = subst IsUtf8 c.as_bytes-bytes.ensures.value c.as_bytes-bytes.ensures.utf8 in
-    heading_fits c.args.source.text.now c.args.source.options
+    heading_fits c.args.source.now.text.now c.args.source.now.options
     (names_of c.heading_text.new.allocs) c.args.start c.args.atx_level c.args.tree.now c.close_block.new.tree c.next_line-end.result u starts
     c.requires.heading (returns-clause-block c) from behind
 

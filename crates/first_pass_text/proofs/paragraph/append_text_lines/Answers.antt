@@ -12,18 +12,18 @@ use Rattle.first_pass_text.proofs.paragraph.append_text_lines.Goals as goal
 pub lines-init : goal.lines-init
 lines-init c = record {
   read =
-      let d = document c.args.source.text.now c.args.source.options (names_of c.args.allocs.now) in
+      let d = document c.args.source.now.text.now c.args.source.now.options (names_of c.args.allocs.now) in
       subst (λ (b : MathBraces). LinesSoFar d c.args.start c.args.tree.now c.args.tree.now (spot c.args.start b)) (sym c.new-braces.ensures)
       (so_far_start d c.args.start c.args.tree.now c.requires.boundary);
   grown = extends_none (names_of c.args.allocs.now);
   entries = refl;
 }
 
-next_stands : (c : goal.In_ok-next) → IsCharBoundary c.args.source.text.now c.in_ok-next.next
+next_stands : (c : goal.In_ok-next) → IsCharBoundary c.args.source.now.text.now c.in_ok-next.next
 next_stands c =
-    next_boundary (document c.args.source.text.now c.args.source.options no_names) c.lines.ix c.in_ok-next.next c.lines.braces c.in_ok-next.line_break
+    next_boundary (document c.args.source.now.text.now c.args.source.now.options no_names) c.lines.ix c.in_ok-next.next c.lines.braces c.in_ok-next.line_break
     c.in_ok-next.ensures.utf8 c.lines.invariant.read.boundary
-    (same_end c.args.source.text.now c.args.source.text.now c.args.source.options c.args.source.options (spot c.lines.ix c.lines.braces)
+    (same_end c.args.source.now.text.now c.args.source.now.text.now c.args.source.now.options c.args.source.now.options (spot c.lines.ix c.lines.braces)
     (c.in_ok-next.next, c.in_ok-next.line_break) refl refl c.in_ok-next.ensures.ends)
 
 pub scan_next_line-requires : goal.scan_next_line-requires
@@ -31,21 +31,23 @@ scan_next_line-requires c = next_stands c
 
 pub lines-smaller : goal.lines-smaller
 lines-smaller c =
-    let more = so_far_next (names_of c.lines.allocs) (names_of c.append_line.new.self) c.append_line.new.braces c.args.source.text.now c.args.source.text.now
-    c.args.source.text.now c.args.source.options c.args.source.options c.args.start (spot c.lines.ix c.lines.braces) c.in_ok-next.next c.in-More.at
+    let more = so_far_next (names_of c.lines.allocs) (names_of c.append_line.new.self) c.append_line.new.braces c.args.source.now.text.now
+    c.args.source.now.text.now
+    c.args.source.now.text.now c.args.source.now.options c.args.source.now.options c.args.start (spot c.lines.ix c.lines.braces) c.in_ok-next.next c.in-More.at
     c.args.tree.now c.lines.tree c.append_line.new.tree c.append_item.new.tree c.in_ok-next.line_break _ _ refl refl refl refl
     (open_are_in c.args.tree.now.nodes c.args.tree.now.spine c.is_forest.ensures.opened) c.scan_next_line.ensures.utf8 c.lines.invariant.read c.requires.apart
     c.in_ok-next.ensures.names c.in_ok-next.ensures.line c.in_ok-next.ensures.ends c.in_ok-at.ensures.value c.in-More.is c.in_ok-at.ensures.place
     c.in_ok-append_item-in-More.ensures in
-    let within : c.in-More.at ≤ length c.args.source.text.now = more.0.boundary.0 in
+    let within : c.in-More.at ≤ length c.args.source.now.text.now = more.0.boundary.0 in
     let later : c.lines.ix < c.in-More.at = more.1 in
     omega arith
 
 pub lines-preserved : goal.lines-preserved
 lines-preserved c = record {
   read =
-      (so_far_next (names_of c.lines.allocs) (names_of c.append_line.new.self) c.append_line.new.braces c.args.source.text.now c.args.source.text.now
-      c.args.source.text.now c.args.source.options c.args.source.options c.args.start (spot c.lines.ix c.lines.braces) c.in_ok-next.next c.in-More.at
+      (so_far_next (names_of c.lines.allocs) (names_of c.append_line.new.self) c.append_line.new.braces c.args.source.now.text.now c.args.source.now.text.now
+      c.args.source.now.text.now c.args.source.now.options c.args.source.now.options c.args.start (spot c.lines.ix c.lines.braces) c.in_ok-next.next
+      c.in-More.at
       c.args.tree.now c.lines.tree c.append_line.new.tree c.append_item.new.tree c.in_ok-next.line_break _ _ refl refl refl refl
       (open_are_in c.args.tree.now.nodes c.args.tree.now.spine c.is_forest.ensures.opened) c.scan_next_line.ensures.utf8 c.lines.invariant.read c.requires.apart
       c.in_ok-next.ensures.names c.in_ok-next.ensures.line c.in_ok-next.ensures.ends c.in_ok-at.ensures.value c.in-More.is c.in_ok-at.ensures.place
@@ -57,28 +59,28 @@ lines-preserved c = record {
 
 pub returns-in-Underline-clause-lines : goal.returns-in-Underline-clause-lines
 returns-in-Underline-clause-lines c =
-    so_far_stop (names_of c.lines.allocs) (names_of c.append_line.new.self) c.append_line.new.braces c.args.source.text.now
-    c.args.source.text.now c.args.source.text.now c.args.source.options c.args.source.options c.args.start
+    so_far_stop (names_of c.lines.allocs) (names_of c.append_line.new.self) c.append_line.new.braces c.args.source.now.text.now
+    c.args.source.now.text.now c.args.source.now.text.now c.args.source.now.options c.args.source.now.options c.args.start
     (spot c.lines.ix c.lines.braces) c.in_ok-next.next c.args.tree.now c.lines.tree c.append_line.new.tree c.in_ok-next.line_break _ _ refl refl refl refl
     (open_are_in c.args.tree.now.nodes c.args.tree.now.spine c.is_forest.ensures.opened) c.scan_next_line.ensures.utf8 c.lines.invariant.read c.requires.apart
     c.in_ok-next.ensures.names c.in_ok-next.ensures.line c.in_ok-next.ensures.ends (omega (arith, c.is_short.ensures))
     (underlined_by _ _ _ _ _ c.in_ok-at.ensures.value c.in-Underline.is) (subst (λ t. IsCharBoundary t c.in_ok-next.next) refl
-    (next_boundary (document c.args.source.text.now c.args.source.options no_names) c.lines.ix c.in_ok-next.next c.lines.braces c.in_ok-next.line_break
+    (next_boundary (document c.args.source.now.text.now c.args.source.now.options no_names) c.lines.ix c.in_ok-next.next c.lines.braces c.in_ok-next.line_break
     c.in_ok-next.ensures.utf8 c.lines.invariant.read.boundary
-    (same_end c.args.source.text.now c.args.source.text.now c.args.source.options c.args.source.options (spot c.lines.ix c.lines.braces)
+    (same_end c.args.source.now.text.now c.args.source.now.text.now c.args.source.now.options c.args.source.now.options (spot c.lines.ix c.lines.braces)
     (c.in_ok-next.next, c.in_ok-next.line_break) refl refl c.in_ok-next.ensures.ends)))
 
 pub returns-in-Other-clause-lines : goal.returns-in-Other-clause-lines
 returns-in-Other-clause-lines c =
-    so_far_stop (names_of c.lines.allocs) (names_of c.append_line.new.self) c.append_line.new.braces c.args.source.text.now
-    c.args.source.text.now c.args.source.text.now c.args.source.options c.args.source.options c.args.start
+    so_far_stop (names_of c.lines.allocs) (names_of c.append_line.new.self) c.append_line.new.braces c.args.source.now.text.now
+    c.args.source.now.text.now c.args.source.now.text.now c.args.source.now.options c.args.source.now.options c.args.start
     (spot c.lines.ix c.lines.braces) c.in_ok-next.next c.args.tree.now c.lines.tree c.append_line.new.tree c.in_ok-next.line_break _ _ refl refl refl refl
     (open_are_in c.args.tree.now.nodes c.args.tree.now.spine c.is_forest.ensures.opened) c.scan_next_line.ensures.utf8 c.lines.invariant.read c.requires.apart
     c.in_ok-next.ensures.names c.in_ok-next.ensures.line c.in_ok-next.ensures.ends (omega (arith, c.is_short.ensures))
     (stops_by _ _ _ _ c.in_ok-at.ensures.value c.in-Other.is) (subst (λ t. IsCharBoundary t c.in_ok-next.next) refl
-    (next_boundary (document c.args.source.text.now c.args.source.options no_names) c.lines.ix c.in_ok-next.next c.lines.braces c.in_ok-next.line_break
+    (next_boundary (document c.args.source.now.text.now c.args.source.now.options no_names) c.lines.ix c.in_ok-next.next c.lines.braces c.in_ok-next.line_break
     c.in_ok-next.ensures.utf8 c.lines.invariant.read.boundary
-    (same_end c.args.source.text.now c.args.source.text.now c.args.source.options c.args.source.options (spot c.lines.ix c.lines.braces)
+    (same_end c.args.source.now.text.now c.args.source.now.text.now c.args.source.now.options c.args.source.now.options (spot c.lines.ix c.lines.braces)
     (c.in_ok-next.next, c.in_ok-next.line_break) refl refl c.in_ok-next.ensures.ends)))
 
 pub returns-in-Underline-clause-more : goal.returns-in-Underline-clause-more

@@ -9,14 +9,14 @@ use Rattle.first_pass_tokens.proofs.line.append_cell.Goals as goal
 use Rattle.first_pass_tokens.proofs.line.append_cell.Goals.{In_ok-append_text}
 
 appended : (c : In_ok-append_text) → AppendsCell c.append_pieces.new.texts.items
-    (source c.args.whole.now c.args.content c.args.braces.now) c.args.tree.now c.append_text.new.self c.in_ok-end.end c.append_pieces.new.braces
+    (source c.args.content c.args.braces.now) c.args.tree.now c.append_text.new.self c.in_ok-end.end c.append_pieces.new.braces
 unfolding blanks_at_end
 appended c =
     let text = c.text_upto-text.result.now in
     subst (λ (t : List ℕ). AppendsCell c.append_pieces.new.texts.items
-    (content_in c.args.whole.now t c.args.content c.args.braces.now) c.args.tree.now c.append_text.new.self c.in_ok-end.end c.append_pieces.new.braces)
-    c.text_upto-text.ensures
-    (read_cell (content_in c.args.whole.now text c.args.content c.args.braces.now) c.args.tree.now _ _ c.in_ok-end.pending c.in_ok-end.end
+    (content_in t c.args.content c.args.braces.now) c.args.tree.now c.append_text.new.self c.in_ok-end.end c.append_pieces.new.braces)
+    c.text_upto-text.ensures.value
+    (read_cell (content_in text c.args.content c.args.braces.now) c.args.tree.now _ _ c.in_ok-end.pending c.in_ok-end.end
     c.append_pieces.new.braces
     c.in_ok-end.ensures.read
     (c.in_ok-append_text.ensures.ok

@@ -9,14 +9,14 @@ pub returns-clause-line : goal.returns-clause-line
 returns-clause-line c =
     let text = c.text_upto-text.result.now in
     subst (λ (t : List ℕ). IfOk c.end_line.result (λ a. AppendsLine c.append_pieces.new.texts.items
-    (content_in c.args.whole.now t c.args.content c.args.braces.now) c.args.tree.now c.end_line.new.tree a c.append_pieces.new.braces))
-    c.text_upto-text.ensures
-    (read_ended (content_in c.args.whole.now text c.args.content c.args.braces.now) _ _ _ _ c.in_ok-end.end c.append_pieces.new.braces c.end_line.result
+    (content_in t c.args.content c.args.braces.now) c.args.tree.now c.end_line.new.tree a c.append_pieces.new.braces))
+    c.text_upto-text.ensures.value
+    (read_ended (content_in text c.args.content c.args.braces.now) _ _ _ _ c.in_ok-end.end c.append_pieces.new.braces c.end_line.result
     c.requires.no_cell
     c.in_ok-end.ensures.read c.end_line.ensures.tree c.end_line.ensures.answer)
 
 pub returns-clause-ends : goal.returns-clause-ends
 returns-clause-ends c =
     ends_line-if _ c.append_pieces.new.braces
-    (source c.args.whole.now c.args.content c.args.braces.now) c.args.tree.now c.end_line.new.tree c.end_line.result c.requires.within
+    (source c.args.content c.args.braces.now) c.args.tree.now c.end_line.new.tree c.end_line.result c.requires.within
     (returns-clause-line c)

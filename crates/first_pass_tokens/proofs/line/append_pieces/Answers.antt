@@ -11,7 +11,7 @@ use Rattle.first_pass_tokens.proofs.line.append_pieces.Goals as goal
 use Rattle.first_pass_tokens.proofs.line.append_pieces.Goals.{In_default, In-Some}
 
 -- the content is read up to the next special place
-upto_special : (c : In-Some) → IsRead c.loop-at.texts.items (content_in c.args.whole.now c.args.text.now c.args.content c.args.braces.now) c.args.tree.now
+upto_special : (c : In-Some) → IsRead c.loop-at.texts.items (content_in c.args.text.now c.args.content c.args.braces.now) c.args.tree.now
     c.loop-at.tree c.loop-at.pending (spot c.in-Some.at c.loop-at.braces)
 upto_special c =
     let found = c.in-Some.ensures.found in
@@ -19,7 +19,7 @@ upto_special c =
     (λ k low high. sym (c.requires.marks _ (omega (arith, c.type_inv.text k))) ∙ found.least k low high)
 
 -- and up to the text's end, where none is left
-upto_end : (c : In_default) → IsRead c.loop-at.texts.items (content_in c.args.whole.now c.args.text.now c.args.content c.args.braces.now) c.args.tree.now
+upto_end : (c : In_default) → IsRead c.loop-at.texts.items (content_in c.args.text.now c.args.content c.args.braces.now) c.args.tree.now
     c.loop-at.tree c.loop-at.pending (spot (length c.args.text.now) c.loop-at.braces)
 upto_end c =
     read_upto c.loop-at.from _ c.loop-at.braces c.loop-at.invariant.read c.loop-at.invariant.read.read.within (omega arith)
@@ -27,24 +27,24 @@ upto_end c =
 
 pub loop-at-init : goal.loop-at-init
 loop-at-init c = record {
-  read = read_start (content_in c.args.whole.now c.args.text.now c.args.content c.args.braces.now) c.args.tree.now c.requires.within;
+  read = read_start (content_in c.args.text.now c.args.content c.args.braces.now) c.args.tree.now c.requires.within;
   more = more_none c.args.texts.now.items;
 }
 
 pub loop-at-preserved : goal.loop-at-preserved
 loop-at-preserved c =
-    let z : Source = content_in c.args.whole.now c.args.text.now c.args.content c.args.braces.now in
+    let z : Source = content_in c.args.text.now c.args.content c.args.braces.now in
     let at = c.in-Some.at in
     let texts = c.named_piece.new.texts.items in
     let found = c.in-Some.ensures.found in
     let piece = c.in_ok-piece in
     let special = sym (c.requires.marks _ (omega (arith, c.type_inv.text at))) ∙ found.marked in
-    let here = c.special_found-found.ensures.value c.args.content.options c.args.braces.now ∙ found_special z at special in
+    let here = c.special_found-found.ensures.value c.args.braces.now ∙ found_special z at special in
     let is = subst (λ f. Becomes texts c.loop-at.braces f piece.piece) here piece.ensures.becomes in
     let more = piece.ensures.more in
     record {
       read = read_piece piece.piece (read_more more (upto_special (goal.at.loop-at-preserved c).In-Some))
-          (sym (c.ends_at.ensures c.args.whole.now c.args.braces.now) ∙ c.if-ends_at.false)
+          (sym (c.ends_at.ensures c.args.braces.now) ∙ c.if-ends_at.false)
           is (omega (arith, c.special_found-found.ensures.fits, piece.ensures.size))
           (becomes_solid _ _ z.text at _ piece.piece piece.ensures.becomes c.special_found-found.ensures.ends)
           c.in_ok-append_piece.ensures.tree c.in_ok-append_piece.ensures.pending
@@ -55,16 +55,16 @@ loop-at-preserved c =
 
 pub returns-then-ends_at-clause-read : goal.returns-then-ends_at-clause-read
 returns-then-ends_at-clause-read c =
-    read_all (content_in c.args.whole.now c.args.text.now c.args.content c.args.braces.now) _ _ _ (spot c.in-Some.at c.loop-at.braces)
-    (upto_special (goal.at.returns-then-ends_at-clause-read c).In-Some) (sym (c.ends_at.ensures c.args.whole.now c.args.braces.now) ∙ c.if-ends_at.true)
+    read_all (content_in c.args.text.now c.args.content c.args.braces.now) _ _ _ (spot c.in-Some.at c.loop-at.braces)
+    (upto_special (goal.at.returns-then-ends_at-clause-read c).In-Some) (sym (c.ends_at.ensures c.args.braces.now) ∙ c.if-ends_at.true)
 
 pub returns-clause-read : goal.returns-clause-read
 returns-clause-read c =
-    let z : Source = content_in c.args.whole.now c.args.text.now c.args.content c.args.braces.now in
+    let z : Source = content_in c.args.text.now c.args.content c.args.braces.now in
     read_all z _ _ _ (spot (length c.args.text.now) c.loop-at.braces) (upto_end (goal.at.returns-clause-read c).In_default) (ended_by_text z)
 
 pub special_found-found-requires-clause-front : goal.special_found-found-requires-clause-front
-special_found-found-requires-clause-front c = front_upto c.args.whole.now c.args.text.now c.args.content.«end» c.requires.front
+special_found-found-requires-clause-front c = front_upto c.args.content.whole.now c.args.text.now c.args.content.«end» c.requires.front
 
 pub next_special_in_words-requires : goal.next_special_in_words-requires
-next_special_in_words-requires c = spares_words c.args.content.options c.args.lut.now c.requires.marks
+next_special_in_words-requires c = spares_words c.args.content.options c.args.content.special.now c.requires.marks

@@ -9,7 +9,7 @@ use Rattle.first_pass_tokens.proofs.line.append_pieces.Given as goal
 abbrev pub invariant-loop-at : goal.invariant-loop-at
 invariant-loop-at l = record {
   read : IsRead l.texts.items
-      (content_in l.whole l.text l.content l.fn.braces) l.fn.tree l.tree l.pending (spot l.from l.braces);
+      (content_in l.text l.content l.fn.braces) l.fn.tree l.tree l.pending (spot l.from l.braces);
   more : AreMore l.texts.items l.fn.texts.items;
 }
 

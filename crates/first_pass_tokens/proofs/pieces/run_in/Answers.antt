@@ -5,12 +5,14 @@ use Rattle.first_pass_tokens.proofs.pieces.run_in.Goals as goal
 pub range_from-requires : goal.range_from-requires
 range_from-requires c =
     λ some.
-    (run_place c.args.whole.now c.args.text.now (Some (length c.args.text.now)) c.args.at c.run_size-size.result c.utf8.whole c.requires.front c.requires.within
+    (run_place c.args.content.whole.now c.args.text.now (Some (length c.args.text.now)) c.args.at c.run_size-size.result c.requires.utf8 c.requires.front
+    c.requires.within
     c.requires.here c.run_size-size.ensures.value c.run_size-size.ensures.some c.run_size-size.ensures.fits).ends
 
 pub overflow_add-at : goal.overflow_add-at
 overflow_add-at c =
     let place =
-    run_place c.args.whole.now c.args.text.now (Some (length c.args.text.now)) c.args.at c.run_size-size.result c.utf8.whole c.requires.front c.requires.within
+    run_place c.args.content.whole.now c.args.text.now (Some (length c.args.text.now)) c.args.at c.run_size-size.result c.requires.utf8 c.requires.front
+    c.requires.within
     c.requires.here c.run_size-size.ensures.value c.run_size-size.ensures.some c.run_size-size.ensures.fits in
     omega (arith, place.inside)

@@ -8,11 +8,11 @@ use Rattle.first_pass.proofs.state.FirstPass.parse_table_row.Goals as goal
 pub returns-clause-order : goal.returns-clause-order
 returns-clause-order c = λ at low o.
     let self = c.args.self.now in
-    let d = document self.pass.source.text.now self.pass.source.options (names_of c.parse_table_row.new.allocs) in
+    let d = document self.pass.source.text.now self.pass.source.options (names_of c.parse_table_row-row.new.allocs) in
     let old = self.pass.reading.tree in
-    let new = c.parse_table_row.new.tree in
-    let before = open_table old c.args.missing_empty_cells.now self.braces in
-    let after = open_table new c.parse_table_row.new.missing_empty_cells c.parse_table_row.new.braces in
+    let new = c.parse_table_row-row.new.tree in
+    let before = open_table old c.args.missing_empty_cells.now c.replace.result in
+    let after = open_table new c.parse_table_row-row.new.table.missing_empty_cells c.parse_table_row-row.new.table.braces in
     let row = c.in_ok-row.row in
     let e = c.in_ok-row.ensures in
     row_ordered d.text old new at c.args.ix row low c.requires.boundary.0 (line_row_none d c.args.row_cells c.args.ix before after row e.row)
@@ -21,10 +21,10 @@ returns-clause-order c = λ at low o.
 pub returns-clause-few : goal.returns-clause-few
 returns-clause-few c = λ from low apart.
     let self = c.args.self.now in
-    let d = document self.pass.source.text.now self.pass.source.options (names_of c.parse_table_row.new.allocs) in
+    let d = document self.pass.source.text.now self.pass.source.options (names_of c.parse_table_row-row.new.allocs) in
     let old = self.pass.reading.tree in
-    let new = c.parse_table_row.new.tree in
+    let new = c.parse_table_row-row.new.tree in
     let e = c.in_ok-row.ensures in
     row_count d.text old new from c.args.ix c.in_ok-row.row
-    (line_row_none d c.args.row_cells c.args.ix (open_table old c.args.missing_empty_cells.now self.braces)
-    (open_table new c.parse_table_row.new.missing_empty_cells c.parse_table_row.new.braces) c.in_ok-row.row e.row) (e.fits from low) apart
+    (line_row_none d c.args.row_cells c.args.ix (open_table old c.args.missing_empty_cells.now c.replace.result)
+    (open_table new c.parse_table_row-row.new.table.missing_empty_cells c.parse_table_row-row.new.table.braces) c.in_ok-row.row e.row) (e.fits from low) apart

@@ -8,7 +8,7 @@ use Rattle.first_pass_open.proofs.PlaceLemmas.{read_to}
 use Rattle.first_pass_blocks.proofs.EnterLemmas.{blank_columns}
 use Rattle.first_pass_blocks.proofs.OrderSteps.{offset_later}
 use Rattle.first_pass_names.specs.TableEntries.{names_of}
-use Rattle.first_pass_text.specs.declared.kinds.MarkedLeaf.TheVariants.{IndentedCode}
+use Rattle.first_pass_kinds.specs.declared.kinds.MarkedLeaf.TheVariants.{IndentedCode}
 use Rattle.first_pass_blocks.proofs.LeafAdded.{found_says}
 use Rattle.first_pass_blocks.proofs.RawFits.{indented_between}
 use Rattle.first_pass_blocks.proofs.KindBlocks.{code_added}

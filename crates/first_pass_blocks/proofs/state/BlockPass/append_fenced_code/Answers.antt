@@ -1,8 +1,8 @@
 use Rattle.std.proofs.Common.{refl}
 use Rattle.first_pass_lines.specs.Places.{Place}
 use Rattle.first_pass_names.specs.TableEntries.{names_of}
-use Rattle.first_pass_text.specs.declared.kinds.MarkedLeaf.{MarkedLeaf}
-use Rattle.first_pass_text.specs.declared.kinds.MarkedLeaf.TheVariants.{FencedCode}
+use Rattle.first_pass_kinds.specs.declared.kinds.MarkedLeaf.{MarkedLeaf}
+use Rattle.first_pass_kinds.specs.declared.kinds.MarkedLeaf.TheVariants.{FencedCode}
 use Rattle.first_pass_raw.specs.declared.fenced_code.Fence.{Fence}
 use Rattle.first_pass_open.proofs.PlaceLemmas.{all_keep}
 use Rattle.first_pass_blocks.proofs.RawFits.{fenced_between}

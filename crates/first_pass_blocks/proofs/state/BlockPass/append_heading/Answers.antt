@@ -1,8 +1,8 @@
 use Rattle.std.proofs.Common.{refl, ◌∙◌}
 use Rattle.first_pass_lines.specs.Places.{Place}
 use Rattle.first_pass_names.specs.TableEntries.{names_of}
-use Rattle.first_pass_text.specs.declared.kinds.MarkedLeaf.{MarkedLeaf}
-use Rattle.first_pass_text.specs.declared.kinds.MarkedLeaf.TheVariants.{AtxHeading}
+use Rattle.first_pass_kinds.specs.declared.kinds.MarkedLeaf.{MarkedLeaf}
+use Rattle.first_pass_kinds.specs.declared.kinds.MarkedLeaf.TheVariants.{AtxHeading}
 use Rattle.first_pass_open.proofs.PlaceLemmas.{all_keep}
 use Rattle.first_pass_blocks.proofs.KindBlocks.{heading_added, ends_here}
 use Rattle.first_pass_blocks.proofs.LeafAdded.{found_boundary, heading_found, line_read, leaf_added}
@@ -15,7 +15,6 @@ parse_atx_heading-requires c =
     let i = found_boundary c.args.self.now.source.text.now p c.args.at f.utf8 f.place f.found.at_is in
     record {
       within = i.0;
-      marks = c.args.self.now.marks;
       heading = heading_found c.args.self.now p c.args.level c.requires.1 c.args.at f;
     }
 

@@ -3,8 +3,8 @@ use Rattle.first_pass_html.specs.Starts.{html_end}
 use Rattle.first_pass_lines.specs.Places.{Place}
 use Rattle.first_pass_grammar.specs.Kinds.{unindented, all_taken}
 use Rattle.first_pass_names.specs.TableEntries.{names_of}
-use Rattle.first_pass_text.specs.declared.kinds.MarkedLeaf.{MarkedLeaf}
-use Rattle.first_pass_text.specs.declared.kinds.MarkedLeaf.TheVariants.{HtmlToEnd}
+use Rattle.first_pass_kinds.specs.declared.kinds.MarkedLeaf.{MarkedLeaf}
+use Rattle.first_pass_kinds.specs.declared.kinds.MarkedLeaf.TheVariants.{HtmlToEnd}
 use Rattle.first_pass_open.proofs.PlaceLemmas.{all_keep}
 use Rattle.first_pass_blocks.proofs.RawFits.{to_end_between}
 use Rattle.first_pass_blocks.proofs.KindBlocks.{html_end_added, is_here, columns_are}

@@ -1,6 +1,6 @@
 use Rattle.std.proofs.Common.{sym, ap, subst}
-use Rattle.first_pass_text.specs.Found.{marked_kind}
-use Rattle.first_pass_text.specs.declared.kinds.MarkedLeaf.{MarkedLeaf}
+use Rattle.first_pass_kinds.specs.Found.{marked_kind}
+use Rattle.first_pass_kinds.specs.declared.kinds.MarkedLeaf.{MarkedLeaf}
 use Rattle.first_pass_blocks.specs.Adding.{AddsLeaf, IsFoundIn}
 use Rattle.first_pass_blocks.proofs.state.BlockPass.append_marked.Goals as goal
 
@@ -13,7 +13,8 @@ append_code-requires c = (
 
 pub returns-in_ok-next-in-IndentedCode : goal.returns-in_ok-next-in-IndentedCode
 returns-in_ok-next-in-IndentedCode c =
-    subst (λ (l : MarkedLeaf). AddsLeaf c.args.self.now c.append_code.new.self c.args.place (marked_kind l) c.in_ok-next-in-IndentedCode.next) (sym c.in-IndentedCode.is)
+    subst (λ (l : MarkedLeaf). AddsLeaf c.args.self.now c.append_code.new.self c.args.place (marked_kind l) c.in_ok-next-in-IndentedCode.next)
+    (sym c.in-IndentedCode.is)
     c.in_ok-next-in-IndentedCode.ensures
 
 pub append_metadata-requires : goal.append_metadata-requires
@@ -25,7 +26,8 @@ append_metadata-requires c = (
 
 pub returns-in_ok-next-in-Metadata : goal.returns-in_ok-next-in-Metadata
 returns-in_ok-next-in-Metadata c =
-    subst (λ (l : MarkedLeaf). AddsLeaf c.args.self.now c.append_metadata.new.self c.args.place (marked_kind l) c.in_ok-next-in-Metadata.next) (sym c.in-Metadata.is)
+    subst (λ (l : MarkedLeaf). AddsLeaf c.args.self.now c.append_metadata.new.self c.args.place (marked_kind l) c.in_ok-next-in-Metadata.next)
+    (sym c.in-Metadata.is)
     (c.in_ok-next-in-Metadata.ensures c.args.place c.args.columns
     (subst (λ (l : MarkedLeaf). IsFoundIn c.args.self.now c.args.place l c.args.columns c.args.at) c.in-Metadata.is c.requires))
 
@@ -37,7 +39,8 @@ append_html-requires c = (
 
 pub returns-in_ok-next-in-HtmlToEnd : goal.returns-in_ok-next-in-HtmlToEnd
 returns-in_ok-next-in-HtmlToEnd c =
-    subst (λ (l : MarkedLeaf). AddsLeaf c.args.self.now c.append_html.new.self c.args.place (marked_kind l) c.in_ok-next-in-HtmlToEnd.next) (sym c.in-HtmlToEnd.is)
+    subst (λ (l : MarkedLeaf). AddsLeaf c.args.self.now c.append_html.new.self c.args.place (marked_kind l) c.in_ok-next-in-HtmlToEnd.next)
+    (sym c.in-HtmlToEnd.is)
     (c.in_ok-next-in-HtmlToEnd.ensures c.args.place
     (subst (λ (l : MarkedLeaf). IsFoundIn c.args.self.now c.args.place l c.args.columns c.args.at) c.in-HtmlToEnd.is c.requires))
 
@@ -50,7 +53,8 @@ append_rule-requires c = (
 
 pub returns-in_ok-next-in-ThematicBreak : goal.returns-in_ok-next-in-ThematicBreak
 returns-in_ok-next-in-ThematicBreak c =
-    subst (λ (l : MarkedLeaf). AddsLeaf c.args.self.now c.append_rule.new.self c.args.place (marked_kind l) c.in_ok-next-in-ThematicBreak.next) (sym c.in-ThematicBreak.is)
+    subst (λ (l : MarkedLeaf). AddsLeaf c.args.self.now c.append_rule.new.self c.args.place (marked_kind l) c.in_ok-next-in-ThematicBreak.next)
+    (sym c.in-ThematicBreak.is)
     (c.in_ok-next-in-ThematicBreak.ensures c.args.place c.args.columns
     (subst (λ (l : MarkedLeaf). IsFoundIn c.args.self.now c.args.place l c.args.columns c.args.at) c.in-ThematicBreak.is c.requires))
 
@@ -63,7 +67,8 @@ append_heading-requires c = (
 
 pub returns-in_ok-next-in-AtxHeading : goal.returns-in_ok-next-in-AtxHeading
 returns-in_ok-next-in-AtxHeading c =
-    subst (λ (l : MarkedLeaf). AddsLeaf c.args.self.now c.append_heading.new.self c.args.place (marked_kind l) c.in_ok-next-in-AtxHeading.next) (sym c.in-AtxHeading.is)
+    subst (λ (l : MarkedLeaf). AddsLeaf c.args.self.now c.append_heading.new.self c.args.place (marked_kind l) c.in_ok-next-in-AtxHeading.next)
+    (sym c.in-AtxHeading.is)
     (c.in_ok-next-in-AtxHeading.ensures c.args.place c.args.columns
     (subst (λ (l : MarkedLeaf). IsFoundIn c.args.self.now c.args.place l c.args.columns c.args.at) c.in-AtxHeading.is c.requires))
 
@@ -75,6 +80,7 @@ append_fenced_code-requires c = (
 
 pub returns-in_ok-next-in-FencedCode : goal.returns-in_ok-next-in-FencedCode
 returns-in_ok-next-in-FencedCode c =
-    subst (λ (l : MarkedLeaf). AddsLeaf c.args.self.now c.append_fenced_code.new.self c.args.place (marked_kind l) c.in_ok-next-in-FencedCode.next) (sym c.in-FencedCode.is)
+    subst (λ (l : MarkedLeaf). AddsLeaf c.args.self.now c.append_fenced_code.new.self c.args.place (marked_kind l) c.in_ok-next-in-FencedCode.next)
+    (sym c.in-FencedCode.is)
     (c.in_ok-next-in-FencedCode.ensures c.args.place
     (subst (λ (l : MarkedLeaf). IsFoundIn c.args.self.now c.args.place l c.args.columns c.args.at) c.in-FencedCode.is c.requires))

@@ -1,7 +1,7 @@
 use Rattle.std.proofs.Common.{refl}
 use Rattle.first_pass_lines.specs.Places.{Place}
 use Rattle.first_pass_names.specs.TableEntries.{names_of}
-use Rattle.first_pass_text.specs.declared.kinds.MarkedLeaf.TheVariants.{Metadata}
+use Rattle.first_pass_kinds.specs.declared.kinds.MarkedLeaf.TheVariants.{Metadata}
 use Rattle.first_pass_open.proofs.PlaceLemmas.{all_keep}
 use Rattle.first_pass_blocks.proofs.RawFits.{metadata_between}
 use Rattle.first_pass_blocks.proofs.KindBlocks.{metadata_added}

@@ -2,9 +2,9 @@ use Rattle.std.proofs.Common.{IsCharBoundary, refl, sym, subst, ◌∙◌, arith
 use Rattle.first_pass_lines.specs.Places.{Place}
 use Rattle.first_pass_names.specs.TableEntries.{names_of}
 use Rattle.first_pass_names.proofs.NameLemmas.{extends_none}
-use Rattle.first_pass_text.specs.Between.{AddsBetween}
-use Rattle.first_pass_text.specs.declared.kinds.MarkedLeaf.{MarkedLeaf}
-use Rattle.first_pass_text.specs.declared.kinds.MarkedLeaf.TheVariants.{ThematicBreak}
+use Rattle.first_pass_open.specs.Between.{AddsBetween}
+use Rattle.first_pass_kinds.specs.declared.kinds.MarkedLeaf.{MarkedLeaf}
+use Rattle.first_pass_kinds.specs.declared.kinds.MarkedLeaf.TheVariants.{ThematicBreak}
 use Rattle.first_pass_open.proofs.PlaceLemmas.{all_keep, place_end}
 use Rattle.first_pass_blocks.proofs.LeafLemmas.{rule_end}
 use Rattle.first_pass_blocks.proofs.KindBlocks.{rule_added}

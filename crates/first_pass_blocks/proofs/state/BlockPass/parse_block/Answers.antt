@@ -122,7 +122,7 @@ parse_tagged-requires-clause-boundary c =
     let start = c.args.start_ix in
     let o = opened (goal.at.parse_tagged-requires-clause-boundary c).In_ok-open_containers _ _ c.in_ok-open_containers.ensures.after
     c.in_ok-open_containers.ensures.opened c.in-TagAlone.is in
-    subst (IsCharBoundary text) (sym (c.line_over-in-TagAlone.ensures ∙ o.0.2))
+    subst (IsCharBoundary text) (sym (c.line_over-behind.ensures ∙ o.0.2))
     (line_end_boundary text start c.enter_line.ensures.utf8 c.requires.boundary c.requires.within)
 
 pub parse_tagged-requires-clause-no_empty : goal.parse_tagged-requires-clause-no_empty
@@ -135,12 +135,12 @@ returns-in_ok-next-in-TagAlone c =
     let text = self.source.text.now in
     let start = c.args.start_ix in
     let r : Reading = c.open_containers.new.reading in
-    let stop : ℕ = c.line_over-in-TagAlone.result in
+    let stop : ℕ = c.line_over-behind.result in
     let next = c.in_ok-next-in-TagAlone.next in
     let e = c.in_ok-next-in-TagAlone.ensures in
     let o = opened (goal.at.returns-in_ok-next-in-TagAlone c).In_ok-open_containers _ TagAlone c.in_ok-open_containers.ensures.after
     c.in_ok-open_containers.ensures.opened c.in-TagAlone.is in
-    let ends = c.line_over-in-TagAlone.ensures ∙ o.0.2 in
+    let ends = c.line_over-behind.ensures ∙ o.0.2 in
     let steps = subst (λ (n : ℕ). ReadsTo self.source start self.reading r (LineAt start) (TaggedAt n)) (sym ends) o.2 in
     let later = line_later text start stop next c.requires.within ends e.later e.boundary in
     let some = line_later text start stop stop c.requires.within ends (omega arith)

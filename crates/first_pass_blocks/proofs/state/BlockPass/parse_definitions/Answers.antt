@@ -8,7 +8,7 @@ use Rattle.first_pass_lines.specs.Rest.{Rest}
 use Rattle.first_pass_open.specs.declared.source.Source.{Source}
 use Rattle.first_pass_lists.specs.declared.reading.Reading.{Reading}
 use Rattle.first_pass_open.proofs.PlaceLemmas.{text_place}
-use Rattle.first_pass_text.specs.Rests.{IsRestOf}
+use Rattle.first_pass_kinds.specs.Rests.{IsRestOf}
 use Rattle.first_pass_grammar.specs.Definitions.{reference_at}
 use Rattle.first_pass_names.specs.TableEntries.{tables, refdefs_of}
 use Rattle.first_pass_definitions.specs.Found.{IsWritten, AreWritten}

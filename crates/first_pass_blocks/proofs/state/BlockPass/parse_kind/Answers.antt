@@ -9,10 +9,10 @@ use Rattle.first_pass_names.proofs.NameLemmas.{extends_none}
 use Rattle.first_pass_open.proofs.PlaceLemmas.{all_keep, place_end}
 use Rattle.first_pass_lists.specs.Closing.{list_finished, blank_read}
 use Rattle.first_pass_lists.specs.declared.reading.Reading.{Reading}
-use Rattle.first_pass_text.specs.Appends.{line_end_at}
-use Rattle.first_pass_text.specs.Found.{IsFoundAt, kind_of, marked_kind}
-use Rattle.first_pass_text.specs.declared.kinds.MarkedLeaf.{MarkedLeaf}
-use Rattle.first_pass_text.proofs.KindLemmas.{Says, kind_says}
+use Rattle.first_pass_open.specs.Between.{line_end_at}
+use Rattle.first_pass_kinds.specs.Found.{IsFoundAt, kind_of, marked_kind}
+use Rattle.first_pass_kinds.specs.declared.kinds.MarkedLeaf.{MarkedLeaf}
+use Rattle.first_pass_kinds.proofs.KindLemmas.{Says, kind_says}
 use Rattle.first_pass_blocks.specs.Adding.{AddsLeaf}
 use Rattle.first_pass_blocks.specs.Ordered.{IsOrderedAt}
 use Rattle.first_pass_blocks.specs.Positions.{line_or}

@@ -1,4 +1,4 @@
-use Rattle.std.proofs.Common.{◌≡◌, inl, inr, ℕ, ◌+◌, List, drop, Bool, Option, true, false, Some, None, refl, sym, subst, ◌∙◌, if◌then◌else◌, ap, arith}
+use Rattle.std.proofs.Common.{◌≡◌, IsUtf8, inl, inr, ℕ, ◌+◌, List, drop, Bool, Option, true, false, Some, None, refl, sym, subst, ◌∙◌, if◌then◌else◌, ap, arith}
 use Rattle.first_pass_lines.specs.Lines.{line_len}
 use Rattle.first_pass_lines.specs.Rest.{Rest}
 use Rattle.first_pass_lines.specs.Places.{Place, line_rest, place_at, line_end, IsPlaceOf}
@@ -67,7 +67,7 @@ returns-in_ok-next-in-Some c =
     let h = said _ (context_in self) text _ _ at c.as_bytes.ensures.value c.rest_of-bytes.ensures.value c.in_ok-scan_line_behind_tag.ensures.value in
     let its = its_by (ends_tag (context_in self) (line_rest (drop at text))) _ c.in-Some.rest _ c.in-Some.is h in
     let same : q ≡ p = ap (place_at at) its.1 in
-    let here = text_place text at path c.in_ok-scan_line_behind_tag.ensures.utf8 c.requires.boundary in
+    let here = text_place text at path (subst IsUtf8 c.as_bytes.ensures.value c.as_bytes.ensures.utf8) c.requires.boundary in
     let ends : line_end p ≡ at + line_len (drop at text) = here.1 in
     let later = e.later in
     let before = place_before_end q in
@@ -95,4 +95,5 @@ parse_leaf-requires-clause-place c =
     let path = path_of c.args.self.now.source.options c.args.self.now.reading.tree in
     let h = said _ (context_in c.args.self.now) text _ _ at c.as_bytes.ensures.value c.rest_of-bytes.ensures.value c.in_ok-scan_line_behind_tag.ensures.value in
     let its = its_by (ends_tag (context_in c.args.self.now) (line_rest (drop at text))) _ c.in-Some.rest _ c.in-Some.is h in
-    subst (λ r. IsPlaceOf text (place_at at r)) (sym its.1) (text_place text at path c.in_ok-scan_line_behind_tag.ensures.utf8 c.requires.boundary).0
+    subst (λ r. IsPlaceOf text (place_at at r)) (sym its.1) (text_place text at path (subst IsUtf8 c.as_bytes.ensures.value c.as_bytes.ensures.utf8)
+    c.requires.boundary).0

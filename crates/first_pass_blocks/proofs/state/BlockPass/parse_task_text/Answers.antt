@@ -2,14 +2,14 @@ use Rattle.std.proofs.Common.{inl, ℕ, Some, refl, IsCharBoundary, sym, ap, sub
 use Rattle.first_pass_grammar.specs.Kinds.{all_taken, unindented}
 use Rattle.first_pass_grammar.specs.Leaves.{document}
 use Rattle.first_pass_grammar.specs.Completion.{lines_from}
-use Rattle.first_pass_text.specs.Appends.{line_end_at}
+use Rattle.first_pass_open.specs.Between.{line_end_at}
 use Rattle.first_pass_lists.specs.declared.reading.Reading.{Reading}
 use Rattle.first_pass_blocks.specs.State.{Ready}
 use Rattle.first_pass_open.proofs.PlaceLemmas.{all_keep, read_to}
 use Rattle.first_pass_blocks.proofs.CountLemmas.{block_count}
 use Rattle.first_pass_blocks.proofs.OrderSteps.{ordered_block, unindented_later}
 use Rattle.first_pass_lines.specs.Places.{offset}
-use Rattle.first_pass_text.specs.Between.{AddsBetween, StandsBefore}
+use Rattle.first_pass_open.specs.Between.{AddsBetween, StandsBefore}
 use Rattle.first_pass_names.specs.TableEntries.{tables, told_by, names_of}
 use Rattle.first_pass_blocks.proofs.WrittenLemmas.{written_stay}
 use Rattle.first_pass_names.proofs.NameLemmas.{extends_none}

@@ -11,8 +11,8 @@ use Rattle.first_pass_blocks.specs.Views.{context_in}
 use Rattle.first_pass_open.specs.declared.source.Source.{Source}
 use Rattle.first_pass_open.proofs.PlaceLemmas.{all_keep}
 use Rattle.first_pass_tree.specs.Forest.{in_table}
-use Rattle.first_pass_tables.specs.TextsAdded.{AddsText}
-use Rattle.first_pass_text.specs.Between.{AddsBetween}
+use Rattle.first_pass_blocks.specs.TextsAdded.{AddsText}
+use Rattle.first_pass_open.specs.Between.{AddsBetween}
 use Rattle.first_pass_blocks.specs.Runs.{ReadsRun}
 use Rattle.first_pass_blocks.proofs.LeafAdded.{found_boundary}
 use Rattle.first_pass_blocks.proofs.TextLemmas.{run_line, run_text}

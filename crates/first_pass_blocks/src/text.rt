@@ -1,0 +1,92 @@
+//! What stands for a text where no other block begins: a paragraph, a heading that is underlined, or the table that
+//! its first line heads (CommonMark 4.3, 4.8, GFM 4.10).
+
+ghost use Rattle.std.specs.Prelude.{◌≡◌, ◌≤◌, false, ℕ, drop, Option, Some, IfOk, IfSome, OnOk, IsCharBoundary};
+ghost use Rattle.first_pass_items.specs.declared.item.Item.{Item};
+ghost use Rattle.first_pass_tree.specs.Forest.{is_text};
+ghost use Rattle.first_pass_names.specs.TableEntries.{names_of, NamesMore};
+ghost use Rattle.first_pass_grammar.specs.Leaves.{document};
+ghost use Rattle.first_pass_grammar.specs.TableHeads.{headed_table};
+ghost use Rattle.first_pass_open.specs.Path.{context_of};
+ghost use Rattle.first_pass_open.specs.Between.{AddsBetween, IsInItem, StandsBefore};
+ghost use Rattle.first_pass_blocks.specs.TextsAdded.{AddsText};
+
+use first_pass_items::item::{Alignment, Item, ItemBody};
+use first_pass_kinds::table_start::scan_headed_table;
+use first_pass_lines::places::next_line;
+use first_pass_names::items::Allocations;
+use first_pass_open::open_block::open_block;
+use first_pass_open::source::Source;
+use first_pass_tables::rows::{TableRows, parse_table};
+use first_pass_text::paragraph;
+use first_pass_tree::forest::Tree;
+use std::alloc::AllocError;
+
+// Appends the table of these alignments, whose header row begins at the offset `start`, to the innermost open node.
+// Returns the offset at which the line begins that ends the table, or the text's length. The alignments and the texts
+// that tokens name are put among `allocs`.
+fn append_table(
+    source: &Source<'_>,
+    tree: &mut Tree<Item>,
+    allocs: &mut Allocations<'_>,
+    start: usize,
+    alignments: Vec<Alignment>,
+) -> Result<usize, AllocError>
+    requires boundary { IsCharBoundary source.now.text.now start }
+    requires headed { headed_table (context_of source.now.options tree.old) (drop start source.now.text.now)
+        ≡ Some alignments.items }
+    ensures more { OnOk result (NamesMore allocs.old allocs.new) }
+    ensures block { IfOk result (λ next. (marker : Option Item)
+        → AddsText (document source.now.text.now source.now.options (names_of allocs.new)) start marker tree.old
+        tree.new next) }
+    ensures fits { IfOk result (λ next. (from : ℕ) → from ≤ start
+        → AddsBetween source.now.text.now from next tree.old tree.new) }
+{
+    tree.is_forest();
+    let columns = alignments.len();
+    let index = allocs.allocate_alignment(alignments)?;
+    open_block(tree, start, ItemBody::Table(index))?;
+    let bytes = source.text.as_bytes();
+    let body = next_line(bytes, next_line(bytes, start));
+    let rows = TableRows {
+        columns,
+        head_start: start,
+        body_start: body,
+    };
+    let next = parse_table(source, tree, allocs, rows)?;
+    Ok(next)
+}
+
+/// Appends what stands for the text that begins at the offset `start_ix` into the text to the innermost open node: the
+/// table that its first line heads, with tables; else a heading that is underlined or a paragraph, with the marker of
+/// its task list item, if it has one, as its first child. Returns the offset at which the line begins that is after
+/// it, or the text's length. The alignments of a table's columns, or the attributes of a heading, and the texts that
+/// tokens name are put among `allocs`. The error is want of memory (CommonMark 4.3, 4.8, GFM 4.10).
+pub fn parse_paragraph<'a>(
+    source: &Source<'a>,
+    tree: &mut Tree<Item>,
+    allocs: &mut Allocations<'a>,
+    start_ix: usize,
+    tasklist_marker: Option<Item>,
+) -> Result<usize, AllocError>
+    requires boundary { IsCharBoundary source.now.text.now start_ix }
+    requires marker { IfSome tasklist_marker (λ x. is_text x.body ≡ false) }
+    ensures more { OnOk result (NamesMore allocs.old allocs.new) }
+    ensures block { IfOk result (λ next.
+        AddsText (document source.now.text.now source.now.options (names_of allocs.new)) start_ix tasklist_marker
+        tree.old tree.new next) }
+    ensures fits { IfOk result (λ next. IsInItem tree.old tasklist_marker → (from : ℕ)
+        → StandsBefore source.now.text.now from start_ix tasklist_marker
+        → AddsBetween source.now.text.now from next tree.old tree.new) }
+{
+    match scan_headed_table(source, tree, start_ix)? {
+        Some(alignments) => {
+            let next = append_table(source, tree, allocs, start_ix, alignments)?;
+            Ok(next)
+        }
+        None => {
+            let next = paragraph::parse_paragraph(source, tree, allocs, start_ix, tasklist_marker)?;
+            Ok(next)
+        }
+    }
+}

@@ -1,0 +1,162 @@
+-- What the kind of a place says of what begins there.
+use Rattle.std.proofs.Common.{◌≡◌, inl, inr, ℕ, ◌+◌, ◌<◌, ◌≤◌, min, nat_lt, ◌==◌, Bool, true, false, List, length, drop, Option, Some, None, is_some, IfSome}
+use Rattle.std.proofs.Common.{IfNone, IsUtf8, refl, sym, ap, subst, ◌∙◌, if◌then◌else◌, arith}
+use Rattle.std.proofs.lemmas.Bool.Decides.{nat_tests}
+use Rattle.std.specs.Option.{option_map}
+use Rattle.first_pass_items.specs.declared.option_set.Options.{Options}
+use Rattle.first_pass_items.specs.OptionWords.{has}
+use Rattle.first_pass_items.specs.declared.item.HeadingLevel.{HeadingLevel}
+use Rattle.first_pass_lines.specs.Lines.{is_content, atx_level}
+use Rattle.first_pass_scan.specs.LeafLines.{hrule_len, code_fence}
+use Rattle.first_pass_metadata.specs.Metadata.{metadata_byte}
+use Rattle.first_pass_lines.specs.Rest.{Rest, indent}
+use Rattle.first_pass_lines.specs.Places.{place_at, offset, IsPlaceOf}
+use Rattle.first_pass_open.proofs.PlaceLemmas.{all_keep}
+use Rattle.first_pass_metadata.proofs.MetadataFacts.{metadata_plain}
+use Rattle.first_pass_html.specs.Tags.{BeginsTagLine}
+use Rattle.first_pass_grammar.specs.Kinds.{Kind, Blank, IndentedCode, Metadata, HtmlToEnd, HtmlToBlank, ThematicBreak, AtxHeading, FencedCode, LinkDefinitions}
+use Rattle.first_pass_grammar.specs.Kinds.{Paragraph, all_taken, is_blank_rest, heading_or, rule_or, fence_or, metadata_or, metadata_at, begins_html_to_end}
+use Rattle.first_pass_grammar.specs.Kinds.{begins_html_to_blank, html_kind, first_kind, last_kind, IsKindBy, IsKind}
+use Rattle.first_pass_kinds.specs.Found.{kind_of, IsFoundWith}
+use Rattle.first_pass_kinds.specs.declared.kinds.Found.{Found}
+
+-- columns that were counted up to four
+pub few_columns : (n m : ℕ) → n ≡ min 4 m → n < 4 → (nat_lt m 4 ≡ true) × (n ≡ m)
+few_columns n m is few = (grind (arith, nat_tests, is, few), omega arith)
+
+pub many_columns : (n m : ℕ) → n ≡ min 4 m → 4 ≤ n → nat_lt m 4 ≡ false
+many_columns n m is many = grind (arith, nat_tests, is, many)
+
+-- what stands where a block of this kind begins
+abbrev pub Says : Rest → Kind → Type 0
+Says r Blank = is_blank_rest r ≡ true
+Says r IndentedCode = (is_blank_rest r ≡ false) × (nat_lt (indent r) 4 ≡ false)
+Says r (Metadata byte) = is_content byte ≡ true
+Says r HtmlToEnd = nat_lt (indent r) 4 ≡ true
+Says r HtmlToBlank = nat_lt (indent r) 4 ≡ true
+Says r (ThematicBreak size) = hrule_len (all_taken r).left ≡ Some size
+Says r (AtxHeading level) = atx_level (all_taken r).left ≡ Some level
+Says r (FencedCode count byte) = (code_fence (all_taken r).left ≡ Some (count, byte)) × (nat_lt (indent r) 4 ≡ true)
+Says r LinkDefinitions = Unit {0}
+Says r Paragraph = Unit {0}
+
+last_by : (r : Rest) (rule : Option ℕ) (level : Option HeadingLevel) (fence : Option (ℕ × ℕ))
+    → hrule_len (all_taken r).left ≡ rule → atx_level (all_taken r).left ≡ level → code_fence (all_taken r).left ≡ fence → nat_lt (indent r) 4 ≡ true
+    → Says r (rule_or rule (heading_or level (fence_or fence Paragraph)))
+last_by r (Some size) level fence a b e u = a
+last_by r None (Some level) fence a b e u = b
+last_by r None None (Some fence) a b e u = (e, u)
+last_by r None None None a b e u = tt
+
+last_says : (r : Rest) → nat_lt (indent r) 4 ≡ true → Says r (last_kind (all_taken r).left)
+last_says r u = last_by r _ _ _ refl refl refl u
+
+html_by : (t v : Bool) (r : Rest) (k : Kind)
+    → nat_lt (indent r) 4 ≡ true → IsKindBy r (if t then Some HtmlToEnd else (if v then Some HtmlToBlank else None)) k → Says r k
+html_by true v r k u h = subst (Says r) (sym h) u
+html_by false true r k u h = subst (Says r) (sym h) u
+html_by false false r k u (inl (n, tag, h)) = subst (Says r) (sym h) u
+html_by false false r k u (inr (none, h)) = subst (Says r) (sym h) (last_says r u)
+
+plain_by : (t : Bool) (options : Options) (bs : List ℕ) (byte : ℕ)
+    → (if t then metadata_byte (has options 128) (has options 256) bs else None) ≡ Some byte → is_content byte ≡ true
+plain_by true options bs byte h = metadata_plain (has options 128) (has options 256) bs byte h
+plain_by false options bs byte h = cc
+
+metadata_by : (options : Options) (m : Option ℕ) (r : Rest) (k : Kind) → metadata_at (indent r) options (all_taken r).left ≡ m → nat_lt (indent r) 4 ≡ true
+    → IsKindBy r (metadata_or m (html_kind (all_taken r).left)) k → Says r k
+metadata_by options (Some byte) r k e u h = subst (Says r) (sym h) (plain_by (indent r == 0) options (all_taken r).left byte e)
+metadata_by options None r k e u h = html_by (begins_html_to_end (all_taken r).left) (begins_html_to_blank (all_taken r).left) r k u h
+
+says_by : (t u : Bool) (options : Options) (r : Rest) (k : Kind) → is_blank_rest r ≡ t → nat_lt (indent r) 4 ≡ u
+    → IsKindBy r (if t then Some Blank
+    else (if u then metadata_or (metadata_at (indent r) options (all_taken r).left) (html_kind (all_taken r).left) else Some IndentedCode)) k → Says r k
+says_by true u options r k a b h = subst (Says r) (sym h) a
+says_by false true options r k a b h = metadata_by options (metadata_at (indent r) options (all_taken r).left) r k refl b h
+says_by false false options r k a b h = subst (Says r) (sym h) (a, b)
+
+pub kind_says : (options : Options) (r : Rest) (k : Kind) → IsKind options r k → Says r k
+unfolding first_kind
+kind_says options r k h = says_by (is_blank_rest r) (nat_lt (indent r) 4) options r k refl refl h
+
+-- the kind of a place that is blank
+pub blank_kind : (options : Options) (r : Rest) → is_blank_rest r ≡ true → IsKind options r Blank
+unfolding first_kind
+blank_kind options r h = let first : first_kind options r ≡ Some Blank = rw h refl in subst (λ o. IsKindBy r o Blank) (sym first) refl
+
+-- of one after four columns
+pub code_kind : (options : Options) (r : Rest) → is_blank_rest r ≡ false → nat_lt (indent r) 4 ≡ false → IsKind options r IndentedCode
+unfolding first_kind
+code_kind options r h u = let first : first_kind options r ≡ Some IndentedCode = rw h (rw u refl) in subst (λ o. IsKindBy r o IndentedCode) (sym first) refl
+
+early_is : (options : Options) (r : Rest) → is_blank_rest r ≡ false → nat_lt (indent r) 4 ≡ true
+    → first_kind options r ≡ metadata_or (metadata_at (indent r) options (all_taken r).left) (html_kind (all_taken r).left)
+unfolding first_kind
+early_is options r h u = rw h (rw u refl)
+
+-- What was found at a place: it isn't blank, there are so many columns before it, under four, and this metadata or none.
+pub record FoundEarly (options : Options) (r : Rest) (m : Option ℕ) : Type 0 where
+  pub some : is_blank_rest r ≡ false
+  pub few : nat_lt (indent r) 4 ≡ true
+  pub metadata : metadata_at (indent r) options (all_taken r).left ≡ m
+
+-- the offset after the columns of a place
+pub behind_columns : (text : List ℕ) (start taken : ℕ) (r new : Rest) → IsUtf8 text → IsPlaceOf text (place_at start r) → new ≡ all_taken r → taken ≡ new.taken
+    → (start + taken ≤ length text) × ((all_taken r).left ≡ drop (start + taken) text)
+behind_columns text start taken r new u i rest is =
+    let j = all_keep text start r u i in
+    let e : start + taken ≡ offset (place_at start (all_taken r)) = ap (λ n. start + n) (is ∙ ap (λ (q : Rest). q.taken) rest) in
+    let w = j.within in
+    (omega arith, j.left ∙ ap (λ n. drop n text) (sym e))
+
+pub found_early : (text bytes : List ℕ) (start taken columns : ℕ) (options : Options) (r new : Rest) (m : Option ℕ)
+    → IsUtf8 text → IsPlaceOf text (place_at start r) → is_blank_rest r ≡ false → columns ≡ min 4 (indent r) → new ≡ all_taken r → taken ≡ new.taken
+    → columns < 4 → bytes ≡ text → m ≡ metadata_at columns options (drop (start + taken) bytes) → FoundEarly options r m
+found_early text bytes start taken columns options r new m u i some is rest at few same m_is =
+    let f = few_columns columns (indent r) is few in
+    record {
+      some = some;
+      few = f.0;
+      metadata = ap (metadata_at (indent r) options) ((behind_columns text start taken r new u i rest at).1 ∙ ap (drop (start + taken)) (sym same))
+          ∙ ap (λ n. metadata_at n options (drop (start + taken) bytes)) (sym f.1) ∙ sym m_is;
+    }
+
+-- metadata
+pub metadata_here : (options : Options) (r : Rest) (byte : ℕ) → FoundEarly options r (Some byte) → IsKind options r (Metadata byte)
+metadata_here options r byte f =
+    subst (λ o. IsKindBy r o (Metadata byte)) (sym (early_is options r f.some f.few ∙ ap (λ m. metadata_or m (html_kind (all_taken r).left)) f.metadata)) refl
+
+html_first : (options : Options) (r : Rest) → FoundEarly options r None → first_kind options r ≡ html_kind (all_taken r).left
+html_first options r f = early_is options r f.some f.few ∙ ap (λ m. metadata_or m (html_kind (all_taken r).left)) f.metadata
+
+-- an HTML block of the kinds 1 to 6
+pub html_here : (options : Options) (r : Rest) (k : Kind) → FoundEarly options r None → html_kind (all_taken r).left ≡ Some k → IsKind options r k
+html_here options r k f is = subst (λ o. IsKindBy r o k) (sym (html_first options r f ∙ is)) refl
+
+-- one of the seventh kind
+pub tag_here : (options : Options) (r : Rest) (n : ℕ)
+    → FoundEarly options r None → html_kind (all_taken r).left ≡ None → BeginsTagLine (all_taken r).left n → IsKind options r HtmlToBlank
+tag_here options r n f is tag = subst (λ o. IsKindBy r o HtmlToBlank) (sym (html_first options r f ∙ is)) (inl (n, tag, refl))
+
+-- one of the others
+pub last_here : (options : Options) (r : Rest) → FoundEarly options r None → html_kind (all_taken r).left ≡ None
+    → ((n : ℕ) → BeginsTagLine (all_taken r).left n → ⊥) → IsKind options r (last_kind (all_taken r).left)
+last_here options r f is no_tag = subst (λ o. IsKindBy r o (last_kind (all_taken r).left)) (sym (html_first options r f ∙ is)) (inr (no_tag, refl))
+
+-- a tag that was found, or wasn't
+pub tag_found : (o : Option ℕ) (bs left : List ℕ) → is_some o ≡ true → left ≡ bs → IfSome o (BeginsTagLine bs) → (n : ℕ) × BeginsTagLine left n
+tag_found None bs left h same tag = cc
+tag_found (Some n) bs left h same tag = (n, subst (λ z. BeginsTagLine z n) (sym same) tag)
+
+pub tag_absent : (o : Option ℕ) (bs left : List ℕ)
+    → is_some o ≡ false → left ≡ bs → IfNone o ((m : ℕ) → BeginsTagLine bs m → ⊥) → (n : ℕ) → BeginsTagLine left n → ⊥
+tag_absent None bs left h same none = subst (λ z. (n : ℕ) → BeginsTagLine z n → ⊥) (sym same) none
+tag_absent (Some n) bs left h same none = cc
+
+-- what was found of an HTML block
+pub found_html : (o : Option Found) (f : Found) (h : Option Kind) (bs left : List ℕ)
+    → o ≡ Some f → option_map kind_of o ≡ h → IfSome o (IsFoundWith bs) → left ≡ bs → (h ≡ Some (kind_of f)) × IsFoundWith left f
+found_html o f h bs left is kind with same = (
+  sym kind ∙ ap (option_map kind_of) is,
+  subst (λ z. IsFoundWith z f) (sym same) (subst (λ (z : Option Found). IfSome z (IsFoundWith bs)) is with),
+)

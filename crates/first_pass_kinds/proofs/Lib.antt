@@ -1,0 +1,3 @@
+pub mod KindLemmas
+pub mod PlainKinds
+pub mod TableLemmas

@@ -1,0 +1,60 @@
+-- Where a plain byte is next, the block is a paragraph, and nothing interrupts one.
+use Rattle.std.proofs.Common.{◌≡◌, inl, inr, ℕ, zero, suc, Bool, true, false, true≢false, List, [], ◌∷◌, take, None, refl, sym, ap, ◌∙◌, subst}
+use Rattle.first_pass_items.specs.declared.option_set.Options.{Options}
+use Rattle.first_pass_items.specs.OptionWords.{has}
+use Rattle.first_pass_lines.specs.Rest.{Rest}
+use Rattle.first_pass_lines.specs.Plain.{is_plain, begins_plain}
+use Rattle.first_pass_scan.proofs.PlainFacts.{plain_begins, plain_eol, plain_blank, plain_hrule, plain_atx, plain_fence, plain_listitem}
+use Rattle.first_pass_metadata.proofs.MetadataFacts.{plain_metadata}
+use Rattle.first_pass_scan.proofs.PlainFacts.{plain_indent}
+use Rattle.first_pass_html.specs.Tags.{BeginsTagLine}
+use Rattle.first_pass_open.proofs.PlainLemmas.{plain_all}
+use Rattle.first_pass_grammar.specs.Kinds.{Paragraph, all_taken, html_kind, first_kind, last_kind, IsKindBy, IsKind, interrupts_with}
+
+plain_60 : is_plain 60 ≡ false
+unfolding is_plain
+plain_60 = refl
+
+plain_62 : is_plain 62 ≡ false
+unfolding is_plain
+plain_62 = refl
+
+pub plain_interrupts : (whole : Bool) (bs : List ℕ) → begins_plain bs ≡ true → interrupts_with whole bs ≡ false
+plain_interrupts whole bs h =
+    rw (plain_eol bs h) (rw (plain_hrule bs h)
+    (rw (plain_atx bs h) (rw (plain_fence bs h) (rw (plain_begins 62 bs h plain_62) (rw (plain_listitem bs h) (rw (plain_begins 60 bs h plain_60) refl))))))
+
+pub plain_html : (bs : List ℕ) → begins_plain bs ≡ true → html_kind bs ≡ None
+plain_html bs h = rw (plain_begins 60 bs h plain_60) refl
+
+pub plain_last : (bs : List ℕ) → begins_plain bs ≡ true → last_kind bs ≡ Paragraph
+plain_last bs h = rw (plain_hrule bs h) (rw (plain_atx bs h) (rw (plain_fence bs h) refl))
+
+first_of : (n b : ℕ) (bs xs : List ℕ) → take n (b ∷ bs) ≡ 60 ∷ xs → b ≡ 60
+first_of zero b bs xs e = cc
+first_of (suc n) b bs xs e = cc
+
+none_by : (bs : List ℕ) (n : ℕ) (xs : List ℕ) → begins_plain bs ≡ true → take n bs ≡ 60 ∷ xs → ⊥
+none_by [] n xs h e = true≢false (sym h)
+none_by (b ∷ bs) n xs h e = true≢false (sym h ∙ ap is_plain (first_of n b bs xs e) ∙ plain_60)
+
+pub plain_tag : (bs : List ℕ) (n : ℕ) → begins_plain bs ≡ true → BeginsTagLine bs n → ⊥
+plain_tag bs n h t = elim t.tag [
+  | inl opening ↦ none_by bs n _ h opening.0.parts
+  | inr closing ↦ none_by bs n _ h closing.parts
+]
+
+first_none : (options : Options) (r : Rest) → r.owed ≡ 0 → begins_plain r.left ≡ true → first_kind options r ≡ None
+unfolding first_kind
+first_none options r o h =
+    rw (plain_blank r.left h) (rw (plain_indent r o h) (rw (plain_metadata (has options 128) (has options 256) r.left h) (plain_html r.left h)))
+
+paragraph_by : (r s : Rest) → s ≡ r → all_taken r ≡ s → begins_plain r.left ≡ true → IsKindBy r None Paragraph
+paragraph_by r s e a h = inr (
+  λ n t. plain_tag r.left n h (subst (λ (q : Rest). BeginsTagLine q.left n) (a ∙ e) t),
+  sym (ap (λ (q : Rest). last_kind q.left) (a ∙ e) ∙ plain_last r.left h),
+)
+
+pub plain_kind : (options : Options) (r : Rest) → r.owed ≡ 0 → begins_plain r.left ≡ true → IsKind options r Paragraph
+plain_kind options r o h =
+    subst (λ k. IsKindBy r k Paragraph) (sym (first_none options r o h)) (paragraph_by r r refl (plain_all r o h) h)

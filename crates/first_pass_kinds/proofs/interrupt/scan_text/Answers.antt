@@ -1,0 +1,16 @@
+use Rattle.std.proofs.Common.{min, ap, ◌∙◌}
+use Rattle.first_pass_lines.specs.Rest.{indent}
+use Rattle.first_pass_grammar.specs.Kinds.{all_taken}
+use Rattle.first_pass_open.specs.Path.{path_of}
+use Rattle.first_pass_open.proofs.PlaceLemmas.{text_place}
+use Rattle.first_pass_kinds.proofs.interrupt.scan_text.Goals as goal
+
+pub returns-clause-columns : goal.returns-clause-columns
+returns-clause-columns c = c.scan_indentation-columns.ensures.columns ∙ ap (λ r. min 4 (indent r)) c.scan_front-front.ensures.front
+
+pub returns-clause-rest : goal.returns-clause-rest
+returns-clause-rest c = c.scan_indentation-columns.ensures.rest ∙ ap all_taken c.scan_front-front.ensures.front
+
+pub returns-clause-place : goal.returns-clause-place
+returns-clause-place c =
+    (text_place c.args.source.now.text.now c.args.start (path_of c.args.source.now.options c.args.tree.now) c.scan_front-front.ensures.utf8 c.requires).0

@@ -1,0 +1,120 @@
+use Rattle.std.proofs.Common.{length, is_some, sym, ap, ◌∙◌, subst, arith, IsUtf8}
+use Rattle.std.specs.Option.{option_map}
+use Rattle.first_pass_lines.specs.Lines.{blank_len}
+use Rattle.first_pass_lines.specs.Rest.{Rest}
+use Rattle.first_pass_lines.specs.Places.{place_at, IsPlaceOf}
+use Rattle.first_pass_grammar.specs.Kinds.{all_taken, html_kind, last_kind, IsKind}
+use Rattle.first_pass_kinds.specs.Found.{kind_of, IsFoundWith}
+use Rattle.first_pass_kinds.proofs.KindLemmas.{many_columns, blank_kind, code_kind, behind_columns, found_early, tag_found, tag_absent, metadata_here}
+use Rattle.first_pass_kinds.proofs.KindLemmas.{html_here, tag_here, last_here, found_html}
+use Rattle.first_pass_open.proofs.PlainLemmas.{plain_all, plain_few}
+use Rattle.first_pass_kinds.proofs.PlainKinds.{plain_kind}
+use Rattle.first_pass_kinds.proofs.kinds.kind_at.Goals as goal
+
+pub returns-then-is_at_plain-clause-kind : goal.returns-then-is_at_plain-clause-kind
+returns-then-is_at_plain-clause-kind c =
+    rw (← c.place.view_is) (plain_kind c.args.source.now.options c.place.inside.rest (c.is_at_plain.ensures.owed c.if-is_at_plain.true)
+    (c.is_at_plain.ensures.plain c.if-is_at_plain.true))
+
+pub returns-then-is_at_plain-clause-columns : goal.returns-then-is_at_plain-clause-columns
+returns-then-is_at_plain-clause-columns c =
+    rw (← c.place.view_is)
+    (plain_few c.place.inside.rest (c.is_at_plain.ensures.owed c.if-is_at_plain.true) (c.is_at_plain.ensures.plain c.if-is_at_plain.true))
+
+pub returns-then-is_at_plain-clause-place : goal.returns-then-is_at_plain-clause-place
+returns-then-is_at_plain-clause-place c =
+    rw (← c.place.view_is) (ap (place_at c.place.inside.line)
+    (sym (plain_all c.place.inside.rest (c.is_at_plain.ensures.owed c.if-is_at_plain.true) (c.is_at_plain.ensures.plain c.if-is_at_plain.true))))
+
+pub returns-then-blank-clause-kind : goal.returns-then-blank-clause-kind
+returns-then-blank-clause-kind c =
+    rw (← c.place.view_is) (blank_kind c.args.source.now.options c.place.inside.rest
+    (ap (λ bs. is_some (blank_len bs)) (sym c.left.ensures) ∙ ap is_some (sym c.scan_blank_line.ensures.value) ∙ sym c.is_some-blank.ensures ∙ c.if-blank.true))
+
+pub returns-then-columns-ge4-clause-kind : goal.returns-then-columns-ge4-clause-kind
+returns-then-columns-ge4-clause-kind c =
+    rw (← c.place.view_is) (code_kind c.args.source.now.options c.place.inside.rest
+    (ap (λ bs. is_some (blank_len bs)) (sym c.left.ensures) ∙ ap is_some (sym c.scan_blank_line.ensures.value) ∙ sym c.is_some-blank.ensures ∙ c.if-blank.false)
+    (many_columns c.scan_indentation-columns.result _ c.scan_indentation-columns.ensures.columns c.if-columns-ge4.true))
+
+pub overflow_add-at : goal.overflow_add-at
+overflow_add-at c =
+    let w = behind_columns c.args.source.now.text.now c.place.inside.line c.bytes_scanned.result c.place.inside.rest _
+    (subst IsUtf8 c.as_bytes-bytes.ensures.value c.as_bytes-bytes.ensures.utf8)
+    (subst (IsPlaceOf c.args.source.now.text.now) (sym c.place.view_is) c.requires.place) c.scan_indentation-columns.ensures.rest c.bytes_scanned.ensures in
+    omega (arith, w.0)
+
+pub metadata_behind-requires-clause-within : goal.metadata_behind-requires-clause-within
+metadata_behind-requires-clause-within c =
+    let w = (behind_columns c.args.source.now.text.now c.place.inside.line c.bytes_scanned.result c.place.inside.rest _
+    (subst IsUtf8 c.as_bytes-bytes.ensures.value c.as_bytes-bytes.ensures.utf8)
+    (subst (IsPlaceOf c.args.source.now.text.now) (sym c.place.view_is) c.requires.place) c.scan_indentation-columns.ensures.rest c.bytes_scanned.ensures).0 in
+    let l = ap length c.as_bytes-bytes.ensures.value in
+    omega arith
+
+pub returns-in-Some-clause-kind : goal.returns-in-Some-clause-kind
+returns-in-Some-clause-kind c =
+    rw (← c.place.view_is) (metadata_here c.args.source.now.options c.place.inside.rest c.in-Some.byte
+    (found_early c.args.source.now.text.now c.as_bytes-bytes.result.now c.place.inside.line c.bytes_scanned.result
+    c.scan_indentation-columns.result c.args.source.now.options c.place.inside.rest _ _
+    (subst IsUtf8 c.as_bytes-bytes.ensures.value c.as_bytes-bytes.ensures.utf8)
+    (subst (IsPlaceOf c.args.source.now.text.now) (sym c.place.view_is) c.requires.place)
+    (ap (λ bs. is_some (blank_len bs)) (sym c.left.ensures) ∙ ap is_some (sym c.scan_blank_line.ensures.value) ∙ sym c.is_some-blank.ensures ∙ c.if-blank.false)
+    c.scan_indentation-columns.ensures.columns c.scan_indentation-columns.ensures.rest c.bytes_scanned.ensures c.if-columns-ge4.false
+    c.as_bytes-bytes.ensures.value (sym c.in-Some.is ∙ c.metadata_behind.ensures.value)))
+
+pub returns-in-Some-html_kind-clause-kind : goal.returns-in-Some-html_kind-clause-kind
+returns-in-Some-html_kind-clause-kind c =
+    let early = (found_early c.args.source.now.text.now c.as_bytes-bytes.result.now c.place.inside.line c.bytes_scanned.result
+    c.scan_indentation-columns.result c.args.source.now.options c.place.inside.rest _ _
+    (subst IsUtf8 c.as_bytes-bytes.ensures.value c.as_bytes-bytes.ensures.utf8)
+    (subst (IsPlaceOf c.args.source.now.text.now) (sym c.place.view_is) c.requires.place)
+    (ap (λ bs. is_some (blank_len bs)) (sym c.left.ensures) ∙ ap is_some (sym c.scan_blank_line.ensures.value) ∙ sym c.is_some-blank.ensures ∙ c.if-blank.false)
+    c.scan_indentation-columns.ensures.columns c.scan_indentation-columns.ensures.rest c.bytes_scanned.ensures c.if-columns-ge4.false
+    c.as_bytes-bytes.ensures.value (sym c.in_default.is ∙ c.metadata_behind.ensures.value)) in
+    let same = sym (c.left-left.ensures ∙ ap (λ (q : Rest). q.left) c.scan_indentation-columns.ensures.rest) in
+    rw (← c.place.view_is) (html_here c.args.source.now.options c.place.inside.rest (kind_of c.in-Some-html_kind.found) early (ap html_kind same
+    ∙ (found_html c.html_kind.result c.in-Some-html_kind.found _ _ _ c.in-Some-html_kind.is c.html_kind.ensures.kind c.html_kind.ensures.«end» same).0))
+
+pub returns-in-Some-html_kind-clause-end : goal.returns-in-Some-html_kind-clause-end
+returns-in-Some-html_kind-clause-end c =
+    let same = sym (c.left-left.ensures ∙ ap (λ (q : Rest). q.left) c.scan_indentation-columns.ensures.rest) in
+    rw (← c.place.view_is)
+    ((found_html c.html_kind.result c.in-Some-html_kind.found _ _ _ c.in-Some-html_kind.is c.html_kind.ensures.kind c.html_kind.ensures.«end» same).1)
+
+pub returns-then-is_some-clause-kind : goal.returns-then-is_some-clause-kind
+returns-then-is_some-clause-kind c =
+    let early = (found_early c.args.source.now.text.now c.as_bytes-bytes.result.now c.place.inside.line c.bytes_scanned.result
+    c.scan_indentation-columns.result c.args.source.now.options c.place.inside.rest _ _
+    (subst IsUtf8 c.as_bytes-bytes.ensures.value c.as_bytes-bytes.ensures.utf8)
+    (subst (IsPlaceOf c.args.source.now.text.now) (sym c.place.view_is) c.requires.place)
+    (ap (λ bs. is_some (blank_len bs)) (sym c.left.ensures) ∙ ap is_some (sym c.scan_blank_line.ensures.value) ∙ sym c.is_some-blank.ensures ∙ c.if-blank.false)
+    c.scan_indentation-columns.ensures.columns c.scan_indentation-columns.ensures.rest c.bytes_scanned.ensures c.if-columns-ge4.false
+    c.as_bytes-bytes.ensures.value (sym c.in_default.is ∙ c.metadata_behind.ensures.value)) in
+    let tag = tag_found c.scan_html_type_7.result _ (all_taken c.place.inside.rest).left (sym c.is_some.ensures ∙ c.if-is_some.true)
+    (sym (c.left-left.ensures ∙ ap (λ (q : Rest). q.left) c.scan_indentation-columns.ensures.rest)) c.scan_html_type_7.ensures.tag in
+    rw (← c.place.view_is) (tag_here c.args.source.now.options c.place.inside.rest tag.0 early
+    (ap html_kind (sym (c.left-left.ensures ∙ ap (λ (q : Rest). q.left) c.scan_indentation-columns.ensures.rest)) ∙ sym c.html_kind.ensures.kind
+    ∙ ap (option_map kind_of) c.in_default-html_kind.is) tag.1)
+
+pub returns-clause-kind : goal.returns-clause-kind
+returns-clause-kind c =
+    let early = (found_early c.args.source.now.text.now c.as_bytes-bytes.result.now c.place.inside.line c.bytes_scanned.result
+    c.scan_indentation-columns.result c.args.source.now.options c.place.inside.rest _ _
+    (subst IsUtf8 c.as_bytes-bytes.ensures.value c.as_bytes-bytes.ensures.utf8)
+    (subst (IsPlaceOf c.args.source.now.text.now) (sym c.place.view_is) c.requires.place)
+    (ap (λ bs. is_some (blank_len bs)) (sym c.left.ensures) ∙ ap is_some (sym c.scan_blank_line.ensures.value) ∙ sym c.is_some-blank.ensures ∙ c.if-blank.false)
+    c.scan_indentation-columns.ensures.columns c.scan_indentation-columns.ensures.rest c.bytes_scanned.ensures c.if-columns-ge4.false
+    c.as_bytes-bytes.ensures.value (sym c.in_default.is ∙ c.metadata_behind.ensures.value)) in
+    rw (← c.place.view_is) (subst (IsKind c.args.source.now.options c.place.inside.rest)
+    (ap last_kind (sym (c.left-left.ensures ∙ ap (λ (q : Rest). q.left) c.scan_indentation-columns.ensures.rest)) ∙ sym c.last_kind.ensures.kind)
+    (last_here c.args.source.now.options c.place.inside.rest early
+    (ap html_kind (sym (c.left-left.ensures ∙ ap (λ (q : Rest). q.left) c.scan_indentation-columns.ensures.rest)) ∙ sym c.html_kind.ensures.kind
+    ∙ ap (option_map kind_of) c.in_default-html_kind.is)
+    (tag_absent c.scan_html_type_7.result _ (all_taken c.place.inside.rest).left (sym c.is_some.ensures ∙ c.if-is_some.false)
+    (sym (c.left-left.ensures ∙ ap (λ (q : Rest). q.left) c.scan_indentation-columns.ensures.rest)) c.scan_html_type_7.ensures.none)))
+
+pub returns-clause-end : goal.returns-clause-end
+returns-clause-end c =
+    rw (← c.place.view_is) (subst (λ bs. IsFoundWith bs c.last_kind.result)
+    (c.left-left.ensures ∙ ap (λ (q : Rest). q.left) c.scan_indentation-columns.ensures.rest) c.last_kind.ensures.«end»)

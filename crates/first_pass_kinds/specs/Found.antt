@@ -1,0 +1,44 @@
+-- Which kind what was found at a place stands for, and the text that ends an HTML block.
+use Rattle.std.specs.Prelude.{◌≡◌, ℕ, List, drop, min, Some}
+use Rattle.first_pass_items.specs.declared.option_set.Options.{Options}
+use Rattle.first_pass_lines.specs.Rest.{indent}
+use Rattle.first_pass_lines.specs.Places.{Place, offset}
+use Rattle.first_pass_html.specs.Starts.{html_end}
+use Rattle.first_pass_grammar.specs.Kinds.{Kind, IsKind, unindented, Blank, IndentedCode, Metadata, HtmlToEnd, HtmlToBlank, ThematicBreak, AtxHeading}
+use Rattle.first_pass_grammar.specs.Kinds.{FencedCode, Paragraph}
+use Rattle.first_pass_kinds.specs.declared.kinds.Found.{Found}
+use Rattle.first_pass_kinds.specs.declared.kinds.Found.TheVariants.{Blank as FoundBlank, Paragraph as FoundParagraph, HtmlToBlank as FoundHtml, Marked}
+use Rattle.first_pass_kinds.specs.declared.kinds.MarkedLeaf.{MarkedLeaf}
+use Rattle.first_pass_kinds.specs.declared.kinds.MarkedLeaf.TheVariants.{IndentedCode as MarkedCode, Metadata as MarkedMetadata, HtmlToEnd as MarkedHtml}
+use Rattle.first_pass_kinds.specs.declared.kinds.MarkedLeaf.TheVariants.{ThematicBreak as MarkedBreak, AtxHeading as MarkedHeading, FencedCode as MarkedFence}
+
+abbrev pub marked_kind : MarkedLeaf → Kind
+marked_kind MarkedCode = IndentedCode
+marked_kind (MarkedMetadata byte) = Metadata byte
+marked_kind (MarkedHtml «end») = HtmlToEnd
+marked_kind (MarkedBreak size) = ThematicBreak size
+marked_kind (MarkedHeading level) = AtxHeading level
+marked_kind (MarkedFence count byte) = FencedCode count byte
+
+-- the kind of what was found
+abbrev pub kind_of : Found → Kind
+kind_of FoundBlank = Blank
+kind_of FoundParagraph = Paragraph
+kind_of FoundHtml = HtmlToBlank
+kind_of (Marked leaf) = marked_kind leaf
+
+-- the text with which an HTML block of the kinds 1 to 5 was found is the one that ends the block which begins here (CommonMark 4.6)
+abbrev pub HasEnd : List ℕ → MarkedLeaf → Type 0
+HasEnd bs (MarkedHtml «end») = html_end (drop 1 bs) ≡ Some «end».now
+HasEnd bs _ = Unit {0}
+
+abbrev pub IsFoundWith : List ℕ → Found → Type 0
+IsFoundWith bs (Marked leaf) = HasEnd bs leaf
+IsFoundWith bs _ = Unit {0}
+
+-- What was found at a place says what begins there, after how many columns (4 are said where there are more), and at which offset.
+pub record IsFoundAt (options : Options) (p : Place) (found : Found) (columns at : ℕ) : Type 0 where
+  pub kind : IsKind options p.rest (kind_of found)
+  pub «end» : IsFoundWith (unindented p).rest.left found
+  pub columns_are : columns ≡ min 4 (indent p.rest)
+  pub at_is : at ≡ offset (unindented p)

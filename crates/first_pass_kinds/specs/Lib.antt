@@ -1,0 +1,4 @@
+pub mod Found
+pub mod Memory
+pub mod NextLines
+pub mod Rests

@@ -1,0 +1,149 @@
+//! What begins at a place in a line.
+
+ghost use Rattle.std.specs.Prelude.{◌≡◌, ◌+◌, ◌≤◌, min, length, drop, Some, None, IfSome};
+ghost use Rattle.std.specs.Option.{option_map};
+ghost use Rattle.first_pass_lines.specs.Rest.{indent};
+ghost use Rattle.first_pass_lines.specs.Places.{IsPlaceOf};
+ghost use Rattle.first_pass_metadata.specs.MetadataSearch.{IsKnownOf};
+ghost use Rattle.first_pass_grammar.specs.Kinds.{html_kind, last_kind, metadata_at, IsKind, unindented};
+ghost use Rattle.first_pass_kinds.specs.Found.{kind_of, IsFoundWith};
+
+use bitflags::Flags;
+use first_pass_html::starts::{get_html_end_tag, starts_html_block_type_6};
+use first_pass_html::tags::scan_html_type_7;
+use first_pass_items::item::HeadingLevel;
+use first_pass_items::option_set::Options;
+use first_pass_lines::lines::{scan_atx_heading, scan_blank_line};
+use first_pass_metadata::metadata_search::{MetadataEnds, metadata_at};
+use first_pass_open::indentation::scan_indentation;
+use first_pass_open::place::Place;
+use first_pass_open::source::Source;
+use first_pass_scan::leaf_scan::{scan_code_fence, scan_hrule};
+
+/// What begins at a place of a line where no container begins, with what was found of it.
+#[derive(Clone, Copy)]
+pub enum Found {
+    /// A blank line (CommonMark 4.9).
+    Blank,
+    /// A paragraph (CommonMark 4.8).
+    Paragraph,
+    /// An HTML block that ends before a blank line: one of the kinds 6 and 7 (CommonMark 4.6).
+    HtmlToBlank,
+    /// Another leaf block.
+    Marked(MarkedLeaf),
+}
+
+/// A leaf block that is told by its indentation or by the mark that it begins with.
+#[derive(Clone, Copy)]
+pub enum MarkedLeaf {
+    /// Indented code (CommonMark 4.4).
+    IndentedCode,
+    /// A metadata block, with the byte of its marks: `-` or `+`.
+    Metadata(u8),
+    /// An HTML block of the kinds 1 to 5, with the text that ends it (CommonMark 4.6).
+    HtmlToEnd(&'static str),
+    /// A thematic break, with how many bytes it has, its line end too (CommonMark 4.1).
+    ThematicBreak(usize),
+    /// An ATX heading (CommonMark 4.2).
+    AtxHeading(HeadingLevel),
+    /// A fenced code block, with how many bytes its fence has, and which (CommonMark 4.5).
+    FencedCode(usize, u8),
+}
+
+/// The HTML block of the kinds 1 to 6 that begins here, if one does (CommonMark 4.6).
+#[inline(always)]
+pub fn html_kind(bytes: &[u8]) -> Option<Found>
+    ensures kind { option_map kind_of result ≡ html_kind bytes.now }
+    ensures end { IfSome result (λ found. IsFoundWith bytes.now found) }
+{
+    let [b'<', rest @ ..] = bytes else {
+        return None;
+    };
+    if let Some(end) = get_html_end_tag(rest) {
+        return Some(Found::Marked(MarkedLeaf::HtmlToEnd(end)));
+    }
+    if starts_html_block_type_6(rest) {
+        return Some(Found::HtmlToBlank);
+    }
+    None
+}
+
+// The thematic break, the ATX heading, the fenced code block or the paragraph that begins here.
+fn last_kind(bytes: &[u8]) -> Found
+    ensures kind { kind_of result ≡ last_kind bytes.now }
+    ensures end { IsFoundWith bytes.now result }
+{
+    if let Some(size) = scan_hrule(bytes) {
+        return Found::Marked(MarkedLeaf::ThematicBreak(size));
+    }
+    if let Some(level) = scan_atx_heading(bytes) {
+        return Found::Marked(MarkedLeaf::AtxHeading(level));
+    }
+    match scan_code_fence(bytes) {
+        Some((count, byte)) => Found::Marked(MarkedLeaf::FencedCode(count, byte)),
+        None => Found::Paragraph,
+    }
+}
+
+// The byte of the metadata block that begins at the offset `at` into the text after so many columns, which have to
+// be none.
+fn metadata_behind(
+    text: &[u8],
+    at: usize,
+    columns: usize,
+    options: Options,
+    ends: &mut MetadataEnds,
+) -> Option<u8>
+    requires within { at ≤ length text.now }
+    requires known { IsKnownOf text.now ends.old }
+    ensures value { result ≡ metadata_at columns options (drop at text.now) }
+    ensures known { IsKnownOf text.now ends.new }
+{
+    if columns > 0 {
+        return None;
+    }
+    let yaml = options.contains(Options::ENABLE_YAML_STYLE_METADATA_BLOCKS);
+    let pluses = options.contains(Options::ENABLE_PLUSES_DELIMITED_METADATA_BLOCKS);
+    metadata_at(text, at, yaml, pluses, ends)
+}
+
+/// What begins at a place in a text where no container does; takes all columns before it, and says how many there
+/// were, but 4 where there were more (CommonMark 4).
+pub fn kind_at<'a>(
+    source: &Source<'_>,
+    place: &mut Place<'a>,
+    ends: &mut MetadataEnds,
+) -> (Found, usize)
+    requires place { IsPlaceOf source.now.text.now place.old }
+    requires known { IsKnownOf source.now.text.now ends.old }
+    ensures kind { IsKind source.now.options place.old.rest (kind_of result.0) }
+    ensures end { IsFoundWith (unindented place.old).rest.left result.0 }
+    ensures columns { result.1 ≡ min 4 (indent place.old.rest) }
+    ensures place { place.new ≡ unindented place.old }
+    ensures known { IsKnownOf source.now.text.now ends.new }
+{
+    if place.rest.is_at_plain() {
+        return (Found::Paragraph, 0);
+    }
+    let blank = scan_blank_line(place.rest.left()).is_some();
+    let columns = scan_indentation(&mut place.rest);
+    if blank {
+        return (Found::Blank, columns);
+    }
+    if columns >= 4 {
+        return (Found::Marked(MarkedLeaf::IndentedCode), columns);
+    }
+    let bytes = source.text.as_bytes();
+    let at = place.line + place.rest.bytes_scanned();
+    if let Some(byte) = metadata_behind(bytes, at, columns, source.options, ends) {
+        return (Found::Marked(MarkedLeaf::Metadata(byte)), columns);
+    }
+    let left = place.rest.left();
+    if let Some(found) = html_kind(left) {
+        return (found, columns);
+    }
+    if scan_html_type_7(left).is_some() {
+        return (Found::HtmlToBlank, columns);
+    }
+    (last_kind(left), columns)
+}

@@ -1,0 +1,2 @@
+pub mod KnownFacts
+pub mod MetadataFacts

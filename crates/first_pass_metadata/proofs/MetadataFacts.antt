@@ -1,0 +1,164 @@
+-- Facts on where metadata closes.
+use Rattle.std.proofs.Common.{◌≡◌, ◌&&◌, Option, Some, None, if◌then◌else◌, inl, inr, ℕ, zero, suc, ◌+◌, ◌-◌, ◌<◌, ◌≤◌, Bool, true, false, cond, ◌||◌}
+use Rattle.std.proofs.Common.{nat_lt, List, [], ◌∷◌, length, drop, refl, sym, ap, ◌∙◌, arith, drop-drop}
+use Rattle.std.specs.List.{list_any}
+use Rattle.std.proofs.lemmas.Bool.{cases_lt, lt-ltb, le-ltb}
+use Rattle.first_pass_lines.specs.Lines.{begins, is_content, ends_line, line_len}
+use Rattle.first_pass_lines.specs.Places.{Place, line_place, lines_behind, lines_at}
+use Rattle.first_pass_metadata.specs.Metadata.{closes_metadata, any_line_closes, behind_line, opens_metadata, metadata_byte}
+use Rattle.first_pass_metadata.specs.MetadataSearch.{first_closing, closing_line_from}
+use Rattle.first_pass_lines.proofs.LineFacts.{line_len-inside, line_len-within, lines_at-line, lines_at-end}
+use Rattle.first_pass_lines.specs.Plain.{is_plain, begins_plain}
+use Rattle.first_pass_scan.proofs.PlainFacts.{plain_begins}
+
+-- a line closes, or one after it does
+any_line-first : (c start : ℕ) (text : List ℕ) (more : List Place) (t : Bool) → lines_at start (drop start text) ≡ line_place start (drop start text) ∷ more
+    → t ≡ closes_metadata c (drop start text) → any_line_closes c start (drop start text) ≡ (t || list_any (λ line. closes_metadata c line.rest.left) more)
+any_line-first c start text more t h e =
+    ap (list_any (λ line. closes_metadata c line.rest.left)) h ∙ ap (λ u. u || list_any (λ line. closes_metadata c line.rest.left) more) (sym e)
+
+any_line-none : (c start : ℕ) (text : List ℕ) → lines_at start (drop start text) ≡ [] → any_line_closes c start (drop start text) ≡ false
+any_line-none c start text h = ap (list_any (λ line. closes_metadata c line.rest.left)) h
+
+-- the first closing line: the one that begins here, or the first one further on, or none at the end of the text
+pub closing_line-here : (c : ℕ) (text : List ℕ) (s : ℕ) → s < length text → closes_metadata c (drop s text) ≡ true → closing_line_from c text s ≡ s
+unfolding closing_line_from first_closing
+closing_line-here c text s l h = ap (first_closing c (length text)) (lines_at-line text s l) ∙ rw h
+
+pub closing_line-further : (c : ℕ) (text : List ℕ) (s : ℕ)
+    → s < length text → closes_metadata c (drop s text) ≡ false → closing_line_from c text s ≡ closing_line_from c text (s + line_len (drop s text))
+unfolding closing_line_from first_closing
+closing_line-further c text s l h = ap (first_closing c (length text)) (lines_at-line text s l) ∙ rw h
+
+pub closing_line-end : (c : ℕ) (text : List ℕ) (s : ℕ) → length text ≤ s → closing_line_from c text s ≡ length text
+unfolding closing_line_from first_closing
+closing_line-end c text s l = ap (first_closing c (length text)) (lines_at-end text s l)
+
+-- where one line ends, another that begins before doesn't continue
+pub lines-apart : (text : List ℕ) (s y : ℕ) → s < y + line_len (drop y text) → s + line_len (drop s text) ≤ y + line_len (drop y text)
+lines-apart text s y h =
+    elim (cases_lt s y) as (λ _. s + line_len (drop s text) ≤ y + line_len (drop y text)) [
+      | inl before ↦
+          elim (cases_lt y (s + line_len (drop s text))) as (λ _. s + line_len (drop s text) ≤ y + line_len (drop y text)) [
+            | inl inside ↦
+                let d : drop (y - s) (drop s text) ≡ drop y text = drop-drop (y - s) s text ∙ ap (λ k. drop k text) (omega arith) in
+                let e = line_len-inside (drop s text) (y - s) (omega arith) in
+                omega (arith, ap line_len d)
+            | inr outside ↦ omega arith
+          ]
+      | inr behind ↦
+          let d : drop (s - y) (drop y text) ≡ drop s text = drop-drop (s - y) y text ∙ ap (λ k. drop k text) (omega arith) in
+          let e = line_len-inside (drop y text) (s - y) (omega arith) in
+          omega (arith, ap line_len d)
+    ]
+
+-- what was found from an offset on is found from where a later line begins too, unless it stands before that
+same_step : (c : ℕ) (text : List ℕ) (most s y from : ℕ) (t : Bool) → from ≡ y + line_len (drop y text) → from ≤ s + suc most → s < from → s < length text
+    → from ≤ closing_line_from c text s → closes_metadata c (drop s text) ≡ t
+    → ((k : ℕ) → from ≤ k + most → k ≤ from → from ≤ closing_line_from c text k → closing_line_from c text k ≡ closing_line_from c text from)
+    → closing_line_from c text s ≡ closing_line_from c text from
+same_step c text most s y from true e m b l w h f = let here = closing_line-here c text s l h in absurd (omega arith)
+same_step c text most s y from false e m b l w h f =
+    let further = closing_line-further c text s l h in
+    let apart = lines-apart text s y (omega arith) in
+    let some = (line_len-within text s l).0 in
+    further ∙ f (s + line_len (drop s text)) (omega arith) (omega arith) (omega arith)
+
+same_up_to : (c : ℕ) (text : List ℕ) (most s y from : ℕ) → from ≡ y + line_len (drop y text) → from ≤ s + most → s ≤ from → from ≤ closing_line_from c text s
+    → closing_line_from c text s ≡ closing_line_from c text from
+same_up_to c text zero s y from e m b w = ap (closing_line_from c text) (omega arith)
+same_up_to c text (suc most) s y from e m b w =
+    elim (cases_lt s from) as (λ _. closing_line_from c text s ≡ closing_line_from c text from) [
+      | inl before ↦
+          elim (cases_lt s (length text)) as (λ _. closing_line_from c text s ≡ closing_line_from c text from) [
+            | inl some ↦
+                same_step c text most s y from (closes_metadata c (drop s text)) e m before some w refl (λ k n h u. same_up_to c text most k y from e n h u)
+            | inr none ↦ let end = closing_line-end c text s none in absurd (omega arith)
+          ]
+      | inr here ↦ ap (closing_line_from c text) (omega arith)
+    ]
+
+pub closing_line-same : (c : ℕ) (text : List ℕ) (s y from : ℕ)
+    → from ≡ y + line_len (drop y text) → s ≤ from → from ≤ closing_line_from c text s → closing_line_from c text s ≡ closing_line_from c text from
+closing_line-same c text s y from e b w = same_up_to c text from s y from e (omega arith) b w
+
+-- whether a line closes doesn't hang on the offset at which the bytes begin
+any_behind : (c b s t : ℕ) (bs : List ℕ)
+    → list_any (λ line. closes_metadata c line.rest.left) (lines_behind b s bs) ≡ list_any (λ line. closes_metadata c line.rest.left) (lines_behind b t bs)
+unfolding lines_behind
+any_behind c b s t [] = refl
+any_behind c b s t (x ∷ xs) =
+    let p : Place → Bool = λ line. closes_metadata c line.rest.left in
+    let r = any_behind c x (s + 1) (t + 1) xs in
+    elim (ends_line b (x ∷ xs)) as (λ u.
+    let here : List Place = lines_behind x (s + 1) xs in
+    let there : List Place = lines_behind x (t + 1) xs in
+    list_any p (cond u (line_place s (x ∷ xs) ∷ here) here) ≡ list_any p (cond u (line_place t (x ∷ xs) ∷ there) there)) [
+      | true ↦ ap (λ v. closes_metadata c (x ∷ xs) || v) r
+      | false ↦ r
+    ]
+
+pub any_line-anywhere : (c s t : ℕ) (bs : List ℕ) → any_line_closes c s bs ≡ any_line_closes c t bs
+unfolding lines_at
+any_line-anywhere c s t [] = refl
+any_line-anywhere c s t (b ∷ bs) = ap (λ v. closes_metadata c (b ∷ bs) || v) (any_behind c b (s + 1) (t + 1) bs)
+
+-- some line closes, where the first that does begins before the end of the text
+sought_step : (c : ℕ) (text : List ℕ) (most s : ℕ) (t : Bool) → s < length text → length text ≤ s + suc most → t ≡ closes_metadata c (drop s text)
+    → ((k : ℕ) → length text ≤ k + most → nat_lt (closing_line_from c text k) (length text) ≡ any_line_closes c k (drop k text))
+    → nat_lt (closing_line_from c text s) (length text) ≡ any_line_closes c s (drop s text)
+sought_step c text most s true l m h f =
+    let at = closing_line-here c text s l (sym h) in
+    let before : nat_lt (closing_line_from c text s) (length text) ≡ true = lt-ltb _ _ (omega arith) in
+    before ∙ sym (any_line-first c s text _ true (lines_at-line text s l) h)
+sought_step c text most s false l m h f =
+    let some = (line_len-within text s l).0 in
+    ap (λ k. nat_lt k (length text)) (closing_line-further c text s l (sym h)) ∙ f (s + line_len (drop s text)) (omega arith)
+    ∙ sym (any_line-first c s text _ false (lines_at-line text s l) h)
+
+sought_end : (c : ℕ) (text : List ℕ) (s : ℕ) → length text ≤ s → nat_lt (closing_line_from c text s) (length text) ≡ any_line_closes c s (drop s text)
+sought_end c text s l =
+    let at = closing_line-end c text s l in
+    le-ltb _ _ (omega arith) ∙ sym (any_line-none c s text (lines_at-end text s l))
+
+sought_up_to : (c : ℕ) (text : List ℕ) (most s : ℕ)
+    → length text ≤ s + most → nat_lt (closing_line_from c text s) (length text) ≡ any_line_closes c s (drop s text)
+sought_up_to c text zero s m = sought_end c text s (omega arith)
+sought_up_to c text (suc most) s m =
+    elim (cases_lt s (length text)) as (λ _. nat_lt (closing_line_from c text s) (length text) ≡ any_line_closes c s (drop s text)) [
+      | inl some ↦ sought_step c text most s (closes_metadata c (drop s text)) some m refl (sought_up_to c text most)
+      | inr none ↦ sought_end c text s none
+    ]
+
+pub any_line-sought : (c : ℕ) (text : List ℕ) (s : ℕ) → nat_lt (closing_line_from c text s) (length text) ≡ any_line_closes c s (drop s text)
+any_line-sought c text s = sought_up_to c text (length text) s (omega arith)
+
+-- the same for the lines after the one that begins at an offset
+pub any_line-behind : (c : ℕ) (text : List ℕ) (s from : ℕ)
+    → from ≡ s + line_len (drop s text) → nat_lt (closing_line_from c text from) (length text) ≡ any_line_closes c 0 (behind_line (drop s text))
+any_line-behind c text s from e =
+    let d : drop from text ≡ behind_line (drop s text) = ap (λ k. drop k text) e ∙ sym (drop-drop (line_len (drop s text)) s text) in
+    any_line-sought c text from ∙ any_line-anywhere c from 0 (drop from text) ∙ ap (any_line_closes c 0) d
+
+-- what opens metadata is no line end
+metadata_plain_by : (t v w x : Bool) (byte : ℕ)
+    → (if t then (if v then Some 45 else None) else (if w then (if x then Some 43 else None) else None)) ≡ Some byte → is_content byte ≡ true
+metadata_plain_by true true w x byte h = (let e : 45 ≡ byte = cc in ap is_content (sym e))
+metadata_plain_by true false w x byte h = cc
+metadata_plain_by false v true true byte h = (let e : 43 ≡ byte = cc in ap is_content (sym e))
+metadata_plain_by false v true false byte h = cc
+metadata_plain_by false v false x byte h = cc
+
+pub metadata_plain : (yaml pluses : Bool) (bs : List ℕ) (byte : ℕ) → metadata_byte yaml pluses bs ≡ Some byte → is_content byte ≡ true
+unfolding metadata_byte
+metadata_plain yaml pluses bs byte h = metadata_plain_by (yaml && begins 45 bs) (opens_metadata 45 bs) (pluses && begins 43 bs) (opens_metadata 43 bs) byte h
+
+-- with a plain byte no metadata opens
+and_none : (yaml : Bool) (t : Bool) (x y : Option ℕ) → t ≡ false → (if yaml && t then x else y) ≡ y
+and_none true t x y e = rw e refl
+and_none false t x y e = refl
+
+pub plain_metadata : (yaml pluses : Bool) (bs : List ℕ) → begins_plain bs ≡ true → metadata_byte yaml pluses bs ≡ None
+unfolding metadata_byte is_plain
+plain_metadata yaml pluses bs h =
+    and_none yaml (begins 45 bs) _ _ (plain_begins 45 bs h refl) ∙ and_none pluses (begins 43 bs) _ _ (plain_begins 43 bs h refl)

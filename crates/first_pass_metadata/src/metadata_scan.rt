@@ -1,0 +1,117 @@
+//! Lines that open or close a metadata block.
+
+ghost use Rattle.std.specs.Prelude.{◌≡◌, ◌≤◌, true, length, Some, None, IfSome, if◌then◌else◌};
+ghost use Rattle.first_pass_lines.specs.Lines.{line_len};
+ghost use Rattle.first_pass_metadata.specs.Metadata.{closing_marks, closing_metadata_len, any_line_closes, begins_metadata, opens_metadata as metadata_opens, metadata_byte};
+ghost use Rattle.first_pass_metadata.specs.MetadataSearch.{closing_line_from};
+
+use first_pass_lines::lines::{scan_blank_line, scan_eol, scan_nextline};
+use first_pass_lines::places::{next_line, rest_of};
+use first_pass_scan::leaf_scan::scan_run;
+
+// Whether the marks of a closing line of metadata stand first.
+#[tactic(auto, unfolding(crate::specs::Metadata::closing_marks))]
+fn has_closing_marks(bytes: &[u8], byte: u8) -> bool
+    ensures value { result ≡ closing_marks byte bytes.now }
+    ensures long { result ≡ true → 3 ≤ length bytes.now }
+{
+    if byte == b'-' && bytes.starts_with(b"...") {
+        return true;
+    }
+    bytes.starts_with(&[byte, byte, byte])
+}
+
+/// How many bytes the closing line of metadata that `bytes` begins with has, with the spaces after its
+/// marks and without its line end: three of `byte`, or `...` where that is `-`. Else `None`.
+#[tactic(auto, unfolding(crate::specs::Metadata::closing_metadata_len))]
+pub fn scan_closing_metadata_block(bytes: &[u8], byte: u8) -> Option<usize>
+    ensures value { result ≡ closing_metadata_len byte bytes.now }
+    ensures within { IfSome result (λ n. n ≤ length bytes.now) }
+{
+    if !has_closing_marks(bytes, byte) {
+        return None;
+    }
+    let end = 3 + scan_run(rest_of(bytes, 3), b' ');
+    scan_eol(rest_of(bytes, end))?;
+    Some(end)
+}
+
+// Where the first line begins, from the offset `from` into the text on, that closes metadata of the
+// byte, or the text's length.
+pub(crate) fn scan_closing_line(text: &[u8], from: usize, byte: u8) -> usize
+    requires { from ≤ length text.now }
+    ensures { result ≡ closing_line_from byte text.now from }
+{
+    let mut at = from;
+    while at < text.len() {
+        if scan_closing_metadata_block(rest_of(text, at), byte).is_some() {
+            return at;
+        }
+        at = next_line(text, at);
+    }
+    at
+}
+
+// Whether some line closes metadata of the byte.
+fn has_closing_line(bytes: &[u8], byte: u8) -> bool
+    ensures { result ≡ any_line_closes byte 0 bytes.now }
+{
+    scan_closing_line(bytes, 0, byte) < bytes.len()
+}
+
+// How many bytes the first line has, its end too, where it and the next one let metadata of the byte
+// open here.
+#[tactic(auto, unfolding(crate::specs::Metadata::begins_metadata))]
+pub(crate) fn scan_metadata_opening(bytes: &[u8], byte: u8) -> Option<usize>
+    ensures value { result ≡ (if begins_metadata byte bytes.now then Some (line_len bytes.now) else None) }
+    ensures within { IfSome result (λ n. n ≤ length bytes.now) }
+{
+    if scan_run(bytes, byte) != 3 || scan_blank_line(&bytes[3..]).is_none() {
+        return None;
+    }
+    let end = scan_nextline(bytes);
+    let next = rest_of(bytes, end);
+    if scan_blank_line(next).is_some() || scan_closing_metadata_block(next, byte).is_some() {
+        return None;
+    }
+    Some(end)
+}
+
+// Whether metadata of the byte opens here.
+#[tactic(auto, unfolding(crate::specs::Metadata::opens_metadata))]
+fn opens_metadata(bytes: &[u8], byte: u8) -> bool
+    ensures { result ≡ metadata_opens byte bytes.now }
+{
+    match scan_metadata_opening(bytes, byte) {
+        None => false,
+        Some(end) => {
+            let next = rest_of(bytes, end);
+            has_closing_line(rest_of(next, scan_nextline(next)), byte)
+        }
+    }
+}
+
+/// The byte of the metadata block that `bytes` begins with: `-` where `yaml` is on, `+` where `pluses`
+/// is. A line of three of that byte opens it, where a line that is neither blank nor a closing one
+/// follows, and a closing line further on. `bytes` continue to the end of the text, and their lines are
+/// judged with the prefixes of their containers. Else `None`.
+#[tactic(auto, unfolding(crate::specs::Metadata::metadata_byte))]
+pub fn scan_metadata_block(bytes: &[u8], yaml: bool, pluses: bool) -> Option<u8>
+    ensures value { result ≡ metadata_byte yaml pluses bytes.now }
+{
+    match bytes {
+        [b'-', ..] if yaml => {
+            if !opens_metadata(bytes, b'-') {
+                return None;
+            }
+            Some(b'-')
+        }
+        [b'+', ..] if pluses => {
+            if !opens_metadata(bytes, b'+') {
+                return None;
+            }
+            Some(b'+')
+        }
+        _ => None,
+    }
+}

@@ -1,0 +1,102 @@
+//! Metadata blocks of one text, with the lines remembered that close them.
+
+ghost use Rattle.std.specs.Prelude.{◌≡◌, ◌≤◌, ℕ, List, length, drop, IfSome};
+ghost use Rattle.first_pass_metadata.specs.Metadata.{behind_line, any_line_closes, opens_metadata, metadata_byte};
+ghost use Rattle.first_pass_metadata.specs.MetadataSearch.{IsClosingLine, IsKnownOf};
+
+use crate::metadata_scan::{scan_closing_line, scan_metadata_opening};
+use first_pass_lines::places::{next_line, rest_of};
+
+// The first line, from an offset on, that closes metadata of a byte: where it was sought from, and
+// where it begins, or the text's length if there is none.
+#[derive(Clone, Copy, PartialEq, Eq)]
+struct ClosingLine {
+    from: usize,
+    at: usize,
+}
+
+/// What is known of the lines of one text that close metadata: nothing at first.
+#[derive(Clone, Copy, PartialEq, Eq)]
+pub struct MetadataEnds {
+    dashes: Option<ClosingLine>,
+    pluses: Option<ClosingLine>,
+}
+
+impl MetadataEnds {
+    /// Nothing is known, of whatever text.
+    pub const fn new() -> MetadataEnds
+        ensures { (text : List ℕ) → IsKnownOf text result }
+    {
+        MetadataEnds {
+            dashes: None,
+            pluses: None,
+        }
+    }
+}
+
+/// The byte of the metadata block that begins at the offset `start` into the text, `-` where `yaml` is
+/// on and `+` where `pluses` is on, as `scan_metadata_block` says on the bytes there. What is found of
+/// closing lines is remembered in `ends`, so that the lines of a text are sought through once for each
+/// byte however many blocks seem to begin in it, if these are asked for in the order of the text.
+#[tactic(auto, unfolding(crate::specs::Metadata::metadata_byte))]
+pub fn metadata_at(
+    text: &[u8],
+    start: usize,
+    yaml: bool,
+    pluses: bool,
+    ends: &mut MetadataEnds,
+) -> Option<u8>
+    requires within { start ≤ length text.now }
+    requires known { IsKnownOf text.now ends.old }
+    ensures value { result ≡ metadata_byte yaml pluses (drop start text.now) }
+    ensures known { IsKnownOf text.now ends.new }
+{
+    match rest_of(text, start) {
+        [b'-', ..] if yaml => {
+            if !opens_at(text, start, b'-', &mut ends.dashes) {
+                return None;
+            }
+            Some(b'-')
+        }
+        [b'+', ..] if pluses => {
+            if !opens_at(text, start, b'+', &mut ends.pluses) {
+                return None;
+            }
+            Some(b'+')
+        }
+        _ => None,
+    }
+}
+
+// Whether metadata of the byte opens at the offset `start`.
+#[tactic(auto, unfolding(crate::specs::Metadata::opens_metadata))]
+fn opens_at(text: &[u8], start: usize, byte: u8, known: &mut Option<ClosingLine>) -> bool
+    requires within { start ≤ length text.now }
+    requires known { IfSome known.old (IsClosingLine byte text.now) }
+    ensures value { result ≡ opens_metadata byte (drop start text.now) }
+    ensures known { IfSome known.new (IsClosingLine byte text.now) }
+{
+    match scan_metadata_opening(rest_of(text, start), byte) {
+        None => false,
+        Some(end) => closes_behind(text, start + end, byte, known),
+    }
+}
+
+// Whether some line closes metadata of the byte after the line that begins at the offset `line`.
+fn closes_behind(text: &[u8], line: usize, byte: u8, known: &mut Option<ClosingLine>) -> bool
+    requires within { line ≤ length text.now }
+    requires known { IfSome known.old (IsClosingLine byte text.now) }
+    ensures value { result ≡ any_line_closes byte 0 (behind_line (drop line text.now)) }
+    ensures known { IfSome known.new (IsClosingLine byte text.now) }
+{
+    let from = next_line(text, line);
+    if let Some(found) = *known
+        && found.from <= from
+        && from <= found.at
+    {
+        return found.at < text.len();
+    }
+    let at = scan_closing_line(text, from, byte);
+    *known = Some(ClosingLine { from, at });
+    at < text.len()
+}

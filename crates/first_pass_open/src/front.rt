@@ -1,0 +1,91 @@
+//! The front of a line: what the open containers take of it, and what is left then (CommonMark 5).
+
+ghost use Rattle.std.specs.Prelude.{◌≡◌, ◌<◌, ◌≤◌, ℕ, drop, length, is_some, Some, None, IfSome, IsTrue, IsUtf8, IsCharBoundary};
+ghost use Rattle.first_pass_lines.specs.Places.{line_rest, place_at, IsPlaceOf};
+ghost use Rattle.first_pass_grammar.specs.Containers.{after, front};
+ghost use Rattle.first_pass_open.specs.Path.{outer, path_in, path_of};
+
+use crate::containers::scan_containers;
+use crate::source::Source;
+use first_pass_items::item::Item;
+use first_pass_items::option_set::Options;
+use first_pass_lines::places::rest_of;
+use first_pass_scan::line_start::LineStart;
+use first_pass_tree::forest::Tree;
+
+/// What the open containers make of a line.
+#[derive(Drop)]
+pub struct Front<'a> {
+    /// How many of the open nodes the line continues, the outermost first.
+    pub kept: usize,
+    /// Whether these are all.
+    pub whole: bool,
+    /// What is left of the line after what they take.
+    pub rest: LineStart<'a>,
+}
+
+/// The front of the line that `bytes` begin with, where these nodes are open.
+#[inline(always)]
+pub fn front_of<'b>(bytes: &'b [u8], tree: &Tree<Item>, options: Options) -> Front<'b>
+    ensures within { result.kept ≤ length tree.now.spine }
+    ensures taken { after (path_in options tree.now.nodes (outer result.kept tree.now.spine)) (line_rest bytes.now)
+        ≡ Some result.rest }
+    ensures stops { (m : ℕ) → result.kept < m → m ≤ length tree.now.spine
+        → after (path_in options tree.now.nodes (outer m tree.now.spine)) (line_rest bytes.now) ≡ None }
+    ensures whole { result.whole ≡ is_some (after (path_of options tree.now) (line_rest bytes.now)) }
+    ensures front { result.rest ≡ front (path_of options tree.now) (line_rest bytes.now) }
+    ensures continued { IsTrue result.whole → after (path_of options tree.now) (line_rest bytes.now)
+        ≡ Some result.rest }
+{
+    let mut rest = LineStart::new(bytes);
+    let kept = scan_containers(tree, &mut rest, options, false);
+    Front {
+        kept,
+        whole: kept == tree.spine_len(),
+        rest,
+    }
+}
+
+/// The front of the line that begins at the offset `start` into the text.
+#[inline(always)]
+pub fn scan_front<'a>(source: &Source<'a>, tree: &Tree<Item>, start: usize) -> Front<'a>
+    requires { IsCharBoundary source.now.text.now start }
+    ensures within { result.kept ≤ length tree.now.spine }
+    ensures taken { after (path_in source.now.options tree.now.nodes (outer result.kept tree.now.spine))
+        (line_rest (drop start source.now.text.now)) ≡ Some result.rest }
+    ensures stops { (m : ℕ) → result.kept < m → m ≤ length tree.now.spine
+        → after (path_in source.now.options tree.now.nodes (outer m tree.now.spine))
+        (line_rest (drop start source.now.text.now)) ≡ None }
+    ensures whole { result.whole
+        ≡ is_some (after (path_of source.now.options tree.now) (line_rest (drop start source.now.text.now))) }
+    ensures front { result.rest
+        ≡ front (path_of source.now.options tree.now) (line_rest (drop start source.now.text.now)) }
+    ensures continued { IsTrue result.whole
+        → after (path_of source.now.options tree.now) (line_rest (drop start source.now.text.now))
+        ≡ Some result.rest }
+    ensures place { IsPlaceOf source.now.text.now (place_at start result.rest) }
+    ensures utf8 { IsUtf8 source.now.text.now }
+{
+    front_of(rest_of(source.text.as_bytes(), start), tree, source.options)
+}
+
+/// What is left of the line that begins at the offset `start` after what all open containers take of it;
+/// `None` where it doesn't continue all of them (CommonMark 5).
+#[inline(always)]
+pub fn scan_continued<'a>(
+    source: &Source<'a>,
+    tree: &Tree<Item>,
+    start: usize,
+) -> Option<LineStart<'a>>
+    requires { IsCharBoundary source.now.text.now start }
+    ensures value { result
+        ≡ after (path_of source.now.options tree.now) (line_rest (drop start source.now.text.now)) }
+    ensures place { IfSome result (λ rest. IsPlaceOf source.now.text.now (place_at start rest)) }
+    ensures utf8 { IsUtf8 source.now.text.now }
+{
+    let front = scan_front(source, tree, start);
+    if !front.whole {
+        return None;
+    }
+    Some(front.rest)
+}
