@@ -21,10 +21,11 @@ use Rattle.first_pass_grammar.specs.Kinds.{Blank, all_taken, is_blank_rest, item
 use Rattle.first_pass_grammar.specs.Leaves.{Document}
 use Rattle.first_pass_grammar.specs.Blocks.{BlankLine}
 use Rattle.first_pass_grammar.specs.Skeleton.{From, Line, Inside, Blanks, OpensLeaf, OpensAs, Opens, is_blank_behind, next_is_blank}
-use Rattle.first_pass_grammar.specs.Skeleton.{end_before}
+use Rattle.first_pass_grammar.specs.Skeleton.{level, Lines, end_before}
 use Rattle.first_pass_grammar.specs.Derivation.{Tables, node_of}
 use Rattle.first_pass_grammar.specs.Completion.{Frame, InContainer, InList, containers_of, AreBelow}
-use Rattle.first_pass_grammar.proofs.Finishes.{CompletesAt}
+use Rattle.first_pass_grammar.proofs.Finishes.{CompletesAt, before_of}
+use Rattle.first_pass_grammar.proofs.Goings.{stops_blank}
 use Rattle.first_pass_kinds.proofs.KindLemmas.{blank_kind}
 use Rattle.first_pass_grammar.proofs.Completions.{counts_in, completes-enter, completes-blank_line, completes-only_blank}
 use Rattle.first_pass_open.specs.OpenBlock.{closed_by}
@@ -32,7 +33,7 @@ use Rattle.first_pass_lists.specs.Closing.{top_body, is_item, popped_by, popped,
 use Rattle.first_pass_lists.specs.declared.reading.Reading.{Reading}
 use Rattle.first_pass_open.specs.Path.{container_of, container_at, with_container, path_in, path_of}
 use Rattle.first_pass_blocks.specs.State.{frame_of, frame_at, AreOpen, ReadyAt, ReadyBeforeLine, ReadyInItem, ReadyEmpty, ReadyWith, Ready}
-use Rattle.first_pass_blocks.proofs.OpenLemmas.{open_path}
+use Rattle.first_pass_blocks.proofs.OpenLemmas.{open_path, open_stays, open_not_old}
 use Rattle.first_pass_tree.proofs.BodyLemmas.{body-changed, body-other, not_changed}
 use Rattle.first_pass_blocks.proofs.PopLemmas.{pop_container}
 use Rattle.first_pass_blocks.proofs.StateLemmas.{ready_plain, after_zero, popped_is, same_path, closed_containers}
@@ -170,7 +171,8 @@ ready_enter d defined f run line lines r is ready =
       frames = ready.frames;
       are_open = ready.are_open;
       completes = completes-enter d defined run ready.frames f.nodes (map (λ i. i.0) f.spine) line (at_rest line r) lines
-          (ap (option_map (at_rest line)) (ap (λ z. after z line.rest) (sym path) ∙ is)) ready.completes;
+          (ap (option_map (at_rest line)) (ap (λ z. after z line.rest) (sym path) ∙ is))
+          (open_not_old f.nodes f.spine ready.frames ready.are_open (before_of ready.frames run)) ready.completes;
     }
 
 or_true : (a : Bool) → (a || true) ≡ true
@@ -232,7 +234,7 @@ module _ (d : Document) (defined : Tables) (r : Reading) (p : Place) (lines : Li
         frames = ready.frames;
         are_open = ready.are_open;
         completes = completes-blank_line d defined r.blank ready.frames r.tree.nodes (map (λ i. i.0) r.tree.spine) p lines lines
-            (opens_blank d (containers_of ready.frames) p lines blank) ready.completes;
+            (open_stays d r.tree.nodes r.tree.spine ready.frames ready.are_open p) (opens_blank d (containers_of ready.frames) p lines blank) ready.completes;
       } in
       ready_plain d defined (blank_read_by r b) lines (same_none b ∙ none)
       (subst (λ t. ReadyAt d defined t (blank_read_by r b).blank Line lines) (sym (same_tree b none))
@@ -260,7 +262,7 @@ only_blank_by d defined f run e ix rest line lines (InContainer c ∷ frames) is
     subst (λ z. CompletesAt d defined run (InContainer z ∷ frames) f.nodes (ix.0 ∷ map (λ i. i.0) rest) (Blanks e) (line ∷ lines)) (sym same) k in
     subst (λ z. CompletesAt d defined true (InContainer z ∷ frames) f.nodes (ix.0 ∷ map (λ i. i.0) rest) (Blanks e) lines) same
     (completes-only_blank d defined run 0 frames f.nodes (ix.0 ∷ map (λ i. i.0) rest) e line (at_rest line b.0) lines
-    (ap (option_map (at_rest line)) b.1, refl, b.2)
+    (ap (option_map (at_rest line)) b.1) b.2
     (opens_blank d (ListItem 0 ∷ containers_of frames) (at_rest line b.0) lines b.2) k')
 
 -- a blank line in an item that takes blank lines alone
@@ -393,10 +395,10 @@ module _ (d : Document) (defined : Tables) (r : Reading) (line : Place) (lines :
         let item : body_at r.tree.nodes empty.place.0 ≡ Some (ListItemBody 0) = empty.item ∙ ap (λ n. Some (ListItemBody n)) none in
         let on : after (ListItem 0 ∷ path) line.rest ≡ Some rest = item_path empty.place empty.outer 0 empty.spine item in
         let outer : after path line.rest ≡ Some rest = sym (after_zero path line.rest) ∙ on in
-        let last : e ≡ end_before (length d.text) path (Blanks e) (line ∷ lines) = sym (ap (λ t. if t then e else line.line) (ap is_some outer)) in
+        let last : e ≡ end_before (length d.text) path (Blanks e) (Lines (line ∷ lines)) = sym (ap (λ t. if t then e else line.line) (ap is_some outer)) in
         let closed : ReadyAt d defined g true Line (line ∷ lines) =
         pop_container d defined r.tree true (Blanks e) (line ∷ lines) e empty.place empty.outer (ListItem 0) empty.spine (ap (option_and_then frame_of) item)
-        (ap is_blank_behind on ∙ h) last ready in
+        (λ before. stops_blank d.options (level (ListItem 0 ∷ path) before) e (line ∷ lines) (ap is_blank_behind on ∙ h)) last ready in
         let now : popped e r ≡ record r { tree = g; empty_item = None } =
         popped_is e r empty.place empty.outer empty.spine ∙ ap (popped_by r g empty.place) item in
         let same : path_of d.options g ≡ path =

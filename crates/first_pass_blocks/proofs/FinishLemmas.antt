@@ -22,7 +22,7 @@ use Rattle.first_pass_lists.specs.Closing.{gap_noted, list_finished}
 use Rattle.first_pass_lists.specs.declared.reading.Reading.{Reading}
 use Rattle.first_pass_open.specs.Path.{container_of, with_container, path_in, path_of}
 use Rattle.first_pass_blocks.specs.State.{frame_of, frame_at, AreOpen, ReadyAt}
-use Rattle.first_pass_blocks.proofs.OpenLemmas.{open_path, open_below}
+use Rattle.first_pass_blocks.proofs.OpenLemmas.{open_path, open_stays, open_below}
 use Rattle.first_pass_tree.proofs.BodyLemmas.{body-other, body-later, body-changed, changed_alike}
 use Rattle.first_pass_blocks.proofs.ListLemmas.{open_flags}
 use Rattle.first_pass_blocks.proofs.PopLemmas.{list_popped, leave_list}
@@ -171,7 +171,7 @@ module _ (d : Document) (defined : Tables) (f : Forest Item) (p : Place) (lines 
       → IsPlain frames → AreOpen f.nodes f.spine frames → CompletesAt d defined run frames f.nodes (map (λ i. i.0) f.spine) (Inside p) lines
       → CompletesAt d defined false (loosened_in run frames) f.nodes (map (λ i. i.0) f.spine) (Inside p) lines
   noted_at frames run plain o k =
-      completes-note d defined run frames f.nodes (map (λ i. i.0) f.spine) p lines opening plain
+      completes-note d defined run frames f.nodes (map (λ i. i.0) f.spine) p lines opening plain (open_stays d f.nodes f.spine frames o p)
       (subst (λ z. Opens d z p lines opening) (open_path d.options f.nodes f.spine frames o) opens) block k
 
   -- where no list is around what is innermost

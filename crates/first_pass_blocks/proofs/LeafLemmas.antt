@@ -26,11 +26,11 @@ use Rattle.first_pass_items.specs.declared.option_set.Options.{Options}
 use Rattle.first_pass_grammar.specs.Leaves.{Document, document, around, IsHeading, heading_text_at, rule_block, heading_block}
 use Rattle.first_pass_grammar.specs.Blocks.{BlankLine, LeafBlock, Block, run_block, flowing_block, block_at, leaf_block}
 use Rattle.first_pass_grammar.specs.Skeleton.{OpensBeyond, OpensRun, Line, Inside, At, ALeafAlone, IsFirst, Opening, OpensLeaf, OpensText, OpensAs}
-use Rattle.first_pass_grammar.specs.Skeleton.{OpensBlockAt, Opens}
+use Rattle.first_pass_grammar.specs.Skeleton.{OpensBlockAt, Opens, level, going}
 use Rattle.first_pass_grammar.specs.Tables.{taking}
 use Rattle.first_pass_grammar.specs.Texts.{IsText}
 use Rattle.first_pass_grammar.specs.Completion.{lines_from, Frame, containers_of, AreBelow}
-use Rattle.first_pass_grammar.proofs.Finishes.{CompletesAt}
+use Rattle.first_pass_grammar.proofs.Finishes.{CompletesAt, before_of}
 use Rattle.first_pass_grammar.proofs.Completions.{leaf_closes, completes-leaf, completes-blank, completes-block, completes-text, counts_in}
 use Rattle.first_pass_open.specs.Between.{line_end_at}
 use Rattle.first_pass_text.specs.Appends.{AddsHeading}
@@ -42,7 +42,7 @@ use Rattle.first_pass_blocks.specs.State.{AreOpen, ReadyAt, Ready}
 use Rattle.first_pass_blocks.specs.Positions.{ReadyText, ReadyLazy, ReadyLeaf}
 use Rattle.first_pass_blocks.proofs.LineLemmas.{list_finished_none}
 use Rattle.first_pass_blocks.proofs.HandedOn.{list_finished_blank}
-use Rattle.first_pass_blocks.proofs.OpenLemmas.{open_path, open_below, frame-append}
+use Rattle.first_pass_blocks.proofs.OpenLemmas.{open_path, open_stays, open_below, frame-append}
 use Rattle.first_pass_kinds.proofs.KindLemmas.{kind_says}
 use Rattle.first_pass_blocks.proofs.RuleLemmas.{rule_line}
 use Rattle.first_pass_blocks.proofs.StateLemmas.{ready_plain}
@@ -110,7 +110,8 @@ added_block d defined r new p lines left at block closes forest opens new_is non
     let os : List ℕ = map (λ (i : TreeIndex). i.0) f.spine in
     let opens' : Opens d (containers_of frames) p lines opening =
     subst (λ z. Opens d z p lines opening) (sym done.path ∙ open_path d.options f.nodes f.spine frames done.ready.0.are_open) opens in
-    let k = completes-block d defined frames f.nodes os p lines left block done.ready.1 opens' done.ready.0.completes in
+    let k = completes-block d defined frames f.nodes os p lines left block done.ready.1
+    (open_stays d f.nodes f.spine frames done.ready.0.are_open p) opens' done.ready.0.completes in
     subst (λ z. ReadyAt d (told defined block.definitions) z block.gap Line left) (sym new_is)
     (with_block d (told defined block.definitions) f frames block.items block.gap left done.ready.0.are_open done.ready.0.completes.below k)
 
@@ -119,16 +120,17 @@ lazy_block : (d : Document) (defined : Tables) (r : Reading) (new : Forest Item)
     → OpensBlockAt d (path_of d.options r.tree) p lines (OpensLeaf (Block block) Line left)
     → new ≡ added (list_finished at r).tree block.items → r.empty_item ≡ None → ReadyLazy d defined r p lines
     → ReadyAt d (told defined block.definitions) new block.gap Line left
+unfolding going
 lazy_block d defined r new p lines left at block opens new_is none lazy =
     let f : Forest Item = r.tree in
     let frames : List Frame = lazy.ready.frames in
     let os : List ℕ = map (λ (i : TreeIndex). i.0) f.spine in
     let plain = plain_by f.nodes f.spine frames lazy.ready.are_open (ap is_list lazy.quote) in
     let path = open_path d.options f.nodes f.spine frames lazy.ready.are_open in
-    let first : IsFirst d (containers_of frames) (At p ALeafAlone) lines (OpensLeaf (Block block) Line left) = record {
+    let first : IsFirst d (level (containers_of frames) (before_of frames false)) (At p ALeafAlone) lines (OpensLeaf (Block block) Line left) = record {
       place = p;
       behind = lines;
-      begins = (refl, refl);
+      begins = refl;
       opens = subst (λ z. OpensBlockAt d z p lines (OpensLeaf (Block block) Line left)) path opens;
     } in
     let k = completes-leaf d defined frames f.nodes os (At p ALeafAlone) lines left block plain (λ path mid. refl) first lazy.ready.completes in
@@ -156,7 +158,7 @@ kind_blank_is r b kind is = ap (blank_read_by r) is
 -- a blank line at the place of a leaf
 pub ready_blank_leaf : (d : Document) (defined : Tables) (r : Reading) (p : Place) (lines : List Place)
     → IsKind d.options p.rest Blank → r.empty_item ≡ None → ReadyLeaf d defined r p lines → Ready d defined (blank_read r) lines
-unfolding blank_read OpensAs
+unfolding blank_read OpensAs going
 ready_blank_leaf d defined r p lines kind none (inl (no_item, no_quote, ready)) =
     ready_blank d defined r p lines (kind_says d.options p.rest Blank kind) none ready
 ready_blank_leaf d defined r p lines kind none (inr lazy) =
@@ -164,10 +166,10 @@ ready_blank_leaf d defined r p lines kind none (inr lazy) =
     let frames : List Frame = lazy.ready.frames in
     let os : List ℕ = map (λ (i : TreeIndex). i.0) f.spine in
     let blank : OpensAs d (containers_of frames) p lines Blank (OpensLeaf BlankLine Line lines) = refl in
-    let first : IsFirst d (containers_of frames) (At p ALeafAlone) lines (OpensLeaf BlankLine Line lines) = record {
+    let first : IsFirst d (level (containers_of frames) (before_of frames false)) (At p ALeafAlone) lines (OpensLeaf BlankLine Line lines) = record {
       place = p;
       behind = lines;
-      begins = (refl, refl);
+      begins = refl;
       opens = (Blank, kind, blank);
     } in
     let counts : counts_in frames false ≡ false = quote_counts f.nodes f.spine frames lazy.kind lazy.quote lazy.ready.are_open in

@@ -1,5 +1,5 @@
 -- A line read: containers closed, and the line entered.
-use Rattle.std.proofs.Common.{◌≡◌, ℕ, ◌+◌, ◌<◌, ◌≤◌, Bool, true, false, List, [], ◌∷◌, length, drop, Option, Some, None, is_some, MatchOption, IsUtf8}
+use Rattle.std.proofs.Common.{◌≡◌, ℕ, ◌+◌, ◌<◌, ◌≤◌, Bool, true, false, List, [], ◌∷◌, length, drop, Option, Some, None, is_some, IsUtf8}
 use Rattle.std.proofs.Common.{IsCharBoundary, refl, sym, ap, subst, ◌∙◌, if◌then◌else◌}
 use Rattle.first_pass_items.specs.declared.item.Item.{Item}
 use Rattle.first_pass_items.specs.declared.item.ItemBody.{ItemBody}
@@ -50,7 +50,8 @@ at_line d defined old new start kept line r line_is within spine paths closes ta
       goes = ap (λ p. after p (line_rest (drop start d.text))) path ∙ ap (after (path_in d.options old.tree.nodes (outer kept old.tree.spine))) (sym line_is)
           ∙ taken;
       ready = λ ready.
-          closes d (here ∷ lines) refl (λ m low high. ap (after (path_in d.options old.tree.nodes (outer m old.tree.spine))) (sym line_is) ∙ stops m low high)
+          closes d (here ∷ lines) refl
+          (λ m low high. ap is_some (ap (after (path_in d.options old.tree.nodes (outer m old.tree.spine))) (sym line_is) ∙ stops m low high))
           (subst (Ready d defined old) first ready);
     }
 

@@ -1,6 +1,6 @@
 -- What the open nodes are, as the tree grows and nodes are closed.
-use Rattle.std.proofs.Common.{◌≡◌, ℕ, zero, suc, ◌<◌, ◌==◌, Bool, true, false, List, [], ◌∷◌, ◌++◌, length, map, Option, Some, None, refl, sym, ap, ◌∙◌, arith}
-use Rattle.std.proofs.Common.{if◌then◌else◌}
+use Rattle.std.proofs.Common.{◌≡◌, ℕ, zero, suc, ◌<◌, ◌==◌, Bool, true, false, ◌&&◌, not, is_some, List, [], ◌∷◌, ◌++◌, length, map, Option, Some, None}
+use Rattle.std.proofs.Common.{refl, sym, ap, ◌∙◌, arith, if◌then◌else◌}
 use Rattle.std.specs.Option.{option_map, option_and_then}
 use Rattle.first_pass_items.specs.declared.item.Item.{Item}
 use Rattle.first_pass_items.specs.declared.item.ItemBody.{ItemBody}
@@ -9,6 +9,14 @@ use Rattle.first_pass_tree.specs.declared.tree_index.TreeIndex.{TreeIndex}
 use Rattle.first_pass_tree.specs.Forest.{map_from, body_at}
 use Rattle.first_pass_tree.specs.Tight.{tightened}
 use Rattle.first_pass_grammar.specs.declared.kind.Container.{Container}
+use Rattle.first_pass_grammar.specs.declared.kind.Container.TheVariants.{BlockQuote, ListItem, FootnoteDefinition}
+use Rattle.first_pass_lines.specs.Places.{Place}
+use Rattle.first_pass_grammar.specs.Before.{Before, list_is_open}
+use Rattle.first_pass_grammar.specs.Containers.{is_footnote, is_old_footnote, in_footnote, in_old_footnote}
+use Rattle.first_pass_grammar.specs.Footnotes.{footnote_head_at}
+use Rattle.first_pass_grammar.specs.Leaves.{Document, around}
+use Rattle.first_pass_grammar.specs.Skeleton.{level, ends_old_footnote}
+use Rattle.first_pass_grammar.proofs.Completions.{StaysAt}
 use Rattle.first_pass_grammar.specs.Completion.{ended, list_closed, Frame, InContainer, InList, containers_of, AreBelow}
 use Rattle.first_pass_open.specs.Path.{container_of, with_container, path_in}
 use Rattle.first_pass_blocks.specs.State.{frame_of, frame_at, AreOpen}
@@ -51,6 +59,45 @@ open_path options nodes (ix ∷ spine) [] o = absurd o
 open_path options nodes (ix ∷ spine) (frame ∷ frames) o =
     ap (λ c. with_container c (path_in options nodes spine)) (container_framed_at options (body_at nodes ix.0) frame o.0)
     ∙ ap (with_container (framed (Some frame))) (open_path options nodes spine frames o.1) ∙ with_frame frame frames
+
+-- What is open is a block quote, an item or a list, and no footnote definition.
+list_no_footnote : (a b : Bool) (byte n : ℕ)
+    → (if a then Some (InList byte false) else (if b then Some (InList byte true) else None)) ≡ Some (InContainer (FootnoteDefinition n)) → ⊥
+list_no_footnote true b byte n h = cc
+list_no_footnote false true byte n h = cc
+list_no_footnote false false byte n h = cc
+
+frame_no_footnote : (o : Option ItemBody) (n : ℕ) → option_and_then frame_of o ≡ Some (InContainer (FootnoteDefinition n)) → ⊥
+frame_no_footnote None n is = cc
+frame_no_footnote (Some (BlockQuoteBody kind)) n is = cc
+frame_no_footnote (Some (ListItemBody columns)) n is = cc
+frame_no_footnote (Some (ListBody flags byte number)) n is = list_no_footnote (flags.0 == 1) (flags.0 == 0) byte n is
+frame_no_footnote (Some b) n is = cc
+
+container_no_footnote : (o : Option ItemBody) (c : Container) → option_and_then frame_of o ≡ Some (InContainer c)
+    → (is_footnote c ≡ false) × (is_old_footnote c ≡ false)
+container_no_footnote o (BlockQuote kind) is = (refl, refl)
+container_no_footnote o (ListItem columns) is = (refl, refl)
+container_no_footnote o (FootnoteDefinition columns) is = absurd (frame_no_footnote o columns is)
+
+no_footnote : (nodes : List (ℕ × Item)) (spine : List TreeIndex) (frames : List Frame)
+    → AreOpen nodes spine frames → (in_footnote (containers_of frames) ≡ false) × (in_old_footnote (containers_of frames) ≡ false)
+no_footnote nodes [] [] o = (refl, refl)
+no_footnote nodes [] (frame ∷ frames) o = absurd o
+no_footnote nodes (ix ∷ spine) [] o = absurd o
+no_footnote nodes (ix ∷ spine) (InContainer c ∷ frames) o = container_no_footnote (body_at nodes ix.0) c o.0
+no_footnote nodes (ix ∷ spine) (InList byte loose ∷ frames) o = no_footnote nodes spine frames o.1
+
+-- so none ends at a place, and none before a line
+pub open_stays : (d : Document) (nodes : List (ℕ × Item)) (spine : List TreeIndex) (frames : List Frame)
+    → AreOpen nodes spine frames → (p : Place) → StaysAt d (containers_of frames) p
+open_stays d nodes spine frames o p =
+    ap (λ (t : Bool). t && is_some (footnote_head_at (around d (containers_of frames)) p)) (no_footnote nodes spine frames o).0
+
+pub open_not_old : (nodes : List (ℕ × Item)) (spine : List TreeIndex) (frames : List Frame)
+    → AreOpen nodes spine frames → (before : Before) → ends_old_footnote (level (containers_of frames) before) ≡ false
+open_not_old nodes spine frames o before =
+    ap (λ (t : Bool). t && (before.counted && not (list_is_open before.last))) (no_footnote nodes spine frames o).1
 
 -- what is below a place alone counts
 pub open_below : (nodes other : List (ℕ × Item)) (n : ℕ) (spine : List TreeIndex) (frames : List Frame)

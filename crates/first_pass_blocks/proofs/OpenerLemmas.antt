@@ -41,7 +41,7 @@ use Rattle.first_pass_blocks.specs.Starts.{after_told, after_at, IsAfter}
 use Rattle.first_pass_blocks.specs.State.{frame_of, AreOpen, ReadyAt, ReadyBeforeLine, ReadyInItem, ReadyEmpty, Ready}
 use Rattle.first_pass_open.proofs.PathLemmas.{get_front}
 use Rattle.first_pass_blocks.proofs.EnterLemmas.{path_below}
-use Rattle.first_pass_blocks.proofs.OpenLemmas.{open_path, open_below, frame-append, get_end}
+use Rattle.first_pass_blocks.proofs.OpenLemmas.{open_path, open_stays, open_below, frame-append, get_end}
 use Rattle.first_pass_tree.proofs.BodyLemmas.{body-other}
 use Rattle.first_pass_blocks.proofs.ListLemmas.{open_flags}
 use Rattle.first_pass_blocks.proofs.FinishLemmas.{EndsListAt, ready_finished, loose_is, loose_frame, loosened_spine}
@@ -116,7 +116,8 @@ quote_is_open d defined r p lines behind kind inside forest opens none ready =
     let os : List ℕ = map (λ (i : TreeIndex). i.0) f.spine in
     let x : Item = node_of (quote_start p) 0 (BlockQuoteBody kind) in
     let g : Forest Item = pushed (appended f x) (record { 0 = length f.nodes }) in
-    let k = completes-quote d defined frames f.nodes os p lines behind kind (quote_start p) p.line 0 inside done.ready.1 opens' done.ready.0.completes in
+    let k = completes-quote d defined frames f.nodes os p lines behind kind (quote_start p) p.line 0 inside done.ready.1
+    (open_stays d f.nodes f.spine frames done.ready.0.are_open p) opens' done.ready.0.completes in
     let now : ReadyAt d defined g false inside behind = record {
       frames = InContainer (BlockQuote kind) ∷ frames;
       are_open =
@@ -201,7 +202,8 @@ module _ (d : Document) (defined : Tables) (r : Reading) (p : Place) (lines : Li
       let g : Forest Item = pushed (appended f y) (record { 0 = length f.nodes }) in
       let h : Forest Item = pushed (appended g x) (record { 0 = length g.nodes }) in
       let k = completes-list d defined frames f.nodes os p lines lines byte number columns (offset p) p.line 0 0
-      (list_flags true) inside done.ready.1 opens' done.ready.0.completes in
+      (list_flags true) inside done.ready.1
+      (open_stays d f.nodes f.spine frames done.ready.0.are_open p) opens' done.ready.0.completes in
       let n : length g.nodes ≡ suc (length f.nodes) = (let l = length-append f.nodes ((length f.spine + 1, y) ∷ []) in omega arith) in
       let deep : suc (length os) ≡ length f.spine + 1 = depth_of f.spine in
       let deeper : suc (suc (length os)) ≡ length g.spine + 1 = omega arith in
@@ -280,7 +282,8 @@ module _ (d : Document) (defined : Tables) (r : Reading) (p : Place) (lines : Li
       let x : Item = node_of (offset p) 0 (ListItemBody columns) in
       let k' : CompletesAt d defined run (InList byte loose ∷ frames) f.nodes (ix.0 ∷ os) (Inside p) lines =
       subst (λ z. CompletesAt d defined run (InList z loose ∷ frames) f.nodes (ix.0 ∷ os) (Inside p) lines) b_is now.1 in
-      let done = completes-item d defined run loose frames f.nodes ix.0 os p lines lines byte number columns (offset p) p.line 0 inside opens' k' in
+      let done = completes-item d defined run loose frames f.nodes ix.0 os p lines lines byte number columns (offset p) p.line 0 inside
+      (open_stays d r.tree.nodes rest frames o.1 p) opens' k' in
       let deep : suc (suc (length os)) ≡ length f.spine + 1 = (let l = depth_of rest in let m = ap (λ (s : List TreeIndex). length s) now.2 in omega arith) in
       let frames' : List Frame = InList byte (loose || run) ∷ frames in
       let o' : AreOpen f.nodes (ix ∷ rest) frames' = subst (λ z. AreOpen f.nodes (ix ∷ rest) (InList z (loose || run) ∷ frames)) b_is now.0 in

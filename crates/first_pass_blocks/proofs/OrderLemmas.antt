@@ -8,7 +8,7 @@ use Rattle.first_pass_items.specs.declared.item.Item.{Item}
 use Rattle.first_pass_items.specs.declared.item.ItemBody.{ItemBody}
 use Rattle.first_pass_items.specs.declared.item.ItemBody.TheVariants.{BlockQuote as BlockQuoteBody, List as ListBody, ListItem as ListItemBody}
 use Rattle.first_pass_tree.specs.declared.tree_index.TreeIndex.{TreeIndex}
-use Rattle.first_pass_tree.specs.Forest.{Forest, empty_forest, with_end_at, with_body_at, body_at, modify, at_depth, appended, added, item_at}
+use Rattle.first_pass_tree.specs.Forest.{Forest, empty_forest, with_end_at, with_body_at, body_at, modify, at_depth, appended, added}
 use Rattle.first_pass_tree.specs.Tight.{tightened, tight_run, tight_at, tight_items}
 use Rattle.first_pass_grammar.specs.Derivation.{list_flags}
 use Rattle.first_pass_grammar.specs.Order.{Extent, is_text_block, is_task_marker, is_list_item, extent_of, extents, Row, Empty, Node, laid, IsBetween}
@@ -18,12 +18,12 @@ use Rattle.first_pass_grammar.proofs.Orders.{beside, ended_at, extents-append, l
 use Rattle.first_pass_grammar.proofs.Orders.{laid_open-pushed, laid_open-level, laid_open-popped, laid_open-root, length-places, fits-one, fits_open-later}
 use Rattle.first_pass_grammar.proofs.Orders.{fits_open-beside, fits_open-pushed, fits_open-popped, extents-ended, extents-kept, extent-tightened, fits-whole}
 use Rattle.first_pass_open.specs.OpenBlock.{closed_by}
-use Rattle.first_pass_lists.specs.Closing.{remembered, loosened_by, top_body, is_list, is_list_of, is_item, popped_by, popped_at, popped, item_finished_by}
+use Rattle.first_pass_lists.specs.Closing.{loosened_by, top_body, is_list, is_list_of, is_item, popped_by, popped_at, popped, item_finished_by}
 use Rattle.first_pass_lists.specs.Closing.{item_finished, list_left, gap_tree, list_finished, loosened_top, list_kept, begun, list_continued, emptied}
 use Rattle.first_pass_lists.specs.Closing.{blank_read_by, blank_read}
 use Rattle.first_pass_lists.specs.declared.reading.Reading.{Reading}
 use Rattle.first_pass_blocks.specs.Ordered.{reached, IsOrderedAt}
-use Rattle.first_pass_tree.proofs.BodyLemmas.{body-changed, body_of}
+use Rattle.first_pass_tree.proofs.BodyLemmas.{body-changed}
 use Rattle.first_pass_blocks.proofs.StateLemmas.{popped_is}
 
 -- a forest with the same extents and open nodes

@@ -4,6 +4,7 @@ use Rattle.std.proofs.lemmas.List.{length-map}
 use Rattle.std.specs.Int.RustNames.{bit_and}
 use Rattle.std.specs.Option.{option_and_then}
 use Rattle.first_pass_items.specs.declared.item.Item.{Item}
+use Rattle.first_pass_items.specs.declared.option_set.Options.{Options}
 use Rattle.first_pass_items.specs.declared.item.ItemBody.TheVariants.{List as ListBody}
 use Rattle.first_pass_items.specs.declared.item.ListFlags.{ListFlags}
 use Rattle.first_pass_tree.specs.declared.tree_index.TreeIndex.{TreeIndex}
@@ -12,15 +13,17 @@ use Rattle.first_pass_tree.specs.Tight.{tight_items}
 use Rattle.first_pass_lines.specs.Places.{Place, start_of}
 use Rattle.first_pass_grammar.specs.declared.kind.Container.{Container}
 use Rattle.first_pass_grammar.specs.Leaves.{Document}
-use Rattle.first_pass_grammar.specs.Skeleton.{From, Line, Inside, Ends, end_before, Opening, Opens}
+use Rattle.first_pass_grammar.specs.Before.{Before}
+use Rattle.first_pass_grammar.specs.Containers.{next_goes_on}
+use Rattle.first_pass_grammar.specs.Skeleton.{From, Line, Inside, level, Lines, Ends, going, end_before, Opening, Opens}
 use Rattle.first_pass_grammar.specs.Derivation.{Tables, list_flags}
 use Rattle.first_pass_grammar.specs.Completion.{ended, list_closed, Frame, InContainer, InList, containers_of, AreBelow, IsPlain}
-use Rattle.first_pass_grammar.proofs.Finishes.{CompletesAt}
+use Rattle.first_pass_grammar.proofs.Finishes.{CompletesAt, before_of}
 use Rattle.first_pass_grammar.proofs.Completions.{OpensAway, completes-pop, completes-pop_list, completes-close}
 use Rattle.first_pass_open.specs.OpenBlock.{closed_by}
 use Rattle.first_pass_open.specs.Path.{path_in}
 use Rattle.first_pass_blocks.specs.State.{frame_of, frame_at, AreOpen, ReadyAt}
-use Rattle.first_pass_blocks.proofs.OpenLemmas.{open_path, open_below, frame-closed, frame-ended}
+use Rattle.first_pass_blocks.proofs.OpenLemmas.{open_path, open_stays, open_below, frame-closed, frame-ended}
 use Rattle.first_pass_blocks.proofs.ListLemmas.{tight_closed, loose_closed, open_flags}
 
 -- a list closed, its depth from its open nodes
@@ -33,9 +36,14 @@ not_container true b list c h = cc
 not_container false true list c h = cc
 not_container false false list c h = cc
 
+-- a sequence in these containers ends before these lines, whatever is before that
+abbrev pub EndsBefore : Options → List Container → From → List Place → Type 0
+EndsBefore options path from lines = (before : Before) → going options (level path before) from lines ≡ Ends (Lines lines)
+
 closed_container : (d : Document) (defined : Tables) (f : Forest Item) (run : Bool) (from : From) (lines : List Place) (e : ℕ) (ix : TreeIndex)
     (rest : List TreeIndex) (c : Container) (frames : List Frame) → frame_at f.nodes ix.0 ≡ Some (InContainer c)
-    → Ends (c ∷ path_in d.options f.nodes rest) from lines → e ≡ end_before (length d.text) (path_in d.options f.nodes rest) from lines
+    → EndsBefore d.options (c ∷ path_in d.options f.nodes rest) from lines
+    → e ≡ end_before (length d.text) (path_in d.options f.nodes rest) from (Lines lines)
     → AreOpen f.nodes (ix ∷ rest) frames → CompletesAt d defined run frames f.nodes (ix.0 ∷ map (λ i. i.0) rest) from lines
     → ReadyAt d defined (closed_by f e (ix ∷ rest)) run Line lines
 unfolding ended
@@ -47,20 +55,24 @@ closed_container d defined f run from lines e ix rest c (InContainer b ∷ frame
     let x : Some (InContainer c) ≡ Some (InContainer b) = sym is ∙ o.0 in
     let same : c ≡ b = cc in
     let path : path_in d.options f.nodes rest ≡ containers_of frames = open_path d.options f.nodes rest frames o.1 in
-    let ends' : Ends (b ∷ containers_of frames) from lines =
-    subst (λ p. Ends (b ∷ p) from lines) path (subst (λ z. Ends (z ∷ path_in d.options f.nodes rest) from lines) same ends) in
-    let e' : end_before (length d.text) (containers_of frames) from lines ≡ e = ap (λ p. end_before (length d.text) p from lines) (sym path) ∙ sym e_is in
+    let ends' : EndsBefore d.options (b ∷ containers_of frames) from lines =
+    subst (λ p. EndsBefore d.options (b ∷ p) from lines) path
+    (subst (λ z. EndsBefore d.options (z ∷ path_in d.options f.nodes rest) from lines) same ends) in
+    let e' : end_before (length d.text) (containers_of frames) from (Lines lines) ≡ e =
+    ap (λ p. end_before (length d.text) p from (Lines lines)) (sym path) ∙ sym e_is in
     record {
       frames = frames;
       are_open = open_below f.nodes (ended f.nodes ix.0 e) ix.0 rest frames (λ i h. frame-ended f.nodes ix.0 e i) k.below.1 o.1;
       completes = subst (λ z. CompletesAt d defined run frames (ended f.nodes ix.0 z) (map (λ i. i.0) rest) Line lines) e'
-          (completes-pop d defined run b frames f.nodes ix.0 (map (λ i. i.0) rest) from lines ends' k);
+          (completes-pop d defined run b frames f.nodes ix.0 (map (λ i. i.0) rest) from lines (Lines lines)
+          (ends' (before_of (InContainer b ∷ frames) run)) k);
     }
 
 -- a container closed
 pub pop_container : (d : Document) (defined : Tables) (f : Forest Item) (run : Bool) (from : From) (lines : List Place) (e : ℕ) (ix : TreeIndex)
     (rest : List TreeIndex) (c : Container) → f.spine ≡ ix ∷ rest → frame_at f.nodes ix.0 ≡ Some (InContainer c)
-    → Ends (c ∷ path_in d.options f.nodes rest) from lines → e ≡ end_before (length d.text) (path_in d.options f.nodes rest) from lines
+    → EndsBefore d.options (c ∷ path_in d.options f.nodes rest) from lines
+    → e ≡ end_before (length d.text) (path_in d.options f.nodes rest) from (Lines lines)
     → ReadyAt d defined f run from lines → ReadyAt d defined (closed_by f e (ix ∷ rest)) run Line lines
 pop_container d defined f run from lines e ix rest c spine is ends e_is ready =
     closed_container d defined f run from lines e ix rest c ready.frames is ends e_is (subst (λ s. AreOpen f.nodes s ready.frames) spine ready.are_open)
@@ -108,7 +120,7 @@ module _ (d : Document) (defined : Tables) (f : Forest Item) (run : Bool) (lines
       } in
       (q, refl)
 
-  popped_list : (frames : List Frame) → start_of (length d.text) lines ≡ e → Ends (path_in d.options f.nodes rest) Line lines
+  popped_list : (frames : List Frame) → start_of (length d.text) lines ≡ e → next_goes_on (path_in d.options f.nodes rest) lines ≡ false
       → AreOpen f.nodes (ix ∷ rest) frames → CompletesAt d defined run frames f.nodes (ix.0 ∷ map (λ i. i.0) rest) Line lines
       → ReadyAt d defined (list_popped f e ix rest flags) run Line lines
   popped_list [] e_is ends o k = absurd o
@@ -120,10 +132,10 @@ module _ (d : Document) (defined : Tables) (f : Forest Item) (run : Bool) (lines
       (list_left_open byte loose Line frames set.1 o.1 k.below.1
       (subst (λ z. CompletesAt d defined run frames (list_closed f.nodes ix.0 (suc (suc (suc (length (map (λ (i : TreeIndex). i.0) rest))))) loose z)
       (map (λ i. i.0) rest) Line lines) e_is
-      (completes-pop_list d defined run byte loose frames f.nodes ix.0 (map (λ i. i.0) rest) lines (subst (λ p. Ends p Line lines) path ends) k))).0
+      (completes-pop_list d defined run byte loose frames f.nodes ix.0 (map (λ i. i.0) rest) lines (subst (λ p. next_goes_on p lines ≡ false) path ends) k))).0
 
   -- a list closed with what is around it
-  pub pop_list : start_of (length d.text) lines ≡ e → Ends (path_in d.options f.nodes rest) Line lines → ReadyAt d defined f run Line lines
+  pub pop_list : start_of (length d.text) lines ≡ e → next_goes_on (path_in d.options f.nodes rest) lines ≡ false → ReadyAt d defined f run Line lines
       → ReadyAt d defined (list_popped f e ix rest flags) run Line lines
   pop_list e_is ends ready =
       popped_list ready.frames e_is ends (subst (λ s. AreOpen f.nodes s ready.frames) spine ready.are_open)
@@ -139,7 +151,8 @@ module _ (d : Document) (defined : Tables) (f : Forest Item) (run : Bool) (lines
       let set = open_flags flags list number byte loose (sym (ap (option_and_then frame_of) is) ∙ o.0) in
       let path : path_in d.options f.nodes rest ≡ containers_of frames = open_path d.options f.nodes rest frames o.1 in
       let left = list_left_open byte loose (Inside p) frames set.1 o.1 k.below.1
-      (completes-close d defined run byte loose frames f.nodes ix.0 (map (λ i. i.0) rest) p lines e opening (subst (λ z. Opens d z p lines opening) path opens)
+      (completes-close d defined run byte loose frames f.nodes ix.0 (map (λ i. i.0) rest) p lines e opening
+      (open_stays d f.nodes rest frames o.1 p) (subst (λ z. Opens d z p lines opening) path opens)
       (subst (λ z. OpensAway z e opening) set.0 away) k) in
       (left.0, subst IsPlain (sym left.1) k.shape.0)
 

@@ -1,6 +1,7 @@
 -- The tree between two blocks, over what its nodes can still become: open nodes closed before the next line.
 use Rattle.std.proofs.Common.{◌≡◌, ℕ, zero, suc, ◌+◌, ◌-◌, ◌<◌, ◌≤◌, ◌==◌, nat_le, nat_lt, Bool, true, false, List, [], ◌∷◌, length, map, slice_get, drop}
 use Rattle.std.proofs.Common.{Option, Some, None, IsSome, is_some, refl, sym, ap, subst, ◌∙◌, arith, if◌then◌else◌}
+use Rattle.std.proofs.lemmas.Bool.{true≢false}
 use Rattle.std.proofs.lemmas.Bool.Decides.{nat_tests}
 use Rattle.std.specs.Int.RustNames.{bit_and}
 use Rattle.std.specs.Option.{option_and_then}
@@ -19,10 +20,11 @@ use Rattle.first_pass_grammar.specs.declared.kind.Container.{Container}
 use Rattle.first_pass_grammar.specs.declared.kind.Container.TheVariants.{BlockQuote, ListItem}
 use Rattle.first_pass_grammar.specs.Containers.{prefix, after, next_goes_on}
 use Rattle.first_pass_grammar.specs.Leaves.{Document, document}
-use Rattle.first_pass_grammar.specs.Skeleton.{Line, Blanks, is_blank_behind, next_is_blank, Ends, end_before}
+use Rattle.first_pass_grammar.specs.Skeleton.{Line, Blanks, level, Lines, is_blank_behind, next_is_blank, end_before}
 use Rattle.first_pass_grammar.specs.Derivation.{Tables, no_tables, Derives}
 use Rattle.first_pass_grammar.specs.Completion.{lines_from, Frame}
 use Rattle.first_pass_grammar.proofs.Finishes.{CompletesAt}
+use Rattle.first_pass_grammar.proofs.Goings.{stops, stops_blank}
 use Rattle.first_pass_grammar.proofs.Completions.{completes-first, completes-end}
 use Rattle.first_pass_open.specs.OpenBlock.{closed_by}
 use Rattle.first_pass_lists.specs.Closing.{remembered, popped_by, popped_at, popped}
@@ -84,13 +86,17 @@ unfolding after
 after_zero path r = zero_by (after path r)
 
 -- where the next line doesn't continue a path it isn't blank after it
-not_blank : (path : List Container) (lines : List Place) → Ends path Line lines → next_is_blank path lines ≡ false
-not_blank path [] ends = refl
-not_blank path (line ∷ lines) ends = ap is_blank_behind ends
+not_blank_by : (o : Option Rest) → is_some o ≡ false → is_blank_behind o ≡ false
+not_blank_by None h = refl
+not_blank_by (Some r) h = absurd (true≢false h)
 
-not_on : (path : List Container) (lines : List Place) → Ends (ListItem 0 ∷ path) Line lines → next_goes_on path lines ≡ false
-not_on path [] ends = refl
-not_on path (line ∷ lines) ends = ap is_some (sym (after_zero path line.rest) ∙ ends)
+not_blank : (path : List Container) (lines : List Place) → next_goes_on path lines ≡ false → next_is_blank path lines ≡ false
+not_blank path [] h = refl
+not_blank path (line ∷ lines) h = not_blank_by (after path line.rest) h
+
+not_on : (path : List Container) (lines : List Place) → next_goes_on (ListItem 0 ∷ path) lines ≡ false → next_goes_on path lines ≡ false
+not_on path [] h = refl
+not_on path (line ∷ lines) h = ap is_some (sym (after_zero path line.rest)) ∙ h
 
 -- the innermost open node closed
 pub popped_is : (e : ℕ) (r : Reading) (ix : TreeIndex) (rest : List TreeIndex)
@@ -110,21 +116,24 @@ module _ (d : Document) (defined : Tables) (r : Reading) (lines : List Place) (e
     (spine : r.tree.spine ≡ ix ∷ rest) (e_is : start_of (length d.text) lines ≡ e) where
   -- the innermost open node closed before the next line, where no item is empty
   pop_as : (b : Option ItemBody) (frame : Frame) → body_at r.tree.nodes ix.0 ≡ b → option_and_then frame_of b ≡ Some frame
-      → Ends (with_container (option_and_then (container_of d.options) b) (path_in d.options r.tree.nodes rest)) Line lines
+      → next_goes_on (with_container (option_and_then (container_of d.options) b) (path_in d.options r.tree.nodes rest)) lines ≡ false
       → ReadyAt d defined r.tree r.blank Line lines → ReadyAt d defined (popped_by r (closed_by r.tree e (ix ∷ rest)) ix b).tree r.blank Line lines
   pop_as None frame is framed ends ready = cc
   pop_as (Some (BlockQuoteBody kind)) frame is framed ends ready =
-      pop_container d defined r.tree r.blank Line lines e ix rest (BlockQuote kind) spine (ap (option_and_then frame_of) is) ends (sym e_is) ready
+      pop_container d defined r.tree r.blank Line lines e ix rest (BlockQuote kind) spine (ap (option_and_then frame_of) is)
+      (λ before. stops d.options (level (BlockQuote kind ∷ path_in d.options r.tree.nodes rest) before) lines ends) (sym e_is) ready
   pop_as (Some (ListItemBody columns)) frame is framed ends ready =
-      pop_container d defined r.tree r.blank Line lines e ix rest (ListItem columns) spine (ap (option_and_then frame_of) is) ends (sym e_is) ready
+      pop_container d defined r.tree r.blank Line lines e ix rest (ListItem columns) spine (ap (option_and_then frame_of) is)
+      (λ before. stops d.options (level (ListItem columns ∷ path_in d.options r.tree.nodes rest) before) lines ends) (sym e_is) ready
   pop_as (Some (ListBody flags list number)) frame is framed ends ready =
       pop_list d defined r.tree r.blank lines e ix rest flags list number forest spine is e_is ends ready
   pop_as (Some b) frame is framed ends ready = cc
 
-  ends_at : Ends (path_of d.options r.tree) Line lines → Ends (path_in d.options r.tree.nodes (ix ∷ rest)) Line lines
-  ends_at ends = subst (λ s. Ends (path_in d.options r.tree.nodes s) Line lines) spine ends
+  ends_at : next_goes_on (path_of d.options r.tree) lines ≡ false → next_goes_on (path_in d.options r.tree.nodes (ix ∷ rest)) lines ≡ false
+  ends_at ends = subst (λ s. next_goes_on (path_in d.options r.tree.nodes s) lines ≡ false) spine ends
 
-  pop_plain : Ends (path_of d.options r.tree) Line lines → ReadyAt d defined r.tree r.blank Line lines → ReadyAt d defined (popped e r).tree r.blank Line lines
+  pop_plain : next_goes_on (path_of d.options r.tree) lines ≡ false → ReadyAt d defined r.tree r.blank Line lines
+      → ReadyAt d defined (popped e r).tree r.blank Line lines
   pop_plain ends ready =
       let o : AreOpen r.tree.nodes (ix ∷ rest) ready.frames = subst (λ s. AreOpen r.tree.nodes s ready.frames) spine ready.are_open in
       let frame = framed_open r.tree.nodes ix rest ready.frames o in
@@ -154,33 +163,38 @@ module _ (d : Document) (defined : Tables) (r : Reading) (lines : List Place) (e
       → body_at r.tree.nodes ix.0 ≡ Some (ListItemBody columns) → popped e r ≡ record r { tree = closed_by r.tree e (ix ∷ rest); empty_item = None }
   popped_item columns item = popped_is e r ix rest spine ∙ ap (popped_by r (closed_by r.tree e (ix ∷ rest)) ix) item
 
-  pop_none : r.empty_item ≡ None → Ends (path_of d.options r.tree) Line lines → ReadyAt d defined r.tree r.blank Line lines → Ready d defined (popped e r) lines
+  pop_none : r.empty_item ≡ None → next_goes_on (path_of d.options r.tree) lines ≡ false → ReadyAt d defined r.tree r.blank Line lines
+      → Ready d defined (popped e r) lines
   pop_none none ends ready =
       ready_plain d defined (popped e r) lines (popped-none none)
       (subst (λ b. ReadyAt d defined (popped e r).tree b Line lines) (sym popped-blank) (pop_plain ends ready))
 
   closed_item : (columns x : ℕ) (blank : Bool)
-      → r.blank ≡ blank → (blank ≡ true → columns ≡ 0) → body_at r.tree.nodes ix.0 ≡ Some (ListItemBody columns) → Ends (path_of d.options r.tree) Line lines
+      → r.blank ≡ blank → (blank ≡ true → columns ≡ 0) → body_at r.tree.nodes ix.0 ≡ Some (ListItemBody columns)
+      → next_goes_on (path_of d.options r.tree) lines ≡ false
       → ReadyInItem d defined r.tree x lines blank → ReadyAt d defined (closed_by r.tree e (ix ∷ rest)) blank Line lines
   closed_item columns x true is none item ends ready =
       let c : container_at d.options r.tree.nodes ix ≡ Some (ListItem columns) = ap (option_and_then (container_of d.options)) item in
-      let ends' : Ends (ListItem columns ∷ path_in d.options r.tree.nodes rest) Line lines =
-      subst (λ o. Ends (with_container o (path_in d.options r.tree.nodes rest)) Line lines) c (ends_at ends) in
-      let ends0 : Ends (ListItem 0 ∷ path_in d.options r.tree.nodes rest) Line lines =
-      subst (λ n. Ends (ListItem n ∷ path_in d.options r.tree.nodes rest) Line lines) (none refl) ends' in
-      let last : e ≡ end_before (length d.text) (path_in d.options r.tree.nodes rest) (Blanks x) lines =
+      let ends' : next_goes_on (ListItem columns ∷ path_in d.options r.tree.nodes rest) lines ≡ false =
+      subst (λ o. next_goes_on (with_container o (path_in d.options r.tree.nodes rest)) lines ≡ false) c (ends_at ends) in
+      let ends0 : next_goes_on (ListItem 0 ∷ path_in d.options r.tree.nodes rest) lines ≡ false =
+      subst (λ n. next_goes_on (ListItem n ∷ path_in d.options r.tree.nodes rest) lines ≡ false) (none refl) ends' in
+      let last : e ≡ end_before (length d.text) (path_in d.options r.tree.nodes rest) (Blanks x) (Lines lines) =
       sym (ap (λ t. if t then x else start_of (length d.text) lines) (not_on (path_in d.options r.tree.nodes rest) lines ends0) ∙ e_is) in
       pop_container d defined r.tree true (Blanks x) lines e ix rest (ListItem columns) spine (ap (option_and_then frame_of) item)
-      (not_blank (ListItem columns ∷ path_in d.options r.tree.nodes rest) lines ends') last ready
+      (λ before. stops_blank d.options (level (ListItem columns ∷ path_in d.options r.tree.nodes rest) before) x lines
+      (not_blank (ListItem columns ∷ path_in d.options r.tree.nodes rest) lines ends')) last ready
   closed_item columns x false is none item ends ready =
       let c : container_at d.options r.tree.nodes ix ≡ Some (ListItem columns) = ap (option_and_then (container_of d.options)) item in
-      let ends' : Ends (ListItem columns ∷ path_in d.options r.tree.nodes rest) Line lines =
-      subst (λ o. Ends (with_container o (path_in d.options r.tree.nodes rest)) Line lines) c (ends_at ends) in
+      let ends' : next_goes_on (ListItem columns ∷ path_in d.options r.tree.nodes rest) lines ≡ false =
+      subst (λ o. next_goes_on (with_container o (path_in d.options r.tree.nodes rest)) lines ≡ false) c (ends_at ends) in
       let now : ReadyAt d defined r.tree false Line lines =
       subst (ReadyBeforeLine d defined r.tree x lines) (not_blank (path_of d.options r.tree) lines ends) ready in
-      pop_container d defined r.tree false Line lines e ix rest (ListItem columns) spine (ap (option_and_then frame_of) item) ends' (sym e_is) now
+      pop_container d defined r.tree false Line lines e ix rest (ListItem columns) spine (ap (option_and_then frame_of) item)
+      (λ before. stops d.options (level (ListItem columns ∷ path_in d.options r.tree.nodes rest) before) lines ends') (sym e_is) now
 
-  pop_with : (o : Option ℕ) → r.empty_item ≡ o → Ends (path_of d.options r.tree) Line lines → ReadyWith d defined r lines o → Ready d defined (popped e r) lines
+  pop_with : (o : Option ℕ) → r.empty_item ≡ o → next_goes_on (path_of d.options r.tree) lines ≡ false → ReadyWith d defined r lines o
+      → Ready d defined (popped e r) lines
   pop_with None none ends ready = pop_none none ends ready
   pop_with (Some x) some ends ready =
       let same : ready.place ∷ ready.outer ≡ ix ∷ rest = sym ready.spine ∙ spine in
@@ -193,8 +207,8 @@ module _ (d : Document) (defined : Tables) (r : Reading) (lines : List Place) (e
 
 -- the innermost open node closed before the next line
 pub ready_pop : (d : Document) (defined : Tables) (r : Reading) (lines : List Place) (e : ℕ) (ix : TreeIndex) (rest : List TreeIndex)
-    → IsForest r.tree → r.tree.spine ≡ ix ∷ rest → start_of (length d.text) lines ≡ e → Ends (path_of d.options r.tree) Line lines → Ready d defined r lines
-    → Ready d defined (popped e r) lines
+    → IsForest r.tree → r.tree.spine ≡ ix ∷ rest → start_of (length d.text) lines ≡ e → next_goes_on (path_of d.options r.tree) lines ≡ false
+    → Ready d defined r lines → Ready d defined (popped e r) lines
 unfolding Ready
 ready_pop d defined r lines e ix rest forest spine e_is ends ready = pop_with d defined r lines e ix rest forest spine e_is r.empty_item refl ends ready
 
@@ -323,7 +337,7 @@ closed_more old now kept at (ix ∷ rest) forest spine more c =
         spine = after_it ∙ left ∙ ap (λ n. outer n old.tree.spine) (sym k);
         paths = λ options s. popped_paths at now ix rest options spine s ∙ c.paths options s;
         ready = λ d defined lines e none ready. ready_pop d defined now lines at ix rest forest spine e
-            (subst (λ p. Ends p Line lines) (sym (c.paths d.options now.tree.spine ∙ ap (path_in d.options old.tree.nodes) (spine ∙ here)))
+            (subst (λ p. next_goes_on p lines ≡ false) (sym (c.paths d.options now.tree.spine ∙ ap (path_in d.options old.tree.nodes) (spine ∙ here)))
             (none (suc (length rest)) (omega arith) (omega arith))) (c.ready d defined lines e none ready);
       },
       omega arith,

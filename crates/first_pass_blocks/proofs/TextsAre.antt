@@ -1,7 +1,6 @@
 -- A paragraph or a table that was added stands for its text.
-use Rattle.std.proofs.Common.{◌≡◌, ℕ, ◌+◌, ◌-◌, ◌≤◌, true, List, [], ◌∷◌, ◌++◌, length, drop, Option, Some, None, MatchOption, IsUtf8, IsCharBoundary, refl}
+use Rattle.std.proofs.Common.{◌≡◌, ℕ, ◌+◌, ◌-◌, ◌≤◌, List, ◌++◌, length, drop, Option, Some, None, MatchOption, IsUtf8, IsCharBoundary, refl}
 use Rattle.std.proofs.Common.{sym, ap, subst, ◌∙◌, arith, inl, inr}
-use Rattle.std.specs.Option.{option_map}
 use Rattle.std.proofs.lemmas.Bool.{cases_lt}
 use Rattle.first_pass_items.specs.declared.item.Alignment.{Alignment}
 use Rattle.first_pass_items.specs.declared.item.AlignmentIndex.{AlignmentIndex}
@@ -9,7 +8,7 @@ use Rattle.first_pass_items.specs.declared.item.Item.{Item}
 use Rattle.first_pass_items.specs.declared.item.ItemBody.TheVariants.{Table, TableHead}
 use Rattle.first_pass_items.specs.declared.option_set.Options.{Options}
 use Rattle.first_pass_tree.specs.declared.tree_index.TreeIndex.{TreeIndex}
-use Rattle.first_pass_tree.specs.Forest.{Forest, added, block_of, appended, popped, in_table_by, in_table}
+use Rattle.first_pass_tree.specs.Forest.{Forest, added, block_of, appended, popped}
 use Rattle.first_pass_tree.proofs.Blocks.{block-built}
 use Rattle.first_pass_lines.specs.Lines.{line_len}
 use Rattle.first_pass_lines.specs.Places.{Place, offset, line_end, line_place, start_of, IsPlaceOf}
@@ -31,7 +30,7 @@ use Rattle.first_pass_grammar.proofs.TextsMore.{cells_more, rows_more}
 use Rattle.first_pass_open.specs.OpenBlock.{IsJustPushed, begun_item, opened_block}
 use Rattle.first_pass_open.proofs.BlockLemmas.{just_pushed}
 use Rattle.first_pass_open.specs.Path.{path_of, context_of}
-use Rattle.first_pass_open.proofs.PathLemmas.{AreIn, get_last, path_of-opened}
+use Rattle.first_pass_open.proofs.PathLemmas.{AreIn, path_of-opened}
 use Rattle.first_pass_open.proofs.PlaceLemmas.{line_start_end, place_end}
 use Rattle.first_pass_open.specs.Between.{line_end_at}
 use Rattle.first_pass_text.specs.Appends.{AddsPlainText}

@@ -11,7 +11,8 @@ use Rattle.first_pass_grammar.specs.declared.kind.Container.TheVariants.{BlockQu
 use Rattle.first_pass_grammar.specs.Names.{Names, Extends}
 use Rattle.first_pass_grammar.specs.Leaves.{Document, document}
 use Rattle.first_pass_grammar.specs.Derivation.{Tables}
-use Rattle.first_pass_grammar.specs.Skeleton.{From, Line, Blanks, Ends, next_is_blank}
+use Rattle.first_pass_grammar.specs.Containers.{next_goes_on}
+use Rattle.first_pass_grammar.specs.Skeleton.{From, Line, Blanks, next_is_blank}
 use Rattle.first_pass_grammar.specs.Completion.{NoList, Frame, InContainer, InList, last_of, Completes}
 use Rattle.first_pass_lists.specs.Closing.{emptied}
 use Rattle.first_pass_lists.specs.declared.reading.Reading.{Reading}
@@ -81,4 +82,4 @@ StaysReady d defined r lines = (more : Names) → Extends more d.names → Ready
 
 -- no more than so many of the open nodes continue the first of these lines
 abbrev pub NoMore : Options → Forest Item → ℕ → List Place → Type 0
-NoMore options f kept lines = (m : ℕ) → kept < m → m ≤ length f.spine → Ends (path_in options f.nodes (outer m f.spine)) Line lines
+NoMore options f kept lines = (m : ℕ) → kept < m → m ≤ length f.spine → next_goes_on (path_in options f.nodes (outer m f.spine)) lines ≡ false

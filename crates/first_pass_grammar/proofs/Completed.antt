@@ -1,17 +1,16 @@
 -- Whatever is open can be completed, and each text has a derivation.
 use Rattle.std.proofs.Common.{◌≡◌, ℕ, suc, Bool, false, List, [], ◌∷◌, length, refl, sym, subst, arith}
-use Rattle.std.proofs.lemmas.Option.{none-some}
 use Rattle.first_pass_items.specs.declared.item.Item.{Item}
 use Rattle.first_pass_items.specs.declared.option_set.Options.{Options}
 use Rattle.first_pass_lines.specs.Places.{Place, lines_at}
 use Rattle.first_pass_grammar.specs.declared.kind.Container.{Container}
 use Rattle.first_pass_grammar.specs.Names.{Names, Extends}
-use Rattle.first_pass_grammar.specs.Containers.{after, is_quote}
+use Rattle.first_pass_grammar.specs.Containers.{is_quote}
 use Rattle.first_pass_grammar.specs.Leaves.{Document, document}
-use Rattle.first_pass_grammar.specs.Skeleton.{From, Line, Ends, end_before, IsSequence}
-use Rattle.first_pass_grammar.specs.Before.{nothing}
+use Rattle.first_pass_grammar.specs.Skeleton.{From, Line, level, Left, Lines, InLine, onward, end_before, IsSequence}
+use Rattle.first_pass_grammar.specs.Before.{Before, nothing, after_container, before_end}
 use Rattle.first_pass_grammar.specs.Rows.{Rows, any_gap, rows_of}
-use Rattle.first_pass_grammar.specs.Derivation.{Tables, Derives, told, definitions_of, tables_of, root_of, items_of}
+use Rattle.first_pass_grammar.specs.Derivation.{Tables, Derives, no_tables, told_by, root_of, items_of}
 use Rattle.first_pass_grammar.specs.Completion.{OneList, Standing, Further, AreFurther, rows_on, rows_beyond, rendered, Frame, InContainer, InList}
 use Rattle.first_pass_grammar.specs.Completion.{containers_of, loosened, container_closed, Becomes, Completes, CanGoOn, Completion}
 use Rattle.first_pass_grammar.proofs.Found.{Found}
@@ -19,32 +18,32 @@ use Rattle.first_pass_grammar.proofs.MoreNames.{extends_none, extends_both}
 use Rattle.first_pass_grammar.proofs.Finishes.{containers-loosened}
 use Rattle.first_pass_grammar.proofs.SequencesFound.{sequence_found}
 
--- at the top a sequence takes all lines
-all_taken_by : (left : List Place) → Ends [] Line left → left ≡ []
-unfolding after
-all_taken_by [] h = refl
-all_taken_by (line ∷ lines) h = absurd (none-some line.rest (sym h))
-
 pub line_goes_on : (path : List Container) → CanGoOn path Line
 line_goes_on [] = refl
 line_goes_on (c ∷ path) = tt
 
+onward_goes_on : (path : List Container) (left : Left) → CanGoOn path (onward left).0
+onward_goes_on [] (Lines lines) = refl
+onward_goes_on [] (InLine p lines) = refl
+onward_goes_on (c ∷ path) left = tt
+
 -- what the containers of a path take further
-further_found : (text : List ℕ) (options : Options) (names : Names) (path : List Container) (from : From) (lines : List Place) → CanGoOn path from
-    → Found names (List Further) (λ later further. AreFurther (document text options later) path from lines further)
+further_found : (text : List ℕ) (options : Options) (names : Names) (path : List Container) (before : Before) (from : From) (lines : List Place)
+    → CanGoOn path from → Found names (List Further) (λ later further. AreFurther (document text options later) path before from lines further)
 unfolding AreFurther
-further_found text options names [] from lines can =
-    let s = sequence_found text options names [] from lines in
-    let none : s.left ≡ [] = all_taken_by s.left (s.ends can) in
+further_found text options names [] before from lines can =
+    let s = sequence_found text options names (level [] before) from lines in
+    let all : s.left ≡ Lines [] = s.ends refl can in
     record {
       value = record { blocks = s.blocks; «end» = length text } ∷ [];
       more = s.more;
       extends = s.extends;
-      holds = λ later x. (subst (λ z. IsSequence (document text options later) s.blocks [] from lines z) none (s.is later x), refl);
+      holds = λ later x. (subst (λ z. IsSequence (document text options later) s.blocks (level [] before) from lines z) all (s.is later x), refl);
     }
-further_found text options names (c ∷ path) from lines can =
-    let s = sequence_found text options names (c ∷ path) from lines in
-    let outer = further_found text options s.more path Line s.left (line_goes_on path) in
+further_found text options names (c ∷ path) before from lines can =
+    let s = sequence_found text options names (level (c ∷ path) before) from lines in
+    let now : Before = after_container c (before_end (is_quote c) before s.blocks) in
+    let outer = further_found text options s.more path now (onward s.left).0 (onward s.left).1 (onward_goes_on path s.left) in
     record {
       value = record { blocks = s.blocks; «end» = end_before (length text) path from s.left } ∷ outer.value;
       more = outer.more;
@@ -59,12 +58,12 @@ length-loosened gap (InContainer c ∷ frames) = refl
 length-loosened gap (InList byte loose ∷ frames) = refl
 
 becomes_some : (d : Document) (frames : List Frame) (places : List ℕ) (w : Standing) (further : List Further) (from : From) (lines : List Place)
-    → length frames ≡ length places → AreFurther d (containers_of frames) from lines further
+    → length frames ≡ length places → AreFurther d (containers_of frames) w.before from lines further
     → (forest : List (ℕ × Item)) × (tables : Tables) × Becomes frames places w further forest tables
 unfolding AreFurther Becomes
 becomes_some d [] [] w [] from lines size are = absurd are
 becomes_some d [] [] w (f ∷ []) from lines size are =
-    (rendered 1 f.«end» w.nodes w.list (rows_on false w f), told w.defined (definitions_of f.blocks), (refl, refl))
+    (rendered 1 f.«end» w.nodes w.list (rows_on false w f), told_by w.defined f.blocks, (refl, refl))
 becomes_some d [] [] w (f ∷ g ∷ more) from lines size are = absurd are
 becomes_some d [] (place ∷ places) w further from lines size are = absurd (omega arith)
 becomes_some d (frame ∷ frames) [] w further from lines size are = absurd (omega arith)
@@ -76,13 +75,13 @@ becomes_some d (InContainer c ∷ frames) (place ∷ places) w (f ∷ further) f
     let rows : Rows = rows_on (is_quote c) w f in
     let gap : Bool = any_gap (rows_beyond w.list rows) in
     let now : Standing = container_closed c (suc (length (place ∷ places))) place w f rows in
-    becomes_some d (loosened gap frames) places now further Line left (omega (arith, length-loosened gap frames))
-    (subst (λ (path : List Container). AreFurther d path Line left further) (sym (containers-loosened gap frames)) are)
+    becomes_some d (loosened gap frames) places now further (onward left).0 (onward left).1 (omega (arith, length-loosened gap frames))
+    (subst (λ (path : List Container). AreFurther d path now.before (onward left).0 (onward left).1 further) (sym (containers-loosened gap frames)) are)
 
 pub completion_found : (d : Document) (frames : List Frame) (places : List ℕ) (w : Standing) (from : From) (lines : List Place)
     → length frames ≡ length places → CanGoOn (containers_of frames) from → Completion d frames places w from lines
 completion_found d frames places w from lines size can =
-    let further = further_found d.text d.options d.names (containers_of frames) from lines can in
+    let further = further_found d.text d.options d.names (containers_of frames) w.before from lines can in
     let taken = further.holds further.more (extends_none further.more) in
     let becomes = becomes_some (document d.text d.options further.more) frames places w further.value from lines size taken in
     record {
@@ -107,15 +106,16 @@ completion_derives d frames places w from lines size can ready =
 pub text_derives : (text : List ℕ) (options : Options) (names : Names)
     → (more : Names) × (forest : List (ℕ × Item)) × (tables : Tables) × Extends more names × Derives (document text options more) forest tables
 text_derives text options names =
-    let s = sequence_found text options names [] Line (lines_at 0 text) in
-    let none : s.left ≡ [] = all_taken_by s.left (s.ends refl) in (
+    let top = level [] nothing in
+    let s = sequence_found text options names top Line (lines_at 0 text) in
+    let all : s.left ≡ Lines [] = s.ends refl refl in (
       s.more,
       root_of (length text) ∷ items_of 1 false (rows_of false nothing (length text) s.blocks),
-      tables_of s.blocks,
+      told_by no_tables s.blocks,
       s.extends,
       record {
         skeleton = s.blocks;
-        sequence = subst (λ z. IsSequence (document text options s.more) s.blocks [] Line (lines_at 0 text) z) none (s.is s.more (extends_none s.more));
+        sequence = subst (λ z. IsSequence (document text options s.more) s.blocks top Line (lines_at 0 text) z) all (s.is s.more (extends_none s.more));
         forest_is = refl;
         tables_are = refl;
       },

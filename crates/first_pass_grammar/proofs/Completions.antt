@@ -11,26 +11,30 @@ use Rattle.first_pass_items.specs.declared.item.ItemBody.TheVariants.{BlockQuote
 use Rattle.first_pass_tree.specs.Forest.{modify, map_from}
 use Rattle.first_pass_tree.specs.Tight.{tight_body, tightened}
 use Rattle.first_pass_tree.proofs.Blocks.{modify-at}
-use Rattle.first_pass_lines.specs.Places.{Place, lines_at, start_of}
+use Rattle.first_pass_lines.specs.Places.{Place, offset, lines_at, start_of}
 use Rattle.first_pass_grammar.specs.declared.kind.Container.{Container}
 use Rattle.first_pass_grammar.specs.declared.kind.Container.TheVariants.{BlockQuote, ListItem}
-use Rattle.first_pass_grammar.specs.Containers.{taken, is_quote}
+use Rattle.first_pass_grammar.specs.Containers.{taken, next_goes_on, is_quote, in_quote}
+use Rattle.first_pass_grammar.specs.Footnotes.{ends_footnote}
 use Rattle.first_pass_grammar.specs.Names.{Names}
-use Rattle.first_pass_grammar.specs.Leaves.{Document}
+use Rattle.first_pass_grammar.specs.Leaves.{Document, around}
 use Rattle.first_pass_grammar.specs.Blocks.{Leaf, LeafBlock, BlankLine, Block, block_at, Head, Opener, QuoteMarker, ItemMarker, Skeleton, Nil, Then, Node}
 use Rattle.first_pass_grammar.specs.Before.{Last, LastOther, LastItem, Before, nothing, last_container, after_blank, after_block, after_container, before_end}
 use Rattle.first_pass_grammar.specs.Skeleton.{From, Line, Inside, Blanks, At, TextOf, MarkAlone, behind_marker, Opening, OpensLeaf, OpensNode, OpensText, Opens}
-use Rattle.first_pass_grammar.specs.Skeleton.{Begins, Ends, behind_first, end_after, end_before, IsFirst, IsSequence}
-use Rattle.first_pass_grammar.specs.Kinds.{Kind, Paragraph}
+use Rattle.first_pass_grammar.specs.Skeleton.{Level, level, Left, Lines, InLine, Begins, Ends, ends_old_footnote, going, onward}
+use Rattle.first_pass_grammar.specs.Skeleton.{behind_first, blanks_alone, end_of_left, end_before, IsFirst, IsSequence}
+use Rattle.first_pass_grammar.specs.Kinds.{Kind, Paragraph, unindented, is_blank_rest}
 use Rattle.first_pass_grammar.specs.Rows.{ALeaf, AList, Rows, End, OneOf, gapped, any_gap, is_loose, is_paragraph, closing_place, list_until, items_behind}
 use Rattle.first_pass_grammar.specs.Rows.{list_behind, what_of, row_of, container_row, rows_of}
-use Rattle.first_pass_grammar.specs.LinkTables.{LinkEntry, with_link, with_links}
-use Rattle.first_pass_grammar.specs.Derivation.{Tables, Derives, no_tables, told, definitions_of, node_of, root_of, list_flags, block_items, items_of}
+use Rattle.first_pass_grammar.specs.LinkTables.{LinkEntry, with_link, with_links, with_label, with_labels}
+use Rattle.first_pass_grammar.specs.Derivation.{Tables, Derives, no_tables, told, definitions_of, footnotes_of, told_by, node_of, root_of, list_flags}
+use Rattle.first_pass_grammar.specs.Derivation.{block_items, items_of}
 use Rattle.first_pass_grammar.specs.Completion.{ended, flagged, list_closed, Pending, NoList, OneList, rows_beyond, rendered, Frame, InContainer, InList}
 use Rattle.first_pass_grammar.specs.Completion.{containers_of, loosened, AreBelow, IsPlain, last_of, IsShaped}
 use Rattle.first_pass_grammar.proofs.Tightening.{eqb-same, modify-append, length-modify, list_closed-append, length-closed, list_closed-mid, closed_item}
 use Rattle.first_pass_grammar.proofs.Alike.{AlikeOpening}
 use Rattle.first_pass_grammar.proofs.Finishes.{Finish, containers-loosened, before_of, CompletesAt, FinishesAt, finish_derives, whole_by}
+use Rattle.first_pass_grammar.proofs.Goings.{begins_at, begins_inside, ends_inside, enters, stops, begins_blank, going_inside}
 use Rattle.first_pass_grammar.proofs.Unique.{one_opening, ends_at_once}
 
 -- where a list ends before a leaf block or a container (this project)
@@ -112,28 +116,27 @@ last-loosened gap [] = refl
 last-loosened gap (InContainer c ∷ frames) = refl
 last-loosened gap (InList byte loose ∷ frames) = refl
 
--- the innermost open node is a block quote
-abbrev pub in_quote : List Frame → Bool
-in_quote [] = false
-in_quote (InContainer c ∷ frames) = is_quote c
-in_quote (InList byte loose ∷ frames) = false
+-- where not blank lines alone are taken, what blocks stand in ends where they leave the lines
+abbrev pub EndsAt : ℕ → From → Left → ℕ → Type 0
+EndsAt n from mid last = blanks_alone from ≡ None → last ≡ end_of_left n [] None mid
 
--- where blocks continue at the next line and end before these lines, what they stand in ends at the start of the first of these
-abbrev pub EndsAt : ℕ → From → List Place → ℕ → Type 0
-EndsAt n from mid last = from ≡ Line → last ≡ start_of n mid
+end_anywhere : (n : ℕ) (path : List Container) (left : Left) → end_of_left n path None left ≡ end_of_left n [] None left
+end_anywhere n path (Lines lines) = refl
+end_anywhere n path (InLine p lines) = refl
 
 -- What a block adds, or a list's end: the same items come of it, blank lines at the end count alike, and the same gaps with one that is noted.
-pub record Adds (d : Document) (quoted : Bool) (depth : ℕ) (path : List Container) (list list' : Pending) (before before' : Before) (gap : Bool)
-    (nodes nodes' : List (ℕ × Item)) (from : From) (lines : List Place) (s t : Skeleton) (mid : List Place) : Type 0 where
-  pub seq : IsSequence d t path from lines mid
+pub record Adds (d : Document) (depth : ℕ) (path : List Container) (list list' : Pending) (before before' : Before) (gap : Bool)
+    (nodes nodes' : List (ℕ × Item)) (from : From) (lines : List Place) (s t : Skeleton) (mid : Left) : Type 0 where
+  pub seq : IsSequence d t (level path before) from lines mid
   pub items : (last : ℕ) → EndsAt (length d.text) from mid last
-      → rendered depth last nodes list (rows_of quoted before last t) ≡ rendered depth last nodes' list' (rows_of quoted before' last s)
-  pub counts : (before_end quoted before t).counted ≡ (before_end quoted before' s).counted
-  pub gaps : (last : ℕ) → any_gap (rows_beyond list (rows_of quoted before last t)) ≡ (gap || any_gap (rows_beyond list' (rows_of quoted before' last s)))
+      → rendered depth last nodes list (rows_of (in_quote path) before last t) ≡ rendered depth last nodes' list' (rows_of (in_quote path) before' last s)
+  pub counts : (before_end (in_quote path) before t).counted ≡ (before_end (in_quote path) before' s).counted
+  pub gaps : (last : ℕ) → any_gap (rows_beyond list (rows_of (in_quote path) before last t))
+      ≡ (gap || any_gap (rows_beyond list' (rows_of (in_quote path) before' last s)))
 
 -- a container ends alike, wherever the blocks in it continue
 abbrev pub EndsAlike : ℕ → From → From → Type 0
-EndsAlike n from there = (path : List Container) (mid : List Place) → end_before n path from mid ≡ end_before n path there mid
+EndsAlike n from there = (path : List Container) (mid : Left) → end_before n path from mid ≡ end_before n path there mid
 
 -- What adds blocks in front of a sequence leads to the same forests.
 -- what is told with more definitions, one list after the other
@@ -142,11 +145,35 @@ unfolding with_links
 told_links links [] b = refl
 told_links links (x ∷ a) b = told_links (with_link x links) a b
 
-abbrev told_by : List (List ℕ) → List LinkEntry → Tables
-told_by footnotes links = record { links = links; footnotes = footnotes }
+told_labels : (labels a b : List (List ℕ)) → with_labels labels (a ++ b) ≡ with_labels (with_labels labels a) b
+unfolding with_labels
+told_labels labels [] b = refl
+told_labels labels (x ∷ a) b = told_labels (with_label x labels) a b
+
+abbrev tables_with : List (List ℕ) → List LinkEntry → Tables
+tables_with footnotes links = record { links = links; footnotes = footnotes }
 
 pub told-append : (defined : Tables) (a b : List LinkEntry) → told (told defined a) b ≡ told defined (a ++ b)
-told-append defined a b = ap (told_by defined.footnotes) (sym (told_links defined.links a b))
+told-append defined a b = ap (tables_with defined.footnotes) (sym (told_links defined.links a b))
+
+-- what a leaf block defines before a sequence, and what a container's blocks do
+told_leaf : (defined : Tables) (b : LeafBlock) (s : Skeleton) → told_by (told defined b.definitions) s ≡ told_by defined (Then (Block b) s)
+unfolding definitions_of footnotes_of
+told_leaf defined b s =
+    ap (tables_with (with_labels defined.footnotes (footnotes_of s))) (sym (told_links defined.links b.definitions (definitions_of s)))
+
+abbrev told_both : Tables → Skeleton → Skeleton → Tables
+told_both defined kids s = record {
+  links = with_links defined.links (definitions_of kids ++ definitions_of s);
+  footnotes = with_labels defined.footnotes (footnotes_of kids ++ footnotes_of s);
+}
+
+told_kids : (defined : Tables) (kids s : Skeleton) → told_by (told_by defined kids) s ≡ told_both defined kids s
+told_kids defined kids s =
+    ap (tables_with (with_labels (with_labels defined.footnotes (footnotes_of kids)) (footnotes_of s)))
+    (sym (told_links defined.links (definitions_of kids) (definitions_of s)))
+    ∙ ap (λ z. tables_with z (with_links defined.links (definitions_of kids ++ definitions_of s)))
+    (sym (told_labels defined.footnotes (footnotes_of kids) (footnotes_of s)))
 
 finish_told : (d : Document) (defined defined' : Tables) (list : Pending) (before : Before) (frames : List Frame) (nodes : List (ℕ × Item)) (os : List ℕ)
     (from : From) (lines : List Place) (forest : List (ℕ × Item)) (tables : Tables) → defined ≡ defined'
@@ -158,15 +185,15 @@ pub extend : (d : Document) (defined defined' : Tables) (frames : List Frame) (l
     (nodes nodes' : List (ℕ × Item)) (os : List ℕ) (from there : From) (lines left : List Place) (forest : List (ℕ × Item)) (tables : Tables)
     (f : Skeleton → Skeleton)
     → IsPlain frames → EndsAlike (length d.text) from there
-    → ((s : Skeleton) (mid : List Place) → IsSequence d s (containers_of frames) there left mid
-    → Adds d (in_quote frames) (suc (length os)) (containers_of frames) list list' before before' gap nodes nodes' from lines s (f s) mid)
-    → ((s : Skeleton) → told defined' (definitions_of s) ≡ told defined (definitions_of (f s)))
+    → ((s : Skeleton) (mid : Left) → IsSequence d s (level (containers_of frames) before') there left mid
+    → Adds d (suc (length os)) (containers_of frames) list list' before before' gap nodes nodes' from lines s (f s) mid)
+    → ((s : Skeleton) → told_by defined' s ≡ told_by defined (f s))
     → Finish d defined' list' before' (loosened_in gap frames) nodes' os there left forest tables
     → Finish d defined list before frames nodes os from lines forest tables
 unfolding Finish
 extend d defined defined' [] list list' before before' gap nodes nodes' [] from there lines left forest tables f plain ends adds tells
     (s, seq, is, tables_are) =
-    let a = adds s [] seq in (f s, a.seq, is ∙ sym (a.items (length d.text) (λ line. refl)), tables_are ∙ tells s)
+    let a = adds s (Lines []) seq in (f s, a.seq, is ∙ sym (a.items (length d.text) (λ line. refl)), tables_are ∙ tells s)
 extend d defined defined' [] list list' before before' gap nodes nodes' (o ∷ os) from there lines left forest tables f plain ends adds tells fin = fin
 extend d defined defined' (InContainer c ∷ frames) list list' before before' gap nodes nodes' [] from there lines left forest tables f plain ends
     adds tells fin = fin
@@ -175,11 +202,11 @@ extend d defined defined' (InList byte loose ∷ frames) list list' before befor
 extend d defined defined' (InContainer c ∷ frames) list list' before before' gap nodes nodes' (o ∷ os) from there lines left forest tables f plain ends
     adds tells (s, mid, seq, fin) =
     let path : List Container = containers_of frames in
-    let a = adds s mid (subst (λ p. IsSequence d s (c ∷ p) there left mid) (containers-loosened gap frames) seq) in
+    let a = adds s mid (subst (λ p. IsSequence d s (level (c ∷ p) before') there left mid) (containers-loosened gap frames) seq) in
     let same : end_before (length d.text) (containers_of (loosened gap frames)) there mid ≡ end_before (length d.text) path from mid =
     ap (λ p. end_before (length d.text) p there mid) (containers-loosened gap frames) ∙ sym (ends path mid) in
     let e : ℕ = end_before (length d.text) path from mid in
-    let at : EndsAt (length d.text) from mid e = λ line. ap (λ z. end_before (length d.text) path z mid) line in
+    let at : EndsAt (length d.text) from mid e = λ none. ap (λ z. end_of_left (length d.text) path z mid) none ∙ end_anywhere (length d.text) path mid in
     let depth : ℕ = suc (length (o ∷ os)) in
     let rows : ℕ → Rows = λ last. rows_of (is_quote c) before' last s in
     let now : Before = after_container c (before_end (is_quote c) before' s) in
@@ -189,54 +216,64 @@ extend d defined defined' (InContainer c ∷ frames) list list' before before' g
       f s,
       mid,
       a.seq,
-      finish_moved d _ _ _ _ _ _ _ os Line mid forest tables (ap (λ z. record { last = last_container c; counted = z }) (sym a.counts)) g
+      finish_moved d _ _ _ _ _ _ _ os (onward mid).0 (onward mid).1 forest tables (ap (λ z. record { last = last_container c; counted = z }) (sym a.counts)) g
           (ap (λ z. ended z o e) (sym (a.items e at)))
-          (finish_told d _ _ _ _ _ _ os Line mid forest tables (tells s)
-          (subst (λ z. Finish d (told defined' (definitions_of s)) NoList now (loosened (any_gap (rows_beyond list' (rows z))) (loosened gap frames))
-          (ended (rendered depth z nodes' list' (rows z)) o z) os Line mid forest tables) same fin)),
+          (finish_told d _ _ _ _ _ _ os (onward mid).0 (onward mid).1 forest tables (tells s)
+          (subst (λ z. Finish d (told_by defined' s) NoList now (loosened (any_gap (rows_beyond list' (rows z))) (loosened gap frames))
+          (ended (rendered depth z nodes' list' (rows z)) o z) os (onward mid).0 (onward mid).1 forest tables) same fin)),
     )
 
 -- What begins inside a line begins at the line.
-enter_first : (d : Document) (path : List Container) (line q : Place) (lines : List Place) (opening : Opening)
-    → taken path line ≡ Some q → IsFirst d path (Inside q) lines opening → IsFirst d path Line (line ∷ lines) opening
-enter_first d path line q lines opening is first =
-    record { place = first.place; behind = first.behind; begins = (is ∙ ap (λ z. Some z) (sym first.begins.0), first.begins.1); opens = first.opens }
+enter_first : (d : Document) (l : Level) (line q : Place) (lines : List Place) (opening : Opening) → taken l.path line ≡ Some q
+    → ends_old_footnote l ≡ false → IsFirst d l (Inside q) lines opening → IsFirst d l Line (line ∷ lines) opening
+enter_first d l line q lines opening is old first =
+    record { place = first.place; behind = first.behind; begins = enters d.options l line q lines is old ∙ first.begins; opens = first.opens }
 
-enter_seq : (d : Document) (s : Skeleton) (path : List Container) (line q : Place) (lines left : List Place)
-    → taken path line ≡ Some q → IsSequence d s path (Inside q) lines left → IsSequence d s path Line (line ∷ lines) left
+enter_seq : (d : Document) (s : Skeleton) (l : Level) (line q : Place) (lines : List Place) (left : Left) → taken l.path line ≡ Some q
+    → ends_old_footnote l ≡ false → IsSequence d s l (Inside q) lines left → IsSequence d s l Line (line ∷ lines) left
 unfolding IsSequence
-enter_seq d Nil path line q lines left is seq = absurd seq.0
-enter_seq d (Then leaf next) path line q lines left is (there, mid, first, seq) =
-    (there, mid, enter_first d path line q lines (OpensLeaf leaf there mid) is first, seq)
-enter_seq d (Node head e kids next) path line q lines left is (inside, behind, mid, first, inner, ends, seq) =
-    (inside, behind, mid, enter_first d path line q lines (OpensNode head inside behind) is first, inner, ends, seq)
+enter_seq d Nil l line q lines left is old seq = enters d.options l line q lines is old ∙ seq
+enter_seq d (Then leaf next) l line q lines left is old (there, mid, first, seq) =
+    (there, mid, enter_first d l line q lines (OpensLeaf leaf there mid) is old first, seq)
+enter_seq d (Node head e kids next) l line q lines left is old (inside, behind, mid, first, inner, ends, seq) =
+    (inside, behind, mid, enter_first d l line q lines (OpensNode head inside behind) is old first, inner, ends, seq)
 
 enter_step : (d : Document) (defined : Tables) (frames : List Frame) (list : Pending) (before : Before) (nodes : List (ℕ × Item)) (os : List ℕ)
     (line q : Place) (lines : List Place) (forest : List (ℕ × Item)) (tables : Tables) → taken (containers_of frames) line ≡ Some q
-    → Finish d defined list before frames nodes os (Inside q) lines forest tables
+    → ends_old_footnote (level (containers_of frames) before) ≡ false → Finish d defined list before frames nodes os (Inside q) lines forest tables
     → Finish d defined list before frames nodes os Line (line ∷ lines) forest tables
 unfolding Finish
-enter_step d defined [] list before nodes [] line q lines forest tables is (s, seq, forest_is, tables_are) =
-    (s, enter_seq d s [] line q lines [] is seq, forest_is, tables_are)
-enter_step d defined [] list before nodes (o ∷ os) line q lines forest tables is fin = fin
-enter_step d defined (InContainer c ∷ frames) list before nodes [] line q lines forest tables is fin = fin
-enter_step d defined (InList byte loose ∷ frames) list before nodes [] line q lines forest tables is fin = fin
-enter_step d defined (InList byte loose ∷ frames) list before nodes (o ∷ os) line q lines forest tables is fin =
-    enter_step d defined frames (OneList o byte loose) before nodes os line q lines forest tables is fin
-enter_step d defined (InContainer c ∷ frames) list before nodes (o ∷ os) line q lines forest tables is (s, mid, seq, fin) =
-    (s, mid, enter_seq d s (c ∷ containers_of frames) line q lines mid is seq, fin)
+enter_step d defined [] list before nodes [] line q lines forest tables is old (s, seq, forest_is, tables_are) =
+    (s, enter_seq d s (level [] before) line q lines (Lines []) is old seq, forest_is, tables_are)
+enter_step d defined [] list before nodes (o ∷ os) line q lines forest tables is old fin = fin
+enter_step d defined (InContainer c ∷ frames) list before nodes [] line q lines forest tables is old fin = fin
+enter_step d defined (InList byte loose ∷ frames) list before nodes [] line q lines forest tables is old fin = fin
+enter_step d defined (InList byte loose ∷ frames) list before nodes (o ∷ os) line q lines forest tables is old fin =
+    enter_step d defined frames (OneList o byte loose) before nodes os line q lines forest tables is old fin
+enter_step d defined (InContainer c ∷ frames) list before nodes (o ∷ os) line q lines forest tables is old (s, mid, seq, fin) =
+    (s, mid, enter_seq d s (level (c ∷ containers_of frames) before) line q lines mid is old seq, fin)
 
-first_here : (d : Document) (path : List Container) (p : Place) (lines : List Place) (opening : Opening)
-    → Opens d path p lines opening → IsFirst d path (Inside p) lines opening
-first_here d path p lines opening opens = record { place = p; behind = lines; begins = (refl, refl); opens = opens }
+-- no footnote definition that is innermost ends at a place
+abbrev pub StaysAt : Document → List Container → Place → Type 0
+StaysAt d path p = ends_footnote (around d path) p ≡ false
+
+first_here : (d : Document) (path : List Container) (before : Before) (p : Place) (lines : List Place) (opening : Opening)
+    → StaysAt d path p → Opens d path p lines opening → IsFirst d (level path before) (Inside p) lines opening
+first_here d path before p lines opening stays opens =
+    record { place = p; behind = lines; begins = begins_inside d.options (level path before) p lines stays; opens = opens }
+
+alike_onward : (n : ℕ) (p : Place) (left : Left) → EndsAlike n (Inside p) (onward left).0
+alike_onward n p (Lines lines) path mid = refl
+alike_onward n p (InLine q lines) path mid = refl
 
 -- a block with no blocks in it, before which no gap is to be noted
 block_step : (d : Document) (defined : Tables) (frames : List Frame) (nodes : List (ℕ × Item)) (os : List ℕ) (from : From) (lines left : List Place)
     (b : LeafBlock) (forest : List (ℕ × Item)) (tables : Tables)
-    → IsPlain frames → EndsAlike (length d.text) from (behind_first from Line) → IsFirst d (containers_of frames) from lines (OpensLeaf (Block b) Line left)
+    → IsPlain frames → EndsAlike (length d.text) from (behind_first from Line)
+    → IsFirst d (level (containers_of frames) (before_of frames false)) from lines (OpensLeaf (Block b) Line left)
     → FinishesAt d (told defined b.definitions) b.gap frames (nodes ++ block_items (suc (length os)) false b) os (behind_first from Line) left forest tables
     → FinishesAt d defined false frames nodes os from lines forest tables
-unfolding IsSequence items_of rows_of before_end any_gap rendered definitions_of
+unfolding IsSequence items_of rows_of before_end any_gap rendered definitions_of footnotes_of
 block_step d defined frames nodes os from lines left b forest tables plain alike first fin =
     let added : List (ℕ × Item) = block_items (suc (length os)) false b in
     extend d defined (told defined b.definitions) frames NoList NoList (before_of frames false) (after_block b) false nodes (nodes ++ added) os
@@ -247,18 +284,19 @@ block_step d defined frames nodes os from lines left b forest tables plain alike
       counts = refl;
       gaps = λ last. refl;
     })
-    (λ s. told-append defined b.definitions (definitions_of s))
+    (λ s. told_leaf defined b s)
     (finish_moved d _ _ _ _ _ _ _ os (behind_first from Line) left forest tables (plain_before b.gap frames plain) (sym (loosened_in-false frames)) refl fin)
 
 -- a blank line, where a list may continue
 blank_step : (d : Document) (defined : Tables) (frames : List Frame) (list : Pending) (before : Before) (nodes : List (ℕ × Item)) (os : List ℕ) (from : From)
     (lines left : List Place) (forest : List (ℕ × Item)) (tables : Tables)
-    → IsPlain frames → EndsAlike (length d.text) from (behind_first from Line) → IsFirst d (containers_of frames) from lines (OpensLeaf BlankLine Line left)
-    → Finish d defined list (after_blank (in_quote frames) before) frames nodes os (behind_first from Line) left forest tables
+    → IsPlain frames → EndsAlike (length d.text) from (behind_first from Line)
+    → IsFirst d (level (containers_of frames) before) from lines (OpensLeaf BlankLine Line left)
+    → Finish d defined list (after_blank (in_quote (containers_of frames)) before) frames nodes os (behind_first from Line) left forest tables
     → Finish d defined list before frames nodes os from lines forest tables
-unfolding IsSequence rows_of before_end definitions_of
+unfolding IsSequence rows_of before_end definitions_of footnotes_of
 blank_step d defined frames list before nodes os from lines left forest tables plain alike first fin =
-    let now : Before = after_blank (in_quote frames) before in
+    let now : Before = after_blank (in_quote (containers_of frames)) before in
     extend d defined defined frames list list before now false nodes nodes os from (behind_first from Line) lines left forest tables (λ s. Then BlankLine s)
     plain alike (λ s mid seq. record { seq = (Line, left, first, seq); items = λ last is. refl; counts = refl; gaps = λ last. refl }) (λ s. refl)
     (subst (λ z. Finish d defined list now z nodes os (behind_first from Line) left forest tables) (sym (loosened_in-false frames)) fin)
@@ -271,12 +309,13 @@ ended-mid nodes more k e x = modify-at nodes more (k, x) (length nodes) (λ y. r
 -- a block quote opened, before which no gap is to be noted
 quote_step : (d : Document) (defined : Tables) (frames : List Frame) (nodes : List (ℕ × Item)) (os : List ℕ) (p : Place) (lines behind : List Place)
     (kind : Option BlockQuoteKind) (start line some_end : ℕ) (inside : From) (forest : List (ℕ × Item)) (tables : Tables)
-    → IsPlain frames → Opens d (containers_of frames) p lines (OpensNode (record { opener = QuoteMarker kind; start = start; line = line }) inside behind)
+    → IsPlain frames → StaysAt d (containers_of frames) p
+    → Opens d (containers_of frames) p lines (OpensNode (record { opener = QuoteMarker kind; start = start; line = line }) inside behind)
     → FinishesAt d defined false (InContainer (BlockQuote kind) ∷ frames) (nodes ++ (suc (length os), node_of start some_end (BlockQuoteBody kind)) ∷ [])
     (length nodes ∷ os) inside behind forest tables
     → FinishesAt d defined false frames nodes os (Inside p) lines forest tables
-unfolding Finish IsSequence rows_of before_end items_of any_gap rendered definitions_of
-quote_step d defined frames nodes os p lines behind kind start line some_end inside forest tables plain opens (kids, mid, inner, fin) =
+unfolding Finish IsSequence rows_of before_end items_of any_gap rendered definitions_of footnotes_of
+quote_step d defined frames nodes os p lines behind kind start line some_end inside forest tables plain stays opens (kids, mid, inner, fin) =
     let n : ℕ = length d.text in
     let path : List Container = containers_of frames in
     let k : ℕ = suc (length os) in
@@ -290,16 +329,16 @@ quote_step d defined frames nodes os p lines behind kind start line some_end ins
     let same : ended ((nodes ++ x ∷ []) ++ items) (length nodes) e ≡ later =
     ap (λ z. ended z (length nodes) e) (append_assoc nodes (x ∷ []) items) ∙ ended-mid nodes items k e (node_of start some_end (BlockQuoteBody kind)) in
     let now : Before = after_container (BlockQuote kind) (before_end true nothing kids) in
-    extend d defined (told defined (definitions_of kids)) frames NoList NoList (before_of frames false) now false nodes later os
-    (Inside p) Line lines mid forest tables (λ s. Node head e kids s) plain (λ path mid. refl)
+    extend d defined (told_by defined kids) frames NoList NoList (before_of frames false) now false nodes later os
+    (Inside p) (onward mid).0 lines (onward mid).1 forest tables (λ s. Node head e kids s) plain (alike_onward n p mid)
     (λ s left seq. record {
-      seq = (inside, behind, mid, first_here d path p lines (OpensNode head inside behind) opens, inner, refl, seq);
+      seq = (inside, behind, mid, first_here d path (before_of frames false) p lines (OpensNode head inside behind) stays opens, inner, refl, seq);
       items = λ last is. sym (append_assoc nodes (y ∷ items) _);
       counts = refl;
       gaps = λ last. refl;
     })
-    (λ s. told-append defined (definitions_of kids) (definitions_of s))
-    (finish_moved d _ now now _ _ _ later os Line mid forest tables refl
+    (λ s. told_kids defined kids s)
+    (finish_moved d _ now now _ _ _ later os (onward mid).0 (onward mid).1 forest tables refl
     (plain_loosened (any_gap rows) frames plain ∙ sym (loosened_in-false frames)) same fin)
 
 ended-second : (nodes more : List (ℕ × Item)) (y : ℕ × Item) (k e : ℕ) (x : Item)
@@ -337,14 +376,14 @@ list_items quoted d last e start some_end byte number columns line flags before 
 -- a list opened with its first item, before which no gap is to be noted
 list_step : (d : Document) (defined : Tables) (frames : List Frame) (nodes : List (ℕ × Item)) (os : List ℕ) (p : Place) (lines behind : List Place)
     (byte number columns start line some_end other_end : ℕ) (flags : ListFlags) (inside : From) (forest : List (ℕ × Item)) (tables : Tables)
-    → IsPlain frames
+    → IsPlain frames → StaysAt d (containers_of frames) p
     → Opens d (containers_of frames) p lines (OpensNode (record { opener = ItemMarker byte number columns; start = start; line = line }) inside behind)
     → FinishesAt d defined false (InContainer (ListItem columns) ∷ InList byte false ∷ frames)
     (nodes ++ (suc (length os), node_of start some_end (ListBody flags byte number)) ∷
     (suc (suc (length os)), node_of start other_end (ListItemBody columns)) ∷ []) (suc (length nodes) ∷ length nodes ∷ os) inside behind forest tables
     → FinishesAt d defined false frames nodes os (Inside p) lines forest tables
-unfolding Finish IsSequence rows_of before_end items_of any_gap rendered definitions_of
-list_step d defined frames nodes os p lines behind byte number columns start line some_end other_end flags inside forest tables plain opens
+unfolding Finish IsSequence rows_of before_end items_of any_gap rendered definitions_of footnotes_of
+list_step d defined frames nodes os p lines behind byte number columns start line some_end other_end flags inside forest tables plain stays opens
     (kids, mid, inner, fin) =
     let n : ℕ = length d.text in
     let path : List Container = containers_of frames in
@@ -361,17 +400,17 @@ list_step d defined frames nodes os p lines behind byte number columns start lin
     ∙ ended-second nodes items y (suc k) e (node_of start other_end (ListItemBody columns)) in
     let now : Before = after_container (ListItem columns) (before_end false nothing kids) in
     let list : Pending = OneList (length nodes) byte (any_gap rows) in
-    extend d defined (told defined (definitions_of kids)) frames NoList list (before_of frames false) now false nodes later os
-    (Inside p) Line lines mid forest tables (λ s. Node head e kids s) plain (λ path mid. refl)
+    extend d defined (told_by defined kids) frames NoList list (before_of frames false) now false nodes later os
+    (Inside p) (onward mid).0 lines (onward mid).1 forest tables (λ s. Node head e kids s) plain (alike_onward n p mid)
     (λ s left seq. record {
-      seq = (inside, behind, mid, first_here d path p lines (OpensNode head inside behind) opens, inner, refl, seq);
-      items = λ last is. list_items (in_quote frames) k last e start some_end byte number columns line flags (before_of frames false) nodes kids s;
+      seq = (inside, behind, mid, first_here d path (before_of frames false) p lines (OpensNode head inside behind) stays opens, inner, refl, seq);
+      items = λ last is. list_items (in_quote path) k last e start some_end byte number columns line flags (before_of frames false) nodes kids s;
       counts = refl;
       gaps = λ last. refl;
     })
-    (λ s. told-append defined (definitions_of kids) (definitions_of s))
-    (subst (λ z. Finish d (told defined (definitions_of kids)) list now z later os Line mid forest tables) (sym (loosened_in-false frames))
-    (subst (λ z. Finish d (told defined (definitions_of kids)) list now frames z os Line mid forest tables) same fin))
+    (λ s. told_kids defined kids s)
+    (subst (λ z. Finish d (told_by defined kids) list now z later os (onward mid).0 (onward mid).1 forest tables) (sym (loosened_in-false frames))
+    (subst (λ z. Finish d (told_by defined kids) list now frames z os (onward mid).0 (onward mid).1 forest tables) same fin))
 
 or_four : (a b c e : Bool) → (a || (b || (c || e))) ≡ (((a || b) || c) || e)
 or_four true b c e = refl
@@ -429,18 +468,18 @@ joined_items quoted d last e start byte number columns line o before loose nodes
 -- an item opened in a list that continues
 item_step : (d : Document) (defined : Tables) (frames : List Frame) (run loose : Bool) (nodes : List (ℕ × Item)) (o : ℕ) (os : List ℕ) (p : Place)
     (lines behind : List Place) (byte number columns start line some_end : ℕ) (inside : From) (forest : List (ℕ × Item)) (tables : Tables)
-    → IsPlain frames → o < length nodes
+    → IsPlain frames → o < length nodes → StaysAt d (containers_of frames) p
     → Opens d (containers_of frames) p lines (OpensNode (record { opener = ItemMarker byte number columns; start = start; line = line }) inside behind)
     → FinishesAt d defined false (InContainer (ListItem columns) ∷ InList byte (loose || run) ∷ frames)
     (nodes ++ (suc (suc (length os)), node_of start some_end (ListItemBody columns)) ∷ []) (length nodes ∷ o ∷ os) inside behind forest tables
     → FinishesAt d defined run (InList byte loose ∷ frames) nodes (o ∷ os) (Inside p) lines forest tables
-unfolding Finish IsSequence before_end any_gap rendered definitions_of
-item_step d defined frames run loose nodes o os p lines behind byte number columns start line some_end inside forest tables plain below opens
+unfolding Finish IsSequence before_end any_gap rendered definitions_of footnotes_of
+item_step d defined frames run loose nodes o os p lines behind byte number columns start line some_end inside forest tables plain below stays opens
     (kids, mid, inner, fin) =
     let n : ℕ = length d.text in
     let path : List Container = containers_of frames in
     let k : ℕ = suc (length os) in
-    let q : Bool = in_quote frames in
+    let q : Bool = in_quote path in
     let e : ℕ = end_before n path inside mid in
     let head : Head = record { opener = ItemMarker byte number columns; start = start; line = line } in
     let x : ℕ × Item = (suc k, node_of start some_end (ListItemBody columns)) in
@@ -452,17 +491,17 @@ item_step d defined frames run loose nodes o os p lines behind byte number colum
     let before : Before = record { last = LastItem; counted = run } in
     let now : Before = after_container (ListItem columns) (before_end false nothing kids) in
     let list : Pending = OneList o byte ((loose || run) || any_gap rows) in
-    extend d defined (told defined (definitions_of kids)) frames (OneList o byte loose) list before now false nodes later os
-    (Inside p) Line lines mid forest tables (λ s. Node head e kids s) plain (λ path mid. refl)
+    extend d defined (told_by defined kids) frames (OneList o byte loose) list before now false nodes later os
+    (Inside p) (onward mid).0 lines (onward mid).1 forest tables (λ s. Node head e kids s) plain (alike_onward n p mid)
     (λ s left seq. record {
-      seq = (inside, behind, mid, first_here d path p lines (OpensNode head inside behind) opens, inner, refl, seq);
+      seq = (inside, behind, mid, first_here d path before p lines (OpensNode head inside behind) stays opens, inner, refl, seq);
       items = λ last is. (joined_items q k last e start byte number columns line o before loose nodes kids s below).0;
       counts = refl;
       gaps = λ last. (joined_items q k last e start byte number columns line o before loose nodes kids s below).1;
     })
-    (λ s. told-append defined (definitions_of kids) (definitions_of s))
-    (subst (λ z. Finish d (told defined (definitions_of kids)) list now z later os Line mid forest tables) (sym (loosened_in-false frames))
-    (subst (λ z. Finish d (told defined (definitions_of kids)) list now frames z os Line mid forest tables) same fin))
+    (λ s. told_kids defined kids s)
+    (subst (λ z. Finish d (told_by defined kids) list now z later os (onward mid).0 (onward mid).1 forest tables) (sym (loosened_in-false frames))
+    (subst (λ z. Finish d (told_by defined kids) list now frames z os (onward mid).0 (onward mid).1 forest tables) same fin))
 
 -- what opens ends a list of this byte, at an offset
 abbrev pub OpensAway : ℕ → ℕ → Opening → Type 0
@@ -494,20 +533,54 @@ alike_away m n byte at (OpensNode head inside behind) (OpensNode head' inside' b
     subst (λ (h : Head). (head_closes h ≡ at) × (joins byte h.opener ≡ false)) a.0 away
 
 -- a first block opens at the place where the sequence continues
-opens_first : (d : Document) (path : List Container) (p : Place) (lines : List Place) (opening : Opening)
-    → IsFirst d path (Inside p) lines opening → Opens d path p lines opening
-opens_first d path p lines opening f = subst (λ z. Opens d path p z opening) f.begins.1 (subst (λ z. Opens d path z f.behind opening) f.begins.0 f.opens)
+opens_first : (d : Document) (l : Level) (p : Place) (lines : List Place) (opening : Opening)
+    → IsFirst d l (Inside p) lines opening → Opens d l.path p lines opening
+opens_first d l p lines opening f =
+    let at = begins_at d.options l (Inside p) lines f.place f.behind f.begins in
+    subst (λ z. Opens d l.path p z opening) at.1 (subst (λ z. Opens d l.path z f.behind opening) at.0 f.opens)
 
-ends_list : (d : Document) (path : List Container) (p : Place) (lines mid : List Place) (byte at : ℕ) (o : Opening) (s : Skeleton)
-    → Opens d path p lines o → OpensAway byte at o → IsSequence d s path (Inside p) lines mid → EndsList byte at s
+some_block : (d : Document) (l : Level) (p : Place) (lines : List Place) (left : Left) → StaysAt d l.path p → going d.options l (Inside p) lines ≡ Ends left → ⊥
+some_block d l p lines left stays ends = let both : Begins p lines ≡ Ends left = sym (begins_inside d.options l p lines stays) ∙ ends in cc
+
+ends_list : (d : Document) (l : Level) (p : Place) (lines : List Place) (mid : Left) (byte at : ℕ) (o : Opening) (s : Skeleton)
+    → StaysAt d l.path p → Opens d l.path p lines o → OpensAway byte at o → IsSequence d s l (Inside p) lines mid → EndsList byte at s
 unfolding IsSequence
-ends_list d path p lines mid byte at o Nil opens away seq = absurd seq.0
-ends_list d path p lines mid byte at o (Then leaf next) opens away (there, left, first, seq) =
+ends_list d l p lines mid byte at o Nil stays opens away seq = absurd (some_block d l p lines mid stays seq)
+ends_list d l p lines mid byte at o (Then leaf next) stays opens away (there, left, first, seq) =
     away_leaf byte at leaf there left next (alike_away d.names d.names byte at o (OpensLeaf leaf there left)
-    (one_opening d d.names path p lines _ _ opens (opens_first d path p lines (OpensLeaf leaf there left) first)) away)
-ends_list d path p lines mid byte at o (Node head e kids next) opens away (inside, behind, left, first, inner, ends, seq) =
+    (one_opening d d.names l.path p lines _ _ opens (opens_first d l p lines (OpensLeaf leaf there left) first)) away)
+ends_list d l p lines mid byte at o (Node head e kids next) stays opens away (inside, behind, left, first, inner, ends, seq) =
     alike_away d.names d.names byte at o (OpensNode head inside behind)
-    (one_opening d d.names path p lines _ _ opens (opens_first d path p lines (OpensNode head inside behind) first)) away
+    (one_opening d d.names l.path p lines _ _ opens (opens_first d l p lines (OpensNode head inside behind) first)) away
+
+-- a sequence begins with a block, not with a blank line
+abbrev FirstIsBlock : Skeleton → Type 0
+FirstIsBlock Nil = ⊥
+FirstIsBlock (Then BlankLine next) = ⊥
+FirstIsBlock (Then (Block b) next) = Unit {0}
+FirstIsBlock (Node head e kids next) = Unit {0}
+
+list_block : (byte at : ℕ) (s : Skeleton) → EndsList byte at s → FirstIsBlock s
+list_block byte at Nil u = u
+list_block byte at (Then BlankLine next) u = u
+list_block byte at (Then (Block b) next) u = tt
+list_block byte at (Node head e kids next) u = tt
+
+-- To such a sequence inside a line it is the same what stands before.
+first_moved : (d : Document) (path : List Container) (before before' : Before) (p : Place) (lines : List Place) (o : Opening)
+    → IsFirst d (level path before) (Inside p) lines o → IsFirst d (level path before') (Inside p) lines o
+first_moved d path before before' p lines o first =
+    record { place = first.place; behind = first.behind; begins = going_inside d.options path before' before p lines ∙ first.begins; opens = first.opens }
+
+seq_moved : (d : Document) (s : Skeleton) (path : List Container) (before before' : Before) (p : Place) (lines : List Place) (mid : Left) → FirstIsBlock s
+    → IsSequence d s (level path before) (Inside p) lines mid → IsSequence d s (level path before') (Inside p) lines mid
+unfolding IsSequence
+seq_moved d Nil path before before' p lines mid u seq = absurd u
+seq_moved d (Then BlankLine next) path before before' p lines mid u seq = absurd u
+seq_moved d (Then (Block b) next) path before before' p lines mid u (there, left, first, seq) =
+    (there, left, first_moved d path before before' p lines (OpensLeaf (Block b) there left) first, seq)
+seq_moved d (Node head e kids next) path before before' p lines mid u (inside, behind, left, first, inner, ends, seq) =
+    (inside, behind, left, first_moved d path before before' p lines (OpensNode head inside behind) first, inner, ends, seq)
 
 -- The rows of what ends a list have no item of it.
 pub record AreAway (byte at last : ℕ) (rows : Rows) : Type 0 where
@@ -543,24 +616,25 @@ same_away quoted byte at run (Node head e kids next) u = (λ last. refl, refl)
 -- a list closed before a block that ends it
 close_step : (d : Document) (defined : Tables) (frames : List Frame) (run loose : Bool) (nodes : List (ℕ × Item)) (o : ℕ) (os : List ℕ) (p : Place)
     (lines : List Place) (byte at : ℕ) (opening : Opening) (forest : List (ℕ × Item)) (tables : Tables)
-    → IsPlain frames → Opens d (containers_of frames) p lines opening → OpensAway byte at opening
+    → IsPlain frames → StaysAt d (containers_of frames) p → Opens d (containers_of frames) p lines opening → OpensAway byte at opening
     → FinishesAt d defined run frames (list_closed nodes o (suc (suc (suc (length os)))) loose at) os (Inside p) lines forest tables
     → FinishesAt d defined run (InList byte loose ∷ frames) nodes (o ∷ os) (Inside p) lines forest tables
 unfolding Finish items_of is_loose rendered
-close_step d defined frames run loose nodes o os p lines byte at opening forest tables plain opens away fin =
+close_step d defined frames run loose nodes o os p lines byte at opening forest tables plain stays opens away fin =
     let k : ℕ = suc (length os) in
-    let q : Bool = in_quote frames in
+    let path : List Container = containers_of frames in
+    let q : Bool = in_quote path in
     let nodes' : List (ℕ × Item) = list_closed nodes o (suc (suc k)) loose at in
     let here : Before = record { last = LastItem; counted = run } in
     let closed : Before = record { last = LastOther; counted = run } in
     extend d defined defined frames (OneList o byte loose) NoList here closed false nodes nodes' os (Inside p) (Inside p) lines lines forest tables
     (λ s. s) plain (λ path mid. refl)
-    (λ s mid seq. let u = ends_list d (containers_of frames) p lines mid byte at opening s opens away seq in
+    (λ s mid seq. let u = ends_list d (level path closed) p lines mid byte at opening s stays opens away seq in
     let r : ℕ → Rows = λ last. rows_of q closed last s in
     let w = λ (last : ℕ). rows_away q byte at last closed s u in
     let same = same_away q byte at run s u in
     record {
-      seq = seq;
+      seq = seq_moved d s path closed here p lines mid (list_block byte at s u) seq;
       items = λ last is. ap (rendered k last nodes (OneList o byte loose)) (same.0 last)
           ∙ ap (λ z. list_closed nodes o (suc (suc k)) (loose || is_loose z) (list_until byte last (r last))
           ++ (items_of (suc k) (not (loose || is_loose z)) z ++ items_of k false (list_behind byte (r last)))) (w last).none
@@ -597,10 +671,10 @@ record IsNoted (quoted : Bool) (run : Bool) (last last' : Last) (s : Skeleton) :
       ≡ (run || any_gap (rows_of quoted (record { last = last'; counted = false }) e s))
 
 leaf_noted : (quoted run : Bool) (last last' : Last) (leaf : Leaf) (there : From) (left : List Place) (next : Skeleton)
-    → OpensBlock (OpensLeaf leaf there left) → IsNoted quoted run last last' (Then leaf next)
+    → OpensBlock (OpensLeaf leaf there left) → FirstIsBlock (Then leaf next) × IsNoted quoted run last last' (Then leaf next)
 unfolding rows_of before_end items_of any_gap
 leaf_noted quoted run last last' BlankLine there left next block = absurd block
-leaf_noted quoted run last last' (Block b) there left next block = record { items = λ depth e. refl; counts = refl; gaps = λ e. refl }
+leaf_noted quoted run last last' (Block b) there left next block = (tt, record { items = λ depth e. refl; counts = refl; gaps = λ e. refl })
 
 container_noted : (opener : Opener) (line start e at : ℕ) (run : Bool) (inner next : Rows)
     → (let rows : Bool → Rows = λ gap. container_row at opener (row_of (record { opener = opener; line = line; start = start }) e gap) inner next in
@@ -617,30 +691,35 @@ node_noted quoted run last last' head e kids next = record {
   gaps = λ at. (container_noted head.opener head.line head.start e at run _ _).1;
 }
 
-gap_noted : (d : Document) (path : List Container) (p : Place) (lines mid : List Place) (o : Opening) (quoted run : Bool) (last last' : Last) (s : Skeleton)
-    → Opens d path p lines o → OpensBlock o → IsSequence d s path (Inside p) lines mid → IsNoted quoted run last last' s
+gap_noted : (d : Document) (l : Level) (p : Place) (lines : List Place) (mid : Left) (o : Opening) (quoted run : Bool) (last last' : Last) (s : Skeleton)
+    → StaysAt d l.path p → Opens d l.path p lines o → OpensBlock o → IsSequence d s l (Inside p) lines mid
+    → FirstIsBlock s × IsNoted quoted run last last' s
 unfolding IsSequence
-gap_noted d path p lines mid o quoted run last last' Nil opens block seq = absurd seq.0
-gap_noted d path p lines mid o quoted run last last' (Then leaf next) opens block (there, left, first, seq) =
+gap_noted d l p lines mid o quoted run last last' Nil stays opens block seq = absurd (some_block d l p lines mid stays seq)
+gap_noted d l p lines mid o quoted run last last' (Then leaf next) stays opens block (there, left, first, seq) =
     leaf_noted quoted run last last' leaf there left next
     (alike_block d.names d.names o (OpensLeaf leaf there left)
-    (one_opening d d.names path p lines _ _ opens (opens_first d path p lines (OpensLeaf leaf there left) first)) block)
-gap_noted d path p lines mid o quoted run last last' (Node head e kids next) opens block seq = node_noted quoted run last last' head e kids next
+    (one_opening d d.names l.path p lines _ _ opens (opens_first d l p lines (OpensLeaf leaf there left) first)) block)
+gap_noted d l p lines mid o quoted run last last' (Node head e kids next) stays opens block seq =
+    (tt, node_noted quoted run last last' head e kids next)
 
 -- a gap noted before a block
 note_step : (d : Document) (defined : Tables) (frames : List Frame) (run : Bool) (nodes : List (ℕ × Item)) (os : List ℕ) (p : Place) (lines : List Place)
     (opening : Opening) (forest : List (ℕ × Item)) (tables : Tables)
-    → IsPlain frames → Opens d (containers_of frames) p lines opening → OpensBlock opening
+    → IsPlain frames → StaysAt d (containers_of frames) p → Opens d (containers_of frames) p lines opening → OpensBlock opening
     → FinishesAt d defined false (loosened_in run frames) nodes os (Inside p) lines forest tables
     → FinishesAt d defined run frames nodes os (Inside p) lines forest tables
 unfolding rendered
-note_step d defined frames run nodes os p lines opening forest tables plain opens block fin =
+note_step d defined frames run nodes os p lines opening forest tables plain stays opens block fin =
+    let path : List Container = containers_of frames in
     let now : List Frame = loosened_in run frames in
     extend d defined defined frames NoList NoList (before_of frames run) (before_of now false) run nodes nodes os (Inside p) (Inside p) lines lines
     forest tables (λ s. s) plain (λ path mid. refl)
-    (λ s mid seq. let g = gap_noted d (containers_of frames) p lines mid opening (in_quote frames) run (last_of frames) (last_of now) s opens block seq in
+    (λ s mid seq.
+    let (block_first, g) = gap_noted d (level path (before_of now false)) p lines mid opening (in_quote path) run (last_of frames) (last_of now) s stays opens
+    block seq in
     record {
-      seq = seq;
+      seq = seq_moved d s path (before_of now false) (before_of frames run) p lines mid block_first seq;
       items = λ last is. ap (λ z. nodes ++ z) (g.items (suc (length os)) last);
       counts = g.counts;
       gaps = g.gaps;
@@ -650,46 +729,49 @@ note_step d defined frames run nodes os p lines opening forest tables plain open
 
 -- the innermost container closed
 pop_step : (d : Document) (defined : Tables) (c : Container) (frames : List Frame) (run : Bool) (nodes : List (ℕ × Item)) (o : ℕ) (os : List ℕ) (from : From)
-    (lines : List Place) (forest : List (ℕ × Item)) (tables : Tables)
-    → last_container c ≡ last_of frames → Ends (c ∷ containers_of frames) from lines
-    → (let e : ℕ = end_before (length d.text) (containers_of frames) from lines in
-    FinishesAt d defined run frames (ended nodes o e) os Line lines forest tables)
+    (lines : List Place) (left : Left) (forest : List (ℕ × Item)) (tables : Tables)
+    → last_container c ≡ last_of frames
+    → going d.options (level (c ∷ containers_of frames) (before_of (InContainer c ∷ frames) run)) from lines ≡ Ends left
+    → (let e : ℕ = end_before (length d.text) (containers_of frames) from left in
+    FinishesAt d defined run frames (ended nodes o e) os (onward left).0 (onward left).1 forest tables)
     → FinishesAt d defined run (InContainer c ∷ frames) nodes (o ∷ os) from lines forest tables
-unfolding Finish IsSequence items_of rows_of before_end any_gap rendered definitions_of with_links
-pop_step d defined c frames run nodes o os from lines forest tables shape ends fin =
-    let e : ℕ = end_before (length d.text) (containers_of frames) from lines in (
+unfolding Finish IsSequence items_of rows_of before_end any_gap rendered definitions_of footnotes_of with_links with_labels
+pop_step d defined c frames run nodes o os from lines left forest tables shape ends fin =
+    let e : ℕ = end_before (length d.text) (containers_of frames) from left in (
       Nil,
-      lines,
-      (ends, refl),
-      finish_moved d defined _ _ frames _ (ended nodes o e) _ os Line lines forest tables (ap (λ z. record { last = z; counted = run }) (sym shape))
-          (sym (loosened-false frames)) (ap (λ z. ended z o e) (sym (append-nil nodes))) fin,
+      left,
+      ends,
+      finish_moved d defined _ _ frames _ (ended nodes o e) _ os (onward left).0 (onward left).1 forest tables
+          (ap (λ z. record { last = z; counted = run }) (sym shape)) (sym (loosened-false frames)) (ap (λ z. ended z o e) (sym (append-nil nodes))) fin,
     )
 
 -- a list closed with what is around it
 pop_list_step : (d : Document) (defined : Tables) (frames : List Frame) (byte : ℕ) (loose run : Bool) (nodes : List (ℕ × Item)) (o : ℕ) (os : List ℕ)
-    (lines : List Place) (forest : List (ℕ × Item)) (tables : Tables)
-    → IsPlain frames → Ends (containers_of frames) Line lines
-    → FinishesAt d defined run frames (list_closed nodes o (suc (suc (suc (length os)))) loose (start_of (length d.text) lines)) os Line lines forest tables
-    → FinishesAt d defined run (InList byte loose ∷ frames) nodes (o ∷ os) Line lines forest tables
+    (from : From) (lines : List Place) (left : Left) (forest : List (ℕ × Item)) (tables : Tables)
+    → IsPlain frames → blanks_alone from ≡ None → ((before : Before) → going d.options (level (containers_of frames) before) from lines ≡ Ends left)
+    → FinishesAt d defined run frames (list_closed nodes o (suc (suc (suc (length os)))) loose (end_of_left (length d.text) [] None left)) os from lines
+    forest tables
+    → FinishesAt d defined run (InList byte loose ∷ frames) nodes (o ∷ os) from lines forest tables
 unfolding Finish IsSequence rows_of before_end is_loose items_of any_gap rendered
-pop_list_step d defined frames byte loose run nodes o os lines forest tables plain ends fin =
+pop_list_step d defined frames byte loose run nodes o os from lines left forest tables plain none ends fin =
     let n : ℕ = length d.text in
     let k : ℕ = suc (length os) in
-    let nodes' : List (ℕ × Item) = list_closed nodes o (suc (suc k)) loose (start_of n lines) in
+    let path : List Container = containers_of frames in
+    let nodes' : List (ℕ × Item) = list_closed nodes o (suc (suc k)) loose (end_of_left n [] None left) in
     let list : Pending = OneList o byte loose in
     let here : Before = record { last = LastItem; counted = run } in
     let closed : Before = record { last = LastOther; counted = run } in
-    extend d defined defined frames list NoList here closed false nodes nodes' os Line Line lines lines forest tables (λ s. s) plain (λ path mid. refl)
-    (λ s mid seq. let over = ends_at_once d s (containers_of frames) Line lines mid ends seq in
-    subst (λ z. Adds d (in_quote frames) k (containers_of frames) list NoList here closed false nodes nodes' Line lines z z mid) (sym over.0) (record {
-      seq = (ends, over.1);
+    extend d defined defined frames list NoList here closed false nodes nodes' os from from lines lines forest tables (λ s. s) plain (λ path mid. refl)
+    (λ s mid seq. let over = ends_at_once d s (level path closed) from lines left mid (ends closed) seq in
+    subst (λ z. Adds d k path list NoList here closed false nodes nodes' from lines z z mid) (sym over.0) (record {
+      seq = ends here ∙ ap (λ (z : Left). Ends z) (sym over.1);
       items = λ last is. ap (λ z. list_closed nodes o (suc (suc k)) z last ++ []) (or-false loose)
-          ∙ ap (λ z. list_closed nodes o (suc (suc k)) loose z ++ []) (is refl ∙ ap (start_of n) over.1);
+          ∙ ap (λ z. list_closed nodes o (suc (suc k)) loose z ++ []) (is none ∙ ap (end_of_left n [] None) over.1);
       counts = refl;
       gaps = λ last. refl;
     }))
     (λ s. refl)
-    (finish_moved d _ _ _ _ _ _ _ os Line lines forest tables (plain_before run frames plain) (sym (loosened_in-false frames)) refl fin)
+    (finish_moved d _ _ _ _ _ _ _ os from lines forest tables (plain_before run frames plain) (sym (loosened_in-false frames)) refl fin)
 
 -- What a list's flags were doesn't matter once it is closed.
 absorbed : (nodes : List (ℕ × Item)) (o : ℕ) (g f : Item → Item) → ((x : Item) → f (g x) ≡ f x) → modify (modify nodes o g) o f ≡ modify nodes o f
@@ -763,7 +845,7 @@ reflag_list d defined frames byte loose before l nodes o os from lines forest ta
     (λ s. s) plain (λ path mid. refl)
     (λ s mid seq. record {
       seq = seq;
-      items = λ last is. let rows : Rows = rows_of (in_quote frames) before last s in
+      items = λ last is. let rows : Rows = rows_of (in_quote (containers_of frames)) before last s in
           let now : Bool = loose || is_loose (items_behind byte rows) in
           let further : List (ℕ × Item) = items_of (suc k) (not now) (items_behind byte rows) ++ items_of k false (list_behind byte rows) in
           ap (λ z. z ++ further) (sym (closed-reflagged nodes o (suc (suc k)) l now (list_until byte last rows)));
@@ -790,8 +872,8 @@ reflag_outer d defined c frames byte loose before l nodes x o os from lines fore
       s,
       mid,
       seq,
-      reflag_list d (told defined (definitions_of s)) frames byte loose' now l (ended (nodes ++ items) x e) o os Line mid forest tables plain
-          (subst (λ z. Finish d (told defined (definitions_of s)) (OneList o byte loose') now frames z os Line mid forest tables)
+      reflag_list d (told_by defined s) frames byte loose' now l (ended (nodes ++ items) x e) o os (onward mid).0 (onward mid).1 forest tables
+          plain (subst (λ z. Finish d (told_by defined s) (OneList o byte loose') now frames z os (onward mid).0 (onward mid).1 forest tables)
           (ended-reflagged nodes items o x e l below) fin),
     )
 
@@ -812,19 +894,21 @@ completes-first d = record {
 -- inside a line that the whole path continues
 pub completes-enter : (d : Document) (defined : Tables) (run : Bool) (frames : List Frame) (nodes : List (ℕ × Item)) (os : List ℕ) (line q : Place)
     (lines : List Place)
-    → taken (containers_of frames) line ≡ Some q → CompletesAt d defined run frames nodes os Line (line ∷ lines)
-    → CompletesAt d defined run frames nodes os (Inside q) lines
-completes-enter d defined run frames nodes os line q lines is c = record {
+    → taken (containers_of frames) line ≡ Some q → ends_old_footnote (level (containers_of frames) (before_of frames run)) ≡ false
+    → CompletesAt d defined run frames nodes os Line (line ∷ lines) → CompletesAt d defined run frames nodes os (Inside q) lines
+completes-enter d defined run frames nodes os line q lines is old c = record {
   below = c.below;
   shape = c.shape;
   whole = whole_by _ _ _ _ _ _ _ _ (λ forest tables fin.
-      finish_derives _ _ _ _ _ _ _ _ c forest tables (enter_step d defined frames NoList (before_of frames run) nodes os line q lines forest tables is fin));
+      finish_derives _ _ _ _ _ _ _ _ c forest tables
+      (enter_step d defined frames NoList (before_of frames run) nodes os line q lines forest tables is old fin));
 }
 
 -- after a block with no blocks in it, wherever it begins
 pub completes-leaf : (d : Document) (defined : Tables) (frames : List Frame) (nodes : List (ℕ × Item)) (os : List ℕ) (from : From) (lines left : List Place)
     (b : LeafBlock)
-    → IsPlain frames → EndsAlike (length d.text) from (behind_first from Line) → IsFirst d (containers_of frames) from lines (OpensLeaf (Block b) Line left)
+    → IsPlain frames → EndsAlike (length d.text) from (behind_first from Line)
+    → IsFirst d (level (containers_of frames) (before_of frames false)) from lines (OpensLeaf (Block b) Line left)
     → CompletesAt d defined false frames nodes os from lines
     → CompletesAt d (told defined b.definitions) b.gap frames (nodes ++ block_items (suc (length os)) false b) os (behind_first from Line) left
 completes-leaf d defined frames nodes os from lines left b plain alike first c = record {
@@ -837,12 +921,12 @@ completes-leaf d defined frames nodes os from lines left b plain alike first c =
 -- after a block with no blocks in it, which begins inside a line
 pub completes-block : (d : Document) (defined : Tables) (frames : List Frame) (nodes : List (ℕ × Item)) (os : List ℕ) (p : Place) (lines left : List Place)
     (b : LeafBlock)
-    → IsPlain frames → Opens d (containers_of frames) p lines (OpensLeaf (Block b) Line left)
+    → IsPlain frames → StaysAt d (containers_of frames) p → Opens d (containers_of frames) p lines (OpensLeaf (Block b) Line left)
     → CompletesAt d defined false frames nodes os (Inside p) lines
     → CompletesAt d (told defined b.definitions) b.gap frames (nodes ++ block_items (suc (length os)) false b) os Line left
-completes-block d defined frames nodes os p lines left b plain opens c =
+completes-block d defined frames nodes os p lines left b plain stays opens c =
     completes-leaf d defined frames nodes os (Inside p) lines left b plain (λ path mid. refl)
-    (first_here d (containers_of frames) p lines (OpensLeaf (Block b) Line left) opens) c
+    (first_here d (containers_of frames) (before_of frames false) p lines (OpensLeaf (Block b) Line left) stays opens) c
 
 -- after the text of a task list item marker
 pub completes-text : (d : Document) (defined : Tables) (frames : List Frame) (nodes : List (ℕ × Item)) (os : List ℕ) (marker : Item) (p : Place)
@@ -850,11 +934,12 @@ pub completes-text : (d : Document) (defined : Tables) (frames : List Frame) (no
     → IsPlain frames → OpensText d (containers_of frames) p lines (Some marker) (OpensLeaf (Block b) Line left)
     → CompletesAt d defined false frames nodes os (At p (TextOf marker)) lines
     → CompletesAt d (told defined b.definitions) b.gap frames (nodes ++ block_items (suc (length os)) false b) os Line left
+unfolding going
 completes-text d defined frames nodes os marker p lines left b plain opens c =
     completes-leaf d defined frames nodes os (At p (TextOf marker)) lines left b plain (λ path mid. refl)
-    (record { place = p; behind = lines; begins = (refl, refl); opens = opens }) c
+    (record { place = p; behind = lines; begins = refl; opens = opens }) c
 
-mark_alike : (n : ℕ) (blanks : Option ℕ) (path : List Container) (mid : List Place) → end_after n path blanks mid ≡ end_before n path (behind_marker blanks) mid
+mark_alike : (n : ℕ) (blanks : Option ℕ) (path : List Container) (mid : Left) → end_of_left n path blanks mid ≡ end_before n path (behind_marker blanks) mid
 mark_alike n None path mid = refl
 mark_alike n (Some e) path mid = refl
 
@@ -863,13 +948,13 @@ pub completes-mark : (d : Document) (defined : Tables) (frames : List Frame) (no
     (blanks : Option ℕ) (lines : List Place)
     → IsPlain frames → CompletesAt d defined false frames nodes os (At p (MarkAlone marker blanks)) lines
     → CompletesAt d defined false frames (nodes ++ (suc (length os), marker) ∷ []) os (behind_marker blanks) lines
-unfolding with_links
+unfolding with_links going
 completes-mark d defined frames nodes os marker p blanks lines plain c =
     let deep : suc (length os) + 0 ≡ suc (length os) = omega arith in
     subst (λ depth. CompletesAt d defined false frames (nodes ++ (depth, marker) ∷ []) os (behind_marker blanks) lines) deep
     (completes-leaf d defined frames nodes os (At p (MarkAlone marker blanks)) lines lines (block_at Paragraph p ((0, marker) ∷ []) false) plain
     (mark_alike (length d.text) blanks)
-    (record { place = p; behind = lines; begins = (refl, refl); opens = refl }) c)
+    (record { place = p; behind = lines; begins = refl; opens = refl }) c)
 
 -- whether a run of blank lines counts with one more, inside what is open
 abbrev pub counts_in : List Frame → Bool → Bool
@@ -879,7 +964,8 @@ counts_in (InList byte loose ∷ frames) run = true
 
 blank_any : (d : Document) (defined : Tables) (frames : List Frame) (run : Bool) (nodes : List (ℕ × Item)) (os : List ℕ) (from : From)
     (lines left : List Place) (forest : List (ℕ × Item)) (tables : Tables)
-    → IsShaped frames → EndsAlike (length d.text) from (behind_first from Line) → IsFirst d (containers_of frames) from lines (OpensLeaf BlankLine Line left)
+    → IsShaped frames → EndsAlike (length d.text) from (behind_first from Line)
+    → IsFirst d (level (containers_of frames) (before_of frames run)) from lines (OpensLeaf BlankLine Line left)
     → FinishesAt d defined (counts_in frames run) frames nodes os (behind_first from Line) left forest tables
     → FinishesAt d defined run frames nodes os from lines forest tables
 unfolding Finish
@@ -891,7 +977,8 @@ blank_any d defined (InContainer c ∷ frames) run nodes os from lines left fore
     (subst (λ z. FinishesAt d defined (run || z) here nodes os (behind_first from Line) left forest tables) (sym (or-false (not (is_quote c)))) fin)
 blank_any d defined (InList byte loose ∷ frames) run nodes [] from lines left forest tables shape alike first fin = fin
 blank_any d defined (InList byte loose ∷ frames) run nodes (o ∷ os) from lines left forest tables shape alike first fin =
-    let counts : (run || (not (in_quote frames) || true)) ≡ true = ap (λ z. run || z) (or-true (not (in_quote frames))) ∙ or-true run in
+    let quoted : Bool = in_quote (containers_of frames) in
+    let counts : (run || (not quoted || true)) ≡ true = ap (λ z. run || z) (or-true (not quoted)) ∙ or-true run in
     blank_step d defined frames (OneList o byte loose) (record { last = LastItem; counted = run }) nodes os from lines left forest tables shape.0 alike first
     (subst (λ z. Finish d defined (OneList o byte loose) (record { last = LastItem; counted = z }) frames nodes os (behind_first from Line) left forest tables)
     (sym counts) fin)
@@ -899,7 +986,8 @@ blank_any d defined (InList byte loose ∷ frames) run nodes (o ∷ os) from lin
 -- after a blank line, wherever it begins
 pub completes-blank : (d : Document) (defined : Tables) (run : Bool) (frames : List Frame) (nodes : List (ℕ × Item)) (os : List ℕ) (from : From)
     (lines left : List Place)
-    → EndsAlike (length d.text) from (behind_first from Line) → IsFirst d (containers_of frames) from lines (OpensLeaf BlankLine Line left)
+    → EndsAlike (length d.text) from (behind_first from Line)
+    → IsFirst d (level (containers_of frames) (before_of frames run)) from lines (OpensLeaf BlankLine Line left)
     → CompletesAt d defined run frames nodes os from lines → CompletesAt d defined (counts_in frames run) frames nodes os (behind_first from Line) left
 completes-blank d defined run frames nodes os from lines left alike first c = record {
   below = c.below;
@@ -911,69 +999,94 @@ completes-blank d defined run frames nodes os from lines left alike first c = re
 -- after a blank line that begins inside a line
 pub completes-blank_line : (d : Document) (defined : Tables) (run : Bool) (frames : List Frame) (nodes : List (ℕ × Item)) (os : List ℕ) (p : Place)
     (lines left : List Place)
-    → Opens d (containers_of frames) p lines (OpensLeaf BlankLine Line left)
+    → StaysAt d (containers_of frames) p → Opens d (containers_of frames) p lines (OpensLeaf BlankLine Line left)
     → CompletesAt d defined run frames nodes os (Inside p) lines → CompletesAt d defined (counts_in frames run) frames nodes os Line left
-completes-blank_line d defined run frames nodes os p lines left opens c = completes-blank d defined run frames nodes os (Inside p) lines left (λ path mid. refl)
-    (first_here d (containers_of frames) p lines (OpensLeaf BlankLine Line left) opens) c
+completes-blank_line d defined run frames nodes os p lines left stays opens c =
+    completes-blank d defined run frames nodes os (Inside p) lines left (λ path mid. refl)
+    (first_here d (containers_of frames) (before_of frames run) p lines (OpensLeaf BlankLine Line left) stays opens) c
 
 -- after a blank line in an item that takes blank lines alone
 pub completes-only_blank : (d : Document) (defined : Tables) (run : Bool) (columns : ℕ) (frames : List Frame) (nodes : List (ℕ × Item)) (os : List ℕ) (e : ℕ)
     (line p : Place) (lines : List Place)
-    → Begins (ListItem columns ∷ containers_of frames) (Blanks e) (line ∷ lines) p lines
+    → taken (ListItem columns ∷ containers_of frames) line ≡ Some p → is_blank_rest p.rest ≡ true
     → Opens d (ListItem columns ∷ containers_of frames) p lines (OpensLeaf BlankLine Line lines)
     → CompletesAt d defined run (InContainer (ListItem columns) ∷ frames) nodes os (Blanks e) (line ∷ lines)
     → CompletesAt d defined true (InContainer (ListItem columns) ∷ frames) nodes os (Blanks e) lines
-completes-only_blank d defined run columns frames nodes os e line p lines begins opens c =
+completes-only_blank d defined run columns frames nodes os e line p lines is blank opens c =
+    let l = level (ListItem columns ∷ containers_of frames) (before_of (InContainer (ListItem columns) ∷ frames) run) in
     subst (λ z. CompletesAt d defined z (InContainer (ListItem columns) ∷ frames) nodes os (Blanks e) lines) (or-true run)
     (completes-blank d defined run (InContainer (ListItem columns) ∷ frames) nodes os (Blanks e) (line ∷ lines) lines (λ path mid. refl)
-    (record { place = p; behind = lines; begins = begins; opens = opens }) c)
+    (record { place = p; behind = lines; begins = begins_blank d.options l e line p lines is blank; opens = opens }) c)
 
 -- At the text's end, with nothing open, the nodes are the forest.
 pub completes-end : (d : Document) (defined : Tables) (run : Bool) (nodes : List (ℕ × Item))
     → CompletesAt d defined run [] nodes [] Line [] → Derives d nodes defined
-unfolding Finish IsSequence rows_of items_of rendered definitions_of with_links
-completes-end d defined run nodes c = finish_derives _ _ _ _ _ _ _ _ c nodes defined (Nil, (tt, refl), sym (append-nil nodes), refl)
+unfolding Finish IsSequence going rows_of items_of rendered definitions_of footnotes_of with_links with_labels
+completes-end d defined run nodes c = finish_derives _ _ _ _ _ _ _ _ c nodes defined (Nil, refl, sym (append-nil nodes), refl)
 
 -- the innermost container closed
 pub completes-pop : (d : Document) (defined : Tables) (run : Bool) (c : Container) (frames : List Frame) (nodes : List (ℕ × Item)) (o : ℕ) (os : List ℕ)
-    (from : From) (lines : List Place)
-    → Ends (c ∷ containers_of frames) from lines → CompletesAt d defined run (InContainer c ∷ frames) nodes (o ∷ os) from lines
-    → CompletesAt d defined run frames (ended nodes o (end_before (length d.text) (containers_of frames) from lines)) os Line lines
-completes-pop d defined run c frames nodes o os from lines ends k = record {
+    (from : From) (lines : List Place) (left : Left)
+    → going d.options (level (c ∷ containers_of frames) (before_of (InContainer c ∷ frames) run)) from lines ≡ Ends left
+    → CompletesAt d defined run (InContainer c ∷ frames) nodes (o ∷ os) from lines
+    → CompletesAt d defined run frames (ended nodes o (end_before (length d.text) (containers_of frames) from left)) os (onward left).0 (onward left).1
+completes-pop d defined run c frames nodes o os from lines left ends k = record {
   below = AreBelow-more o _ os
-      (let l = length-ended nodes o (end_before (length d.text) (containers_of frames) from lines) in let b : o < length nodes = k.below.0 in omega arith)
+      (let l = length-ended nodes o (end_before (length d.text) (containers_of frames) from left) in let b : o < length nodes = k.below.0 in omega arith)
       k.below.1;
   shape = k.shape.1;
   whole = whole_by _ _ _ _ _ _ _ _ (λ forest tables fin.
-      finish_derives _ _ _ _ _ _ _ _ k forest tables (pop_step d defined c frames run nodes o os from lines forest tables k.shape.0 ends fin));
+      finish_derives _ _ _ _ _ _ _ _ k forest tables (pop_step d defined c frames run nodes o os from lines left forest tables k.shape.0 ends fin));
 }
 
--- a list closed with what is around it
-pub completes-pop_list : (d : Document) (defined : Tables) (run : Bool) (byte : ℕ) (loose : Bool) (frames : List Frame) (nodes : List (ℕ × Item)) (o : ℕ)
-    (os : List ℕ) (lines : List Place)
-    → Ends (containers_of frames) Line lines → CompletesAt d defined run (InList byte loose ∷ frames) nodes (o ∷ os) Line lines
-    → CompletesAt d defined run frames (list_closed nodes o (suc (suc (suc (length os)))) loose (start_of (length d.text) lines)) os Line lines
-completes-pop_list d defined run byte loose frames nodes o os lines ends k = record {
+-- a list closed with what is around it, wherever that ends
+completes-pop_any : (d : Document) (defined : Tables) (run : Bool) (byte : ℕ) (loose : Bool) (frames : List Frame) (nodes : List (ℕ × Item)) (o : ℕ)
+    (os : List ℕ) (from : From) (lines : List Place) (left : Left)
+    → blanks_alone from ≡ None → ((before : Before) → going d.options (level (containers_of frames) before) from lines ≡ Ends left)
+    → CompletesAt d defined run (InList byte loose ∷ frames) nodes (o ∷ os) from lines
+    → CompletesAt d defined run frames (list_closed nodes o (suc (suc (suc (length os)))) loose (end_of_left (length d.text) [] None left)) os from lines
+completes-pop_any d defined run byte loose frames nodes o os from lines left none ends k = record {
   below = AreBelow-more o _ os (
-      let l = length-closed nodes o (suc (suc (suc (length os)))) loose (start_of (length d.text) lines) in let b : o < length nodes = k.below.0 in omega arith)
+      let l = length-closed nodes o (suc (suc (suc (length os)))) loose (end_of_left (length d.text) [] None left) in
+      let b : o < length nodes = k.below.0 in
+      omega arith)
       k.below.1;
   shape = k.shape.1;
   whole = whole_by _ _ _ _ _ _ _ _ (λ forest tables fin.
-      finish_derives _ _ _ _ _ _ _ _ k forest tables (pop_list_step d defined frames byte loose run nodes o os lines forest tables k.shape.0 ends fin));
+      finish_derives _ _ _ _ _ _ _ _ k forest tables (pop_list_step d defined frames byte loose run nodes o os from lines left forest tables k.shape.0 none ends
+      fin));
 }
+
+-- a list closed with what is around it, before a line that doesn't continue that
+pub completes-pop_list : (d : Document) (defined : Tables) (run : Bool) (byte : ℕ) (loose : Bool) (frames : List Frame) (nodes : List (ℕ × Item)) (o : ℕ)
+    (os : List ℕ) (lines : List Place)
+    → next_goes_on (containers_of frames) lines ≡ false → CompletesAt d defined run (InList byte loose ∷ frames) nodes (o ∷ os) Line lines
+    → CompletesAt d defined run frames (list_closed nodes o (suc (suc (suc (length os)))) loose (start_of (length d.text) lines)) os Line lines
+completes-pop_list d defined run byte loose frames nodes o os lines ends k =
+    completes-pop_any d defined run byte loose frames nodes o os Line lines (Lines lines) refl
+    (λ before. stops d.options (level (containers_of frames) before) lines ends) k
+
+-- a list closed with the footnote definition around it, where another begins
+pub completes-pop_list_in_line : (d : Document) (defined : Tables) (run : Bool) (byte : ℕ) (loose : Bool) (frames : List Frame) (nodes : List (ℕ × Item))
+    (o : ℕ) (os : List ℕ) (p : Place) (lines : List Place)
+    → ends_footnote (around d (containers_of frames)) p ≡ true → CompletesAt d defined run (InList byte loose ∷ frames) nodes (o ∷ os) (Inside p) lines
+    → CompletesAt d defined run frames (list_closed nodes o (suc (suc (suc (length os)))) loose (offset (unindented p))) os (Inside p) lines
+completes-pop_list_in_line d defined run byte loose frames nodes o os p lines ends k =
+    completes-pop_any d defined run byte loose frames nodes o os (Inside p) lines (InLine p lines) refl
+    (λ before. ends_inside d.options (level (containers_of frames) before) p lines ends) k
 
 -- a list closed before a block that ends it
 pub completes-close : (d : Document) (defined : Tables) (run : Bool) (byte : ℕ) (loose : Bool) (frames : List Frame) (nodes : List (ℕ × Item)) (o : ℕ)
     (os : List ℕ) (p : Place) (lines : List Place) (at : ℕ) (opening : Opening)
-    → Opens d (containers_of frames) p lines opening → OpensAway byte at opening
+    → StaysAt d (containers_of frames) p → Opens d (containers_of frames) p lines opening → OpensAway byte at opening
     → CompletesAt d defined run (InList byte loose ∷ frames) nodes (o ∷ os) (Inside p) lines
     → CompletesAt d defined run frames (list_closed nodes o (suc (suc (suc (length os)))) loose at) os (Inside p) lines
-completes-close d defined run byte loose frames nodes o os p lines at opening opens away k = record {
+completes-close d defined run byte loose frames nodes o os p lines at opening stays opens away k = record {
   below = AreBelow-more o _ os
       (let l = length-closed nodes o (suc (suc (suc (length os)))) loose at in let b : o < length nodes = k.below.0 in omega arith) k.below.1;
   shape = k.shape.1;
   whole = whole_by _ _ _ _ _ _ _ _ (λ forest tables fin. finish_derives _ _ _ _ _ _ _ _ k forest tables
-      (close_step d defined frames run loose nodes o os p lines byte at opening forest tables k.shape.0 opens away fin));
+      (close_step d defined frames run loose nodes o os p lines byte at opening forest tables k.shape.0 stays opens away fin));
 }
 
 plain-loosened : (gap : Bool) (frames : List Frame) → IsPlain frames → IsPlain (loosened gap frames)
@@ -994,13 +1107,13 @@ shaped-loosened_in gap (InList byte loose ∷ frames) h = (plain-loosened gap fr
 -- a gap noted before a block
 pub completes-note : (d : Document) (defined : Tables) (run : Bool) (frames : List Frame) (nodes : List (ℕ × Item)) (os : List ℕ) (p : Place)
     (lines : List Place) (opening : Opening)
-    → IsPlain frames → Opens d (containers_of frames) p lines opening → OpensBlock opening
+    → IsPlain frames → StaysAt d (containers_of frames) p → Opens d (containers_of frames) p lines opening → OpensBlock opening
     → CompletesAt d defined run frames nodes os (Inside p) lines → CompletesAt d defined false (loosened_in run frames) nodes os (Inside p) lines
-completes-note d defined run frames nodes os p lines opening plain opens block k = record {
+completes-note d defined run frames nodes os p lines opening plain stays opens block k = record {
   below = k.below;
   shape = shaped-loosened_in run frames k.shape;
   whole = whole_by _ _ _ _ _ _ _ _ (λ forest tables fin.
-      finish_derives _ _ _ _ _ _ _ _ k forest tables (note_step d defined frames run nodes os p lines opening forest tables plain opens block fin));
+      finish_derives _ _ _ _ _ _ _ _ k forest tables (note_step d defined frames run nodes os p lines opening forest tables plain stays opens block fin));
 }
 
 -- the flags of the list in whose item blocks continue
@@ -1039,30 +1152,31 @@ completes-reflag_list d defined run byte loose l frames nodes o os from lines k 
 -- a block quote opened
 pub completes-quote : (d : Document) (defined : Tables) (frames : List Frame) (nodes : List (ℕ × Item)) (os : List ℕ) (p : Place) (lines behind : List Place)
     (kind : Option BlockQuoteKind) (start line some_end : ℕ) (inside : From)
-    → IsPlain frames → Opens d (containers_of frames) p lines (OpensNode (record { opener = QuoteMarker kind; start = start; line = line }) inside behind)
+    → IsPlain frames → StaysAt d (containers_of frames) p
+    → Opens d (containers_of frames) p lines (OpensNode (record { opener = QuoteMarker kind; start = start; line = line }) inside behind)
     → CompletesAt d defined false frames nodes os (Inside p) lines
     → CompletesAt d defined false (InContainer (BlockQuote kind) ∷ frames) (nodes ++ (suc (length os), node_of start some_end (BlockQuoteBody kind)) ∷ [])
     (length nodes ∷ os) inside behind
-completes-quote d defined frames nodes os p lines behind kind start line some_end inside plain opens k =
+completes-quote d defined frames nodes os p lines behind kind start line some_end inside plain stays opens k =
     let l : length (nodes ++ (suc (length os), node_of start some_end (BlockQuoteBody kind)) ∷ []) ≡ length nodes + 1 =
     length-append nodes ((suc (length os), node_of start some_end (BlockQuoteBody kind)) ∷ []) in
     record {
       below = (omega arith, k.below);
       shape = (sym (ap (λ z. z.last) (plain_before false frames plain)), k.shape);
       whole = whole_by _ _ _ _ _ _ _ _ (λ forest tables fin. finish_derives _ _ _ _ _ _ _ _ k forest tables
-          (quote_step d defined frames nodes os p lines behind kind start line some_end inside forest tables plain opens fin));
+          (quote_step d defined frames nodes os p lines behind kind start line some_end inside forest tables plain stays opens fin));
     }
 
 -- a list opened, with its first item
 pub completes-list : (d : Document) (defined : Tables) (frames : List Frame) (nodes : List (ℕ × Item)) (os : List ℕ) (p : Place) (lines behind : List Place)
     (byte number columns start line some_end other_end : ℕ) (flags : ListFlags) (inside : From)
-    → IsPlain frames
+    → IsPlain frames → StaysAt d (containers_of frames) p
     → Opens d (containers_of frames) p lines (OpensNode (record { opener = ItemMarker byte number columns; start = start; line = line }) inside behind)
     → CompletesAt d defined false frames nodes os (Inside p) lines
     → CompletesAt d defined false (InContainer (ListItem columns) ∷ InList byte false ∷ frames)
     (nodes ++ (suc (length os), node_of start some_end (ListBody flags byte number)) ∷ (suc (suc (length os)), node_of start other_end (ListItemBody columns))
     ∷ []) (suc (length nodes) ∷ length nodes ∷ os) inside behind
-completes-list d defined frames nodes os p lines behind byte number columns start line some_end other_end flags inside plain opens k =
+completes-list d defined frames nodes os p lines behind byte number columns start line some_end other_end flags inside plain stays opens k =
     let more : List (ℕ × Item) =
     (suc (length os), node_of start some_end (ListBody flags byte number)) ∷ (suc (suc (length os)), node_of start other_end (ListItemBody columns)) ∷ [] in
     let l : length (nodes ++ more) ≡ length nodes + 2 = length-append nodes more in
@@ -1070,22 +1184,24 @@ completes-list d defined frames nodes os p lines behind byte number columns star
       below = (omega arith, (omega arith, k.below));
       shape = (refl, (plain, k.shape));
       whole = whole_by _ _ _ _ _ _ _ _ (λ forest tables fin. finish_derives _ _ _ _ _ _ _ _ k forest tables
-          (list_step d defined frames nodes os p lines behind byte number columns start line some_end other_end flags inside forest tables plain opens fin));
+          (list_step d defined frames nodes os p lines behind byte number columns start line some_end other_end flags inside forest tables plain stays opens
+          fin));
     }
 
 -- an item opened in a list that continues
 pub completes-item : (d : Document) (defined : Tables) (run loose : Bool) (frames : List Frame) (nodes : List (ℕ × Item)) (o : ℕ) (os : List ℕ) (p : Place)
     (lines behind : List Place) (byte number columns start line some_end : ℕ) (inside : From)
+    → StaysAt d (containers_of frames) p
     → Opens d (containers_of frames) p lines (OpensNode (record { opener = ItemMarker byte number columns; start = start; line = line }) inside behind)
     → CompletesAt d defined run (InList byte loose ∷ frames) nodes (o ∷ os) (Inside p) lines
     → CompletesAt d defined false (InContainer (ListItem columns) ∷ InList byte (loose || run) ∷ frames)
     (nodes ++ (suc (suc (length os)), node_of start some_end (ListItemBody columns)) ∷ []) (length nodes ∷ o ∷ os) inside behind
-completes-item d defined run loose frames nodes o os p lines behind byte number columns start line some_end inside opens k =
+completes-item d defined run loose frames nodes o os p lines behind byte number columns start line some_end inside stays opens k =
     let l : length (nodes ++ (suc (suc (length os)), node_of start some_end (ListItemBody columns)) ∷ []) ≡ length nodes + 1 =
     length-append nodes ((suc (suc (length os)), node_of start some_end (ListItemBody columns)) ∷ []) in
     record {
       below = (omega arith, k.below);
       shape = (refl, k.shape);
       whole = whole_by _ _ _ _ _ _ _ _ (λ forest tables fin. finish_derives _ _ _ _ _ _ _ _ k forest tables (item_step d defined frames run loose nodes o os p
-          lines behind byte number columns start line some_end inside forest tables k.shape.0 k.below.0 opens fin));
+          lines behind byte number columns start line some_end inside forest tables k.shape.0 k.below.0 stays opens fin));
     }

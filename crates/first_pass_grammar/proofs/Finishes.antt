@@ -6,9 +6,9 @@ use Rattle.first_pass_grammar.specs.declared.kind.Container.{Container}
 use Rattle.first_pass_grammar.specs.Leaves.{Document}
 use Rattle.first_pass_grammar.specs.Blocks.{Skeleton}
 use Rattle.first_pass_grammar.specs.Before.{Before, after_container, before_end}
-use Rattle.first_pass_grammar.specs.Skeleton.{From, Line, end_before, IsSequence}
+use Rattle.first_pass_grammar.specs.Skeleton.{From, level, Left, Lines, onward, end_before, IsSequence}
 use Rattle.first_pass_grammar.specs.Rows.{Rows, any_gap, rows_of}
-use Rattle.first_pass_grammar.specs.Derivation.{Tables, Derives, told, definitions_of}
+use Rattle.first_pass_grammar.specs.Derivation.{Tables, Derives, told_by}
 use Rattle.first_pass_grammar.specs.Completion.{ended, Pending, NoList, OneList, Standing, Further, AreFurther, rows_beyond, rendered, Frame, InContainer}
 use Rattle.first_pass_grammar.specs.Completion.{InList, containers_of, loosened, last_of, Becomes, Completes}
 use Rattle.first_pass_grammar.specs.Containers.{is_quote}
@@ -16,19 +16,19 @@ use Rattle.first_pass_grammar.specs.Containers.{is_quote}
 -- some sequence that the innermost container takes, and so on outwards
 unfoldable pub Finish : Document → Tables → Pending → Before → List Frame → List (ℕ × Item) → List ℕ → From → List Place → List (ℕ × Item) → Tables → Type 0
 Finish d defined list before [] nodes [] from lines forest tables =
-    (s : Skeleton) × IsSequence d s [] from lines []
-    × (forest ≡ rendered 1 (length d.text) nodes list (rows_of false before (length d.text) s)) × (tables ≡ told defined (definitions_of s))
+    (s : Skeleton) × IsSequence d s (level [] before) from lines (Lines [])
+    × (forest ≡ rendered 1 (length d.text) nodes list (rows_of false before (length d.text) s)) × (tables ≡ told_by defined s)
 Finish d defined list before [] nodes (place ∷ places) from lines forest tables = ⊥
 Finish d defined list before (frame ∷ frames) nodes [] from lines forest tables = ⊥
 Finish d defined list before (InList byte loose ∷ frames) nodes (place ∷ places) from lines forest tables =
     Finish d defined (OneList place byte loose) before frames nodes places from lines forest tables
 Finish d defined list before (InContainer c ∷ frames) nodes (place ∷ places) from lines forest tables =
-    (s : Skeleton) × (mid : List Place) × IsSequence d s (c ∷ containers_of frames) from lines mid
+    (s : Skeleton) × (mid : Left) × IsSequence d s (level (c ∷ containers_of frames) before) from lines mid
     × (let last : ℕ = end_before (length d.text) (containers_of frames) from mid in
     let rows : Rows = rows_of (is_quote c) before last s in
-    Finish d (told defined (definitions_of s)) NoList (after_container c (before_end (is_quote c) before s))
+    Finish d (told_by defined s) NoList (after_container c (before_end (is_quote c) before s))
     (loosened (any_gap (rows_beyond list rows)) frames) (ended (rendered (suc (length (place ∷ places))) last nodes list rows) place last)
-    places Line mid forest tables)
+    places (onward mid).0 (onward mid).1 forest tables)
 
 pub containers-loosened : (gap : Bool) (frames : List Frame) → containers_of (loosened gap frames) ≡ containers_of frames
 containers-loosened gap [] = refl
@@ -51,7 +51,7 @@ becomes_at defined frames c o os nodes list before s e e' further forest tables 
 
 finish_of : (d : Document) (defined : Tables) (os : List ℕ) (further : List Further) (list : Pending) (before : Before) (frames : List Frame)
     (nodes : List (ℕ × Item)) (from : From) (lines : List Place) (forest : List (ℕ × Item)) (tables : Tables)
-    → AreFurther d (containers_of frames) from lines further → Becomes frames os (standing defined nodes list before) further forest tables
+    → AreFurther d (containers_of frames) before from lines further → Becomes frames os (standing defined nodes list before) further forest tables
     → Finish d defined list before frames nodes os from lines forest tables
 unfolding AreFurther Becomes Finish
 finish_of d defined [] [] list before [] nodes from lines forest tables are becomes = absurd becomes
@@ -66,19 +66,20 @@ finish_of d defined (o ∷ os) further list before (InList byte loose ∷ frames
 finish_of d defined (o ∷ os) [] list before (InContainer c ∷ frames) nodes from lines forest tables are becomes = absurd are
 finish_of d defined (o ∷ os) (f ∷ further) list before (InContainer c ∷ frames) nodes from lines forest tables (mid, seq, is, are) becomes =
     let e : ℕ = end_before (length d.text) (containers_of frames) from mid in
+    let now : Before = after_container c (before_end (is_quote c) before f.blocks) in
     let rows : Rows = rows_of (is_quote c) before e f.blocks in (
       f.blocks,
       mid,
       seq,
-      finish_of d (told defined (definitions_of f.blocks)) os further NoList _ _ _ Line mid forest tables
-          (subst (λ p. AreFurther d p Line mid further) (sym (containers-loosened (any_gap (rows_beyond list rows)) frames)) are)
+      finish_of d (told_by defined f.blocks) os further NoList _ _ _ (onward mid).0 (onward mid).1 forest tables
+          (subst (λ p. AreFurther d p now (onward mid).0 (onward mid).1 further) (sym (containers-loosened (any_gap (rows_beyond list rows)) frames)) are)
           (becomes_at defined frames c o os nodes list before f.blocks f.«end» e further forest tables is becomes),
     )
 
 of_finish : (d : Document) (defined : Tables) (os : List ℕ) (list : Pending) (before : Before) (frames : List Frame) (nodes : List (ℕ × Item))
     (from : From) (lines : List Place) (forest : List (ℕ × Item)) (tables : Tables)
     → Finish d defined list before frames nodes os from lines forest tables
-    → (further : List Further) × AreFurther d (containers_of frames) from lines further
+    → (further : List Further) × AreFurther d (containers_of frames) before from lines further
     × Becomes frames os (standing defined nodes list before) further forest tables
 unfolding AreFurther Becomes Finish
 of_finish d defined [] list before [] nodes from lines forest tables (s, seq, is, tables_are) =
@@ -91,10 +92,11 @@ of_finish d defined (o ∷ os) list before (InList byte loose ∷ frames) nodes 
 of_finish d defined (o ∷ os) list before (InContainer c ∷ frames) nodes from lines forest tables (s, mid, seq, fin) =
     let e : ℕ = end_before (length d.text) (containers_of frames) from mid in
     let rows : Rows = rows_of (is_quote c) before e s in
-    let r = of_finish d (told defined (definitions_of s)) os NoList _ _ _ Line mid forest tables fin in
+    let now : Before = after_container c (before_end (is_quote c) before s) in
+    let r = of_finish d (told_by defined s) os NoList _ _ _ (onward mid).0 (onward mid).1 forest tables fin in
     let path : containers_of (loosened (any_gap (rows_beyond list rows)) frames) ≡ containers_of frames =
     containers-loosened (any_gap (rows_beyond list rows)) frames in
-    (further_to s e ∷ r.0, (mid, seq, refl, subst (λ p. AreFurther d p Line mid r.0) path r.1), r.2)
+    (further_to s e ∷ r.0, (mid, seq, refl, subst (λ p. AreFurther d p now (onward mid).0 (onward mid).1 r.0) path r.1), r.2)
 
 -- what stands before the next block in open nodes, where the run of blank lines directly before it holds one that counts, or doesn't
 abbrev pub before_of : List Frame → Bool → Before
@@ -119,7 +121,8 @@ finish_derives d defined run frames nodes os from lines c forest tables fin =
 pub whole_by : (d : Document) (defined : Tables) (run : Bool) (frames : List Frame) (nodes : List (ℕ × Item)) (os : List ℕ) (from : From) (lines : List Place)
     → ((forest : List (ℕ × Item)) (tables : Tables) → FinishesAt d defined run frames nodes os from lines forest tables → Derives d forest tables)
     → (further : List Further) (forest : List (ℕ × Item)) (tables : Tables)
-    → AreFurther d (containers_of frames) from lines further → Becomes frames os (standing defined nodes NoList (before_of frames run)) further forest tables
+    → AreFurther d (containers_of frames) (before_of frames run) from lines further
+    → Becomes frames os (standing defined nodes NoList (before_of frames run)) further forest tables
     → Derives d forest tables
 whole_by d defined run frames nodes os from lines whole further forest tables are becomes =
     whole forest tables (finish_of d defined os further NoList (before_of frames run) frames nodes from lines forest tables are becomes)

@@ -6,8 +6,10 @@ pub mod Completions
 pub mod CountedRows
 pub mod EachToken
 pub mod Finishes
+pub mod FirstLabels
 pub mod FirstLinks
 pub mod Found
+pub mod Goings
 pub mod HeadCells
 pub mod HeadLines
 pub mod KindsFound

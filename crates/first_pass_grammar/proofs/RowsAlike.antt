@@ -6,12 +6,13 @@ use Rattle.first_pass_tree.specs.Forest.{at_depth}
 use Rattle.first_pass_grammar.specs.declared.kind.Container.{Container}
 use Rattle.first_pass_grammar.specs.Names.{Names, Named, read_nodes}
 use Rattle.first_pass_grammar.specs.Kinds.{Kind}
-use Rattle.first_pass_grammar.specs.Blocks.{LeafBlock, BlankLine, Block, Head, Opener, QuoteMarker, ItemMarker, opened, Skeleton, Nil, Then, Node}
+use Rattle.first_pass_grammar.specs.Blocks.{LeafBlock, BlankLine, Block, Head, Opener, QuoteMarker, ItemMarker, opened, label_of, Skeleton, Nil, Then, Node}
+use Rattle.first_pass_grammar.specs.LinkTables.{LinkEntry, with_links, with_labels}
 use Rattle.first_pass_grammar.specs.Before.{Before, LastOther, nothing, after_blank, after_block, after_container, before_end}
 use Rattle.first_pass_grammar.specs.Containers.{is_quote}
 use Rattle.first_pass_grammar.specs.Rows.{What, ALeaf, AQuote, AList, AnItem, Row, Rows, End, OneOf, gapped, any_gap, is_loose, closing_place, is_list_of}
 use Rattle.first_pass_grammar.specs.Rows.{end_of, list_until, items_behind, list_behind, row_of, row_of_leaf, container_row, rows_of}
-use Rattle.first_pass_grammar.specs.Derivation.{definitions_of, node_of, list_flags, row_items, tight_in, items_of}
+use Rattle.first_pass_grammar.specs.Derivation.{Tables, definitions_of, footnotes_of, told_by, node_of, list_flags, row_items, tight_in, items_of}
 use Rattle.first_pass_grammar.proofs.Alike.{AlikeNodes, stands, Alike, nodes_append, tight_read, read_tight, read_at_depth}
 
 -- a row without the items of its leaf block, and these
@@ -125,7 +126,7 @@ leaf_row b b' gap is own =
     ap (λ z. row_of_leaf (leaf z b.gap) gap) is ∙ ap (λ g. row_of_leaf (leaf (stands b') g) gap) own
 
 -- what stands before the end of alike skeletons
-end_alike : (m n : Names) (quoted : Bool) (before : Before) (s t : Skeleton) → Alike m n s t → before_end quoted before s ≡ before_end quoted before t
+pub end_alike : (m n : Names) (quoted : Bool) (before : Before) (s t : Skeleton) → Alike m n s t → before_end quoted before s ≡ before_end quoted before t
 unfolding before_end
 end_alike m n quoted before Nil Nil a = refl
 end_alike m n quoted before Nil (Then leaf' next') a = absurd a
@@ -220,7 +221,7 @@ pub forest_alike : (m n : Names) (quoted : Bool) (before : Before) (depth last :
 forest_alike m n quoted before depth last s t a = rows_read m n depth false _ _ (rows_alike m n quoted before last s t a)
 
 -- alike skeletons define the same
-pub definitions_alike : (m n : Names) (s t : Skeleton) → Alike m n s t → definitions_of s ≡ definitions_of t
+definitions_alike : (m n : Names) (s t : Skeleton) → Alike m n s t → definitions_of s ≡ definitions_of t
 unfolding definitions_of
 definitions_alike m n Nil Nil a = refl
 definitions_alike m n Nil (Then leaf' next') a = absurd a
@@ -236,3 +237,24 @@ definitions_alike m n (Then (Block b) next) (Then (Block b') next') a =
     ap (λ z. z ++ definitions_of next) a.0.3 ∙ ap (λ z. b'.definitions ++ z) (definitions_alike m n next next' a.1)
 definitions_alike m n (Node head e kids next) (Node head' e' kids' next') a =
     ap (λ z. z ++ definitions_of next) (definitions_alike m n kids kids' a.2) ∙ ap (λ z. definitions_of kids' ++ z) (definitions_alike m n next next' a.3)
+
+footnotes_alike : (m n : Names) (s t : Skeleton) → Alike m n s t → footnotes_of s ≡ footnotes_of t
+unfolding footnotes_of
+footnotes_alike m n Nil Nil a = refl
+footnotes_alike m n Nil (Then leaf' next') a = absurd a
+footnotes_alike m n Nil (Node head' e' kids' next') a = absurd a
+footnotes_alike m n (Then leaf next) Nil a = absurd a
+footnotes_alike m n (Then leaf next) (Node head' e' kids' next') a = absurd a
+footnotes_alike m n (Node head e kids next) Nil a = absurd a
+footnotes_alike m n (Node head e kids next) (Then leaf' next') a = absurd a
+footnotes_alike m n (Then leaf next) (Then leaf' next') a = footnotes_alike m n next next' a.1
+footnotes_alike m n (Node head e kids next) (Node head' e' kids' next') a =
+    ap (λ (h : Head). label_of h.opener ++ (footnotes_of kids ++ footnotes_of next)) a.0
+    ∙ ap (λ z. label_of head'.opener ++ (z ++ footnotes_of next)) (footnotes_alike m n kids kids' a.2)
+    ∙ ap (λ z. label_of head'.opener ++ (footnotes_of kids' ++ z)) (footnotes_alike m n next next' a.3)
+
+pub told_alike : (m n : Names) (tables : Tables) (s t : Skeleton) → Alike m n s t → told_by tables s ≡ told_by tables t
+told_alike m n tables s t a =
+    let told : List LinkEntry → List (List ℕ) → Tables =
+    λ xs ys. record { links = with_links tables.links xs; footnotes = with_labels tables.footnotes ys } in
+    ap (λ z. told z (footnotes_of s)) (definitions_alike m n s t a) ∙ ap (told (definitions_of t)) (footnotes_alike m n s t a)

@@ -1,7 +1,6 @@
 -- The grammar derives one forest from a text, read through what its indices name, and one pair of tables.
 use Rattle.std.proofs.Common.{◌≡◌, inl, inr, ℕ, ◌+◌, Bool, true, false, List, [], ◌∷◌, length, map, drop, Option, Some, None, IfSome, refl, sym, ap, ◌∙◌, subst}
 use Rattle.std.proofs.Common.{if◌then◌else◌}
-use Rattle.std.specs.Option.{option_map}
 use Rattle.first_pass_items.specs.declared.item.Item.{Item}
 use Rattle.first_pass_items.specs.declared.item.BlockQuoteKind.{BlockQuoteKind}
 use Rattle.first_pass_items.specs.declared.item.ItemBody.TheVariants.{Root, Rule, Heading as HeadingBody, IndentCodeBlock, FencedCodeBlock, MetadataBlock}
@@ -15,7 +14,7 @@ use Rattle.first_pass_lines.specs.Places.{Place, offset, lines_at, start_of, mov
 use Rattle.first_pass_links.specs.Escapes.{unescaped}
 use Rattle.first_pass_grammar.specs.declared.kind.Container.{Container}
 use Rattle.first_pass_grammar.specs.Names.{Names, Named, read_nodes}
-use Rattle.first_pass_grammar.specs.Containers.{Context, at_rest, after, front}
+use Rattle.first_pass_grammar.specs.Containers.{Context, at_rest, front}
 use Rattle.first_pass_grammar.specs.Kinds.{Kind, Blank, IndentedCode, Metadata, HtmlToEnd, HtmlToBlank, ThematicBreak, AtxHeading, FencedCode, LinkDefinitions}
 use Rattle.first_pass_grammar.specs.Kinds.{Paragraph, unindented, is_blank_rest, first_kind, IsKindBy, IsKind, ends_tag}
 use Rattle.first_pass_grammar.specs.Headings.{heading_attributes_of}
@@ -28,21 +27,24 @@ use Rattle.first_pass_grammar.specs.LinkTables.{LinkEntry}
 use Rattle.first_pass_grammar.specs.LinkRuns.{kind_in, lines_beyond, ends_run, Beyond, Ended, FlowsOn, IsRun}
 use Rattle.std.proofs.lemmas.Bool.{true≢false}
 use Rattle.std.proofs.lemmas.Option.{none-some, same_Some}
-use Rattle.first_pass_grammar.specs.Blocks.{leaf_block, Head, opened, Skeleton, Nil, Then, Node}
+use Rattle.first_pass_grammar.specs.Blocks.{leaf_block, Leaf, BlankLine, Block, Head, opened, Skeleton, Nil, Then, Node}
 use Rattle.first_pass_grammar.specs.Skeleton.{OpensBeyond, OpensRun, From, Line, Blanks, At, Anything, ALeafAlone, TextOf, MarkAlone, behind_marker, Opening}
-use Rattle.first_pass_grammar.specs.Skeleton.{OpensLeaf, OpensNode, OpensText, OpensExtent, OpensAs, OpensBlockAt, is_blank_behind, next_is_blank}
+use Rattle.first_pass_grammar.specs.Skeleton.{OpensLeaf, OpensNode, OpensText, OpensExtent, OpensAs, OpensBlockAt, next_is_blank}
 use Rattle.first_pass_grammar.specs.Skeleton.{task_alone, behind_tag}
 use Rattle.first_pass_grammar.specs.Openers.{task_by, task_behind, tag_behind}
-use Rattle.first_pass_grammar.specs.Skeleton.{Opens, OpensAt, Begins, Ends, behind_first, end_before, IsFirst, IsSequence}
-use Rattle.first_pass_grammar.specs.Derivation.{Tables, no_tables, told, node_of, Derives}
+use Rattle.first_pass_grammar.specs.Skeleton.{Opens, OpensAt, Level, level, level_in, level_after_leaf, level_after, Left, Lines, InLine, Going, Begins, Ends}
+use Rattle.first_pass_grammar.specs.Skeleton.{going, onward, behind_first, end_before, IsFirst, IsSequence}
+use Rattle.first_pass_grammar.specs.Derivation.{Tables, no_tables, node_of, Derives}
 use Rattle.first_pass_grammar.proofs.NoIndex.{HasNoIndex, read_alone}
 use Rattle.first_pass_grammar.specs.RawLines.{range_text, range_html}
-use Rattle.first_pass_grammar.proofs.Alike.{with_names, AlikeNodes, HoldsNoIndex, AlikeOpening, Alike, text_free, html_free, raw_alike, block_alike}
+use Rattle.first_pass_grammar.proofs.Alike.{with_names, AlikeNodes, HoldsNoIndex, AlikeLeaf, AlikeOpening, Alike, text_free, html_free, raw_alike, block_alike}
 use Rattle.first_pass_grammar.proofs.Alike.{fence_alike, heading_alike}
 use Rattle.first_pass_grammar.proofs.LinesAlike.{one_heading}
 use Rattle.first_pass_grammar.proofs.TablesAlike.{one_text}
-use Rattle.first_pass_grammar.specs.Before.{nothing}
-use Rattle.first_pass_grammar.proofs.RowsAlike.{forest_alike, definitions_alike}
+use Rattle.first_pass_grammar.specs.Before.{LastOther, Before, nothing, after_container}
+use Rattle.first_pass_grammar.specs.Containers.{is_quote}
+use Rattle.first_pass_grammar.proofs.Goings.{same_left}
+use Rattle.first_pass_grammar.proofs.RowsAlike.{end_alike, forest_alike, told_alike}
 use Rattle.first_pass_grammar.specs.Openers.{AfterMarker, OnLine, TaskText, LineEnds, TagAlone, Start, after_task, after_quote, start_at}
 use Rattle.first_pass_grammar.specs.Skeleton.{OpensBy, opening_by, without_indent}
 use Rattle.first_pass_grammar.proofs.OpenerFacts.{start_cases}
@@ -306,47 +308,33 @@ opens_at d n path (At q (MarkAlone marker blanks)) p lines o o' h e f =
       refl,
     )
 
--- a block begins at one place
-begins_once : (path : List Container) (from : From) (lines : List Place) (p q : Place) (a b : List Place)
-    → Begins path from lines p a → Begins path from lines q b → (p ≡ q) × (a ≡ b)
-begins_once path (At x may) lines p q a b (e, f) (g, h) = (cc, cc)
-begins_once path Line [] p q a b e f = absurd e
-begins_once path Line (line ∷ lines) p q a b (t, f) (u, h) = let s : Some p ≡ Some q = sym t ∙ u in (cc, cc)
-begins_once path (Blanks e) [] p q a b m f = absurd m
-begins_once path (Blanks e) (line ∷ lines) p q a b (t, f, m) (u, h, n) = let s : Some p ≡ Some q = sym t ∙ u in (cc, cc)
+-- a block begins at one place, and where a sequence ends none begins
+begins_once : (p q : Place) (a b : List Place) (g : Going) → g ≡ Begins p a → g ≡ Begins q b → (p ≡ q) × (a ≡ b)
+begins_once p q a b g e f = let s : Begins p a ≡ Begins q b = sym e ∙ f in (cc, cc)
 
-blank_taken : (line q : Place) (o : Option Rest) → option_map (at_rest line) o ≡ Some q → is_blank_rest q.rest ≡ true → is_blank_behind o ≡ true
-blank_taken line q None t b = cc
-blank_taken line q (Some r) t b = let e : at_rest line r ≡ q = cc in ap (λ z. is_blank_rest z.rest) e ∙ b
-
--- where a sequence ends no block begins
-pub ends_not_begins : (path : List Container) (from : From) (lines : List Place) (p : Place) (a : List Place)
-    → Ends path from lines → Begins path from lines p a → ⊥
-ends_not_begins path (At x may) lines p a e b = e
-ends_not_begins path Line [] p a e b = b
-ends_not_begins path Line (line ∷ lines) p a e (t, h) = let n : None ≡ Some p = sym (ap (option_map (at_rest line)) e) ∙ t in cc
-ends_not_begins path (Blanks x) [] p a e b = b
-ends_not_begins path (Blanks x) (line ∷ lines) p a e (t, h, b) = let n : true ≡ false = sym (blank_taken line p (after path line.rest) t b) ∙ e in cc
+ends_not_begins : (left : Left) (p : Place) (a : List Place) (g : Going) → g ≡ Ends left → g ≡ Begins p a → ⊥
+ends_not_begins left p a g e f = let s : Ends left ≡ Begins p a = sym e ∙ f in cc
 
 -- a first block opens as one thing
-first_once : (d : Document) (n : Names) (path : List Container) (from : From) (lines : List Place) (o o' : Opening) → HoldsNoIndex from
-    → IsFirst d path from lines o → IsFirst (with_names d n) path from lines o' → AlikeOpening d.names n o o'
-first_once d n path from lines o o' h f g =
-    let w = begins_once path from lines f.place g.place f.behind g.behind f.begins g.begins in
-    opens_at d n path from g.place g.behind o o' h
-    (subst (λ z. OpensAt d path from g.place z o) w.1 (subst (λ z. OpensAt d path from z f.behind o) w.0 f.opens)) g.opens
+first_once : (d : Document) (n : Names) (l : Level) (from : From) (lines : List Place) (o o' : Opening) → HoldsNoIndex from
+    → IsFirst d l from lines o → IsFirst (with_names d n) l from lines o' → AlikeOpening d.names n o o'
+first_once d n l from lines o o' h f g =
+    let w = begins_once f.place g.place f.behind g.behind (going d.options l from lines) f.begins g.begins in
+    opens_at d n l.path from g.place g.behind o o' h
+    (subst (λ z. OpensAt d l.path from g.place z o) w.1 (subst (λ z. OpensAt d l.path from z f.behind o) w.0 f.opens)) g.opens
 
-first_ends : (d : Document) (path : List Container) (from : From) (lines : List Place) (o : Opening) → Ends path from lines → IsFirst d path from lines o → ⊥
-first_ends d path from lines o e f = ends_not_begins path from lines f.place f.behind e f.begins
+first_ends : (d : Document) (l : Level) (from : From) (lines : List Place) (left : Left) (o : Opening) → going d.options l from lines ≡ Ends left
+    → IsFirst d l from lines o → ⊥
+first_ends d l from lines left o e f = ends_not_begins left f.place f.behind (going d.options l from lines) e f.begins
 
 -- where a sequence ends it has no block
-pub ends_at_once : (d : Document) (s : Skeleton) (path : List Container) (from : From) (lines left : List Place)
-    → Ends path from lines → IsSequence d s path from lines left → (s ≡ Nil) × (left ≡ lines)
+pub ends_at_once : (d : Document) (s : Skeleton) (l : Level) (from : From) (lines : List Place) (stop left : Left)
+    → going d.options l from lines ≡ Ends stop → IsSequence d s l from lines left → (s ≡ Nil) × (left ≡ stop)
 unfolding IsSequence
-ends_at_once d Nil path from lines left e (f, g) = (refl, g)
-ends_at_once d (Then leaf next) path from lines left e (there, mid, first, seq) = absurd (first_ends d path from lines (OpensLeaf leaf there mid) e first)
-ends_at_once d (Node head e' kids next) path from lines left e (inside, behind, mid, first, inner, is, seq) =
-    absurd (first_ends d path from lines (OpensNode head inside behind) e first)
+ends_at_once d Nil l from lines stop left e f = (refl, same_left left stop (sym f ∙ e))
+ends_at_once d (Then leaf next) l from lines stop left e (there, mid, first, seq) = absurd (first_ends d l from lines stop (OpensLeaf leaf there mid) e first)
+ends_at_once d (Node head e' kids next) l from lines stop left e (inside, behind, mid, first, inner, is, seq) =
+    absurd (first_ends d l from lines stop (OpensNode head inside behind) e first)
 
 behind_first_free : (from there : From) → HoldsNoIndex from → HoldsNoIndex there → HoldsNoIndex (behind_first from there)
 behind_first_free (Blanks e) there h k = tt
@@ -356,50 +344,76 @@ behind_first_free (At p ALeafAlone) there h k = k
 behind_first_free (At p (TextOf marker)) there h k = k
 behind_first_free (At p (MarkAlone marker blanks)) there h k = marker_free blanks
 
+onward_free : (left : Left) → HoldsNoIndex (onward left).0
+onward_free (Lines lines) = tt
+onward_free (InLine p lines) = tt
+
+-- a sequence at another level that is the same
+at_level : (d : Document) (s : Skeleton) (l k : Level) (from : From) (lines : List Place) (left : Left) → l ≡ k → IsSequence d s l from lines left
+    → IsSequence d s k from lines left
+at_level d s l k from lines left is seq = subst (λ z. IsSequence d s z from lines left) is seq
+
+leaf_after : (m n : Names) (l : Level) (leaf leaf' : Leaf) → AlikeLeaf m n leaf leaf' → level_after_leaf l leaf ≡ level_after_leaf l leaf'
+leaf_after m n l BlankLine BlankLine a = refl
+leaf_after m n l BlankLine (Block b') a = absurd a
+leaf_after m n l (Block b) BlankLine a = absurd a
+leaf_after m n l (Block b) (Block b') a = ap (λ (g : Bool). level l.path (record { last = LastOther; counted = g })) a.2
+
+container_after : (m n : Names) (l : Level) (head : Head) (kids kids' : Skeleton) → Alike m n kids kids' → level_after l head kids ≡ level_after l head kids'
+container_after m n l head kids kids' a =
+    ap (λ (z : Before). level l.path (after_container (opened head.opener) z)) (end_alike m n (is_quote (opened head.opener)) nothing kids kids' a)
+
 -- two sequences from one place on are alike, and leave the same lines
-pub one_sequence : (d : Document) (n : Names) (s t : Skeleton) (path : List Container) (from : From) (lines a b : List Place) → HoldsNoIndex from
-    → IsSequence d s path from lines a → IsSequence (with_names d n) t path from lines b → Alike d.names n s t × (a ≡ b)
+pub one_sequence : (d : Document) (n : Names) (s t : Skeleton) (l : Level) (from : From) (lines : List Place) (a b : Left) → HoldsNoIndex from
+    → IsSequence d s l from lines a → IsSequence (with_names d n) t l from lines b → Alike d.names n s t × (a ≡ b)
 unfolding IsSequence
-one_sequence d n Nil Nil path from lines a b free (e, f) (g, h) = (tt, cc)
-one_sequence d n Nil (Then leaf next) path from lines a b free (e, f) (there, mid, first, seq) =
-    absurd (first_ends (with_names d n) path from lines (OpensLeaf leaf there mid) e first)
-one_sequence d n Nil (Node head x kids next) path from lines a b free (e, f) (inside, behind, mid, first, inner, is, seq) =
-    absurd (first_ends (with_names d n) path from lines (OpensNode head inside behind) e first)
-one_sequence d n (Then leaf next) Nil path from lines a b free (there, mid, first, seq) (e, f) =
-    absurd (first_ends d path from lines (OpensLeaf leaf there mid) e first)
-one_sequence d n (Node head x kids next) Nil path from lines a b free (inside, behind, mid, first, inner, is, seq) (e, f) =
-    absurd (first_ends d path from lines (OpensNode head inside behind) e first)
-one_sequence d n (Then leaf next) (Then leaf' next') path from lines a b free (there, mid, first, seq) (there', mid', first', seq') =
-    let o = first_once d n path from lines (OpensLeaf leaf there mid) (OpensLeaf leaf' there' mid') free first first' in
-    let r = one_sequence d n next next' path (behind_first from there) mid a b (behind_first_free from there free o.2) seq
-    (subst (λ z. IsSequence (with_names d n) next' path (behind_first from there) z b) (sym o.3)
-    (subst (λ z. IsSequence (with_names d n) next' path (behind_first from z) mid' b) (sym o.1) seq')) in
+one_sequence d n Nil Nil l from lines a b free e f = (tt, same_left a b (sym e ∙ f))
+one_sequence d n Nil (Then leaf next) l from lines a b free e (there, mid, first, seq) =
+    absurd (first_ends (with_names d n) l from lines a (OpensLeaf leaf there mid) e first)
+one_sequence d n Nil (Node head x kids next) l from lines a b free e (inside, behind, mid, first, inner, is, seq) =
+    absurd (first_ends (with_names d n) l from lines a (OpensNode head inside behind) e first)
+one_sequence d n (Then leaf next) Nil l from lines a b free (there, mid, first, seq) e =
+    absurd (first_ends d l from lines b (OpensLeaf leaf there mid) e first)
+one_sequence d n (Node head x kids next) Nil l from lines a b free (inside, behind, mid, first, inner, is, seq) e =
+    absurd (first_ends d l from lines b (OpensNode head inside behind) e first)
+one_sequence d n (Then leaf next) (Then leaf' next') l from lines a b free (there, mid, first, seq) (there', mid', first', seq') =
+    let o = first_once d n l from lines (OpensLeaf leaf there mid) (OpensLeaf leaf' there' mid') free first first' in
+    let now : Level = level_after_leaf l leaf in
+    let r = one_sequence d n next next' now (behind_first from there) mid a b (behind_first_free from there free o.2) seq
+    (subst (λ z. IsSequence (with_names d n) next' now (behind_first from there) z b) (sym o.3)
+    (subst (λ z. IsSequence (with_names d n) next' now (behind_first from z) mid' b) (sym o.1)
+    (at_level (with_names d n) next' (level_after_leaf l leaf') now (behind_first from there') mid' b (sym (leaf_after d.names n l leaf leaf' o.0)) seq'))) in
     ((o.0, r.0), r.1)
-one_sequence d n (Then leaf next) (Node head x kids next') path from lines a b free (there, mid, first, seq) (inside, behind, mid', first', inner, is, seq') =
-    absurd (first_once d n path from lines (OpensLeaf leaf there mid) (OpensNode head inside behind) free first first')
-one_sequence d n (Node head x kids next) (Then leaf next') path from lines a b free (inside, behind, mid', first', inner, is, seq') (there, mid, first, seq) =
-    absurd (first_once d n path from lines (OpensNode head inside behind) (OpensLeaf leaf there mid) free first' first)
-one_sequence d n (Node head x kids next) (Node head' x' kids' next') path from lines a b free (inside, behind, mid, first, inner, is, seq)
+one_sequence d n (Then leaf next) (Node head x kids next') l from lines a b free (there, mid, first, seq) (inside, behind, mid', first', inner, is, seq') =
+    absurd (first_once d n l from lines (OpensLeaf leaf there mid) (OpensNode head inside behind) free first first')
+one_sequence d n (Node head x kids next) (Then leaf next') l from lines a b free (inside, behind, mid', first', inner, is, seq') (there, mid, first, seq) =
+    absurd (first_once d n l from lines (OpensNode head inside behind) (OpensLeaf leaf there mid) free first' first)
+one_sequence d n (Node head x kids next) (Node head' x' kids' next') l from lines a b free (inside, behind, mid, first, inner, is, seq)
     (inside', behind', mid', first', inner', is', seq') =
-    let o = first_once d n path from lines (OpensNode head inside behind) (OpensNode head' inside' behind') free first first' in
-    let h = one_sequence d n kids kids' (opened head.opener ∷ path) inside behind mid mid' o.2 inner
-    (subst (λ (z : Head). IsSequence (with_names d n) kids' (opened z.opener ∷ path) inside behind mid') (sym o.0)
-    (subst (λ z. IsSequence (with_names d n) kids' (opened head'.opener ∷ path) z behind mid') (sym o.1)
-    (subst (λ z. IsSequence (with_names d n) kids' (opened head'.opener ∷ path) inside' z mid') (sym o.3) inner'))) in
+    let o = first_once d n l from lines (OpensNode head inside behind) (OpensNode head' inside' behind') free first first' in
+    let h = one_sequence d n kids kids' (level_in (opened head.opener) l) inside behind mid mid' o.2 inner
+    (subst (λ (z : Head). IsSequence (with_names d n) kids' (level_in (opened z.opener) l) inside behind mid') (sym o.0)
+    (subst (λ z. IsSequence (with_names d n) kids' (level_in (opened head'.opener) l) z behind mid') (sym o.1)
+    (subst (λ z. IsSequence (with_names d n) kids' (level_in (opened head'.opener) l) inside' z mid') (sym o.3) inner'))) in
     let m : mid ≡ mid' = h.1 in
-    let r = one_sequence d n next next' path (behind_first from Line) mid a b (behind_first_free from Line free tt) seq
-    (subst (λ z. IsSequence (with_names d n) next' path (behind_first from Line) z b) (sym m) seq') in
-    let e : x ≡ x' = is ∙ ap (λ z. end_before (length d.text) path z mid) o.1 ∙ ap (end_before (length d.text) path inside') m ∙ sym is' in
+    let there : Left → From = λ z. behind_first from (onward z).0 in
+    let now : Level = level_after l head kids in
+    let same : level_after l head' kids' ≡ now =
+    sym (container_after d.names n l head kids kids' h.0 ∙ ap (λ (z : Head). level_after l z kids') o.0) in
+    let r = one_sequence d n next next' now (there mid) (onward mid).1 a b (behind_first_free from (onward mid).0 free (onward_free mid)) seq
+    (subst (λ (z : Left). IsSequence (with_names d n) next' now (there z) (onward z).1 b) (sym m)
+    (at_level (with_names d n) next' (level_after l head' kids') now (there mid') (onward mid').1 b same seq')) in
+    let e : x ≡ x' = is ∙ ap (λ z. end_before (length d.text) l.path z mid) o.1 ∙ ap (end_before (length d.text) l.path inside') m ∙ sym is' in
     ((o.0, e, h.0, r.0), r.1)
 
 pub one_forest : (text : List ℕ) (options : Options) (m n : Names) (f g : List (ℕ × Item)) (t u : Tables)
     → Derives (document text options m) f t → Derives (document text options n) g u → (read_nodes m f ≡ read_nodes n g) × (t ≡ u)
 one_forest text options m n f g t u x y =
     let d : Document = document text options m in
-    let s = (one_sequence d n x.skeleton y.skeleton [] Line (lines_at 0 text) [] [] tt x.sequence y.sequence).0 in
+    let s = (one_sequence d n x.skeleton y.skeleton (level [] nothing) Line (lines_at 0 text) (Lines []) (Lines []) tt x.sequence y.sequence).0 in
     let root : ℕ × (Item × Option Named) = (0, (node_of 0 (length text) Root, None)) in (
       ap (read_nodes m) x.forest_is
           ∙ ap (λ z. root ∷ z) (forest_alike m n false nothing 1 (length text) x.skeleton y.skeleton s)
           ∙ sym (ap (read_nodes n) y.forest_is),
-      x.tables_are ∙ ap (told no_tables) (definitions_alike m n x.skeleton y.skeleton s) ∙ sym y.tables_are,
+      x.tables_are ∙ told_alike m n no_tables x.skeleton y.skeleton s ∙ sym y.tables_are,
     )

@@ -8,7 +8,7 @@ use Rattle.first_pass_lines.specs.Places.{Place}
 use Rattle.first_pass_grammar.specs.declared.kind.Container.{Container}
 use Rattle.first_pass_grammar.specs.Names.{Names, Extends, index_of, NamesEntry, AreNamed}
 use Rattle.first_pass_grammar.specs.Leaves.{Document, document}
-use Rattle.first_pass_grammar.specs.Skeleton.{From, Line}
+use Rattle.first_pass_grammar.specs.Skeleton.{From, level, Lines, onward}
 use Rattle.first_pass_grammar.specs.Rows.{Rows, any_gap}
 use Rattle.first_pass_grammar.specs.Derivation.{Tables, Derives}
 use Rattle.first_pass_grammar.specs.Completion.{ended, Pending, OneList, Standing, Further, AreFurther, rows_on, rows_beyond, rendered, Frame, InContainer}
@@ -42,11 +42,11 @@ container_shows names depth place w f rows list silent whole =
 module _ (d : Document) (full : HeadsAreFull d) where
   becomes_shows : (frames : List Frame) (places : List ℕ) (w : Standing) (further : List Further) (from : From) (lines : List Place)
       (forest : List (ℕ × Item)) (tables : Tables) → PlainFrom d.text from → AreAt d.text lines → AreSilent w.nodes places → SilentList w.nodes w.list
-      → AreFurther d (containers_of frames) from lines further → Becomes frames places w further forest tables → ShowsMore d.names w.nodes forest
+      → AreFurther d (containers_of frames) w.before from lines further → Becomes frames places w further forest tables → ShowsMore d.names w.nodes forest
   unfolding AreFurther Becomes
   becomes_shows [] [] w [] from lines forest tables plain at silent list are becomes = absurd are
   becomes_shows [] [] w (f ∷ []) from lines forest tables plain at silent list (sequence, ends) (is, told) =
-      let blocks = (sequence_whole d full f.blocks [] from lines [] plain at sequence).0 in
+      let blocks = (sequence_whole d full f.blocks (level [] w.before) from lines (Lines []) plain at sequence).0 in
       let rows = rows_whole d.names false w.before f.«end» f.blocks blocks in
       subst (ShowsMore d.names w.nodes) (sym is) (rendered_shows d.names 1 f.«end» w.nodes w.list (rows_on false w f) list rows)
   becomes_shows [] [] w (f ∷ g ∷ more) from lines forest tables plain at silent list are becomes = absurd are
@@ -62,13 +62,14 @@ module _ (d : Document) (full : HeadsAreFull d) where
       let gap : Bool = any_gap (rows_beyond w.list rows) in
       let depth : ℕ = suc (length (place ∷ places)) in
       let now : Standing = container_closed c depth place w f rows in
-      let blocks = sequence_whole d full f.blocks (c ∷ containers_of frames) from lines left plain at sequence in
+      let blocks = sequence_whole d full f.blocks (level (c ∷ containers_of frames) w.before) from lines left plain at sequence in
       let whole = rows_whole d.names (is_quote c) w.before f.«end» f.blocks blocks.0 in
       let here = container_shows d.names depth place w f rows list silent.0 whole in
       let still = silent_places depth f.«end» place f.«end» w.nodes w.list rows places silent.1 in
       more_both d.names w.nodes now.nodes forest here
-      (becomes_shows (loosened gap frames) places now further Line left forest tables tt blocks.1 still tt
-      (subst (λ (path : List Container). AreFurther d path Line left further) (sym (containers-loosened gap frames)) are) becomes)
+      (becomes_shows (loosened gap frames) places now further (onward left).0 (onward left).1 forest tables blocks.1.0 blocks.1.1 still tt
+      (subst (λ (path : List Container). AreFurther d path now.before (onward left).0 (onward left).1 further) (sym (containers-loosened gap frames)) are)
+      becomes)
 
 -- Where tables stand after marks, and all of it is whole tables, the marks are whole tables: those in a row or a cell begin no table.
 abbrev is_table : Mark → Bool

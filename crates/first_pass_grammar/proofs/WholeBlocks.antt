@@ -35,7 +35,8 @@ use Rattle.first_pass_grammar.specs.Skeleton.{Opening, OpensLeaf, OpensNode, Ope
 use Rattle.first_pass_grammar.specs.Openers.{task_by, task_behind}
 use Rattle.first_pass_grammar.specs.Skeleton.{task_alone, behind_tag, OpensIf}
 use Rattle.first_pass_grammar.specs.Openers.{tag_behind}
-use Rattle.first_pass_grammar.specs.Skeleton.{OpensAt, Begins, behind_first, IsFirst, IsSequence}
+use Rattle.first_pass_grammar.specs.Skeleton.{OpensAt, Level, Left, Lines, InLine, onward, level_in, level_after_leaf, level_after, behind_first, IsFirst}
+use Rattle.first_pass_grammar.specs.Skeleton.{IsSequence}
 use Rattle.first_pass_grammar.specs.WholeTables.{Mark, marks, table_marks, AreFull, AreWholeTables}
 use Rattle.first_pass_grammar.proofs.EachToken.{AreEach, heading_each, range_text_each, range_html_each, raw_lines_each, lines_each, children_each}
 use Rattle.first_pass_grammar.proofs.EachToken.{heading_children_each}
@@ -47,6 +48,7 @@ use Rattle.first_pass_grammar.specs.Openers.{AfterMarker, OnLine, TaskText, Line
 use Rattle.first_pass_grammar.specs.Skeleton.{OpensBy, Opens, opening_by, without_indent}
 use Rattle.first_pass_grammar.specs.Blocks.{Head}
 use Rattle.first_pass_grammar.proofs.OpenerFacts.{start_cases}
+use Rattle.first_pass_grammar.proofs.Goings.{BeginsAt, LeavesAt, begins_at, leaves_at}
 
 -- nodes that show nothing
 pub whole_none : (names : Names) (nodes : List (ℕ × Item)) → marks names nodes ≡ [] → AreWholeTables names nodes
@@ -74,6 +76,10 @@ abbrev pub PlainFrom : List ℕ → From → Type 0
 PlainFrom text Line = Unit {0}
 PlainFrom text (Blanks e) = Unit {0}
 PlainFrom text (At p may) = IsAt text p × PlainMay may
+
+-- what a sequence leaves
+abbrev pub LeftAt : List ℕ → Left → Type 0
+LeftAt text left = PlainFrom text (onward left).0 × AreAt text (onward left).1
 
 abbrev pub WholeOpening : Document → Opening → Type 0
 WholeOpening d (OpensLeaf leaf there left) = WholeLeaf d.names leaf × PlainFrom d.text there × AreAt d.text left
@@ -285,19 +291,33 @@ module _ (d : Document) (full : HeadsAreFull d) where
 
   -- what opens where blocks continue
   opens_at : (path : List Container) (from : From) (lines : List Place) (p : Place) (behind : List Place) (o : Opening) → PlainFrom d.text from
-      → AreAt d.text lines → Begins path from lines p behind → OpensAt d path from p behind o → WholeOpening d o
+      → AreAt d.text lines → BeginsAt path from lines p behind → OpensAt d path from p behind o → WholeOpening d o
   opens_at path Line [] p behind o plain h begins opens = absurd begins
   opens_at path Line (line ∷ lines) p behind o plain h (is, same) opens =
       opens_any path p behind o (at_taken d.text path line p is h.0) (subst (AreAt d.text) (sym same) h.1) opens
   opens_at path (Blanks e) [] p behind o plain h begins opens = absurd begins
-  opens_at path (Blanks e) (line ∷ lines) p behind o plain h (is, same, blank) opens =
+  opens_at path (Blanks e) (line ∷ lines) p behind o plain h (is, same) opens =
       opens_any path p behind o (at_taken d.text path line p is h.0) (subst (AreAt d.text) (sym same) h.1) opens
   opens_at path (At q may) lines p behind o plain h (is, same) opens =
       opens_if path may p behind o plain.1 (subst (IsAt d.text) (sym is) plain.0) (subst (AreAt d.text) (sym same) h) opens
 
-  first_whole : (path : List Container) (from : From) (lines : List Place) (o : Opening) → PlainFrom d.text from → AreAt d.text lines
-      → IsFirst d path from lines o → WholeOpening d o
-  first_whole path from lines o plain h f = opens_at path from lines f.place f.behind o plain h f.begins f.opens
+  first_whole : (l : Level) (from : From) (lines : List Place) (o : Opening) → PlainFrom d.text from → AreAt d.text lines
+      → IsFirst d l from lines o → WholeOpening d o
+  first_whole l from lines o plain h f =
+      opens_at l.path from lines f.place f.behind o plain h (begins_at d.options l from lines f.place f.behind f.begins) f.opens
+
+  begun_at : (path : List Container) (from : From) (lines : List Place) (p : Place) (behind : List Place) → PlainFrom d.text from
+      → AreAt d.text lines → BeginsAt path from lines p behind → LeftAt d.text (InLine p behind)
+  begun_at path Line [] p behind plain h begins = absurd begins
+  begun_at path Line (line ∷ lines) p behind plain h (is, same) = ((at_taken d.text path line p is h.0, tt), subst (AreAt d.text) (sym same) h.1)
+  begun_at path (Blanks e) [] p behind plain h begins = absurd begins
+  begun_at path (Blanks e) (line ∷ lines) p behind plain h (is, same) = ((at_taken d.text path line p is h.0, tt), subst (AreAt d.text) (sym same) h.1)
+  begun_at path (At q may) lines p behind plain h (is, same) = ((subst (IsAt d.text) (sym is) plain.0, tt), subst (AreAt d.text) (sym same) h)
+
+  left_at : (l : Level) (from : From) (lines : List Place) (left : Left) → PlainFrom d.text from → AreAt d.text lines
+      → LeavesAt l.path from lines left → LeftAt d.text left
+  left_at l from lines (Lines left) plain h is = (tt, subst (AreAt d.text) (sym is) h)
+  left_at l from lines (InLine p behind) plain h at = begun_at l.path from lines p behind plain h at.0
 
   behind_first_plain : (from there : From) → PlainFrom d.text there → PlainFrom d.text (behind_first from there)
   behind_first_plain (Blanks e) there k = tt
@@ -313,16 +333,18 @@ WholeSkeleton names Nil = Unit {0}
 WholeSkeleton names (Then leaf next) = WholeLeaf names leaf × WholeSkeleton names next
 WholeSkeleton names (Node head e kids next) = WholeSkeleton names kids × WholeSkeleton names next
 
-pub sequence_whole : (d : Document) → HeadsAreFull d → (s : Skeleton) (path : List Container) (from : From) (lines left : List Place) → PlainFrom d.text from
-    → AreAt d.text lines → IsSequence d s path from lines left → WholeSkeleton d.names s × AreAt d.text left
+pub sequence_whole : (d : Document) (full : HeadsAreFull d) (s : Skeleton) (l : Level) (from : From) (lines : List Place) (left : Left)
+    → PlainFrom d.text from → AreAt d.text lines → IsSequence d s l from lines left → WholeSkeleton d.names s × LeftAt d.text left
 unfolding IsSequence WholeSkeleton
-sequence_whole d full Nil path from lines left plain h (ends, e) = (tt, subst (AreAt d.text) (sym e) h)
-sequence_whole d full (Then leaf next) path from lines left plain h (there, mid, first, more) =
-    let one = first_whole d full path from lines (OpensLeaf leaf there mid) plain h first in
-    let rest = sequence_whole d full next path (behind_first from there) mid left (behind_first_plain d full from there one.1) one.2 more in
+sequence_whole d full Nil l from lines left plain h ends = (tt, left_at d full l from lines left plain h (leaves_at d.options l from lines left ends))
+sequence_whole d full (Then leaf next) l from lines left plain h (there, mid, first, more) =
+    let one = first_whole d full l from lines (OpensLeaf leaf there mid) plain h first in
+    let rest = sequence_whole d full next (level_after_leaf l leaf) (behind_first from there) mid left (behind_first_plain d full from there one.1) one.2
+    more in
     ((one.0, rest.0), rest.1)
-sequence_whole d full (Node head e kids next) path from lines left plain h (inside, behind, mid, first, inner, is, more) =
-    let one = first_whole d full path from lines (OpensNode head inside behind) plain h first in
-    let below = sequence_whole d full kids (opened head.opener ∷ path) inside behind mid one.0 one.1 inner in
-    let rest = sequence_whole d full next path (behind_first from Line) mid left (behind_first_plain d full from Line tt) below.1 more in
+sequence_whole d full (Node head e kids next) l from lines left plain h (inside, behind, mid, first, inner, is, more) =
+    let one = first_whole d full l from lines (OpensNode head inside behind) plain h first in
+    let below = sequence_whole d full kids (level_in (opened head.opener) l) inside behind mid one.0 one.1 inner in
+    let rest = sequence_whole d full next (level_after l head kids) (behind_first from (onward mid).0) (onward mid).1 left
+    (behind_first_plain d full from (onward mid).0 below.1.0) below.1.1 more in
     ((below.0, rest.0), rest.1)

@@ -10,7 +10,7 @@ use Rattle.first_pass_lines.specs.Places.{lines_at}
 use Rattle.first_pass_grammar.specs.Names.{Names}
 use Rattle.first_pass_grammar.specs.Leaves.{Document}
 use Rattle.first_pass_grammar.specs.Blocks.{BlankLine, Block, Opener, QuoteMarker, ItemMarker, opened, Skeleton, Nil, Then, Node}
-use Rattle.first_pass_grammar.specs.Skeleton.{Line}
+use Rattle.first_pass_grammar.specs.Skeleton.{Line, level, Lines}
 use Rattle.first_pass_grammar.specs.Before.{Before, nothing, after_blank, after_block}
 use Rattle.first_pass_grammar.specs.Containers.{is_quote}
 use Rattle.first_pass_grammar.specs.Rows.{What, ALeaf, AQuote, AList, AnItem, Row, Rows, End, OneOf, gapped, is_loose, is_list_of, items_behind, list_behind}
@@ -140,7 +140,7 @@ forest_whole names depth tight (OneOf row inner next) h =
 pub derived_whole : (d : Document) (nodes : List (ℕ × Item)) (tables : Tables) → Derives d nodes tables → AreWholeTables d.names nodes
 unfolding marks
 derived_whole d nodes tables h =
-    let s = (sequence_whole d (heads_are_full d) h.skeleton [] Line (lines_at 0 d.text) [] tt (lines_are_at d.text) h.sequence).0 in
+    let s = (sequence_whole d (heads_are_full d) h.skeleton (level [] nothing) Line (lines_at 0 d.text) (Lines []) tt (lines_are_at d.text) h.sequence).0 in
     let rows = rows_of false nothing (length d.text) h.skeleton in
     let all = forest_whole d.names 1 false rows (rows_whole d.names false nothing (length d.text) h.skeleton s) in
     subst (AreWholeTables d.names) (sym h.forest_is)

@@ -35,6 +35,11 @@ pub data Opener : Type 0 where
   QuoteMarker : Option BlockQuoteKind → Opener
   ItemMarker : ℕ → ℕ → ℕ → Opener
 
+-- the label that a container defines, if it is a footnote definition (this project)
+abbrev pub label_of : Opener → List (List ℕ)
+label_of (QuoteMarker kind) = []
+label_of (ItemMarker byte number indent) = []
+
 -- how a container begins: what opens it, where its line starts, and where it starts itself
 pub record Head : Type 0 where
   pub opener : Opener

@@ -10,11 +10,11 @@ use Rattle.first_pass_grammar.specs.declared.kind.Container.{Container}
 use Rattle.first_pass_grammar.specs.Leaves.{Document, document}
 use Rattle.first_pass_grammar.specs.Names.{Names, Extends}
 use Rattle.first_pass_grammar.specs.Blocks.{Skeleton}
-use Rattle.first_pass_grammar.specs.Skeleton.{From, Line, blanks_alone, end_before, IsSequence}
+use Rattle.first_pass_grammar.specs.Skeleton.{From, level, Left, Lines, onward, blanks_alone, end_before, IsSequence}
 use Rattle.first_pass_grammar.specs.Before.{Before, Last, LastOther, LastItem, last_container, after_container, before_end}
 use Rattle.first_pass_grammar.specs.Containers.{is_quote}
 use Rattle.first_pass_grammar.specs.Rows.{Rows, any_gap, is_loose, list_until, items_behind, list_behind, rows_of}
-use Rattle.first_pass_grammar.specs.Derivation.{Tables, Derives, told, definitions_of, list_flags, items_of}
+use Rattle.first_pass_grammar.specs.Derivation.{Tables, Derives, told_by, list_flags, items_of}
 
 -- the lines of a text from an offset on, which is a line's start
 abbrev pub lines_from : List ℕ → ℕ → List Place
@@ -52,13 +52,14 @@ pub record Further : Type 0 where
   pub blocks : Skeleton
   pub «end» : ℕ
 
--- What the containers of a path take further from here on, from the innermost on, and the text itself at last: each a sequence of the grammar.
-unfoldable pub AreFurther : Document → List Container → From → List Place → List Further → Type 0
-AreFurther d [] from lines (f ∷ []) = IsSequence d f.blocks [] from lines [] × (f.«end» ≡ length d.text)
-AreFurther d (c ∷ path) from lines (f ∷ more) =
-    (left : List Place) × IsSequence d f.blocks (c ∷ path) from lines left × (f.«end» ≡ end_before (length d.text) path from left)
-    × AreFurther d path Line left more
-AreFurther d _ from lines _ = ⊥
+-- What the containers of a path take further from here on, from the innermost on, after what stands before in that, and the text itself at last: each a
+-- sequence of the grammar.
+unfoldable pub AreFurther : Document → List Container → Before → From → List Place → List Further → Type 0
+AreFurther d [] before from lines (f ∷ []) = IsSequence d f.blocks (level [] before) from lines (Lines []) × (f.«end» ≡ length d.text)
+AreFurther d (c ∷ path) before from lines (f ∷ more) =
+    (left : Left) × IsSequence d f.blocks (level (c ∷ path) before) from lines left × (f.«end» ≡ end_before (length d.text) path from left)
+    × AreFurther d path (after_container c (before_end (is_quote c) before f.blocks)) (onward left).0 (onward left).1 more
+AreFurther d _ before from lines _ = ⊥
 
 -- the rows of what a container takes further, a block quote or not, after what stands
 abbrev pub rows_on : Bool → Standing → Further → Rows
@@ -101,13 +102,13 @@ container_closed c depth place w f rows = record {
   nodes = ended (rendered depth f.«end» w.nodes w.list rows) place f.«end»;
   list = NoList;
   before = after_container c (before_end (is_quote c) w.before f.blocks);
-  defined = told w.defined (definitions_of f.blocks);
+  defined = told_by w.defined f.blocks;
 }
 
 -- What stands becomes this forest, and these tables are told then, where the nodes at these places are not closed and are what the frames say, both listed
 -- from the innermost on: each container ends after what it takes further, and so on outwards; a list ends with what continues it.
 unfoldable pub Becomes : List Frame → List ℕ → Standing → List Further → List (ℕ × Item) → Tables → Type 0
-Becomes [] [] w (f ∷ []) forest tables = (forest ≡ rendered 1 f.«end» w.nodes w.list (rows_on false w f)) × (tables ≡ told w.defined (definitions_of f.blocks))
+Becomes [] [] w (f ∷ []) forest tables = (forest ≡ rendered 1 f.«end» w.nodes w.list (rows_on false w f)) × (tables ≡ told_by w.defined f.blocks)
 Becomes (InList byte loose ∷ frames) (place ∷ places) w further forest tables =
     Becomes frames places (record { nodes = w.nodes; list = OneList place byte loose; before = w.before; defined = w.defined }) further forest tables
 Becomes (InContainer c ∷ frames) (place ∷ places) w (f ∷ further) forest tables =
@@ -144,7 +145,7 @@ pub record Completes (d : Document) (frames : List Frame) (places : List ℕ) (w
   pub below : AreBelow (length w.nodes) places
   pub shape : IsShaped frames
   pub whole : (further : List Further) (forest : List (ℕ × Item)) (tables : Tables)
-      → AreFurther d (containers_of frames) from lines further → Becomes frames places w further forest tables → Derives d forest tables
+      → AreFurther d (containers_of frames) w.before from lines further → Becomes frames places w further forest tables → Derives d forest tables
 
 -- Where blocks continue inside these containers: blank lines are taken alone in one of them, in an item (CommonMark 5.2, and this project).
 abbrev pub CanGoOn : List Container → From → Type 0
@@ -159,5 +160,5 @@ pub record Completion (d : Document) (frames : List Frame) (places : List ℕ) (
   pub further : List Further
   pub forest : List (ℕ × Item)
   pub tables : Tables
-  pub taken : AreFurther (document d.text d.options names) (containers_of frames) from lines further
+  pub taken : AreFurther (document d.text d.options names) (containers_of frames) w.before from lines further
   pub becomes : Becomes frames places w further forest tables

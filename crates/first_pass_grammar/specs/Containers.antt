@@ -1,5 +1,5 @@
 -- Which lines continue the containers that are open (CommonMark 5).
-use Rattle.std.specs.Prelude.{ℕ, nat_le, Bool, true, false, ◌||◌, Option, Some, None, List, [], ◌∷◌, is_some, if◌then◌else◌}
+use Rattle.std.specs.Prelude.{ℕ, nat_le, ◌==◌, Bool, true, false, ◌||◌, Option, Some, None, List, [], ◌∷◌, is_some, if◌then◌else◌}
 use Rattle.std.specs.Option.{option_map, option_and_then}
 use Rattle.first_pass_items.specs.declared.option_set.Options.{Options}
 use Rattle.first_pass_lines.specs.Lines.{at_line_end}
@@ -65,3 +65,28 @@ abbrev pub is_quote : Container → Bool
 is_quote (BlockQuote kind) = true
 is_quote (ListItem columns) = false
 is_quote (FootnoteDefinition columns) = false
+
+-- a container is a footnote definition (this project)
+abbrev pub is_footnote : Container → Bool
+is_footnote (BlockQuote kind) = false
+is_footnote (ListItem columns) = false
+is_footnote (FootnoteDefinition columns) = true
+
+-- a container is a footnote definition in the old form, which takes no columns of its lines (this project)
+abbrev pub is_old_footnote : Container → Bool
+is_old_footnote (BlockQuote kind) = false
+is_old_footnote (ListItem columns) = false
+is_old_footnote (FootnoteDefinition columns) = columns == 0
+
+-- the innermost container of a path is a block quote, a footnote definition, or one in the old form
+abbrev pub in_quote : List Container → Bool
+in_quote [] = false
+in_quote (c ∷ path) = is_quote c
+
+abbrev pub in_footnote : List Container → Bool
+in_footnote [] = false
+in_footnote (c ∷ path) = is_footnote c
+
+abbrev pub in_old_footnote : List Container → Bool
+in_old_footnote [] = false
+in_old_footnote (c ∷ path) = is_old_footnote c

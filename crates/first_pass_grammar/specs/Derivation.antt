@@ -8,9 +8,9 @@ use Rattle.first_pass_tree.specs.Forest.{at_depth}
 use Rattle.first_pass_tree.specs.Tight.{tightened}
 use Rattle.first_pass_lines.specs.Places.{lines_at}
 use Rattle.first_pass_grammar.specs.Leaves.{Document}
-use Rattle.first_pass_grammar.specs.LinkTables.{LinkEntry, with_links}
-use Rattle.first_pass_grammar.specs.Blocks.{BlankLine, Block, LeafBlock, Skeleton, Nil, Then, Node}
-use Rattle.first_pass_grammar.specs.Skeleton.{Line, IsSequence}
+use Rattle.first_pass_grammar.specs.LinkTables.{LinkEntry, with_links, with_labels}
+use Rattle.first_pass_grammar.specs.Blocks.{BlankLine, Block, LeafBlock, label_of, Skeleton, Nil, Then, Node}
+use Rattle.first_pass_grammar.specs.Skeleton.{Line, level, Lines, IsSequence}
 use Rattle.first_pass_grammar.specs.Before.{nothing}
 use Rattle.first_pass_grammar.specs.Rows.{What, ALeaf, AQuote, AList, AnItem, Rows, End, OneOf, is_loose, rows_of}
 
@@ -66,9 +66,15 @@ definitions_of (Then BlankLine next) = definitions_of next
 definitions_of (Then (Block block) next) = block.definitions ++ definitions_of next
 definitions_of (Node head e kids next) = definitions_of kids ++ definitions_of next
 
--- what a sequence of blocks defines
-abbrev pub tables_of : Skeleton → Tables
-tables_of s = told no_tables (definitions_of s)
+-- the labels of the footnote definitions in a sequence of blocks, in the order of the text: that of a definition is before those in it (this project)
+unfoldable pub footnotes_of : Skeleton → List (List ℕ)
+footnotes_of Nil = []
+footnotes_of (Then leaf next) = footnotes_of next
+footnotes_of (Node head e kids next) = label_of head.opener ++ (footnotes_of kids ++ footnotes_of next)
+
+-- what is defined with what a sequence of blocks defines too
+abbrev pub told_by : Tables → Skeleton → Tables
+told_by tables s = record { links = with_links tables.links (definitions_of s); footnotes = with_labels tables.footnotes (footnotes_of s) }
 
 -- the root, around a text of n bytes
 abbrev pub root_of : ℕ → ℕ × Item
@@ -77,6 +83,6 @@ root_of n = (0, record { start = 0; «end» = n; body = Root })
 -- The grammar derives this forest and these tables: the whole text is a sequence of blocks, and they are read off it.
 pub record Derives (d : Document) (forest : List (ℕ × Item)) (tables : Tables) : Type 0 where
   pub skeleton : Skeleton
-  pub sequence : IsSequence d skeleton [] Line (lines_at 0 d.text) []
+  pub sequence : IsSequence d skeleton (level [] nothing) Line (lines_at 0 d.text) (Lines [])
   pub forest_is : forest ≡ root_of (length d.text) ∷ items_of 1 false (rows_of false nothing (length d.text) skeleton)
-  pub tables_are : tables ≡ tables_of skeleton
+  pub tables_are : tables ≡ told_by no_tables skeleton

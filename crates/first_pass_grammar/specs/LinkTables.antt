@@ -1,4 +1,4 @@
--- What link reference definitions say, and the table of the first of each label (CommonMark 4.7).
+-- What link reference definitions say, and the tables of the first definition of each label, of links (CommonMark 4.7) and of footnotes (this project).
 use Rattle.std.specs.Prelude.{ℕ, List, [], ◌∷◌, map, Option, None, Some, cond, nat_eq}
 use Rattle.std.specs.declared.cmp.Ordering.{Ordering}
 use Rattle.std.specs.Ordering.{nat_cmp, match_ordering}
@@ -33,6 +33,22 @@ with_links links (x ∷ definitions) = with_links (with_link x links) definition
 unfoldable pub link_under : List ℕ → List LinkEntry → Option LinkEntry
 link_under folding [] = None
 link_under folding (x ∷ links) = cond (pointwise nat_eq folding (folded x.label)) (Some x) (link_under folding links)
+
+-- The table of footnotes with a label more, at its place in the order of the foldings: where the label stands there already, as its first definition
+-- spells it, that stays (this project).
+unfoldable pub with_label : List ℕ → List (List ℕ) → List (List ℕ)
+with_label x [] = x ∷ []
+with_label x (y ∷ labels) = match_ordering (folded_cmp x y) (x ∷ y ∷ labels) (y ∷ labels) (y ∷ with_label x labels)
+
+-- the table with these labels too, in the order of the text
+unfoldable pub with_labels : List (List ℕ) → List (List ℕ) → List (List ℕ)
+with_labels labels [] = labels
+with_labels labels (x ∷ more) = with_labels (with_label x labels) more
+
+-- the first label that has this folding (this project)
+unfoldable pub label_under : List ℕ → List (List ℕ) → Option (List ℕ)
+label_under folding [] = None
+label_under folding (x ∷ labels) = cond (pointwise nat_eq folding (folded x)) (Some x) (label_under folding labels)
 
 -- the labels are in the byte order of their foldings, each folding once (this project)
 abbrev pub IsInFoldedOrder : List LinkEntry → Type 0

@@ -1,7 +1,8 @@
 -- Sequences of blocks, and the blocks in them (CommonMark 3.1).
-use Rattle.std.specs.Prelude.{◌≡◌, ℕ, Bool, true, false, Option, Some, None, List, [], ◌∷◌, length, drop, if◌then◌else◌}
+use Rattle.std.specs.Prelude.{◌≡◌, ℕ, ◌&&◌, not, Bool, false, Option, Some, None, List, [], ◌∷◌, length, drop, if◌then◌else◌}
 use Rattle.first_pass_items.specs.declared.item.Item.{Item}
 use Rattle.first_pass_items.specs.declared.item.HeadingIndex.{HeadingIndex}
+use Rattle.first_pass_items.specs.declared.option_set.Options.{Options}
 use Rattle.first_pass_lines.specs.Lines.{level_number}
 use Rattle.first_pass_lines.specs.Rest.{Rest, indent}
 use Rattle.first_pass_lines.specs.Places.{Place, offset, start_of, moved_columns}
@@ -9,7 +10,9 @@ use Rattle.first_pass_grammar.specs.declared.kind.Container.{Container}
 use Rattle.first_pass_grammar.specs.Blocks.{Leaf, BlankLine, Block, leaf_block, Opener, QuoteMarker, ItemMarker, Head, opened, run_block, flowing_block}
 use Rattle.first_pass_grammar.specs.Blocks.{Skeleton, Nil, Then, Node}
 use Rattle.first_pass_grammar.specs.Openers.{AfterMarker, OnLine, TaskText, LineEnds, TagAlone, Start, start_at}
-use Rattle.first_pass_grammar.specs.Containers.{Context, at_rest, after, front, taken, next_goes_on}
+use Rattle.first_pass_grammar.specs.Before.{Before, nothing, list_is_open, after_leaf, after_container, before_end}
+use Rattle.first_pass_grammar.specs.Containers.{Context, context, at_rest, after, front, taken, next_goes_on, is_quote, in_quote, in_old_footnote}
+use Rattle.first_pass_grammar.specs.Footnotes.{ends_footnote}
 use Rattle.first_pass_grammar.specs.Kinds.{Kind, Blank, IndentedCode, Metadata, HtmlToEnd, HtmlToBlank, ThematicBreak, AtxHeading, FencedCode, LinkDefinitions}
 use Rattle.first_pass_grammar.specs.Kinds.{Paragraph, all_taken, unindented, is_blank_rest, IsKind, ends_tag}
 use Rattle.first_pass_html.specs.Starts.{html_end}
@@ -172,21 +175,70 @@ OpensAt d path Line p lines opening = Opens d path p lines opening
 OpensAt d path (Blanks e) p lines opening = Opens d path p lines opening
 OpensAt d path (At q may) p lines opening = OpensIf d path may p lines opening
 
--- Where a block begins: at a place inside a line, or after what the path takes of the next line.
-abbrev pub Begins : List Container → From → List Place → Place → List Place → Type 0
-Begins path (At p may) lines q behind = (q ≡ p) × (behind ≡ lines)
-Begins path Line [] q behind = ⊥
-Begins path Line (line ∷ lines) q behind = (taken path line ≡ Some q) × (behind ≡ lines)
-Begins path (Blanks e) [] q behind = ⊥
-Begins path (Blanks e) (line ∷ lines) q behind = (taken path line ≡ Some q) × (behind ≡ lines) × (is_blank_rest q.rest ≡ true)
+-- the containers around a place, the innermost first, and what stands before it in the innermost
+pub record Level : Type 0 where
+  pub path : List Container
+  pub before : Before
 
--- A sequence of blocks ends where the next line doesn't continue its path, or with the text; in an item that takes blank lines alone also where
--- the next line isn't blank.
-abbrev pub Ends : List Container → From → List Place → Type 0
-Ends path (At p may) lines = ⊥
-Ends path Line [] = Unit {0}
-Ends path Line (line ∷ lines) = after path line.rest ≡ None
-Ends path (Blanks e) lines = next_is_blank path lines ≡ false
+abbrev pub level : List Container → Before → Level
+level path before = record { path = path; before = before }
+
+-- inside a container that begins at a level
+abbrev pub level_in : Container → Level → Level
+level_in c l = level (c ∷ l.path) nothing
+
+-- after a leaf, and after a container with these blocks in it
+abbrev pub level_after_leaf : Level → Leaf → Level
+level_after_leaf l leaf = level l.path (after_leaf (in_quote l.path) l.before leaf)
+
+abbrev pub level_after : Level → Head → Skeleton → Level
+level_after l head kids = level l.path (after_container (opened head.opener) (before_end (is_quote (opened head.opener)) nothing kids))
+
+-- What a sequence of blocks leaves: these lines; or, where another footnote definition ends it, what is after a place in a line, and the lines after that.
+pub data Left : Type 0 where
+  Lines : List Place → Left
+  InLine : Place → List Place → Left
+
+-- Where the next block of a sequence begins, and the lines after that one; or that the sequence ends, and what it leaves.
+pub data Going : Type 0 where
+  Begins : Place → List Place → Going
+  Ends : Left → Going
+
+-- A footnote definition in the old form ends at the first line after a blank line that counts where it is innermost: where no list is open in it
+-- (this project).
+abbrev pub ends_old_footnote : Level → Bool
+ends_old_footnote l = in_old_footnote l.path && (l.before.counted && not (list_is_open l.before.last))
+
+-- at a place in a line, after what the path takes of it
+abbrev pub going_at : Context → Place → List Place → Going
+going_at around p lines = if ends_footnote around p then Ends (InLine p lines) else Begins p lines
+
+-- where the next of these lines continues the path, with that place in it; or doesn't
+abbrev pub going_in : Options → Level → Option Place → List Place → Going
+going_in options l None lines = Ends (Lines lines)
+going_in options l (Some q) lines = if ends_old_footnote l then Ends (Lines lines) else going_at (context options l.path) q (drop 1 lines)
+
+-- the same in an item that takes blank lines alone (CommonMark 5.2)
+abbrev pub going_blank : Option Place → List Place → Going
+going_blank None lines = Ends (Lines lines)
+going_blank (Some q) lines = if is_blank_rest q.rest then Begins q (drop 1 lines) else Ends (Lines lines)
+
+-- Whether a sequence of blocks continues, and where: at a place inside a line, or after what the path takes of the next line. It ends where the next line
+-- doesn't continue its path, or with the text; in an item that takes blank lines alone also where the next line isn't blank (CommonMark 5).
+unfoldable pub going : Options → Level → From → List Place → Going
+going options l (At p Anything) lines = going_at (context options l.path) p lines
+going options l (At p ALeafAlone) lines = Begins p lines
+going options l (At p (TextOf marker)) lines = Begins p lines
+going options l (At p (MarkAlone marker blanks)) lines = Begins p lines
+going options l Line [] = Ends (Lines [])
+going options l Line (line ∷ lines) = going_in options l (taken l.path line) (line ∷ lines)
+going options l (Blanks e) [] = Ends (Lines [])
+going options l (Blanks e) (line ∷ lines) = going_blank (taken l.path line) (line ∷ lines)
+
+-- where blocks continue around a container that leaves this, and the lines then
+abbrev pub onward : Left → From × List Place
+onward (Lines lines) = (Line, lines)
+onward (InLine p lines) = (Inside p, lines)
 
 -- where blocks continue after the first of a sequence
 abbrev pub behind_first : From → From → From
@@ -212,22 +264,28 @@ abbrev pub end_after : ℕ → List Container → Option ℕ → List Place → 
 end_after n path None lines = start_of n lines
 end_after n path (Some e) lines = if next_goes_on path lines then e else start_of n lines
 
-abbrev pub end_before : ℕ → List Container → From → List Place → ℕ
-end_before n path from lines = end_after n path (blanks_alone from) lines
+-- the same before what it leaves: a footnote definition that another ends, ends at the `[` of that one (this project)
+abbrev pub end_of_left : ℕ → List Container → Option ℕ → Left → ℕ
+end_of_left n path blanks (Lines lines) = end_after n path blanks lines
+end_of_left n path blanks (InLine p lines) = offset (unindented p)
+
+abbrev pub end_before : ℕ → List Container → From → Left → ℕ
+end_before n path from left = end_of_left n path (blanks_alone from) left
 
 -- the first block of a sequence, and what it opens
-pub record IsFirst (d : Document) (path : List Container) (from : From) (lines : List Place) (opening : Opening) : Type 0 where
+pub record IsFirst (d : Document) (l : Level) (from : From) (lines : List Place) (opening : Opening) : Type 0 where
   pub place : Place
   pub behind : List Place
-  pub begins : Begins path from lines place behind
-  pub opens : OpensAt d path from place behind opening
+  pub begins : going d.options l from lines ≡ Begins place behind
+  pub opens : OpensAt d l.path from place behind opening
 
--- The blocks of a container, whose path this is, take what is from here on up to the lines that are left.
-unfoldable pub IsSequence : Document → Skeleton → List Container → From → List Place → List Place → Type 0
-IsSequence d Nil path from lines left = Ends path from lines × (left ≡ lines)
-IsSequence d (Then leaf next) path from lines left =
-    (there : From) × (mid : List Place) × IsFirst d path from lines (OpensLeaf leaf there mid) × IsSequence d next path (behind_first from there) mid left
-IsSequence d (Node head e kids next) path from lines left =
-    (inside : From) × (behind : List Place) × (mid : List Place) × IsFirst d path from lines (OpensNode head inside behind)
-    × IsSequence d kids (opened head.opener ∷ path) inside behind mid × (e ≡ end_before (length d.text) path inside mid)
-    × IsSequence d next path (behind_first from Line) mid left
+-- The blocks of a container, at this level, take what is from here on up to what they leave.
+unfoldable pub IsSequence : Document → Skeleton → Level → From → List Place → Left → Type 0
+IsSequence d Nil l from lines left = going d.options l from lines ≡ Ends left
+IsSequence d (Then leaf next) l from lines left =
+    (there : From) × (mid : List Place) × IsFirst d l from lines (OpensLeaf leaf there mid)
+    × IsSequence d next (level_after_leaf l leaf) (behind_first from there) mid left
+IsSequence d (Node head e kids next) l from lines left =
+    (inside : From) × (behind : List Place) × (mid : Left) × IsFirst d l from lines (OpensNode head inside behind)
+    × IsSequence d kids (level_in (opened head.opener) l) inside behind mid × (e ≡ end_before (length d.text) l.path inside mid)
+    × IsSequence d next (level_after l head kids) (behind_first from (onward mid).0) (onward mid).1 left

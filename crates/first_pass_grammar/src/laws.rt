@@ -1,6 +1,7 @@
 //! Laws of the grammar.
 
 ghost use Rattle.std.specs.Prelude.{◌≡◌, ◌∷◌, [], ℕ, List, length};
+ghost use Rattle.std.specs.List.Sorted.{IsStrictlySortedBy};
 ghost use Rattle.first_pass_items.specs.declared.item.AlignmentIndex.{AlignmentIndex};
 ghost use Rattle.first_pass_items.specs.declared.item.ItemBody.TheVariants.{Table, TableHead};
 ghost use Rattle.first_pass_items.specs.declared.item.Item.{Item};
@@ -10,7 +11,8 @@ ghost use Rattle.first_pass_grammar.specs.Names.{Names, Extends, read_nodes};
 ghost use Rattle.first_pass_grammar.specs.Leaves.{Document, document};
 ghost use Rattle.first_pass_grammar.specs.Skeleton.{From};
 ghost use Rattle.first_pass_grammar.specs.Derivation.{Derives, Tables};
-ghost use Rattle.first_pass_grammar.specs.LinkTables.{LinkEntry, with_links, link_under, IsInFoldedOrder};
+ghost use Rattle.first_pass_grammar.specs.LinkTables.{LinkEntry, folded_cmp, with_links, link_under, IsInFoldedOrder};
+ghost use Rattle.first_pass_grammar.specs.LinkTables.{with_labels, label_under};
 ghost use Rattle.first_pass_grammar.specs.WholeTables.{AreWholeTables};
 ghost use Rattle.first_pass_grammar.specs.Completion.{Standing, Frame, containers_of, Completes, CanGoOn, Completion};
 
@@ -61,6 +63,15 @@ pub fn law_of_links()
     ensures first { (folding : List ℕ) (definitions : List LinkEntry)
         → link_under folding (with_links [] definitions) ≡ link_under folding definitions }
     ensures order { (definitions : List LinkEntry) → IsInFoldedOrder (with_links [] definitions) }
+{}
+
+/// The table of a text's footnotes has under each folding of a label, in bytes, its spelling in the first definition
+/// of it in the order of the text, and nothing where no definition has it; and its labels are in the byte order of
+/// their foldings, each folding once (this project).
+pub fn law_of_footnotes()
+    ensures first { (folding : List ℕ) (labels : List (List ℕ))
+        → label_under folding (with_labels [] labels) ≡ label_under folding labels }
+    ensures order { (labels : List (List ℕ)) → IsStrictlySortedBy folded_cmp (with_labels [] labels) }
 {}
 
 /// In a derived tree each row of a table, its header row too, has as many cells as the table has columns, and at most

@@ -1,7 +1,7 @@
-use Rattle.std.proofs.Common.{◌≡◌, inl, IsUtf8, ◌+◌, drop, is_some, refl, sym, ap, subst, ◌∙◌, arith}
+use Rattle.std.proofs.Common.{◌≡◌, inl, ◌+◌, drop, is_some, refl, sym, ap, subst, ◌∙◌, arith}
 use Rattle.first_pass_lines.specs.Lines.{blank_len, line_len}
 use Rattle.first_pass_lines.specs.Rest.{Rest}
-use Rattle.first_pass_lines.specs.Places.{Place, line_rest, place_at, line_end}
+use Rattle.first_pass_lines.specs.Places.{Place, place_at, line_end}
 use Rattle.first_pass_grammar.specs.Leaves.{Document, document}
 use Rattle.first_pass_grammar.specs.Names.{Names}
 use Rattle.first_pass_grammar.specs.Derivation.{Tables}

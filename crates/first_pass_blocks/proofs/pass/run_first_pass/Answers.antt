@@ -77,7 +77,7 @@ returns-clause-derived c =
     let here = subst (Ready d (tables c.loop-ix.pass.allocs) c.loop-ix.pass.reading) (lines_at-end c.args.text.now c.loop-ix.ix c.loop-ix-test.false)
     (i.ready names (extends_equal _ _ refl)) in
     let closed : Ready d (tables c.loop-ix.pass.allocs) now [] =
-    c.close_containers.ensures.kept.ready d (tables c.loop-ix.pass.allocs) [] refl (λ m low high. tt) here in
+    c.close_containers.ensures.kept.ready d (tables c.loop-ix.pass.allocs) [] refl (λ m low high. refl) here in
     ready_finish d (tables c.loop-ix.pass.allocs) now (all_closed c) closed
 
 pub returns-clause-whole : goal.returns-clause-whole

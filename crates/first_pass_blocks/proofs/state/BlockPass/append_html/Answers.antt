@@ -1,6 +1,5 @@
 use Rattle.std.proofs.Common.{◌≡◌, Some, drop, refl}
 use Rattle.first_pass_html.specs.Starts.{html_end}
-use Rattle.first_pass_lines.specs.Places.{Place}
 use Rattle.first_pass_grammar.specs.Kinds.{unindented, all_taken}
 use Rattle.first_pass_names.specs.TableEntries.{names_of}
 use Rattle.first_pass_kinds.specs.declared.kinds.MarkedLeaf.{MarkedLeaf}

@@ -1,4 +1,4 @@
-use Rattle.std.proofs.Common.{sym, ap, subst}
+use Rattle.std.proofs.Common.{sym, subst}
 use Rattle.first_pass_kinds.specs.Found.{marked_kind}
 use Rattle.first_pass_kinds.specs.declared.kinds.MarkedLeaf.{MarkedLeaf}
 use Rattle.first_pass_blocks.specs.Adding.{AddsLeaf, IsFoundIn}

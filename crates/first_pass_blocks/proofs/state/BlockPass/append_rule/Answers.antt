@@ -1,5 +1,4 @@
 use Rattle.std.proofs.Common.{IsCharBoundary, refl, sym, subst, ◌∙◌, arith}
-use Rattle.first_pass_lines.specs.Places.{Place}
 use Rattle.first_pass_names.specs.TableEntries.{names_of}
 use Rattle.first_pass_names.proofs.NameLemmas.{extends_none}
 use Rattle.first_pass_open.specs.Between.{AddsBetween}

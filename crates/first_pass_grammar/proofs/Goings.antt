@@ -1,0 +1,167 @@
+-- Where a sequence of blocks continues, and where it ends.
+use Rattle.std.proofs.Common.{◌≡◌, ℕ, ◌&&◌, Bool, true, false, List, [], ◌∷◌, Option, Some, None, refl, sym, ap, subst, ◌∙◌, if◌then◌else◌}
+use Rattle.std.specs.Option.{option_map, is_some}
+use Rattle.std.proofs.lemmas.Bool.{true≢false}
+use Rattle.std.proofs.lemmas.Option.{none-some}
+use Rattle.first_pass_items.specs.declared.option_set.Options.{Options}
+use Rattle.first_pass_lines.specs.Rest.{Rest}
+use Rattle.first_pass_lines.specs.Places.{Place}
+use Rattle.first_pass_grammar.specs.declared.kind.Container.{Container}
+use Rattle.first_pass_grammar.specs.Before.{Before}
+use Rattle.first_pass_grammar.specs.Containers.{context, at_rest, after, taken, next_goes_on, in_footnote}
+use Rattle.first_pass_grammar.specs.Footnotes.{footnote_head_at, ends_footnote}
+use Rattle.first_pass_grammar.specs.Kinds.{is_blank_rest}
+use Rattle.first_pass_grammar.specs.Skeleton.{From, Line, Blanks, At, Anything, ALeafAlone, TextOf, MarkAlone, Inside, is_blank_behind, next_is_blank}
+use Rattle.first_pass_grammar.specs.Skeleton.{Level, level, Left, Lines, InLine, Going, Begins, Ends, ends_old_footnote, going_at, going_in}
+use Rattle.first_pass_grammar.specs.Skeleton.{blanks_alone, going_blank, going}
+
+-- the place of a block, with the lines after it: a place inside a line, or the one after what the path takes of the next line
+abbrev pub BeginsAt : List Container → From → List Place → Place → List Place → Type 0
+BeginsAt path (At p may) lines q behind = (q ≡ p) × (behind ≡ lines)
+BeginsAt path Line [] q behind = ⊥
+BeginsAt path Line (line ∷ lines) q behind = (taken path line ≡ Some q) × (behind ≡ lines)
+BeginsAt path (Blanks e) [] q behind = ⊥
+BeginsAt path (Blanks e) (line ∷ lines) q behind = (taken path line ≡ Some q) × (behind ≡ lines)
+
+-- what a sequence leaves that has no block: all of the lines, or a place where one might begin
+abbrev pub LeavesAt : List Container → From → List Place → Left → Type 0
+LeavesAt path from lines (Lines left) = left ≡ lines
+LeavesAt path from lines (InLine p behind) = BeginsAt path from lines p behind × (in_footnote path ≡ true)
+
+abbrev GoesAt : List Container → From → List Place → Going → Type 0
+GoesAt path from lines (Begins p behind) = BeginsAt path from lines p behind
+GoesAt path from lines (Ends left) = LeavesAt path from lines left
+
+in_line : (path : List Container) (from : From) (lines : List Place) (p : Place) (behind : List Place) (t u : Bool) → in_footnote path ≡ t
+    → BeginsAt path from lines p behind → GoesAt path from lines (if◌then◌else◌ {A = Going} (t && u) (Ends (InLine p behind)) (Begins p behind))
+in_line path from lines p behind false u is at = at
+in_line path from lines p behind true true is at = (at, is)
+in_line path from lines p behind true false is at = at
+
+unless_old : (path : List Container) (from : From) (lines : List Place) (t : Bool) (g : Going) → GoesAt path from lines g
+    → GoesAt path from lines (if◌then◌else◌ {A = Going} t (Ends (Lines lines)) g)
+unless_old path from lines true g h = refl
+unless_old path from lines false g h = h
+
+at_line : (options : Options) (l : Level) (line : Place) (lines : List Place) (o : Option Place) → taken l.path line ≡ o
+    → GoesAt l.path Line (line ∷ lines) (going_in options l o (line ∷ lines))
+at_line options l line lines None is = refl
+at_line options l line lines (Some q) is =
+    unless_old l.path Line (line ∷ lines) (ends_old_footnote l) (going_at (context options l.path) q lines)
+    (in_line l.path Line (line ∷ lines) q lines (in_footnote l.path) (is_some (footnote_head_at (context options l.path) q)) refl (is, refl))
+
+if_blank : (path : List Container) (e : ℕ) (line q : Place) (lines : List Place) (t : Bool) → taken path line ≡ Some q
+    → GoesAt path (Blanks e) (line ∷ lines) (if◌then◌else◌ {A = Going} t (Begins q lines) (Ends (Lines (line ∷ lines))))
+if_blank path e line q lines true is = (is, refl)
+if_blank path e line q lines false is = refl
+
+at_blank : (path : List Container) (e : ℕ) (line : Place) (lines : List Place) (o : Option Place) → taken path line ≡ o
+    → GoesAt path (Blanks e) (line ∷ lines) (going_blank o (line ∷ lines))
+at_blank path e line lines None is = refl
+at_blank path e line lines (Some q) is = if_blank path e line q lines (is_blank_rest q.rest) is
+
+goes_at : (options : Options) (l : Level) (from : From) (lines : List Place) → GoesAt l.path from lines (going options l from lines)
+unfolding going
+goes_at options l (At p Anything) lines =
+    in_line l.path (Inside p) lines p lines (in_footnote l.path) (is_some (footnote_head_at (context options l.path) p)) refl (refl, refl)
+goes_at options l (At p ALeafAlone) lines = (refl, refl)
+goes_at options l (At p (TextOf marker)) lines = (refl, refl)
+goes_at options l (At p (MarkAlone marker blanks)) lines = (refl, refl)
+goes_at options l Line [] = refl
+goes_at options l Line (line ∷ lines) = at_line options l line lines (taken l.path line) refl
+goes_at options l (Blanks e) [] = refl
+goes_at options l (Blanks e) (line ∷ lines) = at_blank l.path e line lines (taken l.path line) refl
+
+-- a block begins at a place, and what is left is left there
+pub begins_at : (options : Options) (l : Level) (from : From) (lines : List Place) (p : Place) (behind : List Place)
+    → going options l from lines ≡ Begins p behind → BeginsAt l.path from lines p behind
+begins_at options l from lines p behind is = subst (GoesAt l.path from lines) is (goes_at options l from lines)
+
+pub leaves_at : (options : Options) (l : Level) (from : From) (lines : List Place) (left : Left)
+    → going options l from lines ≡ Ends left → LeavesAt l.path from lines left
+leaves_at options l from lines left is = subst (GoesAt l.path from lines) is (goes_at options l from lines)
+
+begun_not_ended : (p : Place) (behind : List Place) (left : Left) → Begins p behind ≡ Ends left → ⊥
+begun_not_ended p behind left e = cc
+
+pub same_left : (a b : Left) → Ends a ≡ Ends b → a ≡ b
+same_left a b e = cc
+
+-- at the top a sequence takes all lines
+pub all_taken_at : (options : Options) (before : Before) (from : From) (lines : List Place) (left : Left)
+    → going options (level [] before) from lines ≡ Ends left → blanks_alone from ≡ None → left ≡ Lines []
+unfolding going after
+all_taken_at options before (At p Anything) lines left is none = absurd (begun_not_ended p lines left is)
+all_taken_at options before (At p ALeafAlone) lines left is none = absurd (begun_not_ended p lines left is)
+all_taken_at options before (At p (TextOf marker)) lines left is none = absurd (begun_not_ended p lines left is)
+all_taken_at options before (At p (MarkAlone marker blanks)) lines left is none = absurd (begun_not_ended p lines left is)
+all_taken_at options before Line [] left is none = sym (same_left (Lines []) left is)
+all_taken_at options before Line (line ∷ lines) left is none = absurd (begun_not_ended (at_rest line line.rest) lines left is)
+all_taken_at options before (Blanks e) lines left is none = absurd (none-some e (sym none))
+
+-- a block begins inside a line where no footnote definition ends there, and else the sequence ends
+pub begins_inside : (options : Options) (l : Level) (p : Place) (lines : List Place)
+    → ends_footnote (context options l.path) p ≡ false → going options l (Inside p) lines ≡ Begins p lines
+unfolding going
+begins_inside options l p lines h = rw h refl
+
+pub ends_inside : (options : Options) (l : Level) (p : Place) (lines : List Place)
+    → ends_footnote (context options l.path) p ≡ true → going options l (Inside p) lines ≡ Ends (InLine p lines)
+unfolding going
+ends_inside options l p lines h = rw h refl
+
+-- a line that continues the path is read at its place, but after a blank line that ends an old footnote definition
+pub enters : (options : Options) (l : Level) (line q : Place) (lines : List Place) → taken l.path line ≡ Some q → ends_old_footnote l ≡ false
+    → going options l Line (line ∷ lines) ≡ going options l (Inside q) lines
+unfolding going
+enters options l line q lines is old =
+    ap (λ (o : Option Place). going_in options l o (line ∷ lines)) is
+    ∙ ap (λ (t : Bool). if◌then◌else◌ {A = Going} t (Ends (Lines (line ∷ lines))) (going_at (context options l.path) q lines)) old
+
+ends_old_by : (options : Options) (l : Level) (line : Place) (lines : List Place) (o : Option Place) → ends_old_footnote l ≡ true
+    → going_in options l o (line ∷ lines) ≡ Ends (Lines (line ∷ lines))
+ends_old_by options l line lines None old = refl
+ends_old_by options l line lines (Some q) old =
+    ap (λ (t : Bool). if◌then◌else◌ {A = Going} t (Ends (Lines (line ∷ lines))) (going_at (context options l.path) q lines)) old
+
+-- an old footnote definition ends after a blank line that counts
+pub ends_old : (options : Options) (l : Level) (lines : List Place) → ends_old_footnote l ≡ true → going options l Line lines ≡ Ends (Lines lines)
+unfolding going
+ends_old options l [] old = refl
+ends_old options l (line ∷ lines) old = ends_old_by options l line lines (taken l.path line) old
+
+-- a line that doesn't continue the path ends a sequence, and so does the text's end
+stops_by : (options : Options) (l : Level) (line : Place) (lines : List Place) (o : Option Rest) → is_some o ≡ false
+    → going_in options l (option_map (at_rest line) o) (line ∷ lines) ≡ Ends (Lines (line ∷ lines))
+stops_by options l line lines None h = refl
+stops_by options l line lines (Some r) h = absurd (true≢false h)
+
+pub stops : (options : Options) (l : Level) (lines : List Place) → next_goes_on l.path lines ≡ false → going options l Line lines ≡ Ends (Lines lines)
+unfolding going
+stops options l [] h = refl
+stops options l (line ∷ lines) h = stops_by options l line lines (after l.path line.rest) h
+
+-- an item that takes blank lines alone
+stops_blank_by : (line : Place) (lines : List Place) (o : Option Rest) → is_blank_behind o ≡ false
+    → going_blank (option_map (at_rest line) o) (line ∷ lines) ≡ Ends (Lines (line ∷ lines))
+stops_blank_by line lines None h = refl
+stops_blank_by line lines (Some r) h = ap (λ (t : Bool). if◌then◌else◌ {A = Going} t (Begins (at_rest line r) lines) (Ends (Lines (line ∷ lines)))) h
+
+pub stops_blank : (options : Options) (l : Level) (e : ℕ) (lines : List Place) → next_is_blank l.path lines ≡ false
+    → going options l (Blanks e) lines ≡ Ends (Lines lines)
+unfolding going
+stops_blank options l e [] h = refl
+stops_blank options l e (line ∷ lines) h = stops_blank_by line lines (after l.path line.rest) h
+
+pub begins_blank : (options : Options) (l : Level) (e : ℕ) (line q : Place) (lines : List Place) → taken l.path line ≡ Some q → is_blank_rest q.rest ≡ true
+    → going options l (Blanks e) (line ∷ lines) ≡ Begins q lines
+unfolding going
+begins_blank options l e line q lines is blank =
+    ap (λ (o : Option Place). going_blank o (line ∷ lines)) is
+    ∙ ap (λ (t : Bool). if◌then◌else◌ {A = Going} t (Begins q lines) (Ends (Lines (line ∷ lines)))) blank
+
+-- inside a line, and where blank lines are taken alone, it is the same whatever is before
+pub going_inside : (options : Options) (path : List Container) (before before' : Before) (p : Place) (lines : List Place)
+    → going options (level path before) (Inside p) lines ≡ going options (level path before') (Inside p) lines
+unfolding going
+going_inside options path before before' p lines = refl
