@@ -17,17 +17,14 @@ fn walk(lut: &[bool; 256], bytes: &[u8], calls: &mut Vec<usize>) -> (usize, Opti
     })
 }
 
-// The options that make `|`, `~`, `^`, `$` and braces special.
-fn with_extensions() -> Options {
-    Options::ENABLE_TABLES
-        .union(Options::ENABLE_STRIKETHROUGH)
-        .union(Options::ENABLE_SUPERSCRIPT)
-        .union(Options::ENABLE_MATH)
-}
-
 #[test]
 fn walk_calls_at_special_bytes_alone(rt: HostRuntime) -> Result<(), Fail> {
-    let lut = special_bytes(&with_extensions());
+    // The options that make `|`, `~`, `^`, `$` and braces special.
+    let options = Options::ENABLE_TABLES
+        .union(Options::ENABLE_STRIKETHROUGH)
+        .union(Options::ENABLE_SUPERSCRIPT)
+        .union(Options::ENABLE_MATH);
+    let lut = special_bytes(&options);
     let special = b"\n\r*_~^|&\\[]<!`${}";
     let mut calls = Vec::new(rt.alloc());
     for byte in special.iter() {
