@@ -5,10 +5,9 @@ ghost use Rattle.first_pass_lines.specs.Places.{line_rest};
 ghost use Rattle.first_pass_grammar.specs.Containers.{front};
 ghost use Rattle.first_pass_grammar.specs.Kinds.{all_taken, ends_tag, interrupts_with, is_blank_rest};
 ghost use Rattle.first_pass_grammar.specs.TableHeads.{table_interrupts};
-ghost use Rattle.first_pass_kinds.specs.Rests.{IsRestOf};
 ghost use Rattle.first_pass_kinds.specs.Memory.{may_head, line_may_head};
 ghost use Rattle.first_pass_tree.specs.Forest.{in_table};
-ghost use Rattle.first_pass.specs.Views.{context_in, source_text, tree_of};
+ghost use Rattle.first_pass.specs.Views.{context_in, tree_of};
 
 use crate::state::FirstPass;
 use bitflags::Flags;
@@ -86,7 +85,6 @@ impl<'a> FirstPass<'a> {
         &mut self,
         bytes: &'input [u8],
     ) -> Result<Option<LineStart<'input>>, AllocError>
-        requires { IsRestOf (source_text self.old) bytes.now }
         ensures unchanged { self.new ≡ self.old }
         ensures value { IfOk result (λ rest. let line = front (context_in self.old).path (line_rest bytes.now) in
             rest ≡ (if ends_tag (context_in self.old) (line_rest bytes.now) || is_blank_rest (all_taken line)

@@ -1,8 +1,7 @@
 //! Tables, as calls of the pass (GFM 4.10).
 
-ghost use Rattle.std.specs.Prelude.{◌≡◌, ◌<◌, ◌≤◌, true, ℕ, length, IfOk, IsSomeAnd, OnOk, IsCharBoundary};
+ghost use Rattle.std.specs.Prelude.{◌≡◌, ◌<◌, ◌≤◌, ℕ, length, IfOk, IsSomeAnd, OnOk, IsCharBoundary};
 ghost use Rattle.first_pass_tree.specs.declared.tree_index.TreeIndex.{TreeIndex};
-ghost use Rattle.first_pass_tree.specs.Forest.{in_table};
 ghost use Rattle.first_pass_names.specs.TableEntries.{names_of, AddsTexts};
 ghost use Rattle.first_pass_grammar.specs.Leaves.{document};
 ghost use Rattle.first_pass_grammar.specs.OpenOrder.{IsOrderedTo};
@@ -40,7 +39,6 @@ impl<'a> FirstPass<'a> {
         requires head { IsCharBoundary (source_text self.old) head_start }
         requires body { IsCharBoundary (source_text self.old) body_start }
         requires open { (ix : TreeIndex) × IsJustPushed (tree_of self.old) ix }
-        requires table { in_table (tree_of self.old).nodes (tree_of self.old).spine ≡ true }
         ensures kept { OnOk result (KeepsNames self.old self.new) }
         ensures texts { OnOk result (AddsTexts (names_of (allocs_of self.new)) (names_of (allocs_of self.old))) }
         ensures braces { OnOk result (braces_of self.new ≡ braces_of self.old) }
@@ -81,7 +79,6 @@ impl<'a> FirstPass<'a> {
     ) -> Result<Option<(usize, TreeIndex)>, AllocError>
         requires boundary { IsCharBoundary (source_text self.old) ix }
         requires open { IsOpenNode (tree_of self.old) }
-        requires table { in_table (tree_of self.old).nodes (tree_of self.old).spine ≡ true }
         requires few { missing_empty_cells.old ≤ most_filled }
         ensures kept { OnOk result (KeepsNames self.old self.new) }
         ensures texts { OnOk result (AddsTexts (names_of (allocs_of self.new)) (names_of (allocs_of self.old))) }

@@ -3,7 +3,7 @@ use Rattle.std.proofs.Common.{◌≡◌, inl, inr, ℕ, ◌+◌, ◌-◌, ◌<�
 use Rattle.std.proofs.Common.{MatchOption, IsUtf8, IsCharBoundary, refl, sym, ap, subst, ◌∙◌, arith, if◌then◌else◌}
 use Rattle.std.specs.Option.{option_map}
 use Rattle.std.proofs.lemmas.Bool.{cases_lt, true≢false}
-use Rattle.std.proofs.lemmas.List.{drop_all, get_or-drop, length-drop}
+use Rattle.std.proofs.lemmas.List.{drop_all, get_or-drop}
 use Rattle.first_pass_items.specs.declared.cow_str.CowStr.{CowStr}
 use Rattle.first_pass_items.specs.CowText.{text_of}
 use Rattle.first_pass_lines.specs.Lines.{is_line_end, line_len}
@@ -25,7 +25,6 @@ use Rattle.first_pass_tree.specs.Forest.{in_table}
 use Rattle.first_pass_open.specs.Path.{context_of}
 use Rattle.first_pass_open.specs.declared.source.Source.{Source}
 use Rattle.first_pass_lists.specs.declared.reading.Reading.{Reading}
-use Rattle.first_pass_kinds.specs.Rests.{IsRestOf}
 use Rattle.first_pass_blocks.specs.declared.state.BlockPass.{BlockPass}
 use Rattle.first_pass_blocks.specs.Views.{reading_of, source_of, source_text, tree_of, context_in}
 use Rattle.first_pass_blocks.proofs.TagLemmas.{tag_end}
@@ -133,14 +132,6 @@ stops_by false x o h is = cc
 pub goes_by : (t : Bool) (x r : Rest) (o : Option Rest) → o ≡ (if t then None else Some x) → o ≡ Some r → (t ≡ false) × (r ≡ x)
 goes_by true x r o h is = cc
 goes_by false x r o h is = (refl, cc)
-
--- the rest of a text from an offset between characters on
-pub rest_there : (text bytes : List ℕ) (next : ℕ) → IsCharBoundary text next → bytes ≡ drop next text → IsRestOf text bytes
-rest_there text bytes next b is =
-    let size : length bytes ≡ length text - next = ap length is ∙ length-drop next text in
-    let within = b.0 in
-    let there : length text - length bytes ≡ next = omega arith in
-    record { within = omega arith; are = is ∙ ap (λ n. drop n text) (sym there); boundary = subst (IsCharBoundary text) (sym there) b }
 
 -- whether a run ends before the line that these bytes begin with, and what is left of it after its columns
 abbrev pub stops_at : Context → List ℕ → Bool

@@ -1,5 +1,5 @@
 -- A container that begins at a place is opened: what that keeps.
-use Rattle.std.proofs.Common.{◌≡◌, inl, ℕ, ◌<◌, length, Bool, true, false, List, Option}
+use Rattle.std.proofs.Common.{◌≡◌, inl, ℕ, ◌<◌, ◌≤◌, length, Bool, true, false, List, Option}
 use Rattle.std.proofs.Common.{Some, None, refl, sym, ap, subst, ◌∙◌, arith, IsUtf8, IsCharBoundary, if◌then◌else◌}
 use Rattle.first_pass_items.specs.declared.item.Item.{Item}
 use Rattle.first_pass_items.specs.declared.item.BlockQuoteKind.{BlockQuoteKind}
@@ -60,14 +60,14 @@ start_absent options p h =
     (λ (r : Rest). quote_begun p (tag_behind options r) r) (item_at p.rest) (prefix (BlockQuote None) p.rest) h
 
 -- What is remembered once a container that begins at a place is open, and where reading has come to: of the line less is left.
-abbrev IsOpened : Source → Reading → Place → Start → Type 0
-IsOpened source r p s =
+abbrev IsOpened : Source → ℕ → Reading → Place → Start → Type 0
+IsOpened source line r p s =
     IsAfter (after_told s.after) (start_opened p.line (start_told s) (line_end p) r) × (length s.rest.left < length p.rest.left)
     × IsInLine source.text.now p.line (line_end p) (at_rest p s.rest)
-    × ReadsTo source p.line r (start_opened p.line (start_told s) (line_end p) r) (InLine p) (after_at (at_rest p s.rest) (line_end p) (after_told s.after))
+    × ReadsTo source line r (start_opened p.line (start_told s) (line_end p) r) (InLine p) (after_at (at_rest p s.rest) (line_end p) (after_told s.after))
 
 module _ (source : Source) (r : Reading) (p : Place) (utf8 : IsUtf8 source.text.now) (at : IsPlaceOf source.text.now p) (forest : IsForest r.tree)
-    (none : r.empty_item ≡ None) where
+    (none : r.empty_item ≡ None) (line : ℕ) (below : line ≤ p.line) where
   abbrev text : List ℕ
   text = source.text.now
 
@@ -95,8 +95,9 @@ module _ (source : Source) (r : Reading) (p : Place) (utf8 : IsUtf8 source.text.
     item_line : (marker : Option Item) → marker ≡ (task_behind source.options p.line behind).0 → is_blank_rest rest ≡ false
         → IsAfter (after_told (after_task marker)) opened_item × (length rest.left < length p.rest.left)
         × IsInLine text p.line (line_end p) (at_rest p rest)
-        × ReadsTo source p.line r opened_item (InLine p) (after_at (at_rest p rest) (line_end p) (after_told (after_task marker)))
+        × ReadsTo source line r opened_item (InLine p) (after_at (at_rest p rest) (line_end p) (after_told (after_task marker)))
     item_line marker same some =
+        let under = below in
         let j = markers_keep text source.options p.line p.rest ((byte, number, columns), behind) rest utf8 is refl at in
         let k = item_keeps text p.line p.rest ((byte, number, columns), behind) utf8 is at in
         let less = j.2 in
@@ -119,7 +120,7 @@ module _ (source : Source) (r : Reading) (p : Place) (utf8 : IsUtf8 source.text.
                 (ordered_item text r p.line (offset p) byte number columns (omega arith) at.within at.boundary none ordered.1)
                 (λ x is_mark. mark_stands text source.options p.line behind rest (offset p) marker x utf8 k.0 mark same refl is_mark);
             few = λ first grows.
-                container_count text p.line (offset p) (offset (place_at p.line behind)) (line_end p) (at_rest p rest) first r.tree.nodes
+                container_count text line (offset p) (offset (place_at p.line behind)) (line_end p) (at_rest p rest) first r.tree.nodes
                 opened_item.tree.nodes marker grows (item_count (offset p) byte number columns r) (omega arith) first_marker
                 (offset_later text p.line behind rest k.0 j.0 (omega arith))
                 (λ x is_mark. (
@@ -133,9 +134,10 @@ module _ (source : Source) (r : Reading) (p : Place) (utf8 : IsUtf8 source.text.
 
     -- its line is over
     item_over : (marker : Option Item) → marker ≡ (task_behind source.options p.line behind).0 → is_blank_rest rest ≡ true
-        → IsOpened source r p (record { head = item_head p byte number columns; after = LineEnds marker; rest = rest })
+        → IsOpened source line r p (record { head = item_head p byte number columns; after = LineEnds marker; rest = rest })
     item_over marker same over =
         let e : ℕ = line_end p in
+        let under = below in
         let j = markers_keep text source.options p.line p.rest ((byte, number, columns), behind) rest utf8 is refl at in
         let k = item_keeps text p.line p.rest ((byte, number, columns), behind) utf8 is at in
         let shorter = item_shorter p.rest ((byte, number, columns), behind) is in
@@ -165,12 +167,12 @@ module _ (source : Source) (r : Reading) (p : Place) (utf8 : IsUtf8 source.text.
         )
 
     item_on : (marker : Option Item) → marker ≡ (task_behind source.options p.line behind).0 → is_blank_rest rest ≡ false
-        → IsOpened source r p (record { head = item_head p byte number columns; after = after_task marker; rest = rest })
+        → IsOpened source line r p (record { head = item_head p byte number columns; after = after_task marker; rest = rest })
     item_on None same some = item_line None same some
     item_on (Some x) same some = item_line (Some x) same some
 
     item_by : (t : Bool) → is_blank_rest rest ≡ t
-        → IsOpened source r p (record {
+        → IsOpened source line r p (record {
           head = item_head p byte number columns;
           after = if t then LineEnds (task_behind source.options p.line behind).0 else after_task (task_behind source.options p.line behind).0;
           rest = rest;
@@ -183,8 +185,9 @@ module _ (source : Source) (r : Reading) (p : Place) (utf8 : IsUtf8 source.text.
     abbrev opened_quote : Option BlockQuoteKind → Reading
     opened_quote kind = begun (quote_start p) (BlockQuoteBody kind) (list_finished p.line r)
 
-    quote_by : (kind : Option BlockQuoteKind) → tag_behind source.options inside ≡ kind → IsOpened source r p (quote_begun p kind inside)
+    quote_by : (kind : Option BlockQuoteKind) → tag_behind source.options inside ≡ kind → IsOpened source line r p (quote_begun p kind inside)
     quote_by None tag =
+        let under = below in
         let j = prefix_keeps text p.line (BlockQuote None) p.rest inside utf8 is at in
         let s = quote_stands text p.line _ p.rest inside utf8 is at j.0 refl in
         let later = offset_before text p.line p.rest inside at j.0 (quote_prefix_shorter p.rest inside is) in
@@ -210,6 +213,7 @@ module _ (source : Source) (r : Reading) (p : Place) (utf8 : IsUtf8 source.text.
         )
     quote_by (Some kind) tag =
         let e : ℕ = line_end p in
+        let under = below in
         let j = prefix_keeps text p.line (BlockQuote None) p.rest inside utf8 is at in
         let s = quote_stands text p.line _ p.rest inside utf8 is at j.0 refl in
         let there = place_before_end (at_rest p inside) in
@@ -231,14 +235,14 @@ module _ (source : Source) (r : Reading) (p : Place) (utf8 : IsUtf8 source.text.
           },
         )
 
-  pub start_opens : (s : Start) → start_at source.options p ≡ Some s → IsOpened source r p s
+  pub start_opens : (s : Start) → start_at source.options p ≡ Some s → IsOpened source line r p s
   start_opens =
-      start_cases source.options p (IsOpened source r p)
+      start_cases source.options p (IsOpened source line r p)
       (λ item is. item_by item.0.0 item.0.1 item.0.2 item.1 is (is_blank_rest (task_behind source.options p.line item.1).1) refl)
       (λ inside no_item is. quote_by inside no_item is (tag_behind source.options inside) refl)
 
   -- no container begins there
-  pub no_start : start_at source.options p ≡ None → ReadsTo source p.line r r (InLine p) (LeafAt p)
+  pub no_start : start_at source.options p ≡ None → ReadsTo source line r r (InLine p) (LeafAt p)
   no_start is =
       let absent = start_absent source.options p is in record {
         ready = λ names defined ready. inl (absent.0, absent.1, ready);
@@ -252,13 +256,13 @@ module _ (source : Source) (r : Reading) (p : Place) (utf8 : IsUtf8 source.text.
   pub opened_start : (s : Start) (new : Place) (t : ToldStart) (q : Reading) → start_at source.options p ≡ Some s → t ≡ start_told s
       → new ≡ at_rest p s.rest → q ≡ start_opened new.line t (line_end new) r
       → IsAfter t.after q × (length new.rest.left < length p.rest.left) × IsInLine text p.line (line_end p) new
-      × ReadsTo source p.line r q (InLine p) (after_at new (line_end p) t.after)
+      × ReadsTo source line r q (InLine p) (after_at new (line_end p) t.after)
   opened_start s new t q is told new_is q_is =
       let opens = start_opens s is in
       let here : ℕ → Type 0 = λ n.
       IsAfter (after_told s.after) (start_opened p.line (start_told s) n r) × (length s.rest.left < length p.rest.left)
       × IsInLine text p.line (line_end p) (at_rest p s.rest)
-      × ReadsTo source p.line r (start_opened p.line (start_told s) n r) (InLine p) (after_at (at_rest p s.rest) (line_end p) (after_told s.after)) in
+      × ReadsTo source line r (start_opened p.line (start_told s) n r) (InLine p) (after_at (at_rest p s.rest) (line_end p) (after_told s.after)) in
       rw (q_is, new_is, told) (subst here (sym opens.2.2) opens)
 
 -- what the call says that tells which container begins at a place

@@ -119,6 +119,10 @@ GrowsFrom text (TaggedAt n) next old new = GrowsBy n next old new
 abbrev pub IsInLine : List ℕ → ℕ → ℕ → Place → Type 0
 IsInLine text line next p = IsPlaceOf text p × (p.line ≡ line) × (line_end p ≡ next)
 
+-- a place is at another or after it, in its line or a later one
+abbrev pub IsFrom : List ℕ → Place → Place → Type 0
+IsFrom text p q = IsPlaceOf text q × (p.line ≤ q.line) × (offset p ≤ offset q) × (line_end p ≤ line_end q)
+
 -- Reading came from a position to another in a line that begins at an offset: what is remembered begins a derivation there if it did before, is in order if
 -- it was, and grew by at most four nodes for each byte; each index that names an entry still does, and whole tables stay whole.
 pub record ReadsTo (source : Source) (line : ℕ) (old new : Reading) (from to : Position) : Type 0 where

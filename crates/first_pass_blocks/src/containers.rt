@@ -4,10 +4,13 @@ ghost use Rattle.std.specs.Prelude.{◌≡◌, ◌<◌, ◌≤◌, length, None,
 ghost use Rattle.first_pass_lines.specs.Places.{line_end, IsPlaceOf};
 ghost use Rattle.first_pass_open.specs.Path.{outer};
 ghost use Rattle.first_pass_blocks.specs.Entering.{ClosesAt, EntersLine};
-ghost use Rattle.first_pass_blocks.specs.Positions.{InLine, IsInLine, ReadsTo};
+ghost use Rattle.first_pass_blocks.specs.Positions.{InLine, IsFrom};
+ghost use Rattle.first_pass_blocks.specs.Progress.{PassesTo};
 ghost use Rattle.first_pass_blocks.specs.Starts.{start_opened, last_at, IsAfter};
+ghost use Rattle.first_pass_blocks.specs.Views.{reading_of, source_of, source_text};
 
 use crate::openers::{AfterMarker, Opener, Start, start_at};
+use crate::state::BlockPass;
 use first_pass_lines::lines::scan_blank_line;
 use first_pass_lines::places::next_line;
 use first_pass_lists::reading::Reading;
@@ -54,30 +57,32 @@ pub(crate) fn enter_line<'a>(
     })
 }
 
-/// Opens the containers that begin at a place, one inside the other, and takes their markers. Returns what stands after
-/// the last: more of the line, in which no other begins, or what its marker ends with (CommonMark 5).
-pub(crate) fn open_containers<'a>(
-    reading: &mut Reading,
-    source: &Source<'a>,
-    place: &mut Place<'a>,
-) -> Result<AfterMarker, AllocError>
-    requires utf8 { IsUtf8 source.now.text.now }
-    requires place { IsPlaceOf source.now.text.now place.old }
-    requires no_empty { reading.old.empty_item ≡ None }
-    ensures after { IfOk result (λ after. IsAfter after reading.new) }
-    ensures place { OnOk result (IsInLine source.now.text.now place.old.line (line_end place.old) place.new) }
-    ensures opened { IfOk result (λ after. ReadsTo source.now place.old.line reading.old reading.new
-        (InLine place.old) (last_at place.new (line_end place.old) after)) }
-{
-    loop {
-        reading.tree.is_forest();
-        let Some(start) = start_at(source, place) else {
-            return Ok(AfterMarker::OnLine);
-        };
-        open_start(reading, source, place, start)?;
-        match start.after {
-            AfterMarker::OnLine => {}
-            after => return Ok(after),
+impl<'a> BlockPass<'a> {
+    /// Opens the containers that begin at a place, one inside the other, and takes their markers. Returns what stands
+    /// after the last: more of the line, in which no other begins, or what its marker ends with; the place is then
+    /// there (CommonMark 5).
+    pub(crate) fn open_containers(
+        &mut self,
+        place: &mut Place<'a>,
+    ) -> Result<AfterMarker, AllocError>
+        requires utf8 { IsUtf8 (source_text self.old) }
+        requires place { IsPlaceOf (source_text self.old) place.old }
+        requires no_empty { (reading_of self.old).empty_item ≡ None }
+        ensures after { IfOk result (λ after. IsAfter after (reading_of self.new)) }
+        ensures place { OnOk result (IsFrom (source_text self.old) place.old place.new) }
+        ensures opened { IfOk result (λ after. PassesTo (source_of self.old) place.old.line self.old self.new
+            (InLine place.old) (last_at place.new (line_end place.new) after)) }
+    {
+        loop {
+            self.reading.tree.is_forest();
+            let Some(start) = start_at(&self.source, place) else {
+                return Ok(AfterMarker::OnLine);
+            };
+            open_start(&mut self.reading, &self.source, place, start)?;
+            match start.after {
+                AfterMarker::OnLine => {}
+                after => return Ok(after),
+            }
         }
     }
 }

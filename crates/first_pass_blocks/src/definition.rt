@@ -7,7 +7,6 @@ ghost use Rattle.first_pass_grammar.specs.Kinds.{all_taken, ends_tag, is_blank_r
 ghost use Rattle.first_pass_open.specs.Path.{context_of};
 ghost use Rattle.first_pass_tree.specs.Forest.{in_table};
 ghost use Rattle.first_pass_names.specs.TableEntries.{tables};
-ghost use Rattle.first_pass_kinds.specs.Rests.{IsRestOf};
 ghost use Rattle.first_pass_kinds.specs.Memory.{line_may_head};
 ghost use Rattle.first_pass_blocks.specs.Runs.{PutsDefinitions, ReadsRun};
 ghost use Rattle.first_pass_blocks.specs.Views.{allocs_of, context_in, source_text, tree_of};
@@ -43,7 +42,6 @@ pub fn scan_next_line_or_lazy_continuation<'input>(
     bytes: &'input [u8],
     tree: &Tree<Item>,
 ) -> Result<Option<LineStart<'input>>, AllocError>
-    requires { IsRestOf source.now.text.now bytes.now }
     ensures value { IfOk result (λ rest. let around = context_of source.now.options tree.now in
         let line = front around.path (line_rest bytes.now) in
         rest ≡ (if ends_tag around (line_rest bytes.now) || is_blank_rest (all_taken line)

@@ -22,6 +22,7 @@ use std::alloc::AllocError;
 impl<'a> BlockPass<'a> {
     /// Appends the leaf block that is told by its mark, at a place, after so many columns, at the offset `at`. Returns
     /// the offset at which the line begins that is not read.
+    #[inline(always)]
     pub(crate) fn append_marked(
         &mut self,
         place: Place<'a>,

@@ -21,7 +21,7 @@ ghost use Rattle.first_pass_blocks.specs.Progress.{ReadsBlock, ReadsLeaf};
 ghost use Rattle.first_pass_blocks.specs.Starts.{IsAfter};
 ghost use Rattle.first_pass_blocks.specs.Views.{allocs_of, reading_of, source_options, source_text, tree_of};
 
-use crate::containers::{close_containers, enter_line, line_over, open_containers};
+use crate::containers::{close_containers, enter_line, line_over};
 use crate::definition::RunEnd;
 use crate::openers::AfterMarker;
 use crate::state::BlockPass;
@@ -96,7 +96,7 @@ impl<'a> BlockPass<'a> {
         let Some(mut place) = enter_line(&mut self.reading, &self.source, start_ix) else {
             return Ok(next_line(self.source.text.as_bytes(), start_ix));
         };
-        match open_containers(&mut self.reading, &self.source, &mut place)? {
+        match self.open_containers(&mut place)? {
             AfterMarker::OnLine => {
                 let next = self.parse_leaf(place)?;
                 Ok(next)

@@ -8,7 +8,6 @@ use Rattle.first_pass_lines.specs.Rest.{Rest}
 use Rattle.first_pass_open.specs.declared.source.Source.{Source}
 use Rattle.first_pass_lists.specs.declared.reading.Reading.{Reading}
 use Rattle.first_pass_open.proofs.PlaceLemmas.{text_place}
-use Rattle.first_pass_kinds.specs.Rests.{IsRestOf}
 use Rattle.first_pass_grammar.specs.Definitions.{reference_at}
 use Rattle.first_pass_names.specs.TableEntries.{tables, refdefs_of}
 use Rattle.first_pass_definitions.specs.Found.{IsWritten, AreWritten}
@@ -17,7 +16,7 @@ use Rattle.first_pass_open.specs.Path.{context_of}
 use Rattle.first_pass_blocks.specs.Views.{context_in}
 use Rattle.first_pass_blocks.specs.declared.state.BlockPass.{BlockPass}
 use Rattle.first_pass_blocks.proofs.RunLemmas.{run_begun, run_flows, run_ends, run_goes_on, defined_none, text_at}
-use Rattle.first_pass_blocks.proofs.DefinitionLemmas.{behind_boundary, none_here, found_here, one_more, stops_by, goes_by, rest_there, stops_at, rest_at}
+use Rattle.first_pass_blocks.proofs.DefinitionLemmas.{behind_boundary, none_here, found_here, one_more, stops_by, goes_by, stops_at, rest_at}
 use Rattle.first_pass_blocks.proofs.DefinitionLemmas.{line_is_there, answered}
 use Rattle.first_pass_blocks.proofs.state.BlockPass.parse_definitions.Goals as goal
 use Rattle.first_pass_blocks.proofs.state.BlockPass.parse_definitions.Goals.{After-rest_of}
@@ -46,26 +45,6 @@ returns-clause-run c = λ p line at i.
     run_flows text around nested p r.0 c.loop-size.at (tables first.allocs) (tables now.allocs) (sym r.2)
     (λ plain. defined_none text around r.0 r.3.stands
     (ap (λ n. reference_at false around (drop n text)) r.2 ∙ subst (λ z. reference_at z around (drop c.loop-size.at text) ≡ None) plain none)) r.3
-
-pub scan_next_line_or_lazy_continuation-requires : goal.scan_next_line_or_lazy_continuation-requires
-scan_next_line_or_lazy_continuation-requires c =
-    let first : BlockPass = c.args.self.now in
-    let now : BlockPass = c.loop-size.self in
-    let text = first.source.text.now in
-    let at = c.loop-size.at in
-    let size = c.in-Some.size in
-    let inv = c.loop-size.invariant in
-    let e = c.in_ok-size.ensures in
-    let next = c.next_line-next.result in
-    let text_is = ap (λ (z : Source). z.text.now) inv.same_source in
-    let bytes_are : c.as_bytes-bytes.result.now ≡ text = c.as_bytes-bytes.ensures.value ∙ text_is in
-    let next_is : next ≡ at + size + line_len (drop (at + size) text) =
-    c.next_line-next.ensures.value ∙ ap (λ bs. at + size + line_len (drop (at + size) bs)) bytes_are in
-    let fits = subst (λ z. IfSome z (λ found. (0 < found.0) × IsCharBoundary now.source.text.now (at + found.0))) c.in-Some.is e.fits in
-    let ends : IsCharBoundary text (at + size) = subst (λ (z : Source). IsCharBoundary z.text.now (at + size)) inv.same_source fits.1 in
-    let there : IsCharBoundary text next = subst (IsCharBoundary text) (sym next_is) (behind_boundary text (at + size) c.requires.utf8 ends) in
-    subst (λ t. IsRestOf t c.rest_of.result.now) (sym text_is)
-    (rest_there text c.rest_of.result.now next there (c.rest_of.ensures.value ∙ ap (drop next) bytes_are))
 
 pub returns-clause-kept : goal.returns-clause-kept
 returns-clause-kept c =

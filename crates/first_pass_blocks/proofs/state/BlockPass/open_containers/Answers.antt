@@ -1,0 +1,165 @@
+use Rattle.std.proofs.Common.{◌≡◌, ℕ, ◌<◌, ◌≤◌, List, length, Option, Some, None, MatchOption, refl, sym, subst, arith}
+use Rattle.first_pass_lines.specs.Places.{Place, offset, line_end, IsPlaceOf}
+use Rattle.first_pass_lines.proofs.PlaceFacts.{place_length}
+use Rattle.first_pass_grammar.specs.Containers.{at_rest}
+use Rattle.first_pass_grammar.specs.Openers.{Start as ContainerStart, start_at}
+use Rattle.first_pass_open.specs.declared.source.Source.{Source}
+use Rattle.first_pass_lists.specs.declared.reading.Reading.{Reading}
+use Rattle.first_pass_blocks.specs.declared.openers.AfterMarker.{AfterMarker}
+use Rattle.first_pass_blocks.specs.declared.openers.AfterMarker.TheVariants.{OnLine, TaskText, LineEnds, TagAlone}
+use Rattle.first_pass_blocks.specs.declared.openers.Start.{Start}
+use Rattle.first_pass_blocks.specs.Positions.{Position, InLine, LeafAt, IsFrom, ReadsTo}
+use Rattle.first_pass_blocks.specs.Progress.{PassesTo}
+use Rattle.first_pass_blocks.specs.Starts.{start_told, after_at, last_at, IsAfter}
+use Rattle.first_pass_blocks.proofs.BlockRead.{passes_reading, passes_both}
+use Rattle.first_pass_blocks.proofs.StartLemmas.{start_opens, no_start, opened_start, start_found, start_missing, reads_none}
+use Rattle.first_pass_blocks.proofs.state.BlockPass.open_containers.Goals as goal
+use Rattle.first_pass_blocks.proofs.state.BlockPass.open_containers.Goals.{In_ok-open_start}
+
+-- where less of a line is left is after where more is
+rest_later : (text : List ℕ) (p new : Place) → IsPlaceOf text p → IsPlaceOf text new → length new.rest.left < length p.rest.left → offset p ≤ offset new
+rest_later text p new i j less = let a = place_length text p i in let b = place_length text new j in omega (arith, a, b, less)
+
+pub loop-start-init : goal.loop-start-init
+loop-start-init c =
+    let self = c.args.self.now in
+    let first : Place = c.args.place.now in
+    record {
+      no_empty = c.requires.no_empty;
+      here = (c.requires.place, omega arith, omega arith, omega arith);
+      opened = passes_reading self.source first.line self self (InLine first) (InLine first) refl refl
+          (reads_none self.source first.line self.reading (InLine first));
+    }
+
+-- no container begins any more
+absent : (over now : Source) (p new : Place) (r : Option Start) → now ≡ over → r ≡ None
+    → MatchOption (start_at now.options p) ((r ≡ None) × (new ≡ p)) (λ s. (r ≡ Some (start_told s)) × (new ≡ at_rest p s.rest))
+    → (start_at over.options p ≡ None) × (new ≡ p)
+absent over now p new r same is says =
+    let missing = start_missing _ r p new is says in (subst (λ (z : Source). start_at z.options p ≡ None) same missing.0, missing.1)
+
+pub returns-in_default-clause-place : goal.returns-in_default-clause-place
+returns-in_default-clause-place c =
+    let over = c.args.self.now.source in
+    let a = absent over c.loop-start.self.source c.loop-start.place c.start_at.new.place c.start_at.result c.loop-start.invariant.opened.source
+    c.in_default.is c.start_at.ensures in
+    subst (λ (q : Place). IsFrom over.text.now c.args.place.now q) (sym a.1) c.loop-start.invariant.here
+
+pub returns-in_default-clause-opened : goal.returns-in_default-clause-opened
+returns-in_default-clause-opened c =
+    let over = c.args.self.now.source in
+    let first : Place = c.args.place.now in
+    let p : Place = c.loop-start.place in
+    let i = c.loop-start.invariant in
+    let a = absent over c.loop-start.self.source p c.start_at.new.place c.start_at.result i.opened.source c.in_default.is c.start_at.ensures in
+    let none = no_start over c.loop-start.self.reading p c.requires.utf8 i.here.0 c.is_forest.ensures i.no_empty first.line i.here.1 a.0 in
+    subst (λ (q : Place). PassesTo over first.line c.args.self.now c.loop-start.self (InLine first) (LeafAt q)) (sym a.1)
+    (passes_both over first.line c.args.self.now c.loop-start.self c.loop-start.self (InLine first) (InLine p) (LeafAt p) i.opened
+    (passes_reading over first.line c.loop-start.self c.loop-start.self (InLine p) (LeafAt p) refl refl none))
+
+-- a container begins
+record Found (over : Source) (p new : Place) (told : Start) : Type 0 where
+  start : ContainerStart
+  begins : start_at over.options p ≡ Some start
+  told_is : told ≡ start_told start
+  new_is : new ≡ at_rest p start.rest
+
+found : (over now : Source) (p new : Place) (r : Option Start) (told : Start) → now ≡ over → r ≡ Some told
+    → MatchOption (start_at now.options p) ((r ≡ None) × (new ≡ p)) (λ s. (r ≡ Some (start_told s)) × (new ≡ at_rest p s.rest))
+    → Found over p new told
+found over now p new r told same is says =
+    let f = start_found _ r told p new is says in
+    record {
+      start = f.0;
+      begins = subst (λ (z : Source). start_at z.options p ≡ Some f.0) same f.1;
+      told_is = f.2;
+      new_is = f.3;
+    }
+
+pub open_start-requires : goal.open_start-requires
+open_start-requires c =
+    let over = c.args.self.now.source in
+    let first : Place = c.args.place.now in
+    let p : Place = c.loop-start.place in
+    let new : Place = c.start_at.new.place in
+    let i = c.loop-start.invariant in
+    let f = found over c.loop-start.self.source p new c.start_at.result c.in-Some.start i.opened.source c.in-Some.is c.start_at.ensures in
+    let opens = start_opens over c.loop-start.self.reading p c.requires.utf8 i.here.0 c.is_forest.ensures i.no_empty first.line i.here.1 f.start f.begins in
+    subst (λ (z : Source). IsPlaceOf z.text.now new) (sym i.opened.source)
+    (subst (λ (q : Place). IsPlaceOf over.text.now q) (sym f.new_is) opens.2.0)
+
+-- one more container is open
+step : (c : In_ok-open_start) → IsAfter c.in-Some.start.after c.open_start.new.reading
+    × (length c.start_at.new.place.rest.left < length c.loop-start.place.rest.left)
+    × IsFrom c.args.self.now.source.text.now c.args.place.now c.start_at.new.place
+    × ReadsTo c.args.self.now.source c.args.place.now.line c.loop-start.self.reading c.open_start.new.reading (InLine c.loop-start.place)
+    (after_at c.start_at.new.place (line_end c.start_at.new.place) c.in-Some.start.after)
+step c =
+    let over = c.args.self.now.source in
+    let first : Place = c.args.place.now in
+    let p : Place = c.loop-start.place in
+    let i = c.loop-start.invariant in
+    let q : Reading = c.open_start.new.reading in
+    let new : Place = c.start_at.new.place in
+    let f = found over c.loop-start.self.source p new c.start_at.result c.in-Some.start i.opened.source c.in-Some.is c.start_at.ensures in
+    let s = opened_start over c.loop-start.self.reading p c.requires.utf8 i.here.0 c.is_forest.ensures i.no_empty first.line i.here.1 f.start new
+    c.in-Some.start
+    q f.begins f.told_is f.new_is c.in_ok-open_start.ensures in
+    let line = s.2.1 in
+    let stop = s.2.2 in
+    let less = s.1 in
+    let later = rest_later over.text.now p new i.here.0 s.2.0 less in
+    let low = i.here.1 in
+    let from = i.here.2 in
+    let far = i.here.3 in (
+      s.0,
+      less,
+      (s.2.0, omega (arith, line, low), omega (arith, later, from), omega (arith, stop, far)),
+      subst (λ (e : ℕ). ReadsTo over first.line c.loop-start.self.reading q (InLine p) (after_at new e c.in-Some.start.after)) (sym stop) s.3,
+    )
+
+pub loop-start-smaller : goal.loop-start-smaller
+loop-start-smaller c = (step (goal.at.loop-start-smaller c).In_ok-open_start).1
+
+pub loop-start-preserved : goal.loop-start-preserved
+loop-start-preserved c =
+    let over = c.args.self.now.source in
+    let first : Place = c.args.place.now in
+    let p : Place = c.loop-start.place in
+    let new : Place = c.start_at.new.place in
+    let i = c.loop-start.invariant in
+    let s = step (goal.at.loop-start-preserved c).In_ok-open_start in
+    let opens = subst (λ (a : AfterMarker). ReadsTo over first.line c.loop-start.self.reading c.open_start.new.reading (InLine p)
+    (after_at new (line_end new) a))
+    c.in-OnLine.is s.3 in
+    record {
+      no_empty = subst (λ (a : AfterMarker). IsAfter a c.open_start.new.reading) c.in-OnLine.is s.0;
+      here = s.2;
+      opened = passes_both over first.line c.args.self.now c.loop-start.self _ (InLine first) (InLine p) (InLine new) i.opened
+          (passes_reading over first.line c.loop-start.self _ (InLine p) (InLine new) refl refl opens);
+    }
+
+-- a marker that more of the line doesn't follow stands last
+last_is : (p : Place) (e : ℕ) (a : AfterMarker) → (a ≡ OnLine → ⊥) → after_at p e a ≡ last_at p e a
+last_is p e OnLine other = absurd (other refl)
+last_is p e (TaskText marker) other = refl
+last_is p e (LineEnds marker) other = refl
+last_is p e TagAlone other = refl
+
+pub returns-in_default-after : goal.returns-in_default-after
+returns-in_default-after c =
+    let over = c.args.self.now.source in
+    let first : Place = c.args.place.now in
+    let p : Place = c.loop-start.place in
+    let new : Place = c.start_at.new.place in
+    let i = c.loop-start.invariant in
+    let s = step (goal.at.returns-in_default-after c).In_ok-open_start in
+    let there : Position = last_at new (line_end new) c.in-Some.start.after in
+    let opens = subst (λ (t : Position). ReadsTo over first.line c.loop-start.self.reading c.open_start.new.reading (InLine p) t)
+    (last_is new (line_end new) c.in-Some.start.after c.in_default-after.not-OnLine) s.3 in
+    record {
+      after = s.0;
+      place = s.2;
+      opened = passes_both over first.line c.args.self.now c.loop-start.self _ (InLine first) (InLine p) there i.opened
+          (passes_reading over first.line c.loop-start.self _ (InLine p) there refl refl opens);
+    }
