@@ -1,9 +1,10 @@
 //! Which lines end a paragraph before them, as calls of the pass.
 
-ghost use Rattle.std.specs.Prelude.{◌≡◌, ◌&&◌, ◌||◌, not, true, Some, None, IfOk, IsOk, OnErr, if◌then◌else◌};
+ghost use Rattle.std.specs.Prelude.{◌≡◌, is_some, ◌&&◌, ◌||◌, not, true, false, Some, None, IfOk, IsOk, OnErr, if◌then◌else◌};
 ghost use Rattle.first_pass_lines.specs.Places.{line_rest};
+ghost use Rattle.first_pass_links.specs.Footnotes.{footnote_head};
 ghost use Rattle.first_pass_grammar.specs.Containers.{front};
-ghost use Rattle.first_pass_grammar.specs.Kinds.{all_taken, ends_tag, interrupts_with, is_blank_rest};
+ghost use Rattle.first_pass_grammar.specs.Kinds.{all_taken, ends_tag, footnote_interrupts, interrupts_with, is_blank_rest};
 ghost use Rattle.first_pass_grammar.specs.TableHeads.{table_interrupts};
 ghost use Rattle.first_pass_kinds.specs.Memory.{may_head, line_may_head};
 ghost use Rattle.first_pass_tree.specs.Forest.{in_table};
@@ -14,7 +15,7 @@ use bitflags::Flags;
 use first_pass_blocks::definition::scan_next_line_or_lazy_continuation;
 use first_pass_items::item::Item;
 use first_pass_items::option_set::Options;
-use first_pass_kinds::interrupt::interrupts_without_table;
+use first_pass_kinds::interrupt::{interrupts_as_footnote, interrupts_without_table};
 use first_pass_kinds::table_start::interrupts_as_table;
 use first_pass_scan::line_start::LineStart;
 use first_pass_tree::forest::Tree;
@@ -24,22 +25,25 @@ use std::alloc::{AllocError, Global};
 /// paragraph: its line ends, or a thematic break, an ATX heading, a code fence, a block quote, a list item or an HTML
 /// block of the kinds 1 to 6 begins. An item interrupts where the line doesn't continue all containers, and in a
 /// table; else only a bullet or the number 1 does, and only with a rest that isn't blank (CommonMark 4.8, 4.1, 4.2,
-/// 4.5, 5.1, 5.2, 4.6; GFM 4.10). There is no error: no memory is asked for.
+/// 4.5, 5.1, 5.2, 4.6; GFM 4.10). With footnotes the head of a footnote definition interrupts whose label holds no
+/// line end (this project). There is no error: no memory is asked for.
 pub fn scan_paragraph_interrupt_no_table(
     _alloc: Global,
     text: &str,
     current_container: bool,
-    _has_footnote: bool,
+    has_footnote: bool,
     _definition_list: bool,
     tree: &Tree<Item>,
     _tree_position: usize,
 ) -> Result<bool, AllocError>
     ensures value { IfOk result (λ yes. yes
-        ≡ interrupts_with (current_container && not (in_table tree.now.nodes tree.now.spine)) text.now) }
+        ≡ (interrupts_with (current_container && not (in_table tree.now.nodes tree.now.spine)) text.now
+        || (has_footnote && is_some (footnote_head (λ further. None) false text.now)))) }
     ensures ok { IsOk result }
 {
     let whole = current_container && !tree.is_in_table();
-    Ok(interrupts_without_table(text.as_bytes(), whole))
+    let bytes = text.as_bytes();
+    Ok(interrupts_without_table(bytes, whole) || interrupts_as_footnote(bytes, has_footnote))
 }
 
 impl<'a> FirstPass<'a> {
@@ -56,7 +60,8 @@ impl<'a> FirstPass<'a> {
     ) -> Result<bool, AllocError>
         ensures value { IfOk result (λ yes. let tree = tree_of self.now in
             yes ≡ (interrupts_with (current_container && not (in_table tree.nodes tree.spine)) text.now
-            || table_interrupts (context_in self.now) text.now)) }
+            || (footnote_interrupts (context_in self.now).options false text.now
+            || table_interrupts (context_in self.now) text.now))) }
         ensures err { OnErr result (may_head (context_in self.now) text.now ≡ true) }
     {
         if scan_paragraph_interrupt_no_table(

@@ -5,6 +5,7 @@
 
 mod attributes;
 mod definition;
+mod footnote;
 mod interrupt;
 mod leaf;
 mod line;

@@ -8,10 +8,10 @@ use Rattle.first_pass_grammar.specs.Leaves.{document}
 use Rattle.first_pass_grammar.specs.Names.{AreNamed}
 use Rattle.first_pass_grammar.specs.Order.{GrowsBy}
 use Rattle.first_pass_grammar.specs.WholeTables.{HasWholeTables}
-use Rattle.first_pass_names.specs.TableEntries.{tables, names_of, refdefs_of}
+use Rattle.first_pass_names.specs.TableEntries.{tables, names_of}
 use Rattle.first_pass_names.specs.declared.items.Allocations.{Allocations}
 use Rattle.first_pass_names.proofs.NameLemmas.{extends_equal, extends_both}
-use Rattle.first_pass_definitions.specs.Found.{AreWritten}
+use Rattle.first_pass_blocks.specs.Written.{TablesAreWritten}
 use Rattle.first_pass_open.specs.declared.source.Source.{Source}
 use Rattle.first_pass_blocks.specs.declared.openers.AfterMarker.{AfterMarker}
 use Rattle.first_pass_blocks.specs.declared.state.BlockPass.{BlockPass}
@@ -36,7 +36,7 @@ passes_reading over line old new p q source same step =
       order = step.order;
       few = step.few;
       named = λ h. subst (λ (z : Allocations). AreNamed (names_of z) (tree_of new).nodes) (sym same) (step.named names h);
-      written = λ h. subst (λ (z : Allocations). AreWritten over.text.now (refdefs_of z)) (sym same) h;
+      written = λ h. subst (λ (z : Allocations). TablesAreWritten over.text.now z) (sym same) h;
       whole = λ h k. subst (λ (z : Allocations). HasWholeTables (names_of z) (tree_of new)) (sym same) (step.whole names k);
     }
 

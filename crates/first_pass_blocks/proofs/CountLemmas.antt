@@ -29,7 +29,9 @@ use Rattle.first_pass_open.specs.OpenBlock.{closed_by, with_child}
 use Rattle.first_pass_open.proofs.PlaceLemmas.{option_on, task_shorter}
 use Rattle.first_pass_lists.specs.Closing.{loosened_by, top_body, is_list, is_list_of, is_item, popped_by, popped_at, popped, item_finished_by, item_finished}
 use Rattle.first_pass_lists.specs.Closing.{list_left, gap_tree, gap_noted, list_finished, loosened_top, list_kept, begun, list_continued, emptied}
-use Rattle.first_pass_lists.specs.Closing.{blank_read_by, blank_read}
+use Rattle.first_pass_lists.specs.Closing.{blank_read_by, blank_read, is_footnote, footnote_left, footnote_begun}
+use Rattle.first_pass_items.specs.declared.item.CowIndex.{CowIndex}
+use Rattle.first_pass_items.specs.declared.item.ItemBody.TheVariants.{FootnoteDefinition as FootnoteDefinitionBody}
 use Rattle.first_pass_lists.specs.declared.reading.Reading.{Reading}
 use Rattle.first_pass_open.specs.Between.{AddsBetween, StandsBefore}
 use Rattle.first_pass_grammar.specs.Openers.{after_task}
@@ -163,6 +165,22 @@ item_count start byte number columns r =
 
 pub quote_count : (line start : ℕ) (body : ItemBody) (r : Reading) → count (begun start body (list_finished line r)) ≤ count r + 1
 quote_count line start body r = (let one = begun_count start body (list_finished line r) in let same = list_finished_count line r in omega arith)
+
+note_left_count : (e : ℕ) (r : Reading) → count (footnote_left e r) ≡ count r
+note_left_count e r = cond_both (is_footnote (top_body r.tree)) (popped e r) r (λ (q : Reading). count q ≡ count r) (λ b. popped_count e r) (λ b. refl)
+
+-- so does a footnote definition
+pub note_count : (start : ℕ) (index : CowIndex) (r : Reading) → count (footnote_begun start index r) ≤ count r + 1
+unfolding footnote_begun
+note_count start index r =
+    let l : Reading = list_left start (item_finished r) in
+    let q : Reading = footnote_left start l in
+    let one = begun_count start (FootnoteDefinitionBody index) (gap_noted q) in
+    let gap = gap_count q in
+    let note = note_left_count start l in
+    let list = left_count start (item_finished r) in
+    let item = item_finished_count r in
+    omega arith
 
 -- and a task list item marker one
 pub child_count : (f : Forest Item) (marker : Option Item) → own_nodes (with_child f marker).nodes ≤ own_nodes f.nodes + 1

@@ -1,30 +1,37 @@
 -- A line entered after what it continues: a blank line read, or the place where blocks begin in it.
 use Rattle.std.proofs.Common.{◌≡◌, ℕ, zero, suc, ◌+◌, ◌<◌, ◌==◌, nat_lt, Bool, true, false, not, ◌||◌, ◌&&◌, List, [], ◌∷◌, length, map, drop, slice_get}
-use Rattle.std.proofs.Common.{Option, Some, None, is_some, refl, sym, ap, subst, ◌∙◌, arith, if◌then◌else◌}
+use Rattle.std.proofs.Common.{Option, Some, None, is_some, refl, sym, ap, subst, ◌∙◌, arith, if◌then◌else◌, MatchOption}
 use Rattle.std.proofs.lemmas.Bool.Decides.{nat_tests}
 use Rattle.std.specs.List.{prefix_len}
 use Rattle.std.specs.Option.{option_map, option_map_or, option_and_then}
 use Rattle.first_pass_items.specs.declared.item.Item.{Item}
 use Rattle.first_pass_items.specs.declared.item.ItemBody.{ItemBody}
 use Rattle.first_pass_items.specs.declared.item.ItemBody.TheVariants.{BlockQuote as BlockQuoteBody, List as ListBody, ListItem as ListItemBody}
+use Rattle.first_pass_items.specs.declared.item.ItemBody.TheVariants.{FootnoteDefinition as FootnoteDefinitionBody}
 use Rattle.first_pass_tree.specs.declared.tree_index.TreeIndex.{TreeIndex}
 use Rattle.first_pass_tree.specs.Forest.{Forest, with_body_at, body_at}
-use Rattle.first_pass_lines.specs.Lines.{is_white, eol_len, blank_len}
+use Rattle.first_pass_items.specs.Bytes.{left_bracket, circumflex}
+use Rattle.first_pass_items.specs.OptionWords.{has, footnotes}
+use Rattle.first_pass_links.specs.Footnotes.{footnote_head}
+use Rattle.first_pass_lines.specs.Lines.{begins, is_white, eol_len, blank_len}
 use Rattle.first_pass_lines.specs.Rest.{Rest, column_of_byte, next_column, after_columns, indent, past_quote_byte}
 use Rattle.first_pass_scan.specs.LeafLines.{hrule_len}
 use Rattle.first_pass_scan.specs.Markers.{bullet_marker, ordered_marker, list_marker, item_by, item_of}
 use Rattle.first_pass_lines.specs.Places.{Place}
 use Rattle.first_pass_grammar.specs.declared.kind.Container.{Container}
-use Rattle.first_pass_grammar.specs.declared.kind.Container.TheVariants.{BlockQuote, ListItem}
-use Rattle.first_pass_grammar.specs.Containers.{at_rest, has_columns, prefix, after}
-use Rattle.first_pass_grammar.specs.Kinds.{Blank, all_taken, is_blank_rest, item_at}
-use Rattle.first_pass_grammar.specs.Leaves.{Document}
+use Rattle.first_pass_grammar.specs.declared.kind.Container.TheVariants.{BlockQuote, ListItem, FootnoteDefinition}
+use Rattle.first_pass_grammar.specs.Containers.{Context, at_rest, has_columns, prefix, after}
+use Rattle.first_pass_grammar.specs.Before.{LastOther}
+use Rattle.first_pass_grammar.specs.Kinds.{Blank, all_taken, unindented, is_blank_rest, item_at}
+use Rattle.first_pass_grammar.specs.Footnotes.{footnote_prefix, footnote_at, footnote_head_at}
+use Rattle.first_pass_grammar.specs.Openers.{start_at}
+use Rattle.first_pass_grammar.specs.Leaves.{Document, around}
 use Rattle.first_pass_grammar.specs.Blocks.{BlankLine}
-use Rattle.first_pass_grammar.specs.Skeleton.{From, Line, Inside, Blanks, OpensLeaf, OpensAs, Opens, is_blank_behind, next_is_blank}
+use Rattle.first_pass_grammar.specs.Skeleton.{From, Line, Inside, Blanks, Opening, OpensLeaf, OpensFootnote, OpensAs, Opens, is_blank_behind, next_is_blank}
 use Rattle.first_pass_grammar.specs.Skeleton.{level, Lines, end_before}
 use Rattle.first_pass_grammar.specs.Derivation.{Tables, node_of}
 use Rattle.first_pass_grammar.specs.Completion.{Frame, InContainer, InList, containers_of, AreBelow}
-use Rattle.first_pass_grammar.proofs.Finishes.{CompletesAt, before_of}
+use Rattle.first_pass_grammar.proofs.Finishes.{CompletesAt}
 use Rattle.first_pass_grammar.proofs.Goings.{stops_blank}
 use Rattle.first_pass_kinds.proofs.KindLemmas.{blank_kind}
 use Rattle.first_pass_grammar.proofs.Completions.{counts_in, completes-enter, completes-blank_line, completes-only_blank}
@@ -33,9 +40,10 @@ use Rattle.first_pass_lists.specs.Closing.{top_body, is_item, popped_by, popped,
 use Rattle.first_pass_lists.specs.declared.reading.Reading.{Reading}
 use Rattle.first_pass_open.specs.Path.{container_of, container_at, with_container, path_in, path_of}
 use Rattle.first_pass_blocks.specs.State.{frame_of, frame_at, AreOpen, ReadyAt, ReadyBeforeLine, ReadyInItem, ReadyEmpty, ReadyWith, Ready}
-use Rattle.first_pass_blocks.proofs.OpenLemmas.{open_path, open_stays, open_not_old}
+use Rattle.first_pass_blocks.proofs.OpenLemmas.{open_path}
+use Rattle.first_pass_blocks.proofs.OldFootnotes.{ends_here, stays_unblank, stays_in_list, goes_on_at}
 use Rattle.first_pass_tree.proofs.BodyLemmas.{body-changed, body-other, not_changed}
-use Rattle.first_pass_blocks.proofs.PopLemmas.{pop_container}
+use Rattle.first_pass_blocks.proofs.PopLemmas.{leave_container}
 use Rattle.first_pass_blocks.proofs.StateLemmas.{ready_plain, after_zero, popped_is, same_path, closed_containers}
 use Rattle.first_pass_items.specs.declared.option_set.Options.{Options}
 use Rattle.first_pass_grammar.specs.Skeleton.{OpensBy}
@@ -154,25 +162,55 @@ no_item : (r : Rest) → is_blank_rest r ≡ true → item_at r ≡ None
 unfolding item_at item_of
 no_item r h = no_item_by (nat_lt (indent r) 4) r h
 
+-- nor does a footnote definition
+bracket_by : (b : ℕ) → (is_white b || ((b == 10) || (b == 13))) ≡ true → (b == 91) ≡ false
+bracket_by b f = grind (arith, nat_tests, f)
+
+no_bracket : (bs : List ℕ) → is_some (blank_len bs) ≡ true → begins left_bracket bs ≡ false
+no_bracket [] h = refl
+no_bracket (b ∷ bs) h = bracket_by b (first_of_blank b bs h)
+
+if_not : (t u : Bool) (o : Option (ℕ × List ℕ)) → t ≡ false → (if t && u then o else None) ≡ None
+if_not true u o h = cc
+if_not false u o h = refl
+
+no_head_by : (prefix : List ℕ → Option ℕ) (bs : List ℕ) → begins left_bracket bs ≡ false → footnote_head prefix false bs ≡ None
+unfolding footnote_head
+no_head_by prefix bs h = if_not (begins left_bracket bs) (begins circumflex (drop 1 bs)) _ h
+
+if_none : (t : Bool) (o : Option (ℕ × List ℕ)) → o ≡ None → (if t then o else None) ≡ None
+if_none true o none = none
+if_none false o none = refl
+
+no_head_at : (around : Context) (p : Place) → is_blank_rest p.rest ≡ true → footnote_head_at around p ≡ None
+unfolding footnote_head_at
+no_head_at around p h =
+    if_none (has around.options footnotes && nat_lt (indent p.rest) 4) (footnote_at false around (unindented p).rest.left)
+    (no_head_by (footnote_prefix around) (unindented p).rest.left (no_bracket (unindented p).rest.left (blank_columns (indent p.rest) p.rest ∙ h)))
+
 -- a blank line at a place
 pub opens_blank : (d : Document) (path : List Container) (p : Place) (lines : List Place)
     → is_blank_rest p.rest ≡ true → Opens d path p lines (OpensLeaf BlankLine Line lines)
 unfolding OpensBy OpensAs
 opens_blank d path p lines h =
-    subst (λ o. OpensBy d path p lines o (OpensLeaf BlankLine Line lines)) (sym (start_none d.options p (no_item p.rest h) (no_quote p.rest h)))
-    (Blank, blank_kind d.options p.rest h, refl)
+    let opening : Opening = OpensLeaf BlankLine Line lines in
+    subst (λ o. MatchOption o (OpensBy d path p lines (start_at d.options p) opening) (λ head. OpensFootnote d p lines head opening))
+    (sym (no_head_at (around d path) p h))
+    (subst (λ o. OpensBy d path p lines o opening) (sym (start_none d.options p (no_item p.rest h) (no_quote p.rest h)))
+    (Blank, blank_kind d.options p.rest h, refl))
 
 -- inside a line that all open containers continue
 pub ready_enter : (d : Document) (defined : Tables) (f : Forest Item) (run : Bool) (line : Place) (lines : List Place) (r : Rest)
-    → after (path_of d.options f) line.rest ≡ Some r → ReadyAt d defined f run Line (line ∷ lines) → ReadyAt d defined f run (Inside (at_rest line r)) lines
-ready_enter d defined f run line lines r is ready =
+    → after (path_of d.options f) line.rest ≡ Some r → ends_here d.options f run ≡ false → ReadyAt d defined f run Line (line ∷ lines)
+    → ReadyAt d defined f run (Inside (at_rest line r)) lines
+ready_enter d defined f run line lines r is stays ready =
     let path = open_path d.options f.nodes f.spine ready.frames ready.are_open in
     record {
       frames = ready.frames;
       are_open = ready.are_open;
       completes = completes-enter d defined run ready.frames f.nodes (map (λ i. i.0) f.spine) line (at_rest line r) lines
           (ap (option_map (at_rest line)) (ap (λ z. after z line.rest) (sym path) ∙ is))
-          (open_not_old f.nodes f.spine ready.frames ready.are_open (before_of ready.frames run)) ready.completes;
+          (goes_on_at d.options f ready.frames run ready.are_open stays) ready.completes;
     }
 
 or_true : (a : Bool) → (a || true) ≡ true
@@ -190,26 +228,32 @@ list_not_container false true list c h = cc
 list_not_container false false list c h = cc
 
 -- whether a blank line counts, by what is innermost
-counts_by : (r : Reading) (b : Option ItemBody) (frame : Frame) (frames : List Frame)
-    → option_and_then frame_of b ≡ Some frame → counts_in (frame ∷ frames) r.blank ≡ (blank_read_by r b).blank
-counts_by r None frame frames h = cc
-counts_by r (Some (BlockQuoteBody kind)) (InContainer (BlockQuote k)) frames h = or_false r.blank
-counts_by r (Some (BlockQuoteBody kind)) (InContainer (ListItem n)) frames h = cc
-counts_by r (Some (BlockQuoteBody kind)) (InList byte loose) frames h = cc
-counts_by r (Some (ListItemBody columns)) (InContainer (BlockQuote k)) frames h = cc
-counts_by r (Some (ListItemBody columns)) (InContainer (ListItem n)) frames h = or_true r.blank
-counts_by r (Some (ListItemBody columns)) (InList byte loose) frames h = cc
-counts_by r (Some (ListBody flags list number)) (InContainer c) frames h = absurd (list_not_container (flags.0 == 1) (flags.0 == 0) list c h)
-counts_by r (Some (ListBody flags list number)) (InList byte loose) frames h = refl
-counts_by r (Some b) frame frames h = cc
+counts_by : (options : Options) (r : Reading) (b : Option ItemBody) (frame : Frame) (frames : List Frame)
+    → option_and_then (frame_of options) b ≡ Some frame → counts_in (frame ∷ frames) r.blank ≡ (blank_read_by r b).blank
+counts_by options r None frame frames h = cc
+counts_by options r (Some (BlockQuoteBody kind)) (InContainer (BlockQuote k)) frames h = or_false r.blank
+counts_by options r (Some (BlockQuoteBody kind)) (InContainer (ListItem n)) frames h = cc
+counts_by options r (Some (BlockQuoteBody kind)) (InContainer (FootnoteDefinition n)) frames h = cc
+counts_by options r (Some (BlockQuoteBody kind)) (InList byte loose) frames h = cc
+counts_by options r (Some (ListItemBody columns)) (InContainer (BlockQuote k)) frames h = cc
+counts_by options r (Some (ListItemBody columns)) (InContainer (ListItem n)) frames h = or_true r.blank
+counts_by options r (Some (ListItemBody columns)) (InContainer (FootnoteDefinition n)) frames h = cc
+counts_by options r (Some (ListItemBody columns)) (InList byte loose) frames h = cc
+counts_by options r (Some (FootnoteDefinitionBody label)) (InContainer (FootnoteDefinition n)) frames h = or_true r.blank
+counts_by options r (Some (FootnoteDefinitionBody label)) (InContainer (BlockQuote k)) frames h = cc
+counts_by options r (Some (FootnoteDefinitionBody label)) (InContainer (ListItem n)) frames h = cc
+counts_by options r (Some (FootnoteDefinitionBody label)) (InList byte loose) frames h = cc
+counts_by options r (Some (ListBody flags list number)) (InContainer c) frames h = absurd (list_not_container (flags.0 == 1) (flags.0 == 0) list c h)
+counts_by options r (Some (ListBody flags list number)) (InList byte loose) frames h = refl
+counts_by options r (Some b) frame frames h = cc
 
 module _ (d : Document) (defined : Tables) (r : Reading) (p : Place) (lines : List Place) (blank : is_blank_rest p.rest ≡ true) where
-  blank_at : (frames : List Frame) (s : List TreeIndex) → r.tree.spine ≡ s → AreOpen r.tree.nodes s frames
+  blank_at : (frames : List Frame) (s : List TreeIndex) → r.tree.spine ≡ s → AreOpen d.options r.tree.nodes s frames
       → counts_in frames r.blank ≡ (blank_read_by r (option_and_then (λ (ix : TreeIndex). body_at r.tree.nodes ix.0) (slice_get s 0))).blank
   blank_at [] [] is o = or_true r.blank
   blank_at (frame ∷ frames) [] is o = absurd o
   blank_at [] (ix ∷ rest) is o = absurd o
-  blank_at (frame ∷ frames) (ix ∷ rest) is o = counts_by r (body_at r.tree.nodes ix.0) frame frames o.0
+  blank_at (frame ∷ frames) (ix ∷ rest) is o = counts_by d.options r (body_at r.tree.nodes ix.0) frame frames o.0
 
   same_tree : (b : Option ItemBody) → r.empty_item ≡ None → (blank_read_by r b).tree ≡ r.tree
   same_tree None none = refl
@@ -234,7 +278,7 @@ module _ (d : Document) (defined : Tables) (r : Reading) (p : Place) (lines : Li
         frames = ready.frames;
         are_open = ready.are_open;
         completes = completes-blank_line d defined r.blank ready.frames r.tree.nodes (map (λ i. i.0) r.tree.spine) p lines lines
-            (open_stays d r.tree.nodes r.tree.spine ready.frames ready.are_open p) (opens_blank d (containers_of ready.frames) p lines blank) ready.completes;
+            (opens_blank d (containers_of ready.frames) p lines blank) ready.completes;
       } in
       ready_plain d defined (blank_read_by r b) lines (same_none b ∙ none)
       (subst (λ t. ReadyAt d defined t (blank_read_by r b).blank Line lines) (sym (same_tree b none))
@@ -245,8 +289,8 @@ blank_place line None h = cc
 blank_place line (Some q) h = (q, refl, h)
 
 only_blank_by : (d : Document) (defined : Tables) (f : Forest Item) (run : Bool) (e : ℕ) (ix : TreeIndex) (rest : List TreeIndex) (line : Place)
-    (lines : List Place) (frames : List Frame) → frame_at f.nodes ix.0 ≡ Some (InContainer (ListItem 0))
-    → is_blank_behind (after (ListItem 0 ∷ path_in d.options f.nodes rest) line.rest) ≡ true → AreOpen f.nodes (ix ∷ rest) frames
+    (lines : List Place) (frames : List Frame) → frame_at d.options f.nodes ix.0 ≡ Some (InContainer (ListItem 0))
+    → is_blank_behind (after (ListItem 0 ∷ path_in d.options f.nodes rest) line.rest) ≡ true → AreOpen d.options f.nodes (ix ∷ rest) frames
     → CompletesAt d defined run frames f.nodes (ix.0 ∷ map (λ i. i.0) rest) (Blanks e) (line ∷ lines)
     → CompletesAt d defined true frames f.nodes (ix.0 ∷ map (λ i. i.0) rest) (Blanks e) lines
 only_blank_by d defined f run e ix rest line lines [] is blank o k = absurd o
@@ -271,14 +315,14 @@ only_blank : (d : Document) (defined : Tables) (f : Forest Item) (run : Bool) (e
     → is_blank_behind (after (ListItem 0 ∷ path_in d.options f.nodes rest) line.rest) ≡ true → ReadyAt d defined f run (Blanks e) (line ∷ lines)
     → ReadyAt d defined f true (Blanks e) lines
 only_blank d defined f run e ix rest line lines spine item blank ready =
-    let o : AreOpen f.nodes (ix ∷ rest) ready.frames = subst (λ s. AreOpen f.nodes s ready.frames) spine ready.are_open in
+    let o : AreOpen d.options f.nodes (ix ∷ rest) ready.frames = subst (λ s. AreOpen d.options f.nodes s ready.frames) spine ready.are_open in
     let k : CompletesAt d defined run ready.frames f.nodes (ix.0 ∷ map (λ i. i.0) rest) (Blanks e) (line ∷ lines) =
     subst (λ s. CompletesAt d defined run ready.frames f.nodes (map (λ i. i.0) s) (Blanks e) (line ∷ lines)) spine ready.completes in
     record {
       frames = ready.frames;
       are_open = ready.are_open;
       completes = subst (λ s. CompletesAt d defined true ready.frames f.nodes (map (λ i. i.0) s) (Blanks e) lines) (sym spine)
-          (only_blank_by d defined f run e ix rest line lines ready.frames (ap (option_and_then frame_of) item) blank o k);
+          (only_blank_by d defined f run e ix rest line lines ready.frames (ap (option_and_then (frame_of d.options)) item) blank o k);
     }
 
 -- what is below a place alone counts
@@ -369,14 +413,17 @@ module _ (d : Document) (defined : Tables) (r : Reading) (line : Place) (lines :
         } in
         subst (λ q. ReadyWith d defined q lines q.empty_item) (sym (read_is some)) (subst (λ o. ReadyWith d defined now lines o) (sym some) ready)
 
-  blank_with : (o : Option ℕ) → r.empty_item ≡ o → is_blank_rest rest ≡ true → ReadyWith d defined r (line ∷ lines) o → Ready d defined (blank_read r) lines
-  blank_with None none h ready = ready_blank d defined r (at_rest line rest) lines h none (ready_enter d defined r.tree r.blank line lines rest goes ready)
-  blank_with (Some e) some h ready = ready_emptied e ready some h
+  blank_with : (o : Option ℕ) → r.empty_item ≡ o → ends_here d.options r.tree r.blank ≡ false → is_blank_rest rest ≡ true
+      → ReadyWith d defined r (line ∷ lines) o → Ready d defined (blank_read r) lines
+  blank_with None none stays h ready =
+      ready_blank d defined r (at_rest line rest) lines h none (ready_enter d defined r.tree r.blank line lines rest goes stays ready)
+  blank_with (Some e) some stays h ready = ready_emptied e ready some h
 
   -- a blank line read that all open containers continue
-  pub ready_blank_line : is_blank_rest rest ≡ true → Ready d defined r (line ∷ lines) → Ready d defined (blank_read r) lines
+  pub ready_blank_line : ends_here d.options r.tree r.blank ≡ false → is_blank_rest rest ≡ true
+      → Ready d defined r (line ∷ lines) → Ready d defined (blank_read r) lines
   unfolding Ready
-  ready_blank_line h ready = blank_with r.empty_item refl h ready
+  ready_blank_line stays h ready = blank_with r.empty_item refl stays h ready
 
   module _ (e : ℕ) (empty : ReadyEmpty d defined r e (line ∷ lines)) where
     finished_is : (blank : Bool) → r.blank ≡ blank → item_finished_by r (Some e) ≡ record (if blank then popped e r else r) { empty_item = None }
@@ -396,30 +443,34 @@ module _ (d : Document) (defined : Tables) (r : Reading) (line : Place) (lines :
         let on : after (ListItem 0 ∷ path) line.rest ≡ Some rest = item_path empty.place empty.outer 0 empty.spine item in
         let outer : after path line.rest ≡ Some rest = sym (after_zero path line.rest) ∙ on in
         let last : e ≡ end_before (length d.text) path (Blanks e) (Lines (line ∷ lines)) = sym (ap (λ t. if t then e else line.line) (ap is_some outer)) in
-        let closed : ReadyAt d defined g true Line (line ∷ lines) =
-        pop_container d defined r.tree true (Blanks e) (line ∷ lines) e empty.place empty.outer (ListItem 0) empty.spine (ap (option_and_then frame_of) item)
-        (λ before. stops_blank d.options (level (ListItem 0 ∷ path) before) e (line ∷ lines) (ap is_blank_behind on ∙ h)) last ready in
+        let left =
+        leave_container d defined r.tree true (Blanks e) (line ∷ lines) e empty.place empty.outer (ListItem 0) empty.spine
+        (ap (option_and_then (frame_of d.options)) item)
+        (stops_blank d.options (level (ListItem 0 ∷ path) (record { last = LastOther; counted = true })) e (line ∷ lines)
+        (ap is_blank_behind on ∙ h)) last ready in
         let now : popped e r ≡ record r { tree = g; empty_item = None } =
         popped_is e r empty.place empty.outer empty.spine ∙ ap (popped_by r g empty.place) item in
         let same : path_of d.options g ≡ path =
         same_path d.options r.tree.nodes g.nodes (closed_containers e r empty.place empty.outer d.options) empty.outer in
         let inside : ReadyAt d defined g true (Inside (at_rest line rest)) lines =
-        ready_enter d defined g true line lines rest (ap (λ z. after z line.rest) same ∙ outer) closed in
+        ready_enter d defined g true line lines rest (ap (λ z. after z line.rest) same ∙ outer)
+        (stays_in_list d defined g true (line ∷ lines) left.ready left.shape) left.ready in
         subst (λ (q : Reading). ReadyAt d defined q.tree q.blank (Inside (at_rest line rest)) lines) (sym now)
         (subst (λ t. ReadyAt d defined g t (Inside (at_rest line rest)) lines) (sym is) inside)
     emptied_ends false is h ready =
         let test : next_is_blank (path_of d.options r.tree) (line ∷ lines) ≡ false = ap is_blank_behind goes ∙ h in
         let now : ReadyAt d defined r.tree false Line (line ∷ lines) = subst (ReadyBeforeLine d defined r.tree e (line ∷ lines)) test ready in
-        subst (λ t. ReadyAt d defined r.tree t (Inside (at_rest line rest)) lines) (sym is) (ready_enter d defined r.tree false line lines rest goes now)
+        subst (λ t. ReadyAt d defined r.tree t (Inside (at_rest line rest)) lines) (sym is)
+        (ready_enter d defined r.tree false line lines rest goes (stays_unblank d.options r.tree) now)
 
-  entered_with : (o : Option ℕ) → is_blank_rest rest ≡ false → ReadyWith d defined r (line ∷ lines) o
+  entered_with : (o : Option ℕ) → ends_here d.options r.tree r.blank ≡ false → is_blank_rest rest ≡ false → ReadyWith d defined r (line ∷ lines) o
       → (let q : Reading = item_finished_by r o in ReadyAt d defined q.tree q.blank (Inside (at_rest line rest)) lines)
-  entered_with None h ready = ready_enter d defined r.tree r.blank line lines rest goes ready
-  entered_with (Some e) h ready = subst (λ (q : Reading). ReadyAt d defined q.tree q.blank (Inside (at_rest line rest)) lines)
+  entered_with None stays h ready = ready_enter d defined r.tree r.blank line lines rest goes stays ready
+  entered_with (Some e) stays h ready = subst (λ (q : Reading). ReadyAt d defined q.tree q.blank (Inside (at_rest line rest)) lines)
       (sym (finished_is e ready r.blank refl)) (emptied_ends e ready r.blank refl h ready.ready)
 
   -- the place in a line that isn't blank, where all open containers continue it
-  pub ready_line : is_blank_rest rest ≡ false → Ready d defined r (line ∷ lines)
+  pub ready_line : ends_here d.options r.tree r.blank ≡ false → is_blank_rest rest ≡ false → Ready d defined r (line ∷ lines)
       → ReadyAt d defined (item_finished r).tree (item_finished r).blank (Inside (at_rest line rest)) lines
   unfolding Ready item_finished
-  ready_line h ready = entered_with r.empty_item h ready
+  ready_line stays h ready = entered_with r.empty_item stays h ready

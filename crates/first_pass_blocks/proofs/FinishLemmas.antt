@@ -15,14 +15,14 @@ use Rattle.first_pass_grammar.specs.Skeleton.{Inside, Opening, Opens}
 use Rattle.first_pass_grammar.specs.Derivation.{Tables, node_of, list_flags}
 use Rattle.first_pass_grammar.specs.Completion.{flagged, Frame, InContainer, InList, IsPlain}
 use Rattle.first_pass_grammar.proofs.Finishes.{CompletesAt}
-use Rattle.first_pass_grammar.proofs.Completions.{reflagged, loosened_in, OpensAway, OpensBlock, completes-note, completes-reflag}
+use Rattle.first_pass_grammar.proofs.Completions.{StaysAt, reflagged, loosened_in, OpensAway, OpensBlock, completes-note, completes-reflag}
 use Rattle.first_pass_open.specs.OpenBlock.{closed_by}
 use Rattle.first_pass_lists.specs.Closing.{loosened_by, loosened_at, top_body, is_list, popped_by, popped, item_finished_by, item_finished, list_left, gap_tree}
 use Rattle.first_pass_lists.specs.Closing.{gap_noted, list_finished}
 use Rattle.first_pass_lists.specs.declared.reading.Reading.{Reading}
 use Rattle.first_pass_open.specs.Path.{container_of, with_container, path_in, path_of}
 use Rattle.first_pass_blocks.specs.State.{frame_of, frame_at, AreOpen, ReadyAt}
-use Rattle.first_pass_blocks.proofs.OpenLemmas.{open_path, open_stays, open_below}
+use Rattle.first_pass_blocks.proofs.OpenLemmas.{open_path, open_below}
 use Rattle.first_pass_tree.proofs.BodyLemmas.{body-other, body-later, body-changed, changed_alike}
 use Rattle.first_pass_blocks.proofs.ListLemmas.{open_flags}
 use Rattle.first_pass_blocks.proofs.PopLemmas.{list_popped, leave_list}
@@ -38,21 +38,22 @@ abbrev pub EndsListAt : ℕ → Option ItemBody → Opening → Type 0
 EndsListAt at (Some (ListBody flags byte number)) opening = OpensAway byte at opening
 EndsListAt at _ opening = Unit {0}
 
-no_list_frame : (b : Option ItemBody) (byte : ℕ) (loose : Bool) → option_and_then frame_of b ≡ Some (InList byte loose) → is_list b ≡ false → ⊥
-no_list_frame None byte loose h n = cc
-no_list_frame (Some (ListBody flags list number)) byte loose h n = cc
-no_list_frame (Some b) byte loose h n = cc
+no_list_frame : (options : Options) (b : Option ItemBody) (byte : ℕ) (loose : Bool) → option_and_then (frame_of options) b ≡ Some (InList byte loose)
+    → is_list b ≡ false → ⊥
+no_list_frame options None byte loose h n = cc
+no_list_frame options (Some (ListBody flags list number)) byte loose h n = cc
+no_list_frame options (Some b) byte loose h n = cc
 
-pub plain_by : (nodes : List (ℕ × Item)) (s : List TreeIndex) (frames : List Frame)
-    → AreOpen nodes s frames → is_list (option_and_then (λ (ix : TreeIndex). body_at nodes ix.0) (slice_get s 0)) ≡ false → IsPlain frames
-plain_by nodes [] [] o n = tt
-plain_by nodes [] (frame ∷ frames) o n = absurd o
-plain_by nodes (ix ∷ s) [] o n = absurd o
-plain_by nodes (ix ∷ s) (InContainer c ∷ frames) o n = tt
-plain_by nodes (ix ∷ s) (InList byte loose ∷ frames) o n = absurd (no_list_frame (body_at nodes ix.0) byte loose o.0 n)
+pub plain_by : (options : Options) (nodes : List (ℕ × Item)) (s : List TreeIndex) (frames : List Frame)
+    → AreOpen options nodes s frames → is_list (option_and_then (λ (ix : TreeIndex). body_at nodes ix.0) (slice_get s 0)) ≡ false → IsPlain frames
+plain_by options nodes [] [] o n = tt
+plain_by options nodes [] (frame ∷ frames) o n = absurd o
+plain_by options nodes (ix ∷ s) [] o n = absurd o
+plain_by options nodes (ix ∷ s) (InContainer c ∷ frames) o n = tt
+plain_by options nodes (ix ∷ s) (InList byte loose ∷ frames) o n = absurd (no_list_frame options (body_at nodes ix.0) byte loose o.0 n)
 
 -- what is closed is no container
-path_left : (options : Options) (r : Reading) (at : ℕ) (s : List TreeIndex) (b : Option ItemBody)
+pub path_left : (options : Options) (r : Reading) (at : ℕ) (s : List TreeIndex) (b : Option ItemBody)
     → r.tree.spine ≡ s → option_and_then (λ (ix : TreeIndex). body_at r.tree.nodes ix.0) (slice_get s 0) ≡ b
     → path_of options (if is_list b then popped at r else r).tree ≡ path_of options r.tree
 path_left options r at [] None spine is = refl
@@ -65,19 +66,19 @@ path_left options r at (ix ∷ rest) (Some (ListBody flags list number)) spine i
 path_left options r at (ix ∷ rest) (Some b) spine is = refl
 
 module _ (d : Document) (defined : Tables) (r : Reading) (p : Place) (lines : List Place) (at : ℕ) (opening : Opening) (forest : IsForest r.tree)
-    (opens : Opens d (path_of d.options r.tree) p lines opening) where
+    (stays : StaysAt d (path_of d.options r.tree) p) (opens : Opens d (path_of d.options r.tree) p lines opening) where
   left_by : (s : List TreeIndex) (b : Option ItemBody) → r.tree.spine ≡ s → option_and_then (λ (ix : TreeIndex). body_at r.tree.nodes ix.0) (slice_get s 0) ≡ b
       → EndsListAt at b opening → ReadyAt d defined r.tree r.blank (Inside p) lines
       → ReadyPlain d defined (if is_list b then popped at r else r).tree r.blank p lines
   left_by [] None spine is away ready = (
     ready,
-    plain_by r.tree.nodes r.tree.spine ready.frames ready.are_open
+    plain_by d.options r.tree.nodes r.tree.spine ready.frames ready.are_open
         (ap (λ (s : List TreeIndex). is_list (option_and_then (λ (ix : TreeIndex). body_at r.tree.nodes ix.0) (slice_get s 0))) spine),
   )
   left_by [] (Some b) spine is away ready = cc
   left_by (ix ∷ rest) None spine is away ready = (
     ready,
-    plain_by r.tree.nodes r.tree.spine ready.frames ready.are_open
+    plain_by d.options r.tree.nodes r.tree.spine ready.frames ready.are_open
         (ap (λ (s : List TreeIndex). is_list (option_and_then (λ (ix : TreeIndex). body_at r.tree.nodes ix.0) (slice_get s 0))) spine ∙ ap is_list is),
   )
   left_by (ix ∷ rest) (Some (ListBody flags list number)) spine is away ready =
@@ -85,18 +86,18 @@ module _ (d : Document) (defined : Tables) (r : Reading) (p : Place) (lines : Li
       ap (path_in d.options r.tree.nodes) spine
       ∙ ap (λ o. with_container (option_and_then (container_of d.options) o) (path_in d.options r.tree.nodes rest)) is in
       let q = leave_list d defined r.tree r.blank lines at ix rest flags list number forest spine is p opening
-      (subst (λ z. Opens d z p lines opening) path opens) away ready in
+      (subst (λ z. StaysAt d z p) path stays) (subst (λ z. Opens d z p lines opening) path opens) away ready in
       let now : (popped at r).tree ≡ list_popped r.tree at ix rest flags =
       ap (λ (q : Reading). q.tree) (popped_is at r ix rest spine ∙ ap (popped_by r (closed_by r.tree at (ix ∷ rest)) ix) is) in
       subst (λ f. ReadyPlain d defined f r.blank p lines) (sym now) q
   left_by (ix ∷ rest) (Some b) spine is away ready = (
     ready,
-    plain_by r.tree.nodes r.tree.spine ready.frames ready.are_open
+    plain_by d.options r.tree.nodes r.tree.spine ready.frames ready.are_open
         (ap (λ (s : List TreeIndex). is_list (option_and_then (λ (ix : TreeIndex). body_at r.tree.nodes ix.0) (slice_get s 0))) spine ∙ ap is_list is),
   )
 
   -- the list that is innermost, if one is, closed
-  ready_left : EndsListAt at (top_body r.tree) opening → ReadyAt d defined r.tree r.blank (Inside p) lines
+  pub ready_left : EndsListAt at (top_body r.tree) opening → ReadyAt d defined r.tree r.blank (Inside p) lines
       → ReadyPlain d defined (list_left at r).tree r.blank p lines
   ready_left away ready = left_by r.tree.spine (top_body r.tree) refl refl away ready
 
@@ -155,27 +156,28 @@ loosened_paths options f ix (Some (ListBody flags list number)) is s =
 loosened_paths options f ix (Some b) is s = refl
 
 -- the frame of a list that is made loose
-pub loose_frame : (f : Forest Item) (ix : TreeIndex) (flags : ListFlags) (list number byte : ℕ) (loose : Bool)
-    → body_at f.nodes ix.0 ≡ Some (ListBody flags list number) → frame_at f.nodes ix.0 ≡ Some (InList byte loose)
-    → frame_at (loosened_at f ix).nodes ix.0 ≡ Some (InList byte (loose || true))
-loose_frame f ix flags list number byte loose is framed =
-    let set = open_flags flags list number byte loose (sym (ap (option_and_then frame_of) is) ∙ framed) in
+pub loose_frame : (options : Options) (f : Forest Item) (ix : TreeIndex) (flags : ListFlags) (list number byte : ℕ) (loose : Bool)
+    → body_at f.nodes ix.0 ≡ Some (ListBody flags list number) → frame_at options f.nodes ix.0 ≡ Some (InList byte loose)
+    → frame_at options (loosened_at f ix).nodes ix.0 ≡ Some (InList byte (loose || true))
+loose_frame options f ix flags list number byte loose is framed =
+    let set = open_flags options flags list number byte loose (sym (ap (option_and_then (frame_of options)) is) ∙ framed) in
     let now : body_at (loosened_at f ix).nodes ix.0 ≡ Some (ListBody (list_flags false) list number) =
     ap (λ b. body_at (loosened_by f ix b).nodes ix.0) is
     ∙ body-changed f.nodes ix.0 _ (ListBody flags list number) (ListBody (list_flags false) list number) is (λ x h. refl) in
-    ap (option_and_then frame_of) now ∙ ap (λ b. Some (InList b true)) set.0 ∙ ap (λ l. Some (InList byte l)) (sym (or_true loose))
+    ap (option_and_then (frame_of options)) now ∙ ap (λ b. Some (InList b true)) set.0 ∙ ap (λ l. Some (InList byte l)) (sym (or_true loose))
 
 module _ (d : Document) (defined : Tables) (f : Forest Item) (p : Place) (lines : List Place) (opening : Opening)
-    (opens : Opens d (path_of d.options f) p lines opening) (block : OpensBlock opening) where
+    (stays : StaysAt d (path_of d.options f) p) (opens : Opens d (path_of d.options f) p lines opening) (block : OpensBlock opening) where
   noted_at : (frames : List Frame) (run : Bool)
-      → IsPlain frames → AreOpen f.nodes f.spine frames → CompletesAt d defined run frames f.nodes (map (λ i. i.0) f.spine) (Inside p) lines
+      → IsPlain frames → AreOpen d.options f.nodes f.spine frames → CompletesAt d defined run frames f.nodes (map (λ i. i.0) f.spine) (Inside p) lines
       → CompletesAt d defined false (loosened_in run frames) f.nodes (map (λ i. i.0) f.spine) (Inside p) lines
   noted_at frames run plain o k =
-      completes-note d defined run frames f.nodes (map (λ i. i.0) f.spine) p lines opening plain (open_stays d f.nodes f.spine frames o p)
+      completes-note d defined run frames f.nodes (map (λ i. i.0) f.spine) p lines opening plain
+      (subst (λ z. StaysAt d z p) (open_path d.options f.nodes f.spine frames o) stays)
       (subst (λ z. Opens d z p lines opening) (open_path d.options f.nodes f.spine frames o) opens) block k
 
   -- where no list is around what is innermost
-  noted_still : (frames : List Frame) → loosened_in true frames ≡ frames → IsPlain frames → AreOpen f.nodes f.spine frames
+  noted_still : (frames : List Frame) → loosened_in true frames ≡ frames → IsPlain frames → AreOpen d.options f.nodes f.spine frames
       → CompletesAt d defined true frames f.nodes (map (λ i. i.0) f.spine) (Inside p) lines → ReadyPlain d defined f false p lines
   noted_still frames same plain o k =
       let q : ReadyAt d defined f false (Inside p) lines = record {
@@ -185,33 +187,35 @@ module _ (d : Document) (defined : Tables) (f : Forest Item) (p : Place) (lines 
       } in
       (q, plain)
 
-  no_list_at : (b : Option ItemBody) (c : Container) → option_and_then frame_of b ≡ Some (InContainer c) → (ix : TreeIndex) → loosened_by f ix b ≡ f
+  no_list_at : (b : Option ItemBody) (c : Container) → option_and_then (frame_of d.options) b ≡ Some (InContainer c) → (ix : TreeIndex) → loosened_by f ix b ≡ f
   no_list_at None c h ix = refl
   no_list_at (Some (ListBody flags list number)) c h ix = absurd (not_container (flags.0 == 1) (flags.0 == 0) list c h)
   no_list_at (Some b) c h ix = refl
 
   list_at : (b : Option ItemBody) (byte : ℕ) (loose : Bool)
-      → option_and_then frame_of b ≡ Some (InList byte loose) → (flags : ListFlags) × (list : ℕ) × (number : ℕ) × (b ≡ Some (ListBody flags list number))
+      → option_and_then (frame_of d.options) b ≡ Some (InList byte loose)
+      → (flags : ListFlags) × (list : ℕ) × (number : ℕ) × (b ≡ Some (ListBody flags list number))
   list_at None byte loose h = cc
   list_at (Some (ListBody flags list number)) byte loose h = (flags, list, number, refl)
   list_at (Some b) byte loose h = cc
 
-  noted_by : (s : List TreeIndex) (frames : List Frame) → f.spine ≡ s → IsPlain frames → AreOpen f.nodes s frames
+  noted_by : (s : List TreeIndex) (frames : List Frame) → f.spine ≡ s → IsPlain frames → AreOpen d.options f.nodes s frames
       → CompletesAt d defined true frames f.nodes (map (λ i. i.0) s) (Inside p) lines → ReadyPlain d defined (gap_tree f s) false p lines
-  noted_by [] [] spine plain o k = noted_still [] refl tt (subst (λ z. AreOpen f.nodes z []) (sym spine) o)
+  noted_by [] [] spine plain o k = noted_still [] refl tt (subst (λ z. AreOpen d.options f.nodes z []) (sym spine) o)
       (subst (λ z. CompletesAt d defined true [] f.nodes (map (λ i. i.0) z) (Inside p) lines) (sym spine) k)
   noted_by [] (frame ∷ frames) spine plain o k = absurd o
   noted_by (ix ∷ s) [] spine plain o k = absurd o
   noted_by (ix ∷ s) (InList byte loose ∷ frames) spine plain o k = absurd plain
   noted_by (ix ∷ []) (InContainer c ∷ []) spine plain o k =
-      noted_still (InContainer c ∷ []) refl tt (subst (λ z. AreOpen f.nodes z (InContainer c ∷ [])) (sym spine) o)
+      noted_still (InContainer c ∷ []) refl tt (subst (λ z. AreOpen d.options f.nodes z (InContainer c ∷ [])) (sym spine) o)
       (subst (λ z. CompletesAt d defined true (InContainer c ∷ []) f.nodes (map (λ i. i.0) z) (Inside p) lines) (sym spine) k)
   noted_by (ix ∷ []) (InContainer c ∷ frame ∷ frames) spine plain o k = absurd o.1
   noted_by (ix ∷ jx ∷ s) (InContainer c ∷ []) spine plain o k = absurd o.1
   noted_by (ix ∷ jx ∷ s) (InContainer c ∷ InContainer b ∷ frames) spine plain o k =
       let same : loosened_at f jx ≡ f = no_list_at (body_at f.nodes jx.0) b o.1.0 jx in
       subst (λ g. ReadyPlain d defined g false p lines) (sym same)
-      (noted_still (InContainer c ∷ InContainer b ∷ frames) refl tt (subst (λ z. AreOpen f.nodes z (InContainer c ∷ InContainer b ∷ frames)) (sym spine) o)
+      (noted_still (InContainer c ∷ InContainer b ∷ frames) refl tt
+      (subst (λ z. AreOpen d.options f.nodes z (InContainer c ∷ InContainer b ∷ frames)) (sym spine) o)
       (subst (λ z. CompletesAt d defined true (InContainer c ∷ InContainer b ∷ frames) f.nodes (map (λ i. i.0) z) (Inside p) lines) (sym spine) k))
   noted_by (ix ∷ jx ∷ s) (InContainer c ∷ InList byte loose ∷ frames) spine plain o k =
       let b = list_at (body_at f.nodes jx.0) byte loose o.1.0 in
@@ -221,15 +225,17 @@ module _ (d : Document) (defined : Tables) (f : Forest Item) (p : Place) (lines 
       let below : jx.0 < ix.0 = k.below.1.0 in
       let now : Forest Item = with_body_at f jx (ListBody (list_flags false) b.1 b.2) in
       let named : g ≡ now = ap (loosened_by f jx) b.3 in
-      let top : frame_at g.nodes ix.0 ≡ Some (InContainer c) = ap (λ (z : Forest Item). frame_at z.nodes ix.0) named ∙ ap (option_and_then frame_of)
+      let top : frame_at d.options g.nodes ix.0 ≡ Some (InContainer c) =
+      ap (λ (z : Forest Item). frame_at d.options z.nodes ix.0) named ∙ ap (option_and_then (frame_of d.options))
       (body-later f.nodes jx.0 ix.0 (λ x. record { start = x.start; «end» = x.«end»; body = ListBody (list_flags false) b.1 b.2 }) below) ∙ o.0 in
-      let outer : AreOpen g.nodes s frames =
-      subst (λ (z : Forest Item). AreOpen z.nodes s frames) (sym named)
-      (open_below f.nodes now.nodes jx.0 s frames (λ i h. ap (option_and_then frame_of)
+      let outer : AreOpen d.options g.nodes s frames =
+      subst (λ (z : Forest Item). AreOpen d.options z.nodes s frames) (sym named)
+      (open_below d.options f.nodes now.nodes jx.0 s frames (λ i h. ap (option_and_then (frame_of d.options))
       (body-other f.nodes jx.0 i (λ x. record { start = x.start; «end» = x.«end»; body = ListBody (list_flags false) b.1 b.2 }) h)) k.below.1.1 o.1.1) in
       let noted : CompletesAt d defined false (InContainer c ∷ InList byte (loose || true) ∷ frames) f.nodes (ix.0 ∷ jx.0 ∷ map (λ i. i.0) s) (Inside p) lines =
       subst (λ z. CompletesAt d defined false (InContainer c ∷ InList byte (loose || true) ∷ frames) f.nodes (map (λ i. i.0) z) (Inside p) lines) spine
-      (noted_at (InContainer c ∷ InList byte loose ∷ frames) true tt (subst (λ z. AreOpen f.nodes z (InContainer c ∷ InList byte loose ∷ frames)) (sym spine) o)
+      (noted_at (InContainer c ∷ InList byte loose ∷ frames) true tt
+      (subst (λ z. AreOpen d.options f.nodes z (InContainer c ∷ InList byte loose ∷ frames)) (sym spine) o)
       (subst (λ z. CompletesAt d defined true (InContainer c ∷ InList byte loose ∷ frames) f.nodes (map (λ i. i.0) z) (Inside p) lines) (sym spine) k)) in
       let flagged_now = completes-reflag d defined false c byte (loose || true) true frames f.nodes ix.0 jx.0 (map (λ i. i.0) s) (Inside p) lines noted in
       let done : CompletesAt d defined false (InContainer c ∷ InList byte (loose || true) ∷ frames) g.nodes (ix.0 ∷ jx.0 ∷ map (λ i. i.0) s) (Inside p) lines =
@@ -237,15 +243,15 @@ module _ (d : Document) (defined : Tables) (f : Forest Item) (p : Place) (lines 
       (sym nodes) flagged_now in
       let q : ReadyAt d defined g false (Inside p) lines = record {
         frames = InContainer c ∷ InList byte (loose || true) ∷ frames;
-        are_open = subst (λ z. AreOpen g.nodes z (InContainer c ∷ InList byte (loose || true) ∷ frames)) (sym same)
-            (top, (loose_frame f jx b.0 b.1 b.2 byte loose b.3 o.1.0, outer));
+        are_open = subst (λ z. AreOpen d.options g.nodes z (InContainer c ∷ InList byte (loose || true) ∷ frames)) (sym same)
+            (top, (loose_frame d.options f jx b.0 b.1 b.2 byte loose b.3 o.1.0, outer, refl), o.2);
         completes = subst (λ z. CompletesAt d defined false (InContainer c ∷ InList byte (loose || true) ∷ frames) g.nodes (map (λ i. i.0) z) (Inside p) lines)
             (sym same) done;
       } in
       (q, tt)
 
   -- a blank line before a block noted
-  ready_noted : (run : Bool) → ReadyPlain d defined f run p lines → ReadyPlain d defined (if run then gap_tree f f.spine else f) false p lines
+  pub ready_noted : (run : Bool) → ReadyPlain d defined f run p lines → ReadyPlain d defined (if run then gap_tree f f.spine else f) false p lines
   ready_noted true (q, plain) = noted_by f.spine q.frames refl plain q.are_open q.completes
   ready_noted false q = q
 
@@ -269,7 +275,7 @@ pub record Finished (d : Document) (defined : Tables) (old new : Reading) (p : P
   pub blank : new.blank ≡ false
   pub none : new.empty_item ≡ None
 
-noted_as : (d : Document) (defined : Tables) (r : Reading) (p : Place) (lines : List Place) (run : Bool)
+pub noted_as : (d : Document) (defined : Tables) (r : Reading) (p : Place) (lines : List Place) (run : Bool)
     → r.blank ≡ run → r.empty_item ≡ None → ReadyPlain d defined (if run then gap_tree r.tree r.tree.spine else r.tree) false p lines
     → (let q : Reading = if run then record r { tree = gap_tree r.tree r.tree.spine; blank = false } else r in
     ReadyPlain d defined q.tree false p lines × (path_of d.options q.tree ≡ path_of d.options r.tree) × (q.blank ≡ false) × (q.empty_item ≡ None))
@@ -278,17 +284,19 @@ noted_as d defined r p lines false is none ready = (ready, refl, is, none)
 
 -- a new block ends the list that is innermost, and a blank line before it is noted
 pub ready_finished : (d : Document) (defined : Tables) (r : Reading) (p : Place) (lines : List Place) (at : ℕ) (opening : Opening)
-    → IsForest r.tree → Opens d (path_of d.options r.tree) p lines opening → OpensBlock opening → EndsListAt at (top_body r.tree) opening
-    → r.empty_item ≡ None → ReadyAt d defined r.tree r.blank (Inside p) lines → Finished d defined r (list_finished at r) p lines
+    → IsForest r.tree → StaysAt d (path_of d.options r.tree) p → Opens d (path_of d.options r.tree) p lines opening → OpensBlock opening
+    → EndsListAt at (top_body r.tree) opening → r.empty_item ≡ None → ReadyAt d defined r.tree r.blank (Inside p) lines
+    → Finished d defined r (list_finished at r) p lines
 unfolding list_finished item_finished
-ready_finished d defined r p lines at opening forest opens block away none ready =
+ready_finished d defined r p lines at opening forest stays opens block away none ready =
     let l : Reading = list_left at r in
-    let kept = kept_left d defined r p lines at opening forest opens r.tree.spine (top_body r.tree) refl refl in
+    let kept = kept_left d defined r p lines at opening forest stays opens r.tree.spine (top_body r.tree) refl refl in
     let path : path_of d.options l.tree ≡ path_of d.options r.tree = path_left d.options r at r.tree.spine (top_body r.tree) refl refl in
-    let left : ReadyPlain d defined l.tree r.blank p lines = ready_left d defined r p lines at opening forest opens away ready in
+    let left : ReadyPlain d defined l.tree r.blank p lines = ready_left d defined r p lines at opening forest stays opens away ready in
     let left' : ReadyPlain d defined l.tree l.blank p lines = subst (λ t. ReadyPlain d defined l.tree t p lines) (sym kept.0) left in
     let noted : ReadyPlain d defined (if l.blank then gap_tree l.tree l.tree.spine else l.tree) false p lines =
-    ready_noted d defined l.tree p lines opening (subst (λ z. Opens d z p lines opening) (sym path) opens) block l.blank left' in
+    ready_noted d defined l.tree p lines opening (subst (λ z. StaysAt d z p) (sym path) stays)
+    (subst (λ z. Opens d z p lines opening) (sym path) opens) block l.blank left' in
     let done = noted_as d defined l p lines l.blank refl (kept.1 ∙ none) noted in
     let same : item_finished_by r r.empty_item ≡ r = ap (item_finished_by r) none in
     subst (λ q. Finished d defined r (gap_noted (list_left at q)) p lines) (sym same)

@@ -11,7 +11,7 @@ use Rattle.first_pass_lines.specs.Places.{Place, place_at, line_rest, offset, li
 use Rattle.first_pass_lines.proofs.LineFacts.{line_len-within}
 use Rattle.first_pass_lines.proofs.PlaceFacts.{line_is_place, start_of-lines}
 use Rattle.first_pass_grammar.specs.declared.kind.Container.{Container}
-use Rattle.first_pass_grammar.specs.Containers.{at_rest, after, taken}
+use Rattle.first_pass_grammar.specs.Containers.{at_rest, after, taken, in_old_footnote}
 use Rattle.first_pass_grammar.specs.Kinds.{is_blank_rest}
 use Rattle.first_pass_grammar.specs.Extents.{Extent, Stops, GoesOn, extent_by, extent, judged, in_containers}
 use Rattle.first_pass_grammar.specs.HtmlBlocks.{blank_judge, until_blank}
@@ -77,12 +77,12 @@ line_by path line q (Some r) h = let e : at_rest line r ≡ q = cc in (r, refl, 
 
 -- What is remembered after such a block is in order up to where reading continues, or the blank line is handed on there.
 pub ordered_stopped : (options : Options) (text : List ℕ) (r : Reading) (path : List Container) (e : Extent) (next : ℕ)
-    → IsCharBoundary text next → r.empty_item ≡ None → path_of options r.tree ≡ path → StopsBlank (length text) path e → lines_from text next ≡ e.left
-    → IsOrderedAt text r e.«end» → IsOrderedFrom options text r next
-ordered_stopped options text r path e next b none path_is (inl h) left o =
+    → IsCharBoundary text next → r.empty_item ≡ None → (in_old_footnote path ≡ true → r.blank ≡ false) → path_of options r.tree ≡ path
+    → StopsBlank (length text) path e → lines_from text next ≡ e.left → IsOrderedAt text r e.«end» → IsOrderedFrom options text r next
+ordered_stopped options text r path e next b none uncounted path_is (inl h) left o =
     let there = start_of-lines text next b.0 in
     inl (subst (IsOrderedAt text r) (h ∙ ap (start_of (length text)) (sym left) ∙ there) o)
-ordered_stopped options text r path e next b none path_is (inr (line, lines, q, e_left, took, blank, at)) left o =
+ordered_stopped options text r path e next b none uncounted path_is (inr (line, lines, q, e_left, took, blank, at)) left o =
     let f = first_line text next line lines (sym (left ∙ e_left)) in
     let found = line_by path line q (after path line.rest) took in
     let s : Rest = found.0 in
@@ -93,6 +93,7 @@ ordered_stopped options text r path e next b none path_is (inr (line, lines, q, 
       taken = ap (λ z. after z (line_rest (drop next text))) path_is ∙ ap (λ (z : Place). after path z.rest) (sym f.1) ∙ found.1;
       blank = ap (λ (z : Place). is_blank_rest z.rest) (sym found.2) ∙ blank;
       none = none;
+      uncounted = λ old. uncounted (sym (ap in_old_footnote path_is) ∙ old);
       ordered = subst (IsOrderedTo text r.tree) there (ordered_tree text r e.«end» none o);
     })
 

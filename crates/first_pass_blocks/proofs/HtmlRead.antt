@@ -80,7 +80,7 @@ html_read old new p at columns next u i empty forest forest_after kind columns_i
       named = λ h. block_added now (names_of (allocs_of old)) q.tree tree added.items adds.names added.tree_is
           (kind_named text options now p HtmlToBlank false q.tree tree next added) (list_finished_named (names_of (allocs_of old)) p.line r h);
       written = written_stay text (allocs_of old) (allocs_of new) adds.entries;
-      order = λ o. ordered_stopped options text (reading_of new) (path_of options q.tree) e next behind.1 none path
+      order = λ o. ordered_stopped options text (reading_of new) (path_of options q.tree) e next behind.1 none (λ old. blank) path
           (html_stops (length text) (path_of options q.tree) z (lines_from text (behind_line_at text (offset z)))) block.left_is
           (block_ordered text q (reading_of new) at at e.«end»
           (ordered_none text q at (list_finished_none p.line r) begins.0

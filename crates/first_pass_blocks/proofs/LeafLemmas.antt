@@ -31,7 +31,7 @@ use Rattle.first_pass_grammar.specs.Tables.{taking}
 use Rattle.first_pass_grammar.specs.Texts.{IsText}
 use Rattle.first_pass_grammar.specs.Completion.{lines_from, Frame, containers_of, AreBelow}
 use Rattle.first_pass_grammar.proofs.Finishes.{CompletesAt, before_of}
-use Rattle.first_pass_grammar.proofs.Completions.{leaf_closes, completes-leaf, completes-blank, completes-block, completes-text, counts_in}
+use Rattle.first_pass_grammar.proofs.Completions.{leaf_closes, opens_stays, completes-leaf, completes-blank, completes-block, completes-text, counts_in}
 use Rattle.first_pass_open.specs.Between.{line_end_at}
 use Rattle.first_pass_text.specs.Appends.{AddsHeading}
 use Rattle.first_pass_blocks.specs.TextsAdded.{IsTextAt}
@@ -42,7 +42,7 @@ use Rattle.first_pass_blocks.specs.State.{AreOpen, ReadyAt, Ready}
 use Rattle.first_pass_blocks.specs.Positions.{ReadyText, ReadyLazy, ReadyLeaf}
 use Rattle.first_pass_blocks.proofs.LineLemmas.{list_finished_none}
 use Rattle.first_pass_blocks.proofs.HandedOn.{list_finished_blank}
-use Rattle.first_pass_blocks.proofs.OpenLemmas.{open_path, open_stays, open_below, frame-append}
+use Rattle.first_pass_blocks.proofs.OpenLemmas.{open_path, open_below, frame-append}
 use Rattle.first_pass_kinds.proofs.KindLemmas.{kind_says}
 use Rattle.first_pass_blocks.proofs.RuleLemmas.{rule_line}
 use Rattle.first_pass_blocks.proofs.StateLemmas.{ready_plain}
@@ -52,6 +52,8 @@ use Rattle.first_pass_blocks.proofs.EnterLemmas.{ready_blank}
 use Rattle.first_pass_blocks.proofs.TagLemmas.{finishes_nothing, quote_counts}
 use Rattle.first_pass_items.specs.declared.item.BlockQuoteKind.{BlockQuoteKind}
 use Rattle.first_pass_grammar.specs.Skeleton.{OpensBy}
+use Rattle.first_pass_grammar.specs.Footnotes.{footnote_head_at}
+use Rattle.first_pass_blocks.proofs.OpenerLemmas.{opens_bare}
 use Rattle.first_pass_grammar.proofs.OpenerFacts.{start_none}
 
 -- The line of a text ends where its line ends.
@@ -62,11 +64,12 @@ line_end_of text p i =
     omega arith
 
 -- where no container begins, what the kind of the place says
-no_container : (d : Document) (path : List Container) (p : Place) (lines : List Place) (k : Kind) (o : Opening) → item_at p.rest ≡ None
+no_container : (d : Document) (path : List Container) (p : Place) (lines : List Place) (k : Kind) (o : Opening)
+    → footnote_head_at (around d path) p ≡ None → item_at p.rest ≡ None
     → prefix (BlockQuote None) p.rest ≡ None → IsKind d.options p.rest k → OpensAs d path p lines (kind_in (around d path) p k) o → Opens d path p lines o
 unfolding OpensBy
-no_container d path p lines k o no_item none kind opens =
-    subst (λ q. OpensBy d path p lines q o) (sym (start_none d.options p no_item none)) (k, kind, opens)
+no_container d path p lines k o bare no_item none kind opens =
+    opens_bare d path p lines o bare (subst (λ q. OpensBy d path p lines q o) (sym (start_none d.options p no_item none)) (k, kind, opens))
 
 -- a block ends any list at the place that it says
 block_away : (b : Option ItemBody) (at : ℕ) (block : LeafBlock) (left : List Place)
@@ -77,7 +80,7 @@ block_away (Some b) at block left closes = tt
 
 -- the items of a block after the nodes
 with_block : (d : Document) (defined : Tables) (f : Forest Item) (frames : List Frame) (items : List (ℕ × Item)) (gap : Bool) (left : List Place)
-    → AreOpen f.nodes f.spine frames
+    → AreOpen d.options f.nodes f.spine frames
     → (
     let os : List ℕ = map (λ (i : TreeIndex). i.0) f.spine in
     AreBelow (length f.nodes) os → CompletesAt d defined gap frames (f.nodes ++ at_depth (suc (length os)) items) os Line left
@@ -86,8 +89,8 @@ with_block d defined f frames items gap left o below k =
     let os : List ℕ = map (λ (i : TreeIndex). i.0) f.spine in
     record {
       frames = frames;
-      are_open = open_below f.nodes (f.nodes ++ at_depth (length f.spine + 1) items) (length f.nodes) f.spine frames
-          (λ i h. frame-append f.nodes (at_depth (length f.spine + 1) items) i h) below o;
+      are_open = open_below d.options f.nodes (f.nodes ++ at_depth (length f.spine + 1) items) (length f.nodes) f.spine frames
+          (λ i h. frame-append d.options f.nodes (at_depth (length f.spine + 1) items) i h) below o;
       completes = subst (λ z. CompletesAt d defined gap frames (f.nodes ++ at_depth z items) os Line left) (depth_of f.spine) k;
     }
 
@@ -104,14 +107,14 @@ added_block : (d : Document) (defined : Tables) (r : Reading) (new : Forest Item
     → ReadyAt d (told defined block.definitions) new block.gap Line left
 added_block d defined r new p lines left at block closes forest opens new_is none ready =
     let opening : Opening = OpensLeaf (Block block) Line left in
-    let done = ready_finished d defined r p lines at opening forest opens tt (block_away (top_body r.tree) at block left closes) none ready in
+    let done = ready_finished d defined r p lines at opening forest (opens_stays d (path_of d.options r.tree) p lines opening refl opens) opens tt
+    (block_away (top_body r.tree) at block left closes) none ready in
     let f : Forest Item = (list_finished at r).tree in
     let frames : List Frame = done.ready.0.frames in
     let os : List ℕ = map (λ (i : TreeIndex). i.0) f.spine in
     let opens' : Opens d (containers_of frames) p lines opening =
     subst (λ z. Opens d z p lines opening) (sym done.path ∙ open_path d.options f.nodes f.spine frames done.ready.0.are_open) opens in
-    let k = completes-block d defined frames f.nodes os p lines left block done.ready.1
-    (open_stays d f.nodes f.spine frames done.ready.0.are_open p) opens' done.ready.0.completes in
+    let k = completes-block d defined frames f.nodes os p lines left block done.ready.1 opens' done.ready.0.completes in
     subst (λ z. ReadyAt d (told defined block.definitions) z block.gap Line left) (sym new_is)
     (with_block d (told defined block.definitions) f frames block.items block.gap left done.ready.0.are_open done.ready.0.completes.below k)
 
@@ -125,7 +128,7 @@ lazy_block d defined r new p lines left at block opens new_is none lazy =
     let f : Forest Item = r.tree in
     let frames : List Frame = lazy.ready.frames in
     let os : List ℕ = map (λ (i : TreeIndex). i.0) f.spine in
-    let plain = plain_by f.nodes f.spine frames lazy.ready.are_open (ap is_list lazy.quote) in
+    let plain = plain_by d.options f.nodes f.spine frames lazy.ready.are_open (ap is_list lazy.quote) in
     let path = open_path d.options f.nodes f.spine frames lazy.ready.are_open in
     let first : IsFirst d (level (containers_of frames) (before_of frames false)) (At p ALeafAlone) lines (OpensLeaf (Block block) Line left) = record {
       place = p;
@@ -144,10 +147,10 @@ pub ready_added : (d : Document) (defined : Tables) (r : Reading) (new : Forest 
     → OpensAs d (path_of d.options r.tree) p lines (kind_in (context_of d.options r.tree) p k) (OpensLeaf (Block block) Line left)
     → new ≡ added (list_finished at r).tree block.items → r.empty_item ≡ None → ReadyLeaf d defined r p lines
     → (empty : Option ℕ) (blank : Bool) → empty ≡ None → blank ≡ block.gap → Ready d (told defined block.definitions) (remembered new empty blank) left
-ready_added d defined r new p lines left at block closes k forest kind opens new_is none (inl (no_item, no_quote, ready)) empty blank e b =
+ready_added d defined r new p lines left at block closes k forest kind opens new_is none (inl (bare, no_item, no_quote, ready)) empty blank e b =
     remembered_so d (told defined block.definitions) new empty blank block.gap left e b
     (added_block d defined r new p lines left at block closes forest
-    (no_container d (path_of d.options r.tree) p lines k (OpensLeaf (Block block) Line left) no_item no_quote kind opens) new_is none ready)
+    (no_container d (path_of d.options r.tree) p lines k (OpensLeaf (Block block) Line left) bare no_item no_quote kind opens) new_is none ready)
 ready_added d defined r new p lines left at block closes k forest kind opens new_is none (inr lazy) empty blank e b =
     remembered_so d (told defined block.definitions) new empty blank block.gap left e b
     (lazy_block d defined r new p lines left at block (k, kind, opens) new_is none lazy)
@@ -159,7 +162,7 @@ kind_blank_is r b kind is = ap (blank_read_by r) is
 pub ready_blank_leaf : (d : Document) (defined : Tables) (r : Reading) (p : Place) (lines : List Place)
     → IsKind d.options p.rest Blank → r.empty_item ≡ None → ReadyLeaf d defined r p lines → Ready d defined (blank_read r) lines
 unfolding blank_read OpensAs going
-ready_blank_leaf d defined r p lines kind none (inl (no_item, no_quote, ready)) =
+ready_blank_leaf d defined r p lines kind none (inl (bare, no_item, no_quote, ready)) =
     ready_blank d defined r p lines (kind_says d.options p.rest Blank kind) none ready
 ready_blank_leaf d defined r p lines kind none (inr lazy) =
     let f : Forest Item = r.tree in
@@ -172,7 +175,7 @@ ready_blank_leaf d defined r p lines kind none (inr lazy) =
       begins = refl;
       opens = (Blank, kind, blank);
     } in
-    let counts : counts_in frames false ≡ false = quote_counts f.nodes f.spine frames lazy.kind lazy.quote lazy.ready.are_open in
+    let counts : counts_in frames false ≡ false = quote_counts d.options f.nodes f.spine frames lazy.kind lazy.quote lazy.ready.are_open in
     let now : ReadyAt d defined f false Line lines = record {
       frames = frames;
       are_open = lazy.ready.are_open;
@@ -280,7 +283,7 @@ added_nothing d defined f run left ready =
     let same : f.nodes ++ [] ≡ f.nodes = append-nil f.nodes in
     record {
       frames = ready.frames;
-      are_open = subst (λ ns. AreOpen ns f.spine ready.frames) same ready.are_open;
+      are_open = subst (λ ns. AreOpen d.options ns f.spine ready.frames) same ready.are_open;
       completes = subst (λ ns. CompletesAt d defined run ready.frames ns (map (λ (i : TreeIndex). i.0) f.spine) Line left) same ready.completes;
     }
 

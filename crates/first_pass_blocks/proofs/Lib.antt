@@ -1,9 +1,14 @@
 pub mod BlockRead
 pub mod CountLemmas
 pub mod DefinitionLemmas
+pub mod EndedLemmas
 pub mod EnterLemmas
 pub mod FinishLemmas
+pub mod FootnoteFound
+pub mod FootnoteLemmas
+pub mod FootnoteSteps
 pub mod HandedOn
+pub mod HeadLemmas
 pub mod HtmlRead
 pub mod KindBlocks
 pub mod LeafAdded
@@ -12,6 +17,7 @@ pub mod LeafRead
 pub mod LineLemmas
 pub mod ListLemmas
 pub mod NamedLemmas
+pub mod OldFootnotes
 pub mod OpenLemmas
 pub mod OpenerLemmas
 pub mod OrderLemmas

@@ -18,12 +18,16 @@ use Rattle.first_pass_grammar.specs.Derivation.{Tables, list_flags}
 use Rattle.first_pass_open.specs.OpenBlock.{closed_by}
 use Rattle.first_pass_grammar.specs.Completion.{lines_from}
 use Rattle.first_pass_lists.specs.Closing.{top_body, is_list, is_list_of, popped_by, popped_at, popped, item_finished_by, item_finished, list_left, gap_tree}
-use Rattle.first_pass_lists.specs.Closing.{list_finished, loosened_top, list_kept, begun, list_continued, blank_read}
+use Rattle.first_pass_lists.specs.Closing.{list_finished, loosened_top, list_kept, begun, list_continued, blank_read, is_footnote, footnote_left}
+use Rattle.first_pass_lists.specs.Closing.{footnote_begun}
+use Rattle.first_pass_items.specs.declared.item.CowIndex.{CowIndex}
 use Rattle.first_pass_lists.specs.declared.reading.Reading.{Reading}
 use Rattle.first_pass_open.specs.Path.{path_in, path_of, outer}
 use Rattle.first_pass_blocks.specs.State.{NoMore, Ready, ReadyAt}
 use Rattle.first_pass_open.proofs.PlaceLemmas.{after_keeps, line_start_end}
 use Rattle.first_pass_blocks.proofs.EnterLemmas.{ready_blank_line, ready_line}
+use Rattle.first_pass_blocks.proofs.OldFootnotes.{ends_here, ended_path, ended_ready}
+use Rattle.first_pass_blocks.specs.Entering.{footnote_ended}
 use Rattle.first_pass_items.specs.declared.option_set.Options.{Options}
 
 -- a line and those after it, of which the containers that don't continue it are closed
@@ -55,22 +59,41 @@ at_line d defined old new start kept line r line_is within spine paths closes ta
           (subst (Ready d defined old) first ready);
     }
 
+-- the same once a footnote definition in the old form has ended there, if one does: what is innermost then doesn't
+pub record IsSettled (d : Document) (defined : Tables) (old new : Reading) (start : ℕ) (r : Rest) : Type 0 where
+  pub goes : after (path_of d.options new.tree) (line_rest (drop start d.text)) ≡ Some r
+  pub ready : Ready d defined old (lines_from d.text start)
+      → Ready d defined new (line_place start (drop start d.text) ∷ lines_from d.text (start + line_len (drop start d.text)))
+      × (ends_here d.options new.tree new.blank ≡ false)
+
+pub settled : (d : Document) (defined : Tables) (old new : Reading) (start : ℕ) (r : Rest) → IsAtLine d defined old new start r
+    → IsSettled d defined old (footnote_ended d.options start new) start r
+settled d defined old new start r line =
+    let here : Place = line_place start (drop start d.text) in
+    let lines : List Place = lines_from d.text (start + line_len (drop start d.text)) in
+    record {
+      goes = ended_path d start new (line_rest (drop start d.text)) ∙ line.goes;
+      ready = λ ready. ended_ready d defined start new here lines refl (line.ready ready);
+    }
+
 -- a blank line read
 pub blank_line_read : (d : Document) (defined : Tables) (old new : Reading) (start : ℕ) (r : Rest)
-    → IsAtLine d defined old new start r → is_some (blank_len r.left) ≡ true → Ready d defined old (lines_from d.text start)
+    → IsSettled d defined old new start r → is_some (blank_len r.left) ≡ true → Ready d defined old (lines_from d.text start)
     → Ready d defined (blank_read new) (lines_from d.text (start + line_len (drop start d.text)))
 blank_line_read d defined old new start r line blank ready =
-    ready_blank_line d defined new (line_place start (drop start d.text)) (lines_from d.text (start + line_len (drop start d.text))) r line.goes blank
-    (line.ready ready)
+    let now = line.ready ready in
+    ready_blank_line d defined new (line_place start (drop start d.text)) (lines_from d.text (start + line_len (drop start d.text))) r line.goes
+    now.1 blank now.0
 
 -- a line that isn't blank
 pub line_entered : (d : Document) (defined : Tables) (old new : Reading) (start : ℕ) (r : Rest)
-    → IsAtLine d defined old new start r → is_some (blank_len r.left) ≡ false → Ready d defined old (lines_from d.text start)
+    → IsSettled d defined old new start r → is_some (blank_len r.left) ≡ false → Ready d defined old (lines_from d.text start)
     → ReadyAt d defined (item_finished new).tree (item_finished new).blank (Inside (place_at start r))
     (lines_from d.text (start + line_len (drop start d.text)))
 line_entered d defined old new start r line blank ready =
-    ready_line d defined new (line_place start (drop start d.text)) (lines_from d.text (start + line_len (drop start d.text))) r line.goes blank
-    (line.ready ready)
+    let now = line.ready ready in
+    ready_line d defined new (line_place start (drop start d.text)) (lines_from d.text (start + line_len (drop start d.text))) r line.goes
+    now.1 blank now.0
 
 none_by : (r : Reading) (o : Option ℕ) → r.empty_item ≡ o → (item_finished_by r o).empty_item ≡ None
 none_by r None h = h
@@ -122,6 +145,15 @@ unfolding list_finished
 list_finished_none e r =
     let l : Reading = list_left e (item_finished r) in
     noted_none l.blank l (gap_tree l.tree l.tree.spine) (left_none (is_list (top_body (item_finished r).tree)) e (item_finished r) (finished_none r))
+
+pub footnote_begun_none : (start : ℕ) (label : CowIndex) (r : Reading) → (footnote_begun start label r).empty_item ≡ None
+unfolding footnote_begun
+footnote_begun_none start label r =
+    let s : Reading = item_finished r in
+    let l : Reading = list_left start s in
+    let q : Reading = footnote_left start l in
+    noted_none q.blank q (gap_tree q.tree q.tree.spine)
+    (left_none (is_footnote (top_body l.tree)) start l (left_none (is_list (top_body s.tree)) start s (finished_none r)))
 
 continued_by : (t : Bool) (start byte number : ℕ) (r : Reading)
     → r.empty_item ≡ None → (if t then list_kept r else begun start (ListBody (list_flags true) byte number) (list_finished start r)).empty_item ≡ None

@@ -5,6 +5,7 @@ use Rattle.std.proofs.lemmas.Bool.Decides.{nat_tests}
 use Rattle.first_pass_items.specs.declared.item.Item.{Item}
 use Rattle.first_pass_items.specs.declared.item.ItemBody.TheVariants.{List as ListBody}
 use Rattle.first_pass_items.specs.declared.item.ListFlags.{ListFlags}
+use Rattle.first_pass_items.specs.declared.option_set.Options.{Options}
 use Rattle.first_pass_tree.specs.declared.tree_index.TreeIndex.{TreeIndex}
 use Rattle.first_pass_tree.specs.Forest.{Forest, IsForest, IsOpenPath, depths, modify, map_from, body_at}
 use Rattle.first_pass_tree.specs.Tight.{tight_body, tightened, tight_run, tight_at, tight_items}
@@ -116,7 +117,7 @@ flags_of : (loose : Bool) (flags : ListFlags) → flags.0 ≡ (if loose then 0 e
 flags_of true flags h = ap (λ n. record { 0 = n }) h
 flags_of false flags h = ap (λ n. record { 0 = n }) h
 
-pub open_flags : (flags : ListFlags) (list number byte : ℕ) (loose : Bool)
-    → frame_of (ListBody flags list number) ≡ Some (InList byte loose) → (list ≡ byte) × (flags ≡ list_flags (not loose))
-open_flags flags list number byte loose h =
+pub open_flags : (options : Options) (flags : ListFlags) (list number byte : ℕ) (loose : Bool)
+    → frame_of options (ListBody flags list number) ≡ Some (InList byte loose) → (list ≡ byte) × (flags ≡ list_flags (not loose))
+open_flags options flags list number byte loose h =
     let f = flags_by (flags.0 == 1) (flags.0 == 0) flags.0 byte list loose refl refl h in (f.0, flags_of loose flags f.1)

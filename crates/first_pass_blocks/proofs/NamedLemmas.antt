@@ -1,5 +1,6 @@
 -- Each index that nodes keep names an entry: what closes nodes and notes blank lines changes no index, and what opens a container adds none.
-use Rattle.std.proofs.Common.{◌≡◌, ℕ, zero, suc, ◌+◌, ◌==◌, ◌&&◌, Bool, true, false, if◌then◌else◌, List, [], ◌∷◌, length, nat_lt, slice_index, Option, Some}
+use Rattle.std.proofs.Common.{◌≡◌, ℕ, zero, suc, ◌+◌, ◌<◌, ◌==◌, ◌&&◌, Bool, true, false, if◌then◌else◌, List, [], ◌∷◌, length, nat_lt, slice_index, Option}
+use Rattle.std.proofs.Common.{Some}
 use Rattle.std.proofs.Common.{None, is_some, refl, sym, subst}
 use Rattle.std.specs.Int.RustNames.{bit_and}
 use Rattle.std.proofs.lemmas.Bool.{cond_both}
@@ -26,7 +27,9 @@ use Rattle.first_pass_blocks.specs.Adding.{AddsKind}
 use Rattle.first_pass_open.specs.OpenBlock.{closed_by, with_child}
 use Rattle.first_pass_lists.specs.Closing.{loosened_by, top_body, is_list, is_list_of, is_item, popped_by, popped_at, popped, item_finished_by, item_finished}
 use Rattle.first_pass_lists.specs.Closing.{list_left, gap_tree, gap_noted, list_finished, loosened_top, list_kept, begun, list_continued, emptied}
-use Rattle.first_pass_lists.specs.Closing.{blank_read_by, blank_read}
+use Rattle.first_pass_lists.specs.Closing.{blank_read_by, blank_read, is_footnote, footnote_left, footnote_begun}
+use Rattle.first_pass_items.specs.declared.item.CowIndex.{CowIndex}
+use Rattle.first_pass_items.specs.declared.item.ItemBody.TheVariants.{FootnoteDefinition as FootnoteDefinitionBody}
 use Rattle.first_pass_lists.specs.declared.reading.Reading.{Reading}
 use Rattle.first_pass_blocks.proofs.OpenerLemmas.{item_opened}
 
@@ -171,6 +174,16 @@ module _ (names : Names) where
   pub quote_named : (line start : ℕ) (body : ItemBody) (r : Reading)
       → NamesEntry names (index_of body) → AreReadNamed r → AreReadNamed (begun start body (list_finished line r))
   quote_named line start body r own h = begun_named start body (list_finished line r) own (list_finished_named line r h)
+
+  note_left_named : (e : ℕ) (r : Reading) → AreReadNamed r → AreReadNamed (footnote_left e r)
+  note_left_named e r h = cond_both (is_footnote (top_body r.tree)) (popped e r) r (λ (q : Reading). AreReadNamed q) (λ b. popped_named e r h) (λ b. h)
+
+  pub note_named : (start : ℕ) (index : CowIndex) (r : Reading) → index.0 < length names.texts → AreReadNamed r → AreReadNamed (footnote_begun start index r)
+  unfolding footnote_begun
+  note_named start index r own h =
+      let l : Reading = list_left start (item_finished r) in
+      begun_named start (FootnoteDefinitionBody index) (gap_noted (footnote_left start l)) own
+      (gap_named (footnote_left start l) (note_left_named start l (left_named start (item_finished r) (item_finished_named r h))))
 
   -- the marker of a task
   none_named : (o : Option Item) (f : Forest Item)

@@ -1,22 +1,15 @@
 -- What the open nodes are, as the tree grows and nodes are closed.
-use Rattle.std.proofs.Common.{◌≡◌, ℕ, zero, suc, ◌<◌, ◌==◌, Bool, true, false, ◌&&◌, not, is_some, List, [], ◌∷◌, ◌++◌, length, map, Option, Some, None}
+use Rattle.std.proofs.Common.{◌≡◌, ℕ, zero, suc, ◌<◌, ◌==◌, Bool, true, false, List, [], ◌∷◌, ◌++◌, length, map, Option, Some, None}
 use Rattle.std.proofs.Common.{refl, sym, ap, ◌∙◌, arith, if◌then◌else◌}
 use Rattle.std.specs.Option.{option_map, option_and_then}
 use Rattle.first_pass_items.specs.declared.item.Item.{Item}
 use Rattle.first_pass_items.specs.declared.item.ItemBody.{ItemBody}
 use Rattle.first_pass_items.specs.declared.item.ItemBody.TheVariants.{BlockQuote as BlockQuoteBody, List as ListBody, ListItem as ListItemBody}
+use Rattle.first_pass_items.specs.declared.item.ItemBody.TheVariants.{FootnoteDefinition as FootnoteDefinitionBody}
 use Rattle.first_pass_tree.specs.declared.tree_index.TreeIndex.{TreeIndex}
 use Rattle.first_pass_tree.specs.Forest.{map_from, body_at}
 use Rattle.first_pass_tree.specs.Tight.{tightened}
 use Rattle.first_pass_grammar.specs.declared.kind.Container.{Container}
-use Rattle.first_pass_grammar.specs.declared.kind.Container.TheVariants.{BlockQuote, ListItem, FootnoteDefinition}
-use Rattle.first_pass_lines.specs.Places.{Place}
-use Rattle.first_pass_grammar.specs.Before.{Before, list_is_open}
-use Rattle.first_pass_grammar.specs.Containers.{is_footnote, is_old_footnote, in_footnote, in_old_footnote}
-use Rattle.first_pass_grammar.specs.Footnotes.{footnote_head_at}
-use Rattle.first_pass_grammar.specs.Leaves.{Document, around}
-use Rattle.first_pass_grammar.specs.Skeleton.{level, ends_old_footnote}
-use Rattle.first_pass_grammar.proofs.Completions.{StaysAt}
 use Rattle.first_pass_grammar.specs.Completion.{ended, list_closed, Frame, InContainer, InList, containers_of, AreBelow}
 use Rattle.first_pass_open.specs.Path.{container_of, with_container, path_in}
 use Rattle.first_pass_blocks.specs.State.{frame_of, frame_at, AreOpen}
@@ -35,13 +28,14 @@ framed_list true b byte = refl
 framed_list false true byte = refl
 framed_list false false byte = refl
 
-container_framed : (options : Options) (b : ItemBody) (frame : Frame) → frame_of b ≡ Some frame → container_of options b ≡ framed (Some frame)
+container_framed : (options : Options) (b : ItemBody) (frame : Frame) → frame_of options b ≡ Some frame → container_of options b ≡ framed (Some frame)
 container_framed options (BlockQuoteBody kind) frame is = ap framed is
 container_framed options (ListItemBody columns) frame is = ap framed is
+container_framed options (FootnoteDefinitionBody label) frame is = ap framed is
 container_framed options (ListBody flags byte number) frame is = sym (framed_list (flags.0 == 1) (flags.0 == 0) byte) ∙ ap framed is
 container_framed options b frame is = cc
 
-container_framed_at : (options : Options) (o : Option ItemBody) (frame : Frame) → option_and_then frame_of o ≡ Some frame
+container_framed_at : (options : Options) (o : Option ItemBody) (frame : Frame) → option_and_then (frame_of options) o ≡ Some frame
     → option_and_then (container_of options) o ≡ framed (Some frame)
 container_framed_at options None frame is = cc
 container_framed_at options (Some b) frame is = container_framed options b frame is
@@ -52,7 +46,7 @@ with_frame (InList byte loose) frames = refl
 
 -- the containers of the frames are those of the path
 pub open_path : (options : Options) (nodes : List (ℕ × Item)) (spine : List TreeIndex) (frames : List Frame)
-    → AreOpen nodes spine frames → path_in options nodes spine ≡ containers_of frames
+    → AreOpen options nodes spine frames → path_in options nodes spine ≡ containers_of frames
 open_path options nodes [] [] o = refl
 open_path options nodes [] (frame ∷ frames) o = absurd o
 open_path options nodes (ix ∷ spine) [] o = absurd o
@@ -60,61 +54,25 @@ open_path options nodes (ix ∷ spine) (frame ∷ frames) o =
     ap (λ c. with_container c (path_in options nodes spine)) (container_framed_at options (body_at nodes ix.0) frame o.0)
     ∙ ap (with_container (framed (Some frame))) (open_path options nodes spine frames o.1) ∙ with_frame frame frames
 
--- What is open is a block quote, an item or a list, and no footnote definition.
-list_no_footnote : (a b : Bool) (byte n : ℕ)
-    → (if a then Some (InList byte false) else (if b then Some (InList byte true) else None)) ≡ Some (InContainer (FootnoteDefinition n)) → ⊥
-list_no_footnote true b byte n h = cc
-list_no_footnote false true byte n h = cc
-list_no_footnote false false byte n h = cc
-
-frame_no_footnote : (o : Option ItemBody) (n : ℕ) → option_and_then frame_of o ≡ Some (InContainer (FootnoteDefinition n)) → ⊥
-frame_no_footnote None n is = cc
-frame_no_footnote (Some (BlockQuoteBody kind)) n is = cc
-frame_no_footnote (Some (ListItemBody columns)) n is = cc
-frame_no_footnote (Some (ListBody flags byte number)) n is = list_no_footnote (flags.0 == 1) (flags.0 == 0) byte n is
-frame_no_footnote (Some b) n is = cc
-
-container_no_footnote : (o : Option ItemBody) (c : Container) → option_and_then frame_of o ≡ Some (InContainer c)
-    → (is_footnote c ≡ false) × (is_old_footnote c ≡ false)
-container_no_footnote o (BlockQuote kind) is = (refl, refl)
-container_no_footnote o (ListItem columns) is = (refl, refl)
-container_no_footnote o (FootnoteDefinition columns) is = absurd (frame_no_footnote o columns is)
-
-no_footnote : (nodes : List (ℕ × Item)) (spine : List TreeIndex) (frames : List Frame)
-    → AreOpen nodes spine frames → (in_footnote (containers_of frames) ≡ false) × (in_old_footnote (containers_of frames) ≡ false)
-no_footnote nodes [] [] o = (refl, refl)
-no_footnote nodes [] (frame ∷ frames) o = absurd o
-no_footnote nodes (ix ∷ spine) [] o = absurd o
-no_footnote nodes (ix ∷ spine) (InContainer c ∷ frames) o = container_no_footnote (body_at nodes ix.0) c o.0
-no_footnote nodes (ix ∷ spine) (InList byte loose ∷ frames) o = no_footnote nodes spine frames o.1
-
--- so none ends at a place, and none before a line
-pub open_stays : (d : Document) (nodes : List (ℕ × Item)) (spine : List TreeIndex) (frames : List Frame)
-    → AreOpen nodes spine frames → (p : Place) → StaysAt d (containers_of frames) p
-open_stays d nodes spine frames o p =
-    ap (λ (t : Bool). t && is_some (footnote_head_at (around d (containers_of frames)) p)) (no_footnote nodes spine frames o).0
-
-pub open_not_old : (nodes : List (ℕ × Item)) (spine : List TreeIndex) (frames : List Frame)
-    → AreOpen nodes spine frames → (before : Before) → ends_old_footnote (level (containers_of frames) before) ≡ false
-open_not_old nodes spine frames o before =
-    ap (λ (t : Bool). t && (before.counted && not (list_is_open before.last))) (no_footnote nodes spine frames o).1
-
 -- what is below a place alone counts
-pub open_below : (nodes other : List (ℕ × Item)) (n : ℕ) (spine : List TreeIndex) (frames : List Frame)
-    → ((i : ℕ) → i < n → frame_at other i ≡ frame_at nodes i) → AreBelow n (map (λ ix. ix.0) spine) → AreOpen nodes spine frames → AreOpen other spine frames
-open_below nodes other n [] [] same below o = tt
-open_below nodes other n [] (frame ∷ frames) same below o = o
-open_below nodes other n (ix ∷ spine) [] same below o = o
-open_below nodes other n (ix ∷ spine) (frame ∷ frames) same below o =
+pub open_below : (options : Options) (nodes other : List (ℕ × Item)) (n : ℕ) (spine : List TreeIndex) (frames : List Frame)
+    → ((i : ℕ) → i < n → frame_at options other i ≡ frame_at options nodes i) → AreBelow n (map (λ ix. ix.0) spine)
+    → AreOpen options nodes spine frames → AreOpen options other spine frames
+open_below options nodes other n [] [] same below o = tt
+open_below options nodes other n [] (frame ∷ frames) same below o = o
+open_below options nodes other n (ix ∷ spine) [] same below o = o
+open_below options nodes other n (ix ∷ spine) (frame ∷ frames) same below o =
     let b : ix.0 < n = below.0 in
-    (same ix.0 b ∙ o.0, open_below nodes other ix.0 spine frames (λ i h. same i (omega arith)) below.1 o.1)
+    (same ix.0 b ∙ o.0, open_below options nodes other ix.0 spine frames (λ i h. same i (omega arith)) below.1 o.1, o.2)
 
-frame_by : (a b : Option ItemBody) → a ≡ b → option_and_then frame_of a ≡ option_and_then frame_of b
-frame_by a b e = ap (option_and_then frame_of) e
+frame_by : (options : Options) (a b : Option ItemBody) → a ≡ b → option_and_then (frame_of options) a ≡ option_and_then (frame_of options) b
+frame_by options a b e = ap (option_and_then (frame_of options)) e
 
 -- more nodes
-pub frame-append : (nodes more : List (ℕ × Item)) (i : ℕ) → i < length nodes → frame_at (nodes ++ more) i ≡ frame_at nodes i
-frame-append nodes more i h = frame_by (body_at (nodes ++ more) i) (body_at nodes i) (ap (option_map (λ n. n.1.body)) (get_front nodes more i h))
+pub frame-append : (options : Options) (nodes more : List (ℕ × Item)) (i : ℕ) → i < length nodes
+    → frame_at options (nodes ++ more) i ≡ frame_at options nodes i
+frame-append options nodes more i h =
+    frame_by options (body_at (nodes ++ more) i) (body_at nodes i) (ap (option_map (λ n. n.1.body)) (get_front nodes more i h))
 
 body-front : (nodes : List (ℕ × Item)) (o i depth : ℕ) → i < o → body_at (map_from (tightened depth) o nodes) i ≡ body_at nodes i
 body-front nodes zero i depth h = absurd (omega arith)
@@ -123,15 +81,16 @@ body-front (n ∷ nodes) (suc o) zero depth h = refl
 body-front (n ∷ nodes) (suc o) (suc i) depth h = body-front nodes o i depth (omega arith)
 
 -- a closed list
-pub frame-closed : (nodes : List (ℕ × Item)) (o depth : ℕ) (loose : Bool) (e i : ℕ) → i < o → frame_at (list_closed nodes o depth loose e) i ≡ frame_at nodes i
+pub frame-closed : (options : Options) (nodes : List (ℕ × Item)) (o depth : ℕ) (loose : Bool) (e i : ℕ) → i < o
+    → frame_at options (list_closed nodes o depth loose e) i ≡ frame_at options nodes i
 unfolding list_closed
-frame-closed nodes o depth true e i h = frame_by _ _ (body-other nodes o i _ h)
-frame-closed nodes o depth false e i h = frame_by _ _ (body-other (map_from (tightened depth) o nodes) o i _ h ∙ body-front nodes o i depth h)
+frame-closed options nodes o depth true e i h = frame_by options _ _ (body-other nodes o i _ h)
+frame-closed options nodes o depth false e i h = frame_by options _ _ (body-other (map_from (tightened depth) o nodes) o i _ h ∙ body-front nodes o i depth h)
 
 -- a node with its end
-pub frame-ended : (nodes : List (ℕ × Item)) (place e i : ℕ) → frame_at (ended nodes place e) i ≡ frame_at nodes i
+pub frame-ended : (options : Options) (nodes : List (ℕ × Item)) (place e i : ℕ) → frame_at options (ended nodes place e) i ≡ frame_at options nodes i
 unfolding ended
-frame-ended nodes place e i = frame_by _ _ (body-kept nodes place i _ (λ x. refl))
+frame-ended options nodes place e i = frame_by options _ _ (body-kept nodes place i _ (λ x. refl))
 
 -- the last node
 pub get_end : (nodes : List (ℕ × Item)) (x : ℕ × Item) (more : List (ℕ × Item)) (i : ℕ) → i ≡ length nodes → body_at (nodes ++ x ∷ more) i ≡ Some x.1.body

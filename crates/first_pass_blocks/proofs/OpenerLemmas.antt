@@ -29,7 +29,8 @@ use Rattle.first_pass_grammar.specs.Derivation.{Tables, node_of, list_flags}
 use Rattle.first_pass_grammar.specs.Completion.{lines_from, Frame, InContainer, InList, containers_of, AreBelow, IsPlain}
 use Rattle.first_pass_grammar.proofs.Finishes.{CompletesAt}
 use Rattle.first_pass_grammar.proofs.Tightening.{modify-append, length-modify}
-use Rattle.first_pass_grammar.proofs.Completions.{AreBelow-more, completes-mark, completes-quote, completes-list, completes-item, completes-reflag_list}
+use Rattle.first_pass_grammar.proofs.Completions.{AreBelow-more, opens_stays, completes-mark, completes-quote, completes-list, completes-item}
+use Rattle.first_pass_grammar.proofs.Completions.{completes-reflag_list}
 use Rattle.first_pass_open.specs.OpenBlock.{with_child}
 use Rattle.first_pass_lists.specs.Closing.{loosened_by, loosened_at, top_body, is_list_of, item_finished_by, item_finished, list_finished, loosened_top}
 use Rattle.first_pass_lists.specs.Closing.{list_kept, begun, list_continued, emptied}
@@ -38,16 +39,17 @@ use Rattle.first_pass_lists.specs.declared.reading.Reading.{Reading}
 use Rattle.first_pass_open.specs.Path.{container_of, with_container, path_in, path_of}
 use Rattle.first_pass_blocks.specs.Positions.{ReadyOn, ReadyText, ReadyTagged}
 use Rattle.first_pass_blocks.specs.Starts.{after_told, after_at, IsAfter}
-use Rattle.first_pass_blocks.specs.State.{frame_of, AreOpen, ReadyAt, ReadyBeforeLine, ReadyInItem, ReadyEmpty, Ready}
+use Rattle.first_pass_blocks.specs.State.{is_footnote_in_another, frame_of, AreOpen, ReadyAt, ReadyBeforeLine, ReadyInItem, ReadyEmpty, Ready}
 use Rattle.first_pass_open.proofs.PathLemmas.{get_front}
 use Rattle.first_pass_blocks.proofs.EnterLemmas.{path_below}
-use Rattle.first_pass_blocks.proofs.OpenLemmas.{open_path, open_stays, open_below, frame-append, get_end}
+use Rattle.first_pass_blocks.proofs.OpenLemmas.{open_path, open_below, frame-append, get_end}
 use Rattle.first_pass_tree.proofs.BodyLemmas.{body-other}
 use Rattle.first_pass_blocks.proofs.ListLemmas.{open_flags}
 use Rattle.first_pass_blocks.proofs.FinishLemmas.{EndsListAt, ready_finished, loose_is, loose_frame, loosened_spine}
 use Rattle.first_pass_items.specs.declared.option_set.Options.{Options}
-use Rattle.first_pass_grammar.specs.Skeleton.{OpensBy, opening_of, At, TextOf}
-use Rattle.first_pass_grammar.specs.Openers.{item_start, quote_begun}
+use Rattle.first_pass_grammar.specs.Skeleton.{OpensBy, OpensFootnote, opening_of, At, TextOf}
+use Rattle.first_pass_grammar.specs.Footnotes.{footnote_head_at}
+use Rattle.first_pass_grammar.specs.Openers.{item_start, quote_begun, start_at}
 use Rattle.first_pass_grammar.proofs.OpenerFacts.{start_item, start_quote}
 use Rattle.first_pass_blocks.specs.Starts.{marker_of}
 
@@ -62,12 +64,14 @@ not_container false true list c h = cc
 not_container false false list c h = cc
 
 -- a node that is opened after others
-opened_too : (nodes : List (ℕ × Item)) (k : ℕ) (x : Item) (s : List TreeIndex) (frames : List Frame) (frame : Frame)
-    → frame_of x.body ≡ Some frame → AreBelow (length nodes) (map (λ ix. ix.0) s) → AreOpen nodes s frames
-    → AreOpen (nodes ++ (k, x) ∷ []) (record { 0 = length nodes } ∷ s) (frame ∷ frames)
-opened_too nodes k x s frames frame is below o = (
-  ap (option_and_then frame_of) (get_end nodes (k, x) [] (length nodes) refl) ∙ is,
-  open_below nodes (nodes ++ (k, x) ∷ []) (length nodes) s frames (λ i h. frame-append nodes ((k, x) ∷ []) i h) below o,
+pub opened_too : (options : Options) (nodes : List (ℕ × Item)) (k : ℕ) (x : Item) (s : List TreeIndex) (frames : List Frame) (frame : Frame)
+    → frame_of options x.body ≡ Some frame → is_footnote_in_another frame frames ≡ false → AreBelow (length nodes) (map (λ ix. ix.0) s)
+    → AreOpen options nodes s frames
+    → AreOpen options (nodes ++ (k, x) ∷ []) (record { 0 = length nodes } ∷ s) (frame ∷ frames)
+opened_too options nodes k x s frames frame is apart below o = (
+  ap (option_and_then (frame_of options)) (get_end nodes (k, x) [] (length nodes) refl) ∙ is,
+  open_below options nodes (nodes ++ (k, x) ∷ []) (length nodes) s frames (λ i h. frame-append options nodes ((k, x) ∷ []) i h) below o,
+  apart,
 )
 
 pub depth_of : (s : List TreeIndex) → suc (length (map (λ (i : TreeIndex). i.0) s)) ≡ length s + 1
@@ -80,13 +84,19 @@ quote_away None p kind behind inside = tt
 quote_away (Some (ListBody flags list number)) p kind behind inside = (refl, refl)
 quote_away (Some b) p kind behind inside = tt
 
+-- where no footnote definition begins, what else does
+pub opens_bare : (d : Document) (path : List Container) (p : Place) (lines : List Place) (opening : Opening)
+    → footnote_head_at (around d path) p ≡ None → OpensBy d path p lines (start_at d.options p) opening → Opens d path p lines opening
+opens_bare d path p lines opening bare h =
+    subst (λ z. MatchOption z (OpensBy d path p lines (start_at d.options p) opening) (λ head. OpensFootnote d p lines head opening)) (sym bare) h
+
 opens_quote : (d : Document) (path : List Container) (p : Place) (lines : List Place) (r : Rest)
-    → item_at p.rest ≡ None → prefix (BlockQuote None) p.rest ≡ Some r
+    → footnote_head_at (around d path) p ≡ None → item_at p.rest ≡ None → prefix (BlockQuote None) p.rest ≡ Some r
     → Opens d path p lines (opening_of d path p lines (quote_begun p (tag_behind d.options r) r))
 unfolding OpensBy
-opens_quote d path p lines r none is =
+opens_quote d path p lines r bare none is =
     let opening : Opening = opening_of d path p lines (quote_begun p (tag_behind d.options r) r) in
-    subst (λ o. OpensBy d path p lines o opening) (sym (start_quote d.options p r none is)) refl
+    opens_bare d path p lines opening bare (subst (λ o. OpensBy d path p lines o opening) (sym (start_quote d.options p r none is)) refl)
 
 -- what a block quote is once it is opened
 quote_body : (f : Forest Item) (start : ℕ) (kind : Option BlockQuoteKind)
@@ -108,7 +118,8 @@ pub quote_is_open : (d : Document) (defined : Tables) (r : Reading) (p : Place) 
     → QuoteIsOpen d defined r (begun (quote_start p) (BlockQuoteBody kind) (list_finished p.line r)) kind inside behind
 quote_is_open d defined r p lines behind kind inside forest opens none ready =
     let opening : Opening = OpensNode (quote_head p kind) inside behind in
-    let done = ready_finished d defined r p lines p.line opening forest opens tt (quote_away (top_body r.tree) p kind behind inside) none ready in
+    let done = ready_finished d defined r p lines p.line opening forest (opens_stays d (path_of d.options r.tree) p lines opening refl opens) opens tt
+    (quote_away (top_body r.tree) p kind behind inside) none ready in
     let f : Forest Item = (list_finished p.line r).tree in
     let frames : List Frame = done.ready.0.frames in
     let opens' : Opens d (containers_of frames) p lines opening =
@@ -116,12 +127,12 @@ quote_is_open d defined r p lines behind kind inside forest opens none ready =
     let os : List ℕ = map (λ (i : TreeIndex). i.0) f.spine in
     let x : Item = node_of (quote_start p) 0 (BlockQuoteBody kind) in
     let g : Forest Item = pushed (appended f x) (record { 0 = length f.nodes }) in
-    let k = completes-quote d defined frames f.nodes os p lines behind kind (quote_start p) p.line 0 inside done.ready.1
-    (open_stays d f.nodes f.spine frames done.ready.0.are_open p) opens' done.ready.0.completes in
+    let k = completes-quote d defined frames f.nodes os p lines behind kind (quote_start p) p.line 0 inside done.ready.1 opens' done.ready.0.completes in
     let now : ReadyAt d defined g false inside behind = record {
       frames = InContainer (BlockQuote kind) ∷ frames;
       are_open =
-          opened_too f.nodes (length f.spine + 1) x f.spine frames (InContainer (BlockQuote kind)) refl done.ready.0.completes.below done.ready.0.are_open;
+          opened_too d.options f.nodes (length f.spine + 1) x f.spine frames (InContainer (BlockQuote kind)) refl refl
+          done.ready.0.completes.below done.ready.0.are_open;
       completes = subst (λ z. CompletesAt d defined false (InContainer (BlockQuote kind) ∷ frames) (f.nodes ++ (z, x) ∷ []) (length f.nodes ∷ os) inside behind)
           (depth_of f.spine) k;
     } in
@@ -136,29 +147,31 @@ quote_is_open d defined r p lines behind kind inside forest opens none ready =
 
 -- a block quote without a tag
 pub ready_quote : (d : Document) (defined : Tables) (r : Reading) (p : Place) (lines : List Place) (inside : Rest)
-    → IsForest r.tree → item_at p.rest ≡ None → prefix (BlockQuote None) p.rest ≡ Some inside → tag_behind d.options inside ≡ None → r.empty_item ≡ None
+    → IsForest r.tree → footnote_head_at (around d (path_of d.options r.tree)) p ≡ None → item_at p.rest ≡ None
+    → prefix (BlockQuote None) p.rest ≡ Some inside → tag_behind d.options inside ≡ None → r.empty_item ≡ None
     → ReadyAt d defined r.tree r.blank (Inside p) lines → (
     let q : Reading = begun (quote_start p) (BlockQuoteBody None) (list_finished p.line r) in
     ReadyAt d defined q.tree q.blank (Inside (at_rest p inside)) lines)
-ready_quote d defined r p lines inside forest no_item is no_tag none ready =
+ready_quote d defined r p lines inside forest bare no_item is no_tag none ready =
     let q : Reading = begun (quote_start p) (BlockQuoteBody None) (list_finished p.line r) in
     let path : List Container = path_of d.options r.tree in
     let opens =
-    subst (λ t. Opens d path p lines (opening_of d path p lines (quote_begun p t inside))) no_tag (opens_quote d path p lines inside no_item is) in
+    subst (λ t. Opens d path p lines (opening_of d path p lines (quote_begun p t inside))) no_tag (opens_quote d path p lines inside bare no_item is) in
     let begun_is = quote_is_open d defined r p lines lines None (Inside (at_rest p inside)) forest opens none ready in
     subst (λ t. ReadyAt d defined q.tree t (Inside (at_rest p inside)) lines) (sym begun_is.blank) begun_is.ready
 
 -- a block quote with one
 pub ready_tagged : (d : Document) (defined : Tables) (r : Reading) (p : Place) (lines : List Place) (inside : Rest) (kind : BlockQuoteKind)
-    → IsForest r.tree → item_at p.rest ≡ None → prefix (BlockQuote None) p.rest ≡ Some inside → tag_behind d.options inside ≡ Some kind → r.empty_item ≡ None
+    → IsForest r.tree → footnote_head_at (around d (path_of d.options r.tree)) p ≡ None → item_at p.rest ≡ None
+    → prefix (BlockQuote None) p.rest ≡ Some inside → tag_behind d.options inside ≡ Some kind → r.empty_item ≡ None
     → ReadyAt d defined r.tree r.blank (Inside p) lines
     → ReadyTagged d defined (begun (quote_start p) (BlockQuoteBody (Some kind)) (list_finished p.line r)) lines
-ready_tagged d defined r p lines inside kind forest no_item is tag none ready =
+ready_tagged d defined r p lines inside kind forest bare no_item is tag none ready =
     let q : Reading = begun (quote_start p) (BlockQuoteBody (Some kind)) (list_finished p.line r) in
     let path : List Container = path_of d.options r.tree in
     let from : From × List Place = behind_tag (around d (BlockQuote (Some kind) ∷ path)) lines in
     let opens =
-    subst (λ t. Opens d path p lines (opening_of d path p lines (quote_begun p t inside))) tag (opens_quote d path p lines inside no_item is) in
+    subst (λ t. Opens d path p lines (opening_of d path p lines (quote_begun p t inside))) tag (opens_quote d path p lines inside bare no_item is) in
     let begun_is = quote_is_open d defined r p lines from.1 (Some kind) from.0 forest opens none ready in
     record {
       kind = Some kind;
@@ -191,7 +204,8 @@ module _ (d : Document) (defined : Tables) (r : Reading) (p : Place) (lines : Li
   in_new_list other =
       let opening : Opening = OpensNode (item_head p byte number columns) inside lines in
       let done =
-      ready_finished d defined r p lines (offset p) opening forest opens tt (item_away (top_body r.tree) p byte number columns inside lines other) none ready in
+      ready_finished d defined r p lines (offset p) opening forest (opens_stays d (path_of d.options r.tree) p lines opening refl opens) opens tt
+      (item_away (top_body r.tree) p byte number columns inside lines other) none ready in
       let f : Forest Item = (list_finished (offset p) r).tree in
       let frames : List Frame = done.ready.0.frames in
       let opens' : Opens d (containers_of frames) p lines opening =
@@ -202,8 +216,7 @@ module _ (d : Document) (defined : Tables) (r : Reading) (p : Place) (lines : Li
       let g : Forest Item = pushed (appended f y) (record { 0 = length f.nodes }) in
       let h : Forest Item = pushed (appended g x) (record { 0 = length g.nodes }) in
       let k = completes-list d defined frames f.nodes os p lines lines byte number columns (offset p) p.line 0 0
-      (list_flags true) inside done.ready.1
-      (open_stays d f.nodes f.spine frames done.ready.0.are_open p) opens' done.ready.0.completes in
+      (list_flags true) inside done.ready.1 opens' done.ready.0.completes in
       let n : length g.nodes ≡ suc (length f.nodes) = (let l = length-append f.nodes ((length f.spine + 1, y) ∷ []) in omega arith) in
       let deep : suc (length os) ≡ length f.spine + 1 = depth_of f.spine in
       let deeper : suc (suc (length os)) ≡ length g.spine + 1 = omega arith in
@@ -211,12 +224,13 @@ module _ (d : Document) (defined : Tables) (r : Reading) (p : Place) (lines : Li
       sym (append_assoc f.nodes ((suc (length os), y) ∷ []) ((suc (suc (length os)), x) ∷ []))
       ∙ ap (λ z. (f.nodes ++ (z, y) ∷ []) ++ (suc (suc (length os)), x) ∷ []) deep
       ∙ ap (λ z. (f.nodes ++ (length f.spine + 1, y) ∷ []) ++ (z, x) ∷ []) deeper in
-      let list_open : AreOpen g.nodes g.spine (InList byte false ∷ frames) =
-      opened_too f.nodes (length f.spine + 1) y f.spine frames (InList byte false) refl done.ready.0.completes.below done.ready.0.are_open in
+      let list_open : AreOpen d.options g.nodes g.spine (InList byte false ∷ frames) =
+      opened_too d.options f.nodes (length f.spine + 1) y f.spine frames (InList byte false) refl refl done.ready.0.completes.below done.ready.0.are_open in
       let below : AreBelow (length g.nodes) (length f.nodes ∷ os) = (omega arith, done.ready.0.completes.below) in
       let q : ReadyAt d defined h false inside lines = record {
         frames = InContainer (ListItem columns) ∷ InList byte false ∷ frames;
-        are_open = opened_too g.nodes (length g.spine + 1) x g.spine (InList byte false ∷ frames) (InContainer (ListItem columns)) refl below list_open;
+        are_open = opened_too d.options g.nodes (length g.spine + 1) x g.spine (InList byte false ∷ frames) (InContainer (ListItem columns)) refl refl
+            below list_open;
         completes = subst
             (λ z. CompletesAt d defined false (InContainer (ListItem columns) ∷ InList byte false ∷ frames) h.nodes (z ∷ length f.nodes ∷ os) inside lines)
             (sym n)
@@ -238,40 +252,40 @@ module _ (d : Document) (defined : Tables) (r : Reading) (p : Place) (lines : Li
 
   goes_on_as : (run : Bool) (ix : TreeIndex) (rest : List TreeIndex) (flags : ListFlags) (list n b : ℕ) (loose : Bool) (frames : List Frame)
       → r.tree.spine ≡ ix ∷ rest → body_at r.tree.nodes ix.0 ≡ Some (ListBody flags list n)
-      → AreOpen r.tree.nodes (ix ∷ rest) (InList b loose ∷ frames)
+      → AreOpen d.options r.tree.nodes (ix ∷ rest) (InList b loose ∷ frames)
       → CompletesAt d defined run (InList b loose ∷ frames) r.tree.nodes (ix.0 ∷ map (λ i. i.0) rest) (Inside p) lines
       → (let f : Forest Item = if run then loosened_at r.tree ix else r.tree in
-      AreOpen f.nodes (ix ∷ rest) (InList b (loose || run) ∷ frames)
+      AreOpen d.options f.nodes (ix ∷ rest) (InList b (loose || run) ∷ frames)
       × CompletesAt d defined run (InList b loose ∷ frames) f.nodes (ix.0 ∷ map (λ i. i.0) rest) (Inside p) lines × (f.spine ≡ ix ∷ rest))
   goes_on_as true ix rest flags list n b loose frames spine body o k =
       let g : Forest Item = loosened_at r.tree ix in
       let nodes = loose_is r.tree ix flags list n body in
       let now : Forest Item = with_body_at r.tree ix (ListBody (list_flags false) list n) in
       let named : g ≡ now = ap (loosened_by r.tree ix) body in
-      let outer : AreOpen g.nodes rest frames =
-      subst (λ (z : Forest Item). AreOpen z.nodes rest frames) (sym named)
-      (open_below r.tree.nodes now.nodes ix.0 rest frames (λ i h. ap (option_and_then frame_of)
+      let outer : AreOpen d.options g.nodes rest frames =
+      subst (λ (z : Forest Item). AreOpen d.options z.nodes rest frames) (sym named)
+      (open_below d.options r.tree.nodes now.nodes ix.0 rest frames (λ i h. ap (option_and_then (frame_of d.options))
       (body-other r.tree.nodes ix.0 i (λ x. record { start = x.start; «end» = x.«end»; body = ListBody (list_flags false) list n }) h)) k.below.1 o.1) in (
-        (loose_frame r.tree ix flags list n b loose body o.0, outer),
+        (loose_frame d.options r.tree ix flags list n b loose body o.0, outer, refl),
         subst (λ z. CompletesAt d defined true (InList b loose ∷ frames) z (ix.0 ∷ map (λ i. i.0) rest) (Inside p) lines) (sym nodes)
             (completes-reflag_list d defined true b loose true frames r.tree.nodes ix.0 (map (λ i. i.0) rest) (Inside p) lines k),
         loosened_spine r.tree ix (body_at r.tree.nodes ix.0) ∙ spine,
       )
   goes_on_as false ix rest flags list n b loose frames spine body o k =
-      ((ap (λ l. l) o.0 ∙ ap (λ l. Some (InList b l)) (sym (or_false loose)), o.1), k, spine)
+      ((ap (λ l. l) o.0 ∙ ap (λ l. Some (InList b l)) (sym (or_false loose)), o.1, refl), k, spine)
 
   item_by : (run : Bool) (ix : TreeIndex) (rest : List TreeIndex) (flags : ListFlags) (list n : ℕ) (frames : List Frame)
       → r.tree.spine ≡ ix ∷ rest → body_at r.tree.nodes ix.0 ≡ Some (ListBody flags list n) → list ≡ byte
-      → AreOpen r.tree.nodes (ix ∷ rest) frames → CompletesAt d defined run frames r.tree.nodes (ix.0 ∷ map (λ i. i.0) rest) (Inside p) lines
+      → AreOpen d.options r.tree.nodes (ix ∷ rest) frames → CompletesAt d defined run frames r.tree.nodes (ix.0 ∷ map (λ i. i.0) rest) (Inside p) lines
       → (let f : Forest Item = if run then loosened_at r.tree ix else r.tree in
       let g : Forest Item = pushed (appended f (node_of (offset p) 0 (ListItemBody columns))) (record { 0 = length f.nodes }) in
       ReadyAt d defined g false inside lines × (path_of d.options g ≡ ListItem columns ∷ path_of d.options r.tree))
   item_by run ix rest flags list n [] spine body same o k = absurd o
   item_by run ix rest flags list n (InContainer c ∷ frames) spine body same o k =
-      absurd (not_container (flags.0 == 1) (flags.0 == 0) list c (sym (ap (option_and_then frame_of) body) ∙ o.0))
+      absurd (not_container (flags.0 == 1) (flags.0 == 0) list c (sym (ap (option_and_then (frame_of d.options)) body) ∙ o.0))
   item_by run ix rest flags list n (InList b loose ∷ frames) spine body same o k =
       let f : Forest Item = if run then loosened_at r.tree ix else r.tree in
-      let set = open_flags flags list n b loose (sym (ap (option_and_then frame_of) body) ∙ o.0) in
+      let set = open_flags d.options flags list n b loose (sym (ap (option_and_then (frame_of d.options)) body) ∙ o.0) in
       let os : List ℕ = map (λ (i : TreeIndex). i.0) rest in
       let b_is : b ≡ byte = sym set.0 ∙ same in
       let path : path_of d.options r.tree ≡ containers_of frames =
@@ -282,16 +296,16 @@ module _ (d : Document) (defined : Tables) (r : Reading) (p : Place) (lines : Li
       let x : Item = node_of (offset p) 0 (ListItemBody columns) in
       let k' : CompletesAt d defined run (InList byte loose ∷ frames) f.nodes (ix.0 ∷ os) (Inside p) lines =
       subst (λ z. CompletesAt d defined run (InList z loose ∷ frames) f.nodes (ix.0 ∷ os) (Inside p) lines) b_is now.1 in
-      let done = completes-item d defined run loose frames f.nodes ix.0 os p lines lines byte number columns (offset p) p.line 0 inside
-      (open_stays d r.tree.nodes rest frames o.1 p) opens' k' in
+      let done = completes-item d defined run loose frames f.nodes ix.0 os p lines lines byte number columns (offset p) p.line 0 inside opens' k' in
       let deep : suc (suc (length os)) ≡ length f.spine + 1 = (let l = depth_of rest in let m = ap (λ (s : List TreeIndex). length s) now.2 in omega arith) in
       let frames' : List Frame = InList byte (loose || run) ∷ frames in
-      let o' : AreOpen f.nodes (ix ∷ rest) frames' = subst (λ z. AreOpen f.nodes (ix ∷ rest) (InList z (loose || run) ∷ frames)) b_is now.0 in
+      let o' : AreOpen d.options f.nodes (ix ∷ rest) frames' =
+      subst (λ z. AreOpen d.options f.nodes (ix ∷ rest) (InList z (loose || run) ∷ frames)) b_is now.0 in
       let q : ReadyAt d defined (pushed (appended f x) (record { 0 = length f.nodes })) false inside lines = record {
         frames = InContainer (ListItem columns) ∷ frames';
-        are_open = opened_too f.nodes (length f.spine + 1) x f.spine frames' (InContainer (ListItem columns)) refl
+        are_open = opened_too d.options f.nodes (length f.spine + 1) x f.spine frames' (InContainer (ListItem columns)) refl refl
             (subst (λ s. AreBelow (length f.nodes) (map (λ (i : TreeIndex). i.0) s)) (sym now.2) now.1.below)
-            (subst (λ s. AreOpen f.nodes s frames') (sym now.2) o');
+            (subst (λ s. AreOpen d.options f.nodes s frames') (sym now.2) o');
         completes = subst (λ s. CompletesAt d defined false (InContainer (ListItem columns) ∷ frames') (f.nodes ++ (length f.spine + 1, x) ∷ [])
             (length f.nodes ∷ map (λ (i : TreeIndex). i.0) s) inside lines) (sym now.2)
             (subst (λ z.
@@ -315,7 +329,8 @@ module _ (d : Document) (defined : Tables) (r : Reading) (p : Place) (lines : Li
       let kept = kept_by r.blank refl ix rest flags list n spine is in
       let equal : list ≡ byte = grind (arith, nat_tests, same) in
       let f : Forest Item = if r.blank then loosened_at r.tree ix else r.tree in
-      let done = item_by r.blank ix rest flags list n ready.frames spine is equal (subst (λ z. AreOpen r.tree.nodes z ready.frames) spine ready.are_open)
+      let done = item_by r.blank ix rest flags list n ready.frames spine is equal
+      (subst (λ z. AreOpen d.options r.tree.nodes z ready.frames) spine ready.are_open)
       (subst (λ z. CompletesAt d defined r.blank ready.frames r.tree.nodes (map (λ (i : TreeIndex). i.0) z) (Inside p) lines) spine ready.completes) in (
         subst (λ (z : Forest Item).
             ReadyAt d defined (pushed (appended z (node_of (offset p) 0 (ListItemBody columns))) (record { 0 = length z.nodes })) false inside lines)
@@ -360,11 +375,12 @@ abbrev item_opening : Document → List Container → Place → List Place → �
 item_opening d path p lines item task = opening_of d path p lines (item_start p item task)
 
 opens_item : (d : Document) (path : List Container) (p : Place) (lines : List Place) (item : (ℕ × ℕ × ℕ) × Rest)
-    → item_at p.rest ≡ Some item → Opens d path p lines (item_opening d path p lines (item.0.0, item.0.1, item.0.2) (task_behind d.options p.line item.1))
+    → footnote_head_at (around d path) p ≡ None → item_at p.rest ≡ Some item
+    → Opens d path p lines (item_opening d path p lines (item.0.0, item.0.1, item.0.2) (task_behind d.options p.line item.1))
 unfolding OpensBy
-opens_item d path p lines item is =
+opens_item d path p lines item bare is =
     let opening : Opening = item_opening d path p lines (item.0.0, item.0.1, item.0.2) (task_behind d.options p.line item.1) in
-    subst (λ o. OpensBy d path p lines o opening) (sym (start_item d.options p item is)) refl
+    opens_bare d path p lines opening bare (subst (λ o. OpensBy d path p lines o opening) (sym (start_item d.options p item is)) refl)
 
 -- where blocks continue after the markers of an item
 abbrev pub behind_task : Option Item → Place → From
@@ -384,32 +400,34 @@ item_body : (g : Forest Item) (start columns : ℕ)
 item_body g start columns = get_end g.nodes (length g.spine + 1, node_of start 0 (ListItemBody columns)) [] (length g.nodes) refl
 
 -- an item that is innermost is no list
-in_item_plain : (nodes : List (ℕ × Item)) (ix : TreeIndex) (rest : List TreeIndex) (frames : List Frame) (columns : ℕ)
-    → body_at nodes ix.0 ≡ Some (ListItemBody columns) → AreOpen nodes (ix ∷ rest) frames → IsPlain frames
-in_item_plain nodes ix rest [] columns body o = absurd o
-in_item_plain nodes ix rest (InContainer c ∷ frames) columns body o = tt
-in_item_plain nodes ix rest (InList byte loose ∷ frames) columns body o =
-    let e : Some (InContainer (ListItem columns)) ≡ Some (InList byte loose) = sym (ap (option_and_then frame_of) body) ∙ o.0 in cc
+in_item_plain : (options : Options) (nodes : List (ℕ × Item)) (ix : TreeIndex) (rest : List TreeIndex) (frames : List Frame) (columns : ℕ)
+    → body_at nodes ix.0 ≡ Some (ListItemBody columns) → AreOpen options nodes (ix ∷ rest) frames → IsPlain frames
+in_item_plain options nodes ix rest [] columns body o = absurd o
+in_item_plain options nodes ix rest (InContainer c ∷ frames) columns body o = tt
+in_item_plain options nodes ix rest (InList byte loose ∷ frames) columns body o =
+    let e : Some (InContainer (ListItem columns)) ≡ Some (InList byte loose) = sym (ap (option_and_then (frame_of options)) body) ∙ o.0 in cc
 
 -- an item with something after its markers
 pub ready_item : (d : Document) (defined : Tables) (r : Reading) (p : Place) (lines : List Place) (item : (ℕ × ℕ × ℕ) × Rest) (marker : Option Item)
-    (rest : Rest) → IsForest r.tree → item_at p.rest ≡ Some item → task_behind d.options p.line item.1 ≡ (marker, rest)
+    (rest : Rest) → IsForest r.tree → footnote_head_at (around d (path_of d.options r.tree)) p ≡ None → item_at p.rest ≡ Some item
+    → task_behind d.options p.line item.1 ≡ (marker, rest)
     → is_blank_rest rest ≡ false → r.empty_item ≡ None → ReadyAt d defined r.tree r.blank (Inside p) lines
     → (
     let q : Reading = item_opened (offset p) item.0.0 item.0.1 item.0.2 r in
     (q.blank ≡ false) × (now : ReadyAt d defined q.tree false (behind_task marker (at_rest p rest)) lines) × IsPlain now.frames)
-ready_item d defined r p lines item marker rest forest is task some none ready =
+ready_item d defined r p lines item marker rest forest bare is task some none ready =
     let from : From = behind_task marker (at_rest p rest) in
     let inside : Opening = OpensNode (item_head p item.0.0 item.0.1 item.0.2) from lines in
     let opens : Opens d (path_of d.options r.tree) p lines inside =
     subst (Opens d (path_of d.options r.tree) p lines) (ap (item_opening d (path_of d.options r.tree) p lines (item.0.0, item.0.1, item.0.2)) task
-    ∙ inside_by d (path_of d.options r.tree) p lines item.0.0 item.0.1 item.0.2 marker rest some) (opens_item d (path_of d.options r.tree) p lines item is) in
+    ∙ inside_by d (path_of d.options r.tree) p lines item.0.0 item.0.1 item.0.2 marker rest some)
+    (opens_item d (path_of d.options r.tree) p lines item bare is) in
     let done = item_is_open d defined r p lines item.0.0 item.0.1 item.0.2 from forest opens none ready in
     let g : Forest Item = (list_continued (offset p) item.0.0 item.0.1 r).tree in
     let q : Reading = item_opened (offset p) item.0.0 item.0.1 item.0.2 r in (
       done.2,
       done.0,
-      in_item_plain q.tree.nodes (record { 0 = length g.nodes }) g.spine done.0.frames item.0.2 (item_body g (offset p) item.0.2) done.0.are_open,
+      in_item_plain d.options q.tree.nodes (record { 0 = length g.nodes }) g.spine done.0.frames item.0.2 (item_body g (offset p) item.0.2) done.0.are_open,
     )
 
 emptied_opened : (g : Forest Item) (start columns : ℕ)
@@ -461,13 +479,14 @@ ready_marked : (d : Document) (defined : Tables) (f : Forest Item) (marker : Opt
     → ReadyAt d defined f false (task_alone marker p blanks) lines → ReadyAt d defined (with_child f marker) false (behind_marker blanks) lines
 ready_marked d defined f None p blanks lines ix rest columns spine body ready = ready
 ready_marked d defined f (Some x) p blanks lines ix rest columns spine body ready =
-    let plain = in_item_plain f.nodes ix rest ready.frames columns body (subst (λ s. AreOpen f.nodes s ready.frames) spine ready.are_open) in
+    let plain = in_item_plain d.options f.nodes ix rest ready.frames columns body
+    (subst (λ s. AreOpen d.options f.nodes s ready.frames) spine ready.are_open) in
     let os : List ℕ = map (λ (i : TreeIndex). i.0) f.spine in
     let k = completes-mark d defined ready.frames f.nodes os x p blanks lines plain ready.completes in
     record {
       frames = ready.frames;
-      are_open = open_below f.nodes (f.nodes ++ (length f.spine + 1, x) ∷ []) (length f.nodes) f.spine ready.frames
-          (λ i h. frame-append f.nodes ((length f.spine + 1, x) ∷ []) i h) ready.completes.below ready.are_open;
+      are_open = open_below d.options f.nodes (f.nodes ++ (length f.spine + 1, x) ∷ []) (length f.nodes) f.spine ready.frames
+          (λ i h. frame-append d.options f.nodes ((length f.spine + 1, x) ∷ []) i h) ready.completes.below ready.are_open;
       completes = subst (λ z. CompletesAt d defined false ready.frames (f.nodes ++ (z, x) ∷ []) os (behind_marker blanks) lines) (depth_of f.spine) k;
     }
 
@@ -501,11 +520,12 @@ abbrev pub empty_item_read : Reading → Option Item → ℕ → Reading
 empty_item_read r marker e = record r { tree = with_child r.tree marker; empty_item = Some e }
 
 empty_by : (d : Document) (defined : Tables) (r : Reading) (p : Place) (lines : List Place) (item : (ℕ × ℕ × ℕ) × Rest) (marker : Option Item) (rest : Rest)
-    (e : ℕ) (t : Bool) → next_is_blank (ListItem item.0.2 ∷ path_of d.options r.tree) lines ≡ t → IsForest r.tree → item_at p.rest ≡ Some item
+    (e : ℕ) (t : Bool) → next_is_blank (ListItem item.0.2 ∷ path_of d.options r.tree) lines ≡ t → IsForest r.tree
+    → footnote_head_at (around d (path_of d.options r.tree)) p ≡ None → item_at p.rest ≡ Some item
     → task_behind d.options p.line item.1 ≡ (marker, rest) → is_blank_rest rest ≡ true → start_of (length d.text) lines ≡ e → r.empty_item ≡ None
     → ReadyAt d defined r.tree r.blank (Inside p) lines
     → ReadyEmpty d defined (empty_item_read (item_opened (offset p) item.0.0 item.0.1 item.0.2 r) marker e) e lines
-empty_by d defined r p lines item marker rest e true next forest is task blank e_is none ready =
+empty_by d defined r p lines item marker rest e true next forest bare is task blank e_is none ready =
     let byte : ℕ = item.0.0 in let number : ℕ = item.0.1 in let columns : ℕ = item.0.2 in
     let g : Forest Item = (list_continued (offset p) byte number r).tree in
     let q : Reading = item_opened (offset p) byte number columns r in
@@ -515,7 +535,7 @@ empty_by d defined r p lines item marker rest e true next forest is task blank e
     let opens : Opens d (path_of d.options r.tree) p lines (OpensNode (item_head p byte number 0) from lines) =
     subst (Opens d (path_of d.options r.tree) p lines) (ap (item_opening d (path_of d.options r.tree) p lines (byte, number, columns)) task
     ∙ empty_opening d (path_of d.options r.tree) p lines byte number columns marker rest e blank next e_is)
-    (opens_item d (path_of d.options r.tree) p lines item is) in
+    (opens_item d (path_of d.options r.tree) p lines item bare is) in
     let done = item_is_open d defined r p lines byte number 0 from forest opens none ready in
     let more : length (appended g (item_node columns)).nodes ≡ length g.nodes + 1 = length-append g.nodes ((length g.spine + 1, item_node columns) ∷ []) in
     let fewer : length (appended g (item_node 0)).nodes ≡ length g.nodes + 1 = length-append g.nodes ((length g.spine + 1, item_node 0) ∷ []) in
@@ -539,7 +559,7 @@ empty_by d defined r p lines item marker rest e true next forest is task blank e
       ready = in_item d defined (with_child q.tree marker) e lines true q.blank done.2 (ap (λ z. next_is_blank z lines) path ∙ next)
           (subst (λ f. ReadyAt d defined f false (Blanks e) lines) same marked);
     }
-empty_by d defined r p lines item marker rest e false next forest is task blank e_is none ready =
+empty_by d defined r p lines item marker rest e false next forest bare is task blank e_is none ready =
     let byte : ℕ = item.0.0 in let number : ℕ = item.0.1 in let columns : ℕ = item.0.2 in
     let g : Forest Item = (list_continued (offset p) byte number r).tree in
     let q : Reading = item_opened (offset p) byte number columns r in
@@ -548,7 +568,7 @@ empty_by d defined r p lines item marker rest e false next forest is task blank 
     let opens : Opens d (path_of d.options r.tree) p lines (OpensNode (item_head p byte number columns) from lines) =
     subst (Opens d (path_of d.options r.tree) p lines) (ap (item_opening d (path_of d.options r.tree) p lines (byte, number, columns)) task
     ∙ line_opening d (path_of d.options r.tree) p lines byte number columns marker rest blank next)
-    (opens_item d (path_of d.options r.tree) p lines item is) in
+    (opens_item d (path_of d.options r.tree) p lines item bare is) in
     let done = item_is_open d defined r p lines byte number columns from forest opens none ready in
     let more : length q.tree.nodes ≡ length g.nodes + 1 = length-append g.nodes ((length g.spine + 1, node_of (offset p) 0 (ListItemBody columns)) ∷ []) in
     let marked : ReadyAt d defined (with_child q.tree marker) false Line lines =
@@ -567,13 +587,14 @@ empty_by d defined r p lines item marker rest e false next forest is task blank 
 
 -- an item with nothing after its markers
 pub ready_empty_item : (d : Document) (defined : Tables) (r : Reading) (p : Place) (lines : List Place) (item : (ℕ × ℕ × ℕ) × Rest) (marker : Option Item)
-    (rest : Rest) (e : ℕ) → IsForest r.tree → item_at p.rest ≡ Some item → task_behind d.options p.line item.1 ≡ (marker, rest)
+    (rest : Rest) (e : ℕ) → IsForest r.tree → footnote_head_at (around d (path_of d.options r.tree)) p ≡ None → item_at p.rest ≡ Some item
+    → task_behind d.options p.line item.1 ≡ (marker, rest)
     → is_blank_rest rest ≡ true → start_of (length d.text) lines ≡ e → r.empty_item ≡ None
     → ReadyAt d defined r.tree r.blank (Inside p) lines → Ready d defined (empty_item_read (item_opened (offset p) item.0.0 item.0.1 item.0.2 r) marker e) lines
 unfolding Ready
-ready_empty_item d defined r p lines item marker rest e forest is task blank e_is none ready =
+ready_empty_item d defined r p lines item marker rest e forest bare is task blank e_is none ready =
     empty_by d defined r p lines item marker rest e
-    (next_is_blank (ListItem item.0.2 ∷ path_of d.options r.tree) lines) refl forest is task blank e_is none ready
+    (next_is_blank (ListItem item.0.2 ∷ path_of d.options r.tree) lines) refl forest bare is task blank e_is none ready
 
 -- what stands after an item's marker where more of its line is left: blocks, or the text of a task
 pub after_opened : (marker : Option Item) (q : Reading) → ((x : Item) → marker ≡ Some x → is_task_marker x.body ≡ true) → q.empty_item ≡ None

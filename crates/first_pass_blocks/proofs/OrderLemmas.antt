@@ -20,7 +20,9 @@ use Rattle.first_pass_grammar.proofs.Orders.{fits_open-beside, fits_open-pushed,
 use Rattle.first_pass_open.specs.OpenBlock.{closed_by}
 use Rattle.first_pass_lists.specs.Closing.{loosened_by, top_body, is_list, is_list_of, is_item, popped_by, popped_at, popped, item_finished_by}
 use Rattle.first_pass_lists.specs.Closing.{item_finished, list_left, gap_tree, list_finished, loosened_top, list_kept, begun, list_continued, emptied}
-use Rattle.first_pass_lists.specs.Closing.{blank_read_by, blank_read}
+use Rattle.first_pass_lists.specs.Closing.{blank_read_by, blank_read, is_footnote, footnote_left, gap_noted, footnote_begun}
+use Rattle.first_pass_items.specs.declared.item.CowIndex.{CowIndex}
+use Rattle.first_pass_items.specs.declared.item.ItemBody.TheVariants.{FootnoteDefinition as FootnoteDefinitionBody}
 use Rattle.first_pass_lists.specs.declared.reading.Reading.{Reading}
 use Rattle.first_pass_blocks.specs.Ordered.{reached, IsOrderedAt}
 use Rattle.first_pass_tree.proofs.BodyLemmas.{body-changed}
@@ -392,6 +394,20 @@ pub ordered_list_finished : (text : List ℕ) (r : Reading) (at e b : ℕ) → a
 ordered_list_finished text r at e b later short within ends order h =
     let p = list_finished_plain text r at e b later short within ends order h in
     ordered_none text (list_finished e r) b p.1 within p.0
+
+-- a footnote definition opened where what is innermost ends
+pub ordered_note : (text : List ℕ) (r : Reading) (at start : ℕ) (index : CowIndex) → at ≤ start → start ≤ length text → IsCharBoundary text start
+    → IsOrderedAt text r at → IsOrderedTo text (footnote_begun start index r).tree start
+unfolding footnote_begun
+ordered_note text r at start index later within starts h =
+    let here : start ≤ start = omega arith in
+    let s : Reading = item_finished r in
+    let l : Reading = list_left start s in
+    let q : Reading = footnote_left start l in
+    let first = left_by text s at start start (is_list (top_body s.tree)) later here within starts (λ list. later) (item_finished_plain text r at h) in
+    let second = left_by text l start start start (is_footnote (top_body l.tree)) here here within starts (λ note. here) first in
+    let third = gap_by text q start q.blank second in
+    ordered_begun text (gap_noted q) start start (FootnoteDefinitionBody index) here within starts third.0
 
 loosened_top_kept : (text : List ℕ) (f : Forest Item) (a : ℕ) (s : List TreeIndex) → IsOrderedTo text f a → IsOrderedTo text (loosened_top f s) a
 loosened_top_kept text f a [] h = h

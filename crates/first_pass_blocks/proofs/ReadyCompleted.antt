@@ -25,23 +25,24 @@ use Rattle.first_pass_blocks.proofs.OpenLemmas.{open_path}
 use Rattle.first_pass_items.specs.declared.option_set.Options.{Options}
 
 -- open nodes are in one way what frames say
-open_length : (nodes : List (ℕ × Item)) (spine : List TreeIndex) (frames : List Frame) → AreOpen nodes spine frames
+open_length : (options : Options) (nodes : List (ℕ × Item)) (spine : List TreeIndex) (frames : List Frame) → AreOpen options nodes spine frames
     → length frames ≡ length (map (λ (ix : TreeIndex). ix.0) spine)
-open_length nodes [] [] o = refl
-open_length nodes [] (frame ∷ frames) o = absurd o
-open_length nodes (ix ∷ spine) [] o = absurd o
-open_length nodes (ix ∷ spine) (frame ∷ frames) o = let l = open_length nodes spine frames o.1 in omega arith
+open_length options nodes [] [] o = refl
+open_length options nodes [] (frame ∷ frames) o = absurd o
+open_length options nodes (ix ∷ spine) [] o = absurd o
+open_length options nodes (ix ∷ spine) (frame ∷ frames) o = let l = open_length options nodes spine frames o.1 in omega arith
 
-open_once : (nodes : List (ℕ × Item)) (spine : List TreeIndex) (frames others : List Frame) → AreOpen nodes spine frames → AreOpen nodes spine others
+open_once : (options : Options) (nodes : List (ℕ × Item)) (spine : List TreeIndex) (frames others : List Frame)
+    → AreOpen options nodes spine frames → AreOpen options nodes spine others
     → frames ≡ others
-open_once nodes [] [] [] o p = refl
-open_once nodes [] [] (other ∷ others) o p = absurd p
-open_once nodes [] (frame ∷ frames) others o p = absurd o
-open_once nodes (ix ∷ spine) [] others o p = absurd o
-open_once nodes (ix ∷ spine) (frame ∷ frames) [] o p = absurd p
-open_once nodes (ix ∷ spine) (frame ∷ frames) (other ∷ others) o p =
+open_once options nodes [] [] [] o p = refl
+open_once options nodes [] [] (other ∷ others) o p = absurd p
+open_once options nodes [] (frame ∷ frames) others o p = absurd o
+open_once options nodes (ix ∷ spine) [] others o p = absurd o
+open_once options nodes (ix ∷ spine) (frame ∷ frames) [] o p = absurd p
+open_once options nodes (ix ∷ spine) (frame ∷ frames) (other ∷ others) o p =
     let first : frame ≡ other = same_Some frame other (sym o.0 ∙ p.0) in
-    let rest = open_once nodes spine frames others o.1 p.1 in
+    let rest = open_once options nodes spine frames others o.1 p.1 in
     cc
 
 standing_of : Tables → Forest Item → List Frame → Bool → Standing
@@ -62,9 +63,9 @@ completed_at d defined tree run from lines can ready =
     λ more x.
     let at_last = ready more x in
     subst (λ z. Completes (document d.text d.options more) z places (standing_of defined tree z run) from lines)
-    (open_once tree.nodes tree.spine at_last.frames now.frames at_last.are_open now.are_open) at_last.completes in
+    (open_once d.options tree.nodes tree.spine at_last.frames now.frames at_last.are_open now.are_open) at_last.completes in
     let inside = subst (λ z. CanGoOn z from) (open_path d.options tree.nodes tree.spine now.frames now.are_open) can in
-    let size = open_length tree.nodes tree.spine now.frames now.are_open in
+    let size = open_length d.options tree.nodes tree.spine now.frames now.are_open in
     let done = completion_derives d now.frames places (standing_of defined tree now.frames run) from lines size inside always in
     record { frames = now.frames; are_open = now.are_open; completion = done.0; derives = done.1 }
 

@@ -5,6 +5,8 @@ use Rattle.std.proofs.lemmas.Option.{none-some}
 use Rattle.first_pass_items.specs.declared.item.Item.{Item}
 use Rattle.first_pass_items.specs.declared.item.ItemBody.{ItemBody}
 use Rattle.first_pass_items.specs.declared.item.ItemBody.TheVariants.{BlockQuote as BlockQuoteBody, List as ListBody, ListItem as ListItemBody}
+use Rattle.first_pass_items.specs.declared.item.ItemBody.TheVariants.{FootnoteDefinition as FootnoteDefinitionBody}
+use Rattle.first_pass_items.specs.declared.option_set.Options.{Options}
 use Rattle.first_pass_tree.specs.declared.tree_index.TreeIndex.{TreeIndex}
 use Rattle.first_pass_tree.specs.Forest.{Forest}
 use Rattle.first_pass_lines.specs.Places.{Place}
@@ -30,23 +32,24 @@ use Rattle.first_pass_blocks.specs.Completed.{CompletedAt, CompletedBeforeLine, 
 use Rattle.first_pass_blocks.proofs.ReadyCompleted.{ready_completed}
 
 -- an open node is a container or a list, and shows nothing
-frame_silent : (b : ItemBody) (frame : Frame) → frame_of b ≡ Some frame → ShowsNothing b
-frame_silent (BlockQuoteBody kind) frame h = λ names depth start end. refl
-frame_silent (ListItemBody columns) frame h = λ names depth start end. refl
-frame_silent (ListBody flags byte number) frame h = λ names depth start end. refl
-frame_silent b frame h = absurd (none-some frame h)
+frame_silent : (options : Options) (b : ItemBody) (frame : Frame) → frame_of options b ≡ Some frame → ShowsNothing b
+frame_silent options (BlockQuoteBody kind) frame h = λ names depth start end. refl
+frame_silent options (ListItemBody columns) frame h = λ names depth start end. refl
+frame_silent options (FootnoteDefinitionBody label) frame h = λ names depth start end. refl
+frame_silent options (ListBody flags byte number) frame h = λ names depth start end. refl
+frame_silent options b frame h = absurd (none-some frame h)
 
-open_silent : (nodes : List (ℕ × Item)) (i : ℕ) (frame : Frame) → frame_at nodes i ≡ Some frame → IsSilent nodes i
-open_silent [] i frame h = absurd (none-some frame h)
-open_silent (n ∷ nodes) zero frame h = frame_silent n.1.body frame h
-open_silent (n ∷ nodes) (suc i) frame h = open_silent nodes i frame h
+open_silent : (options : Options) (nodes : List (ℕ × Item)) (i : ℕ) (frame : Frame) → frame_at options nodes i ≡ Some frame → IsSilent nodes i
+open_silent options [] i frame h = absurd (none-some frame h)
+open_silent options (n ∷ nodes) zero frame h = frame_silent options n.1.body frame h
+open_silent options (n ∷ nodes) (suc i) frame h = open_silent options nodes i frame h
 
-all_silent : (nodes : List (ℕ × Item)) (spine : List TreeIndex) (frames : List Frame) → AreOpen nodes spine frames
+all_silent : (options : Options) (nodes : List (ℕ × Item)) (spine : List TreeIndex) (frames : List Frame) → AreOpen options nodes spine frames
     → AreSilent nodes (map (λ (ix : TreeIndex). ix.0) spine)
-all_silent nodes [] [] o = tt
-all_silent nodes [] (frame ∷ frames) o = absurd o
-all_silent nodes (ix ∷ spine) [] o = absurd o
-all_silent nodes (ix ∷ spine) (frame ∷ frames) o = (open_silent nodes ix.0 frame o.0, all_silent nodes spine frames o.1)
+all_silent options nodes [] [] o = tt
+all_silent options nodes [] (frame ∷ frames) o = absurd o
+all_silent options nodes (ix ∷ spine) [] o = absurd o
+all_silent options nodes (ix ∷ spine) (frame ∷ frames) o = (open_silent options nodes ix.0 frame o.0, all_silent options nodes spine frames o.1)
 
 -- under names that continue the present ones
 abbrev IsWholeOnce : Names → List (ℕ × Item) → Type 0
@@ -60,7 +63,7 @@ module _ (d : Document) (defined : Tables) (lines : List Place) (at : AreAt d.te
     c.completion.extends,
     completed_whole d c.frames (map (λ (ix : TreeIndex). ix.0) tree.spine)
         (record { nodes = tree.nodes; list = NoList; before = record { last = last_of c.frames; counted = run }; defined = defined }) from lines plain at
-        (all_silent tree.nodes tree.spine c.frames c.are_open) tt c.completion c.derives,
+        (all_silent d.options tree.nodes tree.spine c.frames c.are_open) tt c.completion c.derives,
   )
 
   -- an item that takes blank lines alone shows nothing either
@@ -70,7 +73,7 @@ module _ (d : Document) (defined : Tables) (lines : List Place) (at : AreAt d.te
       ap (λ s. marks names (emptied r.tree s).nodes) empty.spine
       ∙ marks_modified names r.tree.nodes empty.place.0 (λ x. record { start = x.start; «end» = x.«end»; body = ListItemBody 0 })
       (λ x k names depth start end. refl)
-      (open_silent r.tree.nodes empty.place.0 _ (ap (option_and_then frame_of) empty.item))
+      (open_silent d.options r.tree.nodes empty.place.0 _ (ap (option_and_then (frame_of d.options)) empty.item))
 
   whole_before_line : (r : Reading) (e : ℕ) → ReadyEmpty d defined r e lines → (t : Bool) → CompletedBeforeLine d defined r.tree e lines t
       → IsWholeOnce d.names r.tree.nodes

@@ -4,14 +4,18 @@ use Rattle.std.proofs.Common.{Some, None, refl, sym, ap, subst, ◌∙◌, arith
 use Rattle.first_pass_items.specs.declared.item.Item.{Item}
 use Rattle.first_pass_items.specs.declared.item.BlockQuoteKind.{BlockQuoteKind}
 use Rattle.first_pass_items.specs.declared.item.ItemBody.TheVariants.{BlockQuote as BlockQuoteBody, ListItem as ListItemBody}
-use Rattle.first_pass_tree.specs.Forest.{IsForest}
+use Rattle.first_pass_tree.specs.Forest.{IsForest, in_table}
+use Rattle.first_pass_grammar.specs.Footnotes.{footnote_head_at}
+use Rattle.first_pass_grammar.specs.Derivation.{Tables}
+use Rattle.first_pass_open.specs.Path.{path_of, context_of}
+use Rattle.first_pass_blocks.proofs.TextLemmas.{no_table}
 use Rattle.first_pass_lines.specs.Rest.{Rest}
 use Rattle.first_pass_lines.specs.Places.{Place, place_at, offset, line_end, IsPlaceOf}
 use Rattle.first_pass_lines.proofs.PlaceFacts.{start_of-lines}
 use Rattle.first_pass_grammar.specs.declared.kind.Container.TheVariants.{BlockQuote}
 use Rattle.first_pass_grammar.specs.Containers.{prefix, at_rest}
 use Rattle.first_pass_grammar.specs.Kinds.{item_at, is_blank_rest, quote_start}
-use Rattle.first_pass_grammar.specs.Leaves.{Document, document}
+use Rattle.first_pass_grammar.specs.Leaves.{Document, document, around}
 use Rattle.first_pass_grammar.specs.Openers.{LineEnds, Start, item_head, task_behind, after_task, tag_behind, quote_begun, start_at}
 use Rattle.first_pass_grammar.specs.Completion.{lines_from}
 use Rattle.first_pass_grammar.specs.Names.{Names}
@@ -67,12 +71,18 @@ IsOpened source line r p s =
     × ReadsTo source line r (start_opened p.line (start_told s) (line_end p) r) (InLine p) (after_at (at_rest p s.rest) (line_end p) (after_told s.after))
 
 module _ (source : Source) (r : Reading) (p : Place) (utf8 : IsUtf8 source.text.now) (at : IsPlaceOf source.text.now p) (forest : IsForest r.tree)
-    (none : r.empty_item ≡ None) (line : ℕ) (below : line ≤ p.line) where
+    (none : r.empty_item ≡ None) (line : ℕ) (below : line ≤ p.line)
+    (bare : in_table r.tree.nodes r.tree.spine ≡ false → footnote_head_at (context_of source.options r.tree) p ≡ None) where
   abbrev text : List ℕ
   text = source.text.now
 
   abbrev doc : Names → Document
   doc names = document source.text.now source.options names
+
+  -- where what is remembered begins a derivation no table is open, and so no footnote definition begins
+  no_head : (names : Names) (defined : Tables) → ReadyAt (doc names) defined r.tree r.blank (Inside p) (lines_from text (line_end p))
+      → footnote_head_at (around (doc names) (path_of source.options r.tree)) p ≡ None
+  no_head names defined ready = bare (no_table source.options r.tree.nodes r.tree.spine ready.frames ready.are_open)
 
   ends : IsCharBoundary text (line_end p)
   ends = place_end text p utf8 at
@@ -113,7 +123,8 @@ module _ (source : Source) (r : Reading) (p : Place) (utf8 : IsUtf8 source.text.
           record {
             ready = λ names defined ready.
                 ready_after (doc names) defined opened_item (at_rest p rest) (line_end p) marker j.1
-                (ready_item (doc names) defined r p (lines_from text (line_end p)) ((byte, number, columns), behind) marker rest forest is
+                (ready_item (doc names) defined r p (lines_from text (line_end p)) ((byte, number, columns), behind) marker rest forest
+                (no_head names defined ready) is
                 (task marker same) some none ready);
             order = λ ordered.
                 ordered_container source.options text opened_item (offset p) (line_end p) (at_rest p rest) marker (ap is_list top) low j.0.within ordered.0
@@ -150,7 +161,8 @@ module _ (source : Source) (r : Reading) (p : Place) (utf8 : IsUtf8 source.text.
           (j.0, refl, j.1),
           record {
             ready = λ names defined ready.
-                ready_empty_item (doc names) defined r p (lines_from text e) ((byte, number, columns), behind) marker rest e forest is (task marker same) over
+                ready_empty_item (doc names) defined r p (lines_from text e) ((byte, number, columns), behind) marker rest e forest
+                (no_head names defined ready) is (task marker same) over
                 (start_of-lines text e ends.0) none ready;
             order = λ ordered.
                 inl (ordered_empty_item text (offset p) (offset (at_rest p rest)) e columns (list_continued (offset p) byte number r) marker opened_item.blank
@@ -199,7 +211,8 @@ module _ (source : Source) (r : Reading) (p : Place) (utf8 : IsUtf8 source.text.
             ready = λ names defined ready.
                 subst (λ (n : ℕ). ReadyAt (doc names) defined (opened_quote None).tree
                 (opened_quote None).blank (Inside (at_rest p inside)) (lines_from text n))
-                (sym j.1) (ready_quote (doc names) defined r p (lines_from text (line_end p)) inside forest no_item is tag none ready);
+                (sym j.1) (ready_quote (doc names) defined r p (lines_from text (line_end p)) inside forest (no_head names defined ready) no_item is tag
+                none ready);
             order = λ ordered. (
               ordered.0,
               ordered_on text (opened_quote None).tree p.line (quote_start p) (offset (at_rest p inside))
@@ -225,7 +238,7 @@ module _ (source : Source) (r : Reading) (p : Place) (utf8 : IsUtf8 source.text.
           (j.0, refl, j.1),
           record {
             ready = λ names defined ready.
-                ready_tagged (doc names) defined r p (lines_from text e) inside kind forest no_item is tag none ready;
+                ready_tagged (doc names) defined r p (lines_from text e) inside kind forest (no_head names defined ready) no_item is tag none ready;
             order = λ ordered.
                 ordered_later text (opened_quote (Some kind)).tree (quote_start p) e (omega (arith, s.1, there, j.1)) ends.0
                 (ordered_quote text r p.line (offset p) (quote_start p) (Some kind) (omega arith) s.0 s.2.0 ordered.0 s.2 none ordered.1);
@@ -245,7 +258,7 @@ module _ (source : Source) (r : Reading) (p : Place) (utf8 : IsUtf8 source.text.
   pub no_start : start_at source.options p ≡ None → ReadsTo source line r r (InLine p) (LeafAt p)
   no_start is =
       let absent = start_absent source.options p is in record {
-        ready = λ names defined ready. inl (absent.0, absent.1, ready);
+        ready = λ names defined ready. inl (no_head names defined ready, absent.0, absent.1, ready);
         order = λ ordered. ordered;
         few = λ first grows. grows;
         named = λ names h. h;

@@ -8,7 +8,7 @@ use Rattle.std.specs.Option.{option_and_then}
 use Rattle.first_pass_items.specs.declared.item.Item.{Item}
 use Rattle.first_pass_items.specs.declared.item.ItemBody.{ItemBody}
 use Rattle.first_pass_items.specs.declared.item.ItemBody.TheVariants.{Paragraph as ParagraphBody, BlockQuote as BlockQuoteBody, List as ListBody}
-use Rattle.first_pass_items.specs.declared.item.ItemBody.TheVariants.{ListItem as ListItemBody}
+use Rattle.first_pass_items.specs.declared.item.ItemBody.TheVariants.{ListItem as ListItemBody, FootnoteDefinition as FootnoteDefinitionBody}
 use Rattle.first_pass_items.specs.declared.option_set.Options.{Options}
 use Rattle.first_pass_tree.specs.declared.tree_index.TreeIndex.{TreeIndex}
 use Rattle.first_pass_tree.specs.Forest.{Forest, IsForest, empty_forest, with_end_at, body_at}
@@ -17,8 +17,9 @@ use Rattle.first_pass_lines.specs.Rest.{Rest, indent}
 use Rattle.first_pass_lines.specs.Places.{Place, start_of}
 use Rattle.first_pass_grammar.specs.Names.{Names}
 use Rattle.first_pass_grammar.specs.declared.kind.Container.{Container}
-use Rattle.first_pass_grammar.specs.declared.kind.Container.TheVariants.{BlockQuote, ListItem}
-use Rattle.first_pass_grammar.specs.Containers.{prefix, after, next_goes_on}
+use Rattle.first_pass_grammar.specs.declared.kind.Container.TheVariants.{BlockQuote, ListItem, FootnoteDefinition}
+use Rattle.first_pass_grammar.specs.Containers.{footnote_columns, prefix, after, next_goes_on}
+use Rattle.first_pass_grammar.specs.Before.{LastOther}
 use Rattle.first_pass_grammar.specs.Leaves.{Document, document}
 use Rattle.first_pass_grammar.specs.Skeleton.{Line, Blanks, level, Lines, is_blank_behind, next_is_blank, end_before}
 use Rattle.first_pass_grammar.specs.Derivation.{Tables, no_tables, Derives}
@@ -46,7 +47,7 @@ ready_first text options names tree root top tree_is =
     (record { frames = []; are_open = tt; completes = completes-first (document text options names) })
 
 ended_by : (d : Document) (defined : Tables) (tree : Forest Item) (run : Bool) (frames : List Frame)
-    → AreOpen tree.nodes [] frames → CompletesAt d defined run frames tree.nodes [] Line [] → Derives d tree.nodes defined
+    → AreOpen d.options tree.nodes [] frames → CompletesAt d defined run frames tree.nodes [] Line [] → Derives d tree.nodes defined
 ended_by d defined tree run [] o k = completes-end d defined run tree.nodes k
 ended_by d defined tree run (frame ∷ frames) o k = absurd o
 
@@ -54,7 +55,7 @@ ended_by d defined tree run (frame ∷ frames) o k = absurd o
 ready_end : (d : Document) (defined : Tables) (tree : Forest Item) (run : Bool)
     → tree.spine ≡ [] → ReadyAt d defined tree run Line [] → Derives d tree.nodes defined
 ready_end d defined tree run closed ready =
-    ended_by d defined tree run ready.frames (subst (λ s. AreOpen tree.nodes s ready.frames) closed ready.are_open)
+    ended_by d defined tree run ready.frames (subst (λ s. AreOpen d.options tree.nodes s ready.frames) closed ready.are_open)
     (subst (λ s. CompletesAt d defined run ready.frames tree.nodes (map (λ ix. ix.0) s) Line []) closed ready.completes)
 
 ended_with : (d : Document) (defined : Tables) (r : Reading) (o : Option ℕ) → r.tree.spine ≡ [] → ReadyWith d defined r [] o → Derives d r.tree.nodes defined
@@ -107,24 +108,31 @@ popped_is e r ix rest spine =
     (body-kept r.tree.nodes ix.0 ix.0 (λ x. record { start = x.start; «end» = e; body = x.body }) (λ x. refl))
 
 -- an open node has a frame
-framed_open : (nodes : List (ℕ × Item)) (ix : TreeIndex) (rest : List TreeIndex) (frames : List Frame)
-    → AreOpen nodes (ix ∷ rest) frames → (frame : Frame) × (frame_at nodes ix.0 ≡ Some frame)
-framed_open nodes ix rest [] o = absurd o
-framed_open nodes ix rest (frame ∷ frames) o = (frame, o.0)
+framed_open : (options : Options) (nodes : List (ℕ × Item)) (ix : TreeIndex) (rest : List TreeIndex) (frames : List Frame)
+    → AreOpen options nodes (ix ∷ rest) frames → (frame : Frame) × (frame_at options nodes ix.0 ≡ Some frame)
+framed_open options nodes ix rest [] o = absurd o
+framed_open options nodes ix rest (frame ∷ frames) o = (frame, o.0)
 
 module _ (d : Document) (defined : Tables) (r : Reading) (lines : List Place) (e : ℕ) (ix : TreeIndex) (rest : List TreeIndex) (forest : IsForest r.tree)
     (spine : r.tree.spine ≡ ix ∷ rest) (e_is : start_of (length d.text) lines ≡ e) where
   -- the innermost open node closed before the next line, where no item is empty
-  pop_as : (b : Option ItemBody) (frame : Frame) → body_at r.tree.nodes ix.0 ≡ b → option_and_then frame_of b ≡ Some frame
+  pop_as : (b : Option ItemBody) (frame : Frame) → body_at r.tree.nodes ix.0 ≡ b → option_and_then (frame_of d.options) b ≡ Some frame
       → next_goes_on (with_container (option_and_then (container_of d.options) b) (path_in d.options r.tree.nodes rest)) lines ≡ false
       → ReadyAt d defined r.tree r.blank Line lines → ReadyAt d defined (popped_by r (closed_by r.tree e (ix ∷ rest)) ix b).tree r.blank Line lines
   pop_as None frame is framed ends ready = cc
   pop_as (Some (BlockQuoteBody kind)) frame is framed ends ready =
-      pop_container d defined r.tree r.blank Line lines e ix rest (BlockQuote kind) spine (ap (option_and_then frame_of) is)
-      (λ before. stops d.options (level (BlockQuote kind ∷ path_in d.options r.tree.nodes rest) before) lines ends) (sym e_is) ready
+      pop_container d defined r.tree r.blank Line lines e ix rest (BlockQuote kind) spine (ap (option_and_then (frame_of d.options)) is)
+      (stops d.options (level (BlockQuote kind ∷ path_in d.options r.tree.nodes rest) (record { last = LastOther; counted = r.blank })) lines ends)
+      (sym e_is) ready
   pop_as (Some (ListItemBody columns)) frame is framed ends ready =
-      pop_container d defined r.tree r.blank Line lines e ix rest (ListItem columns) spine (ap (option_and_then frame_of) is)
-      (λ before. stops d.options (level (ListItem columns ∷ path_in d.options r.tree.nodes rest) before) lines ends) (sym e_is) ready
+      pop_container d defined r.tree r.blank Line lines e ix rest (ListItem columns) spine (ap (option_and_then (frame_of d.options)) is)
+      (stops d.options (level (ListItem columns ∷ path_in d.options r.tree.nodes rest) (record { last = LastOther; counted = r.blank })) lines ends)
+      (sym e_is) ready
+  pop_as (Some (FootnoteDefinitionBody label)) frame is framed ends ready =
+      let columns : ℕ = footnote_columns d.options in
+      pop_container d defined r.tree r.blank Line lines e ix rest (FootnoteDefinition columns) spine (ap (option_and_then (frame_of d.options)) is)
+      (stops d.options (level (FootnoteDefinition columns ∷ path_in d.options r.tree.nodes rest) (record { last = LastOther; counted = r.blank })) lines ends)
+      (sym e_is) ready
   pop_as (Some (ListBody flags list number)) frame is framed ends ready =
       pop_list d defined r.tree r.blank lines e ix rest flags list number forest spine is e_is ends ready
   pop_as (Some b) frame is framed ends ready = cc
@@ -135,8 +143,8 @@ module _ (d : Document) (defined : Tables) (r : Reading) (lines : List Place) (e
   pop_plain : next_goes_on (path_of d.options r.tree) lines ≡ false → ReadyAt d defined r.tree r.blank Line lines
       → ReadyAt d defined (popped e r).tree r.blank Line lines
   pop_plain ends ready =
-      let o : AreOpen r.tree.nodes (ix ∷ rest) ready.frames = subst (λ s. AreOpen r.tree.nodes s ready.frames) spine ready.are_open in
-      let frame = framed_open r.tree.nodes ix rest ready.frames o in
+      let o : AreOpen d.options r.tree.nodes (ix ∷ rest) ready.frames = subst (λ s. AreOpen d.options r.tree.nodes s ready.frames) spine ready.are_open in
+      let frame = framed_open d.options r.tree.nodes ix rest ready.frames o in
       subst (λ (q : Reading). ReadyAt d defined q.tree r.blank Line lines) (sym (popped_is e r ix rest spine))
       (pop_as (body_at r.tree.nodes ix.0) frame.0 refl frame.1 (ends_at ends) ready)
 
@@ -181,8 +189,8 @@ module _ (d : Document) (defined : Tables) (r : Reading) (lines : List Place) (e
       subst (λ n. next_goes_on (ListItem n ∷ path_in d.options r.tree.nodes rest) lines ≡ false) (none refl) ends' in
       let last : e ≡ end_before (length d.text) (path_in d.options r.tree.nodes rest) (Blanks x) (Lines lines) =
       sym (ap (λ t. if t then x else start_of (length d.text) lines) (not_on (path_in d.options r.tree.nodes rest) lines ends0) ∙ e_is) in
-      pop_container d defined r.tree true (Blanks x) lines e ix rest (ListItem columns) spine (ap (option_and_then frame_of) item)
-      (λ before. stops_blank d.options (level (ListItem columns ∷ path_in d.options r.tree.nodes rest) before) x lines
+      pop_container d defined r.tree true (Blanks x) lines e ix rest (ListItem columns) spine (ap (option_and_then (frame_of d.options)) item)
+      (stops_blank d.options (level (ListItem columns ∷ path_in d.options r.tree.nodes rest) (record { last = LastOther; counted = true })) x lines
       (not_blank (ListItem columns ∷ path_in d.options r.tree.nodes rest) lines ends')) last ready
   closed_item columns x false is none item ends ready =
       let c : container_at d.options r.tree.nodes ix ≡ Some (ListItem columns) = ap (option_and_then (container_of d.options)) item in
@@ -190,8 +198,9 @@ module _ (d : Document) (defined : Tables) (r : Reading) (lines : List Place) (e
       subst (λ o. next_goes_on (with_container o (path_in d.options r.tree.nodes rest)) lines ≡ false) c (ends_at ends) in
       let now : ReadyAt d defined r.tree false Line lines =
       subst (ReadyBeforeLine d defined r.tree x lines) (not_blank (path_of d.options r.tree) lines ends) ready in
-      pop_container d defined r.tree false Line lines e ix rest (ListItem columns) spine (ap (option_and_then frame_of) item)
-      (λ before. stops d.options (level (ListItem columns ∷ path_in d.options r.tree.nodes rest) before) lines ends') (sym e_is) now
+      pop_container d defined r.tree false Line lines e ix rest (ListItem columns) spine (ap (option_and_then (frame_of d.options)) item)
+      (stops d.options (level (ListItem columns ∷ path_in d.options r.tree.nodes rest) (record { last = LastOther; counted = false })) lines ends')
+      (sym e_is) now
 
   pop_with : (o : Option ℕ) → r.empty_item ≡ o → next_goes_on (path_of d.options r.tree) lines ≡ false → ReadyWith d defined r lines o
       → Ready d defined (popped e r) lines

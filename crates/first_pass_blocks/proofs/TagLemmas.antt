@@ -6,6 +6,7 @@ use Rattle.std.specs.Option.{option_and_then}
 use Rattle.first_pass_items.specs.declared.item.Item.{Item}
 use Rattle.first_pass_items.specs.declared.item.BlockQuoteKind.{BlockQuoteKind}
 use Rattle.first_pass_items.specs.declared.item.ItemBody.TheVariants.{BlockQuote as BlockQuoteBody}
+use Rattle.first_pass_items.specs.declared.option_set.Options.{Options}
 use Rattle.first_pass_tree.specs.declared.tree_index.TreeIndex.{TreeIndex}
 use Rattle.first_pass_tree.specs.Forest.{Forest, body_at}
 use Rattle.first_pass_lines.specs.Rest.{indent}
@@ -46,13 +47,13 @@ finishes_nothing at r kind quote blank none =
     ap (λ q. gap_noted (list_left at q)) item ∙ ap gap_noted left ∙ noted_none r (gap_tree r.tree r.tree.spine) r.blank blank
 
 -- a blank line doesn't count directly in it
-pub quote_counts : (nodes : List (ℕ × Item)) (s : List TreeIndex) (frames : List Frame) (kind : Option BlockQuoteKind)
-    → option_and_then (λ (ix : TreeIndex). body_at nodes ix.0) (slice_get s 0) ≡ Some (BlockQuoteBody kind) → AreOpen nodes s frames
+pub quote_counts : (options : Options) (nodes : List (ℕ × Item)) (s : List TreeIndex) (frames : List Frame) (kind : Option BlockQuoteKind)
+    → option_and_then (λ (ix : TreeIndex). body_at nodes ix.0) (slice_get s 0) ≡ Some (BlockQuoteBody kind) → AreOpen options nodes s frames
     → counts_in frames false ≡ false
-quote_counts nodes [] frames kind quote o = cc
-quote_counts nodes (ix ∷ s) [] kind quote o = absurd o
-quote_counts nodes (ix ∷ s) (frame ∷ frames) kind quote o =
-    let is : Some (InContainer (BlockQuote kind)) ≡ Some frame = sym (ap (option_and_then frame_of) quote) ∙ o.0 in
+quote_counts options nodes [] frames kind quote o = cc
+quote_counts options nodes (ix ∷ s) [] kind quote o = absurd o
+quote_counts options nodes (ix ∷ s) (frame ∷ frames) kind quote o =
+    let is : Some (InContainer (BlockQuote kind)) ≡ Some frame = sym (ap (option_and_then (frame_of options)) quote) ∙ o.0 in
     let same : InContainer (BlockQuote kind) ≡ frame = cc in
     ap (λ f. counts_in (f ∷ frames) false) (sym same)
 

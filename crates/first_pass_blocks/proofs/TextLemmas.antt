@@ -5,6 +5,8 @@ use Rattle.std.specs.Option.{option_and_then}
 use Rattle.first_pass_items.specs.declared.item.Item.{Item}
 use Rattle.first_pass_items.specs.declared.item.ItemBody.{ItemBody}
 use Rattle.first_pass_items.specs.declared.item.ItemBody.TheVariants.{BlockQuote as BlockQuoteBody, List as ListBody, ListItem as ListItemBody}
+use Rattle.first_pass_items.specs.declared.item.ItemBody.TheVariants.{FootnoteDefinition as FootnoteDefinitionBody}
+use Rattle.first_pass_items.specs.declared.option_set.Options.{Options}
 use Rattle.first_pass_tree.specs.declared.tree_index.TreeIndex.{TreeIndex}
 use Rattle.first_pass_tree.specs.Forest.{Forest, IsForest, body_at, in_table, in_table_by}
 use Rattle.first_pass_lines.specs.Lines.{line_len}
@@ -19,8 +21,8 @@ use Rattle.first_pass_grammar.specs.LinkTables.{LinkEntry}
 use Rattle.first_pass_grammar.specs.LinkRuns.{Ended, FlowsOn, IsRun}
 use Rattle.first_pass_grammar.specs.Completion.{Frame, lines_from}
 use Rattle.first_pass_grammar.specs.OpenOrder.{IsOrderedTo}
-use Rattle.first_pass_names.specs.TableEntries.{tables, told_by, names_of, refdefs_of, NamesMore}
-use Rattle.first_pass_definitions.specs.Found.{AreWritten}
+use Rattle.first_pass_names.specs.TableEntries.{tables, told_by, names_of, NamesMore}
+use Rattle.first_pass_blocks.specs.Written.{TablesAreWritten}
 use Rattle.first_pass_lists.specs.Closing.{list_finished}
 use Rattle.first_pass_lists.specs.declared.reading.Reading.{Reading}
 use Rattle.first_pass_open.specs.Between.{AddsBetween}
@@ -49,25 +51,28 @@ use Rattle.first_pass_blocks.specs.Progress.{ReadsLeaf}
 use Rattle.first_pass_blocks.proofs.WrittenLemmas.{written_stay}
 
 -- Where containers and lists alone are open no table is.
-no_table_by : (b : ItemBody) (frame : Frame) (outer : Bool) → frame_of b ≡ Some frame → in_table_by outer (Some b) ≡ false
-no_table_by (BlockQuoteBody kind) frame outer is = refl
-no_table_by (ListItemBody columns) frame outer is = refl
-no_table_by (ListBody flags byte number) frame outer is = refl
-no_table_by b frame outer is = cc
+no_table_by : (options : Options) (b : ItemBody) (frame : Frame) (outer : Bool) → frame_of options b ≡ Some frame → in_table_by outer (Some b) ≡ false
+no_table_by options (BlockQuoteBody kind) frame outer is = refl
+no_table_by options (ListItemBody columns) frame outer is = refl
+no_table_by options (FootnoteDefinitionBody label) frame outer is = refl
+no_table_by options (ListBody flags byte number) frame outer is = refl
+no_table_by options b frame outer is = cc
 
-no_table_at : (o : Option ItemBody) (frame : Frame) (outer : Bool) → option_and_then frame_of o ≡ Some frame → in_table_by outer o ≡ false
-no_table_at None frame outer is = refl
-no_table_at (Some b) frame outer is = no_table_by b frame outer is
+no_table_at : (options : Options) (o : Option ItemBody) (frame : Frame) (outer : Bool) → option_and_then (frame_of options) o ≡ Some frame
+    → in_table_by outer o ≡ false
+no_table_at options None frame outer is = refl
+no_table_at options (Some b) frame outer is = no_table_by options b frame outer is
 
-no_table : (nodes : List (ℕ × Item)) (spine : List TreeIndex) (frames : List Frame) → AreOpen nodes spine frames → in_table nodes spine ≡ false
-no_table nodes [] frames o = refl
-no_table nodes (ix ∷ spine) [] o = absurd o
-no_table nodes (ix ∷ spine) (frame ∷ frames) o = no_table_at (body_at nodes ix.0) frame (in_table nodes spine) o.0
+pub no_table : (options : Options) (nodes : List (ℕ × Item)) (spine : List TreeIndex) (frames : List Frame) → AreOpen options nodes spine frames
+    → in_table nodes spine ≡ false
+no_table options nodes [] frames o = refl
+no_table options nodes (ix ∷ spine) [] o = absurd o
+no_table options nodes (ix ∷ spine) (frame ∷ frames) o = no_table_at options (body_at nodes ix.0) frame (in_table nodes spine) o.0
 
 pub leaf_plain : (d : Document) (defined : Tables) (r : Reading) (p : Place) (lines : List Place)
     → ReadyLeaf d defined r p lines → in_table r.tree.nodes r.tree.spine ≡ false
-leaf_plain d defined r p lines (inl (no_item, no_quote, ready)) = no_table r.tree.nodes r.tree.spine ready.frames ready.are_open
-leaf_plain d defined r p lines (inr lazy) = no_table r.tree.nodes r.tree.spine lazy.ready.frames lazy.ready.are_open
+leaf_plain d defined r p lines (inl (bare, no_item, no_quote, ready)) = no_table d.options r.tree.nodes r.tree.spine ready.frames ready.are_open
+leaf_plain d defined r p lines (inr lazy) = no_table d.options r.tree.nodes r.tree.spine lazy.ready.frames lazy.ready.are_open
 
 -- What is in order up to a place, or up to the beginning of its line where a list is innermost, is in order so at a later place.
 or_low : (t : Bool) (l a m b : ℕ) → l ≤ m → a ≤ b → (if t then l else a) ≤ (if t then m else b)
@@ -112,7 +117,7 @@ run_from text around p xs b run = subst (λ n. IsRun around (unindented p) (line
 pub run_line : (old mid new : BlockPass) (p : Place) (nested : Bool) (line next : ℕ) → IsUtf8 (source_text old) → IsPlaceOf (source_text old) p
     → (reading_of old).empty_item ≡ None → IsForest (tree_of old) → IsKind (source_options old) p.rest Paragraph
     → nested ≡ in_table (tree_of old).nodes (tree_of old).spine → source_of mid ≡ source_of old → names_of (allocs_of mid) ≡ names_of (allocs_of old)
-    → (AreWritten (source_text old) (refdefs_of (allocs_of old)) → AreWritten (source_text old) (refdefs_of (allocs_of mid)))
+    → (TablesAreWritten (source_text old) (allocs_of old) → TablesAreWritten (source_text old) (allocs_of mid))
     → ReadsRun (source_text old) (context_in old) nested (unindented p) (tables (allocs_of old)) (tables (allocs_of mid)) (NextLine line next)
     → source_of new ≡ source_of mid → allocs_of new ≡ allocs_of mid → reading_of new ≡ list_finished line (reading_of old) → ReadsLeaf old new p next
 run_line old mid new p nested line next u i empty forest kind nest source names written w source' allocs reading =
@@ -144,7 +149,7 @@ run_line old mid new p nested line next u i empty forest kind nest source names 
           (ready_ended d (tables (allocs_of old)) r p q next w.definitions forest kind run empty ready));
       named = λ h. subst (λ (z : Reading). AreNamed (names_of (allocs_of new)) z.tree.nodes) (sym behind)
           (subst (λ z. AreNamed z (list_finished q.line r).tree.nodes) (sym named) (list_finished_named (names_of (allocs_of old)) q.line r h));
-      written = λ h. subst (λ z. AreWritten text (refdefs_of z)) (sym allocs) (written h);
+      written = λ h. subst (λ z. TablesAreWritten text z) (sym allocs) (written h);
       order = λ o. inl (subst (λ z. IsOrderedAt text z next) (sym behind)
           (ordered_none text (list_finished q.line r) next (list_finished_none q.line r) high
           (ordered_finished text r q.line (offset q) q.line next (omega arith) (omega arith) (inl (refl, later_line text p q o.0 w.later)) high last empty
@@ -158,7 +163,7 @@ run_line old mid new p nested line next u i empty forest kind nest source names 
 pub run_text : (old mid new : BlockPass) (p : Place) (nested : Bool) (at next : ℕ) → IsUtf8 (source_text old) → IsPlaceOf (source_text old) p
     → (reading_of old).empty_item ≡ None → IsForest (tree_of old) → IsKind (source_options old) p.rest Paragraph
     → nested ≡ in_table (tree_of old).nodes (tree_of old).spine → source_of mid ≡ source_of old → names_of (allocs_of mid) ≡ names_of (allocs_of old)
-    → (AreWritten (source_text old) (refdefs_of (allocs_of old)) → AreWritten (source_text old) (refdefs_of (allocs_of mid)))
+    → (TablesAreWritten (source_text old) (allocs_of old) → TablesAreWritten (source_text old) (allocs_of mid))
     → ReadsRun (source_text old) (context_in old) nested (unindented p) (tables (allocs_of old)) (tables (allocs_of mid)) (TextBehind at)
     → source_of new ≡ source_of mid → NamesMore (allocs_of mid) (allocs_of new)
     → (reading_of new).empty_item ≡ None → (reading_of new).blank ≡ false

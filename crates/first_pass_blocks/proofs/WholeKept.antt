@@ -41,6 +41,9 @@ use Rattle.first_pass_open.specs.Path.{path_of}
 use Rattle.first_pass_lists.specs.Closing.{loosened_by, top_body, is_list, is_list_of, is_item, popped_by, popped_at, popped, item_finished_by, item_finished}
 use Rattle.first_pass_lists.specs.Closing.{list_left, gap_tree, gap_noted, list_finished, loosened_top, list_kept, begun, list_continued, emptied}
 use Rattle.first_pass_lists.specs.Closing.{blank_read_by, blank_read}
+use Rattle.first_pass_lists.specs.Closing.{is_footnote, footnote_left, footnote_begun}
+use Rattle.first_pass_items.specs.declared.item.CowIndex.{CowIndex}
+use Rattle.first_pass_items.specs.declared.item.ItemBody.TheVariants.{FootnoteDefinition as FootnoteDefinitionBody}
 use Rattle.first_pass_lists.specs.declared.reading.Reading.{Reading}
 use Rattle.first_pass_blocks.specs.Adding.{AddsKind}
 use Rattle.first_pass_blocks.proofs.OpenerLemmas.{item_opened}
@@ -288,6 +291,20 @@ module _ (names : Names) where
   pub quote_whole : (line start : ℕ) (body : ItemBody) (r : Reading) → ShowsNothing body → is_row body ≡ false → IsReadWhole r
       → IsReadWhole (begun start body (list_finished line r))
   quote_whole line start body r own other h = begun_whole start body (list_finished line r) own other (list_finished_whole line r h)
+
+  note_left_whole : (e : ℕ) (r : Reading) → IsReadWhole r → IsReadWhole (footnote_left e r)
+  note_left_whole e r h = cond_both (is_footnote (top_body r.tree)) (popped e r) r (λ (q : Reading). IsReadWhole q) (λ b. popped_whole e r h) (λ b. h)
+
+  pub note_whole : (start : ℕ) (index : CowIndex) (r : Reading) → IsReadWhole r → IsReadWhole (footnote_begun start index r)
+  unfolding footnote_begun
+  note_whole start index r h =
+      let l : Reading = list_left start (item_finished r) in
+      begun_whole start (FootnoteDefinitionBody index) (gap_noted (footnote_left start l)) (λ names depth start end. refl) refl
+      (gap_whole (footnote_left start l) (note_left_whole start l (left_whole start (item_finished r) (item_finished_whole r h))))
+
+  -- where more is named
+  pub more_whole : (old : Names) (f : Forest Item) → Extends names old → AreNamed old f.nodes → HasWholeTables old f → HasWholeTables names f
+  more_whole old f more named h = record { whole = whole_still names old f.nodes more named h.whole; none_open = h.none_open }
 
   -- the marker of a task
   pub child_whole : (f : Forest Item) (marker : Option Item) → ((x : Item) → marker ≡ Some x → is_task_marker x.body ≡ true) → HasWholeTables names f

@@ -8,9 +8,14 @@ use Rattle.first_pass_grammar.specs.Containers.{Context}
 use Rattle.first_pass_grammar.specs.Definitions.{LinkReference, reference_at}
 use Rattle.first_pass_grammar.specs.Derivation.{Tables, no_tables}
 use Rattle.first_pass_names.specs.declared.items.Allocations.{Allocations}
-use Rattle.first_pass_names.specs.TableEntries.{Entries, entries, with_definition, tables, link_entry, refdefs_of}
+use Rattle.first_pass_names.specs.TableEntries.{Entries, entries, with_definition, TellsFootnote, tables, link_entry, footnote_label, refdefs_of, footdefs_of}
+use Rattle.first_pass_links.specs.Texts.{Borrows}
+use Rattle.first_pass_items.specs.CowText.{text_of}
+use Rattle.first_pass_labels.specs.declared.label_table.FootnoteDef.{FootnoteDef}
+use Rattle.first_pass_grammar.specs.Footnotes.{footnote_at}
 use Rattle.first_pass_names.proofs.LinkLemmas.{each_first}
 use Rattle.first_pass_definitions.specs.Found.{IsReference, BorrowsLabel, IsWritten, AreWritten}
+use Rattle.first_pass_blocks.specs.Written.{label_bytes, IsFootnoteWritten, AreFootnotesWritten, TablesAreWritten}
 use Rattle.first_pass_blocks.specs.declared.state.BlockPass.{BlockPass}
 use Rattle.first_pass_blocks.specs.Views.{context_in, source_text, tree_of}
 use Rattle.first_pass_blocks.proofs.DefinitionLemmas.{Answers, found_by}
@@ -20,19 +25,48 @@ none_of : (text : List ℕ) (es : List (CowStr × LinkDef)) → map link_entry e
 none_of text [] none = All-nil (IsWritten text)
 none_of text (e ∷ es) none = cc
 
-pub none_written : (text : List ℕ) (a : Allocations) → tables a ≡ no_tables → AreWritten text (refdefs_of a)
-none_written text a none = none_of text (refdefs_of a) (ap (λ (t : Tables). t.links) none)
+no_footnotes : (text : List ℕ) (es : List (CowStr × FootnoteDef)) → map footnote_label es ≡ [] → AreFootnotesWritten text es
+no_footnotes text [] none = All-nil (IsFootnoteWritten text)
+no_footnotes text (e ∷ es) none = cc
+
+pub none_written : (text : List ℕ) (a : Allocations) → tables a ≡ no_tables → TablesAreWritten text a
+none_written text a none =
+    (none_of text (refdefs_of a) (ap (λ (t : Tables). t.links) none), no_footnotes text (footdefs_of a) (ap (λ (t : Tables). t.footnotes) none))
+
+-- the same of entries as they stand
+abbrev EntriesAreWritten : List ℕ → Entries → Type 0
+EntriesAreWritten text es = AreWritten text es.links × AreFootnotesWritten text es.footnotes
 
 -- entries that stay
-pub written_stay : (text : List ℕ) (old new : Allocations) → entries new ≡ entries old → AreWritten text (refdefs_of old) → AreWritten text (refdefs_of new)
-written_stay text old new same each = subst (λ (z : Entries). AreWritten text z.links) (sym same) each
+pub written_stay : (text : List ℕ) (old new : Allocations) → entries new ≡ entries old → TablesAreWritten text old → TablesAreWritten text new
+written_stay text old new same each = subst (EntriesAreWritten text) (sym same) each
 
 -- one more
 pub one_written : (text : List ℕ) (old new : Allocations) (label : CowStr) (definition : LinkDef)
     → entries new ≡ with_definition (entries old) label definition → IsWritten text (label, definition)
-    → AreWritten text (refdefs_of old) → AreWritten text (refdefs_of new)
+    → TablesAreWritten text old → TablesAreWritten text new
 one_written text old new label definition is one each =
-    subst (λ (z : Entries). AreWritten text z.links) (sym is) (each_first (IsWritten text) label definition one (refdefs_of old) each)
+    subst (EntriesAreWritten text) (sym is) (each_first (IsWritten text) label definition one (refdefs_of old) each.0, each.1)
+
+-- one footnote more, whose label is a copy of that of a head
+pub footnote_written : (text : List ℕ) (old new : Allocations) (around : Context) (nested : Bool) (start : ℕ) (head : ℕ × List ℕ) (label : CowStr)
+    → footnote_at nested around (drop start text) ≡ Some head → text_of label ≡ head.1
+    → (text_of label ≡ label_bytes start head.0 text → Borrows (label_bytes start head.0 text) label)
+    → TellsFootnote (entries old) (entries new) label → TablesAreWritten text old → TablesAreWritten text new
+footnote_written text old new around nested start head label here is borrowed tells each =
+    let same = tells.is_copy.same in
+    let one : IsFootnoteWritten text (tells.copy, record { use_count = 0 }) = record {
+      around = around;
+      nested = nested;
+      start = start;
+      head = head;
+      here = here;
+      label = same ∙ is;
+      borrowed = λ plain. tells.is_copy.borrowed (label_bytes start head.0 text) (borrowed (sym same ∙ plain));
+      unused = refl;
+    } in
+    subst (EntriesAreWritten text) (sym tells.told)
+    (each.0, each_first (IsFootnoteWritten text) tells.copy (record { use_count = 0 }) one (footdefs_of old) each.1)
 
 -- what was found at an offset
 written_at : (text : List ℕ) (around : Context) (nested : Bool) (at : ℕ) (x : LinkReference) (found : ℕ × CowStr × LinkDef)

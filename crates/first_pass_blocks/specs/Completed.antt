@@ -15,7 +15,7 @@ use Rattle.first_pass_blocks.specs.State.{AreOpen}
 -- Something completes the open nodes of a tree from a place or from these lines on, and the text derives the forest that they become.
 pub record CompletedAt (d : Document) (defined : Tables) (tree : Forest Item) (run : Bool) (from : From) (lines : List Place) : Type 0 where
   pub frames : List Frame
-  pub are_open : AreOpen tree.nodes tree.spine frames
+  pub are_open : AreOpen d.options tree.nodes tree.spine frames
   pub completion : Completion d frames (map (λ ix. ix.0) tree.spine)
       (record { nodes = tree.nodes; list = NoList; before = record { last = last_of frames; counted = run }; defined = defined }) from lines
   pub derives : Derives (document d.text d.options completion.names) completion.forest completion.tables

@@ -1,11 +1,13 @@
 pub mod Adding
 pub mod Completed
 pub mod Entering
-pub mod Positions
+pub mod FootnoteHeads
 pub mod Ordered
+pub mod Positions
 pub mod Progress
 pub mod Runs
 pub mod Starts
 pub mod State
 pub mod TextsAdded
 pub mod Views
+pub mod Written

@@ -1,8 +1,8 @@
 -- How far what the pass remembers is in order.
-use Rattle.std.specs.Prelude.{◌≡◌, ◌⊎◌, ℕ, ◌≤◌, ◌<◌, true, List, length, drop, Option, Some, None, IsCharBoundary}
+use Rattle.std.specs.Prelude.{◌≡◌, ◌⊎◌, ℕ, ◌≤◌, ◌<◌, true, false, List, length, drop, Option, Some, None, IsCharBoundary}
 use Rattle.first_pass_lines.specs.Rest.{Rest}
 use Rattle.first_pass_lines.specs.Places.{line_rest, place_at, offset}
-use Rattle.first_pass_grammar.specs.Containers.{after}
+use Rattle.first_pass_grammar.specs.Containers.{after, in_old_footnote}
 use Rattle.first_pass_grammar.specs.Kinds.{is_blank_rest}
 use Rattle.first_pass_grammar.specs.OpenOrder.{IsOrderedTo}
 use Rattle.first_pass_items.specs.declared.option_set.Options.{Options}
@@ -22,14 +22,15 @@ pub record IsOrderedAt (text : List ℕ) (r : Reading) (at : ℕ) : Type 0 where
   pub within : at ≤ length text
   pub innermost : (e : ℕ) → r.empty_item ≡ Some e → (is_item (top_body r.tree) ≡ true) × IsCharBoundary text e
 
--- At an offset at which reading continues a line begins that is blank after what the open containers take of it, and the tree is in order up to there: an
--- HTML block that a blank line stops ends after their prefixes (CommonMark 4.6, and this project).
+-- At an offset at which reading continues a line begins that is blank after what the open containers take of it, and before which no footnote definition in
+-- the old form ends, and the tree is in order up to there: an HTML block that a blank line stops ends after their prefixes (CommonMark 4.6, and this project).
 pub record IsHandedOn (options : Options) (text : List ℕ) (r : Reading) (at : ℕ) : Type 0 where
   pub rest : Rest
   pub within : at < length text
   pub taken : after (path_of options r.tree) (line_rest (drop at text)) ≡ Some rest
   pub blank : is_blank_rest rest ≡ true
   pub none : r.empty_item ≡ None
+  pub uncounted : in_old_footnote (path_of options r.tree) ≡ true → r.blank ≡ false
   pub ordered : IsOrderedTo text r.tree (offset (place_at at rest))
 
 -- what the pass remembers is in order up to an offset at which reading continues, or a blank line is handed on there

@@ -8,6 +8,7 @@ use Rattle.first_pass_tree.specs.Forest.{Forest}
 use Rattle.first_pass_lines.specs.Places.{Place, offset, line_end, IsPlaceOf}
 use Rattle.first_pass_grammar.specs.declared.kind.Container.TheVariants.{BlockQuote}
 use Rattle.first_pass_grammar.specs.Containers.{prefix}
+use Rattle.first_pass_grammar.specs.Footnotes.{footnote_head_at}
 use Rattle.first_pass_grammar.specs.Kinds.{item_at}
 use Rattle.first_pass_grammar.specs.Leaves.{Document, document}
 use Rattle.first_pass_grammar.specs.Derivation.{Tables}
@@ -58,7 +59,8 @@ ReadyLazy d defined r p lines = ReadyInQuote d defined r (At p ALeafAlone) lines
 -- a leaf is at a place in a line, where no container begins or after the tag of a block quote
 abbrev pub ReadyLeaf : Document → Tables → Reading → Place → List Place → Type 0
 ReadyLeaf d defined r p lines =
-    ((item_at p.rest ≡ None) × (prefix (BlockQuote None) p.rest ≡ None) × ReadyAt d defined r.tree r.blank (Inside p) lines) ⊎ ReadyLazy d defined r p lines
+    ((footnote_head_at (context_of d.options r.tree) p ≡ None) × (item_at p.rest ≡ None) × (prefix (BlockQuote None) p.rest ≡ None)
+    × ReadyAt d defined r.tree r.blank (Inside p) lines) ⊎ ReadyLazy d defined r p lines
 
 -- what is remembered begins a derivation of the text that continues at a position
 abbrev pub ReadyOn : Document → Tables → Reading → Position → Type 0

@@ -6,8 +6,8 @@ use Rattle.first_pass_grammar.specs.Names.{Names, Extends, AreNamed}
 use Rattle.first_pass_grammar.specs.Leaves.{document}
 use Rattle.first_pass_grammar.specs.Completion.{lines_from}
 use Rattle.first_pass_grammar.specs.WholeTables.{HasWholeTables}
-use Rattle.first_pass_names.specs.TableEntries.{tables, names_of, refdefs_of}
-use Rattle.first_pass_definitions.specs.Found.{AreWritten}
+use Rattle.first_pass_names.specs.TableEntries.{tables, names_of}
+use Rattle.first_pass_blocks.specs.Written.{TablesAreWritten}
 use Rattle.first_pass_open.specs.declared.source.Source.{Source}
 use Rattle.first_pass_blocks.specs.declared.state.BlockPass.{BlockPass}
 use Rattle.first_pass_blocks.specs.Views.{allocs_of, reading_of, source_of, tree_of}
@@ -28,7 +28,7 @@ pub record PassesTo (over : Source) (line : ℕ) (old new : BlockPass) (from to 
   pub order : OrderedOn over.options over.text.now (reading_of old) from → OrderedOn over.options over.text.now (reading_of new) to
   pub few : (first : List (ℕ × Item)) → GrowsTo over.text.now line first (tree_of old).nodes from → GrowsTo over.text.now line first (tree_of new).nodes to
   pub named : AreNamed (names_of (allocs_of old)) (tree_of old).nodes → AreNamed (names_of (allocs_of new)) (tree_of new).nodes
-  pub written : AreWritten over.text.now (refdefs_of (allocs_of old)) → AreWritten over.text.now (refdefs_of (allocs_of new))
+  pub written : TablesAreWritten over.text.now (allocs_of old) → TablesAreWritten over.text.now (allocs_of new)
   pub whole : AreNamed (names_of (allocs_of old)) (tree_of old).nodes → HasWholeTables (names_of (allocs_of old)) (tree_of old)
       → HasWholeTables (names_of (allocs_of new)) (tree_of new)
 
@@ -47,7 +47,7 @@ pub record ReadsBlockOf (over : Source) (old new : BlockPass) (far : ℕ) (from 
   pub order : OrderedOn over.options over.text.now (reading_of old) from → IsOrderedFrom over.options over.text.now (reading_of new) next
   pub few : GrowsFrom over.text.now from next (tree_of old).nodes (tree_of new).nodes
   pub named : AreNamed (names_of (allocs_of old)) (tree_of old).nodes → AreNamed (names_of (allocs_of new)) (tree_of new).nodes
-  pub written : AreWritten over.text.now (refdefs_of (allocs_of old)) → AreWritten over.text.now (refdefs_of (allocs_of new))
+  pub written : TablesAreWritten over.text.now (allocs_of old) → TablesAreWritten over.text.now (allocs_of new)
   pub whole : AreNamed (names_of (allocs_of old)) (tree_of old).nodes → HasWholeTables (names_of (allocs_of old)) (tree_of old)
       → HasWholeTables (names_of (allocs_of new)) (tree_of new)
 

@@ -8,8 +8,8 @@ use Rattle.first_pass_grammar.specs.LinkRuns.{Beyond, Ended, FlowsOn, IsRun}
 use Rattle.first_pass_grammar.specs.Completion.{lines_from}
 use Rattle.first_pass_blocks.specs.declared.definition.RunEnd.{RunEnd}
 use Rattle.first_pass_blocks.specs.declared.definition.RunEnd.TheVariants.{NextLine, Paragraph}
-use Rattle.first_pass_names.specs.TableEntries.{names_of, refdefs_of}
-use Rattle.first_pass_definitions.specs.Found.{AreWritten}
+use Rattle.first_pass_names.specs.TableEntries.{names_of}
+use Rattle.first_pass_blocks.specs.Written.{TablesAreWritten}
 use Rattle.first_pass_blocks.specs.declared.state.BlockPass.{BlockPass}
 use Rattle.first_pass_blocks.specs.Views.{allocs_of, reading_of, source_of, source_text}
 
@@ -54,4 +54,4 @@ pub record PutsDefinitions (old new : BlockPass) : Type 0 where
   pub source : source_of new ≡ source_of old
   pub reading : reading_of new ≡ reading_of old
   pub names : names_of (allocs_of new) ≡ names_of (allocs_of old)
-  pub written : AreWritten (source_text old) (refdefs_of (allocs_of old)) → AreWritten (source_text old) (refdefs_of (allocs_of new))
+  pub written : TablesAreWritten (source_text old) (allocs_of old) → TablesAreWritten (source_text old) (allocs_of new)

@@ -3,7 +3,7 @@ use Rattle.std.specs.Prelude.{◌≡◌, ℕ, Bool, true, Option, Some, None, if
 use Rattle.first_pass_items.specs.declared.item.Item.{Item}
 use Rattle.first_pass_items.specs.declared.item.BlockQuoteKind.{BlockQuoteKind}
 use Rattle.first_pass_items.specs.declared.item.ItemBody.TheVariants.{BlockQuote as BlockQuoteBody, ListItem as ListItemBody}
-use Rattle.first_pass_grammar.specs.Blocks.{Opener as ContainerOpener, QuoteMarker, ItemMarker}
+use Rattle.first_pass_grammar.specs.Blocks.{Opener as ContainerOpener, QuoteMarker, ItemMarker, FootnoteMarker}
 use Rattle.first_pass_grammar.specs.Openers.{AfterMarker as After, OnLine as AfterOnLine, TaskText as AfterTaskText, LineEnds as AfterLineEnds}
 use Rattle.first_pass_grammar.specs.Openers.{TagAlone as AfterTagAlone, Start as ContainerStart, after_task, after_quote}
 use Rattle.first_pass_lines.specs.Places.{Place}
@@ -24,10 +24,11 @@ use Rattle.first_pass_blocks.specs.declared.openers.Start.{Start}
 abbrev pub marker_of : ℕ × ℕ × ℕ → ListMarker
 marker_of m = record { byte = m.0; number = m.1; indent = m.2 }
 
--- the grammar's words in the pass's
+-- the grammar's words in the pass's; a footnote definition is none of these, and is opened apart
 abbrev pub opener_told : ContainerOpener → Opener
 opener_told (QuoteMarker kind) = Quote kind
 opener_told (ItemMarker byte number columns) = ItemOpener (marker_of (byte, number, columns))
+opener_told (FootnoteMarker columns index label) = Quote None
 
 abbrev pub after_told : After → AfterMarker
 after_told AfterOnLine = OnLine

@@ -1,19 +1,20 @@
 -- What the tree of the pass stands for between two blocks.
-use Rattle.std.specs.Prelude.{◌≡◌, ℕ, ◌<◌, ◌≤◌, ◌==◌, Bool, true, false, List, [], ◌∷◌, length, map, Option, Some, None, if◌then◌else◌}
+use Rattle.std.specs.Prelude.{◌≡◌, ℕ, ◌<◌, ◌≤◌, ◌==◌, Bool, true, false, List, [], ◌∷◌, length, map, ◌&&◌, Option, Some, None, if◌then◌else◌}
 use Rattle.std.specs.Option.{option_and_then}
 use Rattle.first_pass_items.specs.declared.item.Item.{Item}
 use Rattle.first_pass_items.specs.declared.item.ItemBody.{ItemBody}
 use Rattle.first_pass_items.specs.declared.item.ItemBody.TheVariants.{BlockQuote as BlockQuoteBody, List as ListBody, ListItem as ListItemBody}
+use Rattle.first_pass_items.specs.declared.item.ItemBody.TheVariants.{FootnoteDefinition as FootnoteDefinitionBody}
 use Rattle.first_pass_tree.specs.declared.tree_index.TreeIndex.{TreeIndex}
 use Rattle.first_pass_tree.specs.Forest.{Forest, body_at}
 use Rattle.first_pass_lines.specs.Places.{Place}
-use Rattle.first_pass_grammar.specs.declared.kind.Container.TheVariants.{BlockQuote, ListItem}
+use Rattle.first_pass_grammar.specs.declared.kind.Container.TheVariants.{BlockQuote, ListItem, FootnoteDefinition}
 use Rattle.first_pass_grammar.specs.Names.{Names, Extends}
 use Rattle.first_pass_grammar.specs.Leaves.{Document, document}
 use Rattle.first_pass_grammar.specs.Derivation.{Tables}
-use Rattle.first_pass_grammar.specs.Containers.{next_goes_on}
+use Rattle.first_pass_grammar.specs.Containers.{footnote_columns, next_goes_on, is_footnote, in_footnote}
 use Rattle.first_pass_grammar.specs.Skeleton.{From, Line, Blanks, next_is_blank}
-use Rattle.first_pass_grammar.specs.Completion.{NoList, Frame, InContainer, InList, last_of, Completes}
+use Rattle.first_pass_grammar.specs.Completion.{NoList, Frame, InContainer, InList, containers_of, last_of, Completes}
 use Rattle.first_pass_lists.specs.Closing.{emptied}
 use Rattle.first_pass_lists.specs.declared.reading.Reading.{Reading}
 use Rattle.first_pass_open.specs.Path.{path_in, path_of, outer}
@@ -23,28 +24,35 @@ use Rattle.first_pass_items.specs.declared.option_set.Options.{Options}
 abbrev pub list_frame : ℕ → ℕ → Option Frame
 list_frame flags byte = if flags == 1 then Some (InList byte false) else (if flags == 0 then Some (InList byte true) else None)
 
--- what is open in a node: a container, or a list
-abbrev pub frame_of : ItemBody → Option Frame
-frame_of (BlockQuoteBody kind) = Some (InContainer (BlockQuote kind))
-frame_of (ListItemBody columns) = Some (InContainer (ListItem columns))
-frame_of (ListBody flags byte number) = list_frame flags.0 byte
-frame_of _ = None
+-- what is open in a node under these options: a container, or a list
+abbrev pub frame_of : Options → ItemBody → Option Frame
+frame_of options (BlockQuoteBody kind) = Some (InContainer (BlockQuote kind))
+frame_of options (ListItemBody columns) = Some (InContainer (ListItem columns))
+frame_of options (FootnoteDefinitionBody label) = Some (InContainer (FootnoteDefinition (footnote_columns options)))
+frame_of options (ListBody flags byte number) = list_frame flags.0 byte
+frame_of options _ = None
 
-abbrev pub frame_at : List (ℕ × Item) → ℕ → Option Frame
-frame_at nodes i = option_and_then frame_of (body_at nodes i)
+abbrev pub frame_at : Options → List (ℕ × Item) → ℕ → Option Frame
+frame_at options nodes i = option_and_then (frame_of options) (body_at nodes i)
 
--- the open nodes are what the frames say
-abbrev pub AreOpen : List (ℕ × Item) → List TreeIndex → List Frame → Type 0
-AreOpen nodes [] [] = Unit {0}
-AreOpen nodes [] (frame ∷ frames) = ⊥
-AreOpen nodes (ix ∷ spine) [] = ⊥
-AreOpen nodes (ix ∷ spine) (frame ∷ frames) = (frame_at nodes ix.0 ≡ Some frame) × AreOpen nodes spine frames
+-- a footnote definition is directly in another one (this project)
+abbrev pub is_footnote_in_another : Frame → List Frame → Bool
+is_footnote_in_another (InContainer c) frames = is_footnote c && in_footnote (containers_of frames)
+is_footnote_in_another (InList byte loose) frames = false
+
+-- The open nodes are what the frames say under these options, and no footnote definition is directly in another one.
+abbrev pub AreOpen : Options → List (ℕ × Item) → List TreeIndex → List Frame → Type 0
+AreOpen options nodes [] [] = Unit {0}
+AreOpen options nodes [] (frame ∷ frames) = ⊥
+AreOpen options nodes (ix ∷ spine) [] = ⊥
+AreOpen options nodes (ix ∷ spine) (frame ∷ frames) =
+    (frame_at options nodes ix.0 ≡ Some frame) × AreOpen options nodes spine frames × (is_footnote_in_another frame frames ≡ false)
 
 -- Only containers and lists are open, and whatever completes the nodes from a place or from these lines on, the text derives; the run of blank lines before
 -- holds one that counts, or doesn't.
 pub record ReadyAt (d : Document) (defined : Tables) (tree : Forest Item) (run : Bool) (from : From) (lines : List Place) : Type 0 where
   pub frames : List Frame
-  pub are_open : AreOpen tree.nodes tree.spine frames
+  pub are_open : AreOpen d.options tree.nodes tree.spine frames
   pub completes : Completes d frames (map (λ ix. ix.0) tree.spine)
       (record { nodes = tree.nodes; list = NoList; before = record { last = last_of frames; counted = run }; defined = defined }) from lines
 

@@ -3,7 +3,7 @@
 ghost use Rattle.std.specs.Prelude.{◌≡◌, ◌<◌, ◌≤◌, length, None, IfOk, OnOk, IsUtf8, IsCharBoundary};
 ghost use Rattle.first_pass_lines.specs.Places.{line_end, IsPlaceOf};
 ghost use Rattle.first_pass_open.specs.Path.{outer};
-ghost use Rattle.first_pass_blocks.specs.Entering.{ClosesAt, EntersLine};
+ghost use Rattle.first_pass_blocks.specs.Entering.{ClosesAt, EntersLine, footnote_ended};
 ghost use Rattle.first_pass_blocks.specs.Positions.{InLine, IsFrom};
 ghost use Rattle.first_pass_blocks.specs.Progress.{PassesTo};
 ghost use Rattle.first_pass_blocks.specs.Starts.{start_opened, last_at, IsAfter};
@@ -32,8 +32,9 @@ pub(crate) fn close_containers(reading: &mut Reading, kept: usize, ix: usize)
     }
 }
 
-/// Closes the containers that the line doesn't continue that begins at `start_ix`, and returns the place after
-/// those that it continues; `None` where it is a blank line, which is read then.
+/// Closes the containers that the line doesn't continue that begins at `start_ix`, and a footnote definition in the old
+/// form that is innermost then, where a blank line that counts is directly before. Returns the place after those that
+/// the line continues; `None` where it is a blank line, which is read then.
 pub(crate) fn enter_line<'a>(
     reading: &mut Reading,
     source: &Source<'a>,
@@ -46,6 +47,7 @@ pub(crate) fn enter_line<'a>(
 {
     let front = scan_front(source, &reading.tree, start_ix);
     close_containers(reading, front.kept, start_ix);
+    end_old_footnote(reading, source, start_ix);
     if scan_blank_line(front.rest.left()).is_some() {
         reading.read_blank_line();
         return None;
@@ -55,6 +57,16 @@ pub(crate) fn enter_line<'a>(
         line: start_ix,
         rest: front.rest,
     })
+}
+
+// Closes a footnote definition in the old form that is innermost, where a blank line that counts is directly before the
+// line that begins at `start_ix`.
+fn end_old_footnote<'a>(reading: &mut Reading, source: &Source<'a>, start_ix: usize)
+    ensures { reading.new ≡ footnote_ended source.now.options start_ix reading.old }
+{
+    if !source.options.has_gfm_footnotes() {
+        reading.finish_old_footnote(start_ix);
+    }
 }
 
 impl<'a> BlockPass<'a> {
@@ -74,6 +86,9 @@ impl<'a> BlockPass<'a> {
             (InLine place.old) (last_at place.new (line_end place.new) after)) }
     {
         loop {
+            if self.open_footnote(place)? {
+                continue;
+            }
             self.reading.tree.is_forest();
             let Some(start) = start_at(&self.source, place) else {
                 return Ok(AfterMarker::OnLine);

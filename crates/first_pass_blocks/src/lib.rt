@@ -3,6 +3,7 @@
 
 mod containers;
 pub mod definition;
+pub mod footnote;
 pub mod laws;
 mod leaf;
 mod openers;

@@ -1,4 +1,4 @@
-//! Which container begins at a place (CommonMark 5.1, 5.2).
+//! Which list item or block quote begins at a place (CommonMark 5.1, 5.2).
 
 ghost use Rattle.std.specs.Prelude.{◌≡◌, Some, None, MatchOption, IsUtf8};
 ghost use Rattle.first_pass_lines.specs.Places.{IsPlaceOf};
@@ -18,7 +18,7 @@ use first_pass_open::place::Place;
 use first_pass_open::source::Source;
 use first_pass_scan::line_start::LineStart;
 
-/// What opens a container.
+/// What opens a list item or a block quote; a footnote definition is opened apart.
 #[derive(Clone, Copy, Drop)]
 pub(crate) enum Opener {
     /// A block quote's `>`, with the kind that a tag after it gives the quote.
@@ -40,7 +40,7 @@ pub(crate) enum AfterMarker {
     TagAlone,
 }
 
-/// A container that begins at a place.
+/// A list item or a block quote that begins at a place.
 #[derive(Clone, Copy, Drop)]
 pub(crate) struct Start {
     pub(crate) opener: Opener,
@@ -49,8 +49,8 @@ pub(crate) struct Start {
     pub(crate) after: AfterMarker,
 }
 
-/// The container that begins at a place: a list item where one does, else a block quote where one does. Its marker is
-/// taken, and that of a task; `None` where no container begins there, and then nothing is taken.
+/// What begins at a place: a list item where one does, else a block quote where one does. Its marker is taken, and that
+/// of a task; `None` where neither begins there, and then nothing is taken.
 #[inline(always)]
 pub(crate) fn start_at<'a>(source: &Source<'a>, place: &mut Place<'a>) -> Option<Start>
     requires utf8 { IsUtf8 source.now.text.now }

@@ -10,7 +10,7 @@ ghost use Rattle.first_pass_grammar.specs.Counting.{own_nodes};
 ghost use Rattle.first_pass_grammar.specs.WholeTables.{AreWholeTables, HasWholeTables};
 ghost use Rattle.first_pass_grammar.specs.Order.{IsOrdered};
 ghost use Rattle.first_pass_grammar.specs.Names.{Names, AreNamed};
-ghost use Rattle.first_pass_names.specs.TableEntries.{tables, names_of, refdefs_of};
+ghost use Rattle.first_pass_names.specs.TableEntries.{tables, names_of, refdefs_of, footdefs_of};
 ghost use Rattle.first_pass_definitions.specs.Found.{AreWritten};
 ghost use Rattle.first_pass_kinds.specs.Found.{IsFoundAt};
 ghost use Rattle.first_pass_blocks.specs.declared.openers.AfterMarker.TheVariants.{TaskText};
@@ -19,6 +19,7 @@ ghost use Rattle.first_pass_blocks.specs.Ordered.{IsOrderedAt};
 ghost use Rattle.first_pass_blocks.specs.Positions.{LineAt, TaskAt, TaggedAt};
 ghost use Rattle.first_pass_blocks.specs.Progress.{ReadsBlock, ReadsLeaf};
 ghost use Rattle.first_pass_blocks.specs.Starts.{IsAfter};
+ghost use Rattle.first_pass_blocks.specs.Written.{AreFootnotesWritten};
 ghost use Rattle.first_pass_blocks.specs.Views.{allocs_of, reading_of, source_options, source_text, tree_of};
 
 use crate::containers::{close_containers, enter_line, line_over};
@@ -81,9 +82,9 @@ impl<'a> BlockPass<'a> {
     /// then that continues at the answer. At most four nodes are added for each byte that is read, cells apart
     /// that rows of tables are filled with.
     ///
-    /// Where each link definition in the table is written in the text, each is so then: its label, its destination and
-    /// a title of one line are borrowed from the text where nothing in them changes (CommonMark 4.7, and this
-    /// project).
+    /// Where each entry of the tables is written in the text, each is so then: the label of a link definition, its
+    /// destination and a title of one line, and the label of a footnote, are borrowed from the text where nothing in
+    /// them changes (CommonMark 4.7, and this project).
     ///
     /// Where each index that they keep names an entry, and no row of a table is open, tables that are whole stay so:
     /// their rows stand one deeper, the cells of these two deeper, and none elsewhere; each row has as many cells as
@@ -247,8 +248,8 @@ impl<'a> BlockPass<'a> {
 /// under these options, and the tables of what the text defines. The tree has at most four nodes for each
 /// byte, besides its root and cells that rows of tables are filled with; each row has as many cells as its table has
 /// columns, and at most 262,144 cells are filled into a table. Each link definition in the tables is what stands at
-/// its range; its label, its destination and a title of one line are borrowed from the text where nothing in them
-/// changes. The one error is that a request for memory was refused.
+/// its range; its label, its destination and a title of one line, and the label of each footnote, are borrowed from the
+/// text where nothing in them changes. No use of a footnote is counted. The one error is that a request for memory was refused.
 pub fn run_first_pass<'a>(
     alloc: Global,
     text: &'a str,
@@ -261,6 +262,7 @@ pub fn run_first_pass<'a>(
     ensures few { IfOk result (λ answer. own_nodes answer.0.nodes ≤ 1 + 4 * length text.now) }
     ensures named { IfOk result (λ answer. AreNamed (names_of answer.1) answer.0.nodes) }
     ensures written { IfOk result (λ answer. AreWritten text.now (refdefs_of answer.1)) }
+    ensures footnotes { IfOk result (λ answer. AreFootnotesWritten text.now (footdefs_of answer.1)) }
     ensures whole { IfOk result (λ answer. AreWholeTables (names_of answer.1) answer.0.nodes) }
 {
     let mut pass = BlockPass::new(alloc, text, options)?;

@@ -9,7 +9,7 @@ use Rattle.first_pass_items.specs.declared.item.HeadingIndex.{HeadingIndex}
 use Rattle.first_pass_items.specs.declared.item.HeadingLevel.{HeadingLevel}
 use Rattle.first_pass_items.specs.declared.item.Item.{Item}
 use Rattle.first_pass_items.specs.declared.item.ItemBody.{ItemBody}
-use Rattle.first_pass_items.specs.declared.item.ItemBody.TheVariants.{Heading, SynthesizeText, FencedCodeBlock, Table, Paragraph}
+use Rattle.first_pass_items.specs.declared.item.ItemBody.TheVariants.{Heading, SynthesizeText, FencedCodeBlock, Table, Paragraph, FootnoteDefinition}
 use Rattle.first_pass_attributes.specs.Attributes.{Attributes}
 use Rattle.first_pass_tree.specs.Forest.{at_depth, is_text}
 use Rattle.first_pass_tree.specs.Tight.{tight_body, tightened}
@@ -20,7 +20,8 @@ use Rattle.first_pass_grammar.specs.Names.{Names, NamesText, NamesAlignments, Na
 use Rattle.first_pass_grammar.specs.Names.{OfHeading, index_of, kind_alone, named, read, read_nodes}
 use Rattle.first_pass_grammar.specs.Leaves.{Document, document, block_with}
 use Rattle.first_pass_grammar.specs.RawLines.{AreColumns, Ranges, range_text, range_html, raw_items, AreRawLines, spaces}
-use Rattle.first_pass_grammar.specs.Blocks.{LeafBlock, Leaf, BlankLine, Block, Skeleton, Nil, Then, Node}
+use Rattle.first_pass_grammar.specs.Blocks.{LeafBlock, Leaf, BlankLine, Block, Opener, QuoteMarker, ItemMarker, FootnoteMarker, label_of, Head, opened}
+use Rattle.first_pass_grammar.specs.Blocks.{Skeleton, Nil, Then, Node}
 use Rattle.first_pass_grammar.specs.Skeleton.{From, Line, Blanks, At, Anything, ALeafAlone, TextOf, MarkAlone, Opening, OpensLeaf, OpensNode}
 use Rattle.first_pass_grammar.specs.Kinds.{Kind}
 use Rattle.first_pass_grammar.specs.Derivation.{node_of}
@@ -58,12 +59,47 @@ HoldsNoIndex (At p ALeafAlone) = Unit {0}
 HoldsNoIndex (At p (TextOf marker)) = HasNoIndex marker
 HoldsNoIndex (At p (MarkAlone marker blanks)) = HasNoIndex marker
 
+-- what opens a container, whatever the index of its label is
+abbrev pub opener_alone : Opener → Opener
+opener_alone (QuoteMarker kind) = QuoteMarker kind
+opener_alone (ItemMarker byte number columns) = ItemMarker byte number columns
+opener_alone (FootnoteMarker columns index label) = FootnoteMarker columns (record { 0 = 0 }) label
+
+abbrev pub head_alone : Head → Head
+head_alone head = record { opener = opener_alone head.opener; line = head.line; start = head.start }
+
+-- a node that has the index of its label, if it has one
+abbrev pub label_node : Opener → List (ℕ × Item)
+label_node (QuoteMarker kind) = []
+label_node (ItemMarker byte number columns) = []
+label_node (FootnoteMarker columns index label) = (0, node_of 0 0 (FootnoteDefinition index)) ∷ []
+
+-- containers that begin alike: their labels, if they have any, are named by their indices
+abbrev pub AlikeHead : Names → Names → Head → Head → Type 0
+AlikeHead m n head head' = (head_alone head ≡ head_alone head') × AlikeNodes m n (label_node head.opener) (label_node head'.opener)
+
+opened_alone : (o : Opener) → opened (opener_alone o) ≡ opened o
+opened_alone (QuoteMarker kind) = refl
+opened_alone (ItemMarker byte number columns) = refl
+opened_alone (FootnoteMarker columns index label) = refl
+
+pub opened_alike : (head head' : Head) → head_alone head ≡ head_alone head' → opened head.opener ≡ opened head'.opener
+opened_alike head head' is = sym (opened_alone head.opener) ∙ ap (λ (h : Head). opened h.opener) is ∙ opened_alone head'.opener
+
+label_alone : (o : Opener) → label_of (opener_alone o) ≡ label_of o
+label_alone (QuoteMarker kind) = refl
+label_alone (ItemMarker byte number columns) = refl
+label_alone (FootnoteMarker columns index label) = refl
+
+pub label_alike : (head head' : Head) → head_alone head ≡ head_alone head' → label_of head.opener ≡ label_of head'.opener
+label_alike head head' is = sym (label_alone head.opener) ∙ ap (λ (h : Head). label_of h.opener) is ∙ label_alone head'.opener
+
 abbrev pub AlikeOpening : Names → Names → Opening → Opening → Type 0
 AlikeOpening m n (OpensLeaf leaf there left) (OpensLeaf leaf' there' left') = AlikeLeaf m n leaf leaf' × (there ≡ there') × HoldsNoIndex there × (left ≡ left')
 AlikeOpening m n (OpensLeaf leaf there left) (OpensNode head' inside' behind') = ⊥
 AlikeOpening m n (OpensNode head inside behind) (OpensLeaf leaf' there' left') = ⊥
 AlikeOpening m n (OpensNode head inside behind) (OpensNode head' inside' behind') =
-    (head ≡ head') × (inside ≡ inside') × HoldsNoIndex inside × (behind ≡ behind')
+    AlikeHead m n head head' × (inside ≡ inside') × HoldsNoIndex inside × (behind ≡ behind')
 
 abbrev pub Alike : Names → Names → Skeleton → Skeleton → Type 0
 Alike m n Nil Nil = Unit {0}
@@ -74,7 +110,7 @@ Alike m n (Then leaf next) (Then leaf' next') = AlikeLeaf m n leaf leaf' × Alik
 Alike m n (Then leaf next) (Node head' e' kids' next') = ⊥
 Alike m n (Node head e kids next) Nil = ⊥
 Alike m n (Node head e kids next) (Then leaf' next') = ⊥
-Alike m n (Node head e kids next) (Node head' e' kids' next') = (head ≡ head') × (e ≡ e') × Alike m n kids kids' × Alike m n next next'
+Alike m n (Node head e kids next) (Node head' e' kids' next') = AlikeHead m n head head' × (e ≡ e') × Alike m n kids kids' × Alike m n next next'
 
 -- one chain after another
 pub chains_append : (m n : Names) (xs xs' ys ys' : List Item) → AlikeChains m n xs xs' → AlikeChains m n ys ys' → AlikeChains m n (xs ++ ys) (xs' ++ ys')
@@ -99,6 +135,7 @@ join_reads chain (x ∷ xs) = join_reads (join_read chain x) xs
 text_alone : (b : ItemBody) → is_text (kind_alone b) ≡ is_text b
 text_alone (SynthesizeText ix) = refl
 text_alone (FencedCodeBlock ix) = refl
+text_alone (FootnoteDefinition ix) = refl
 text_alone (Table ix) = refl
 text_alone (Heading level ix) = refl
 text_alone b = refl
@@ -222,6 +259,13 @@ pub table_alike : (m n : Names) (start «end» : ℕ) (i j : AlignmentIndex) (al
 table_alike m n start end i j alignments h k =
     indexed_alike m n start end (Table i) (Table j) refl (named_alignments m i alignments h ∙ sym (named_alignments n j alignments k))
 
+-- footnote definitions whose indices name one label
+pub label_named : (m n : Names) (columns : ℕ) (i j : CowIndex) (label : List ℕ) → NamesText m i label → NamesText n j label
+    → AlikeNodes m n (label_node (FootnoteMarker columns i label)) (label_node (FootnoteMarker columns j label))
+label_named m n columns i j label h k =
+    ap (λ (z : Item × Option Named). (0, z) ∷ [])
+    (indexed_alike m n 0 0 (FootnoteDefinition i) (FootnoteDefinition j) refl (named_text m i label h ∙ sym (named_text n j label k)))
+
 pub heading_alike : (m n : Names) (start «end» : ℕ) (level : HeadingLevel) (i j : Option HeadingIndex) (attributes : Option Attributes)
     → NamesAttributes m i attributes
     → NamesAttributes n j attributes → read m (node_of start «end» (Heading level i)) ≡ read n (node_of start «end» (Heading level j))
@@ -234,6 +278,7 @@ tight_alone : (b : ItemBody) → kind_alone (tight_body b) ≡ tight_body (kind_
 tight_alone Paragraph = refl
 tight_alone (SynthesizeText ix) = refl
 tight_alone (FencedCodeBlock ix) = refl
+tight_alone (FootnoteDefinition ix) = refl
 tight_alone (Table ix) = refl
 tight_alone (Heading level ix) = refl
 tight_alone b = refl

@@ -1,5 +1,6 @@
 -- Each step of reading a text, over what the nodes so far can still become.
-use Rattle.std.proofs.Common.{◌≡◌, ℕ, zero, suc, ◌+◌, ◌<◌, ◌≤◌, Bool, true, false, not, ◌||◌, ◌==◌, List, [], ◌∷◌, ◌++◌, length, map, Option, Some, None, refl}
+use Rattle.std.proofs.Common.{◌≡◌, ℕ, zero, suc, ◌+◌, ◌<◌, ◌≤◌, Bool, true, false, not, ◌||◌, ◌&&◌, ◌==◌, List, [], ◌∷◌, ◌++◌, length, map, Option, Some, None}
+use Rattle.std.proofs.Common.{MatchOption, refl}
 use Rattle.std.proofs.Common.{sym, ap, ◌∙◌, subst, arith, append_assoc, length-append, if◌then◌else◌}
 use Rattle.std.proofs.lemmas.List.{append-nil}
 use Rattle.std.proofs.Math.Bool.{or-false, or-true}
@@ -8,17 +9,25 @@ use Rattle.first_pass_items.specs.declared.item.ItemBody.{ItemBody}
 use Rattle.first_pass_items.specs.declared.item.ListFlags.{ListFlags}
 use Rattle.first_pass_items.specs.declared.item.BlockQuoteKind.{BlockQuoteKind}
 use Rattle.first_pass_items.specs.declared.item.ItemBody.TheVariants.{BlockQuote as BlockQuoteBody, List as ListBody, ListItem as ListItemBody}
+use Rattle.first_pass_items.specs.declared.item.ItemBody.TheVariants.{FootnoteDefinition as FootnoteDefinitionBody}
+use Rattle.first_pass_items.specs.declared.item.CowIndex.{CowIndex}
 use Rattle.first_pass_tree.specs.Forest.{modify, map_from}
 use Rattle.first_pass_tree.specs.Tight.{tight_body, tightened}
 use Rattle.first_pass_tree.proofs.Blocks.{modify-at}
 use Rattle.first_pass_lines.specs.Places.{Place, offset, lines_at, start_of}
 use Rattle.first_pass_grammar.specs.declared.kind.Container.{Container}
-use Rattle.first_pass_grammar.specs.declared.kind.Container.TheVariants.{BlockQuote, ListItem}
-use Rattle.first_pass_grammar.specs.Containers.{taken, next_goes_on, is_quote, in_quote}
-use Rattle.first_pass_grammar.specs.Footnotes.{ends_footnote}
+use Rattle.first_pass_grammar.specs.declared.kind.Container.TheVariants.{BlockQuote, ListItem, FootnoteDefinition}
+use Rattle.first_pass_grammar.specs.Containers.{taken, next_goes_on, is_quote, in_quote, in_footnote}
+use Rattle.first_pass_grammar.specs.Footnotes.{footnote_head_at, ends_footnote}
+use Rattle.first_pass_grammar.specs.Openers.{start_at}
+use Rattle.first_pass_grammar.specs.Skeleton.{OpensBy, OpensFootnote}
+use Rattle.first_pass_grammar.specs.Blocks.{label_of}
+use Rattle.first_pass_grammar.specs.Derivation.{told_label}
+use Rattle.std.specs.Option.{is_some}
 use Rattle.first_pass_grammar.specs.Names.{Names}
 use Rattle.first_pass_grammar.specs.Leaves.{Document, around}
-use Rattle.first_pass_grammar.specs.Blocks.{Leaf, LeafBlock, BlankLine, Block, block_at, Head, Opener, QuoteMarker, ItemMarker, Skeleton, Nil, Then, Node}
+use Rattle.first_pass_grammar.specs.Blocks.{Leaf, LeafBlock, BlankLine, Block, block_at, Head, Opener, QuoteMarker, ItemMarker, FootnoteMarker, Skeleton, Nil}
+use Rattle.first_pass_grammar.specs.Blocks.{Then, Node}
 use Rattle.first_pass_grammar.specs.Before.{Last, LastOther, LastItem, Before, nothing, last_container, after_blank, after_block, after_container, before_end}
 use Rattle.first_pass_grammar.specs.Skeleton.{From, Line, Inside, Blanks, At, TextOf, MarkAlone, behind_marker, Opening, OpensLeaf, OpensNode, OpensText, Opens}
 use Rattle.first_pass_grammar.specs.Skeleton.{Level, level, Left, Lines, InLine, Begins, Ends, ends_old_footnote, going, onward}
@@ -32,7 +41,7 @@ use Rattle.first_pass_grammar.specs.Derivation.{block_items, items_of}
 use Rattle.first_pass_grammar.specs.Completion.{ended, flagged, list_closed, Pending, NoList, OneList, rows_beyond, rendered, Frame, InContainer, InList}
 use Rattle.first_pass_grammar.specs.Completion.{containers_of, loosened, AreBelow, IsPlain, last_of, IsShaped}
 use Rattle.first_pass_grammar.proofs.Tightening.{eqb-same, modify-append, length-modify, list_closed-append, length-closed, list_closed-mid, closed_item}
-use Rattle.first_pass_grammar.proofs.Alike.{AlikeOpening}
+use Rattle.first_pass_grammar.proofs.Alike.{opener_alone, head_alone, AlikeOpening}
 use Rattle.first_pass_grammar.proofs.Finishes.{Finish, containers-loosened, before_of, CompletesAt, FinishesAt, finish_derives, whole_by}
 use Rattle.first_pass_grammar.proofs.Goings.{begins_at, begins_inside, ends_inside, enters, stops, begins_blank, going_inside}
 use Rattle.first_pass_grammar.proofs.Unique.{one_opening, ends_at_once}
@@ -48,6 +57,7 @@ head_closes head = closing_place (what_of head.opener 0) head.line head.start
 abbrev pub joins : ℕ → Opener → Bool
 joins list (QuoteMarker kind) = false
 joins list (ItemMarker byte number columns) = list == byte
+joins list (FootnoteMarker columns index label) = false
 
 -- what is equal comes about alike
 finish_moved : (d : Document) (defined : Tables) (before before' : Before) (frames frames' : List Frame) (nodes nodes' : List (ℕ × Item)) (os : List ℕ)
@@ -256,6 +266,33 @@ enter_step d defined (InContainer c ∷ frames) list before nodes (o ∷ os) lin
 -- no footnote definition that is innermost ends at a place
 abbrev pub StaysAt : Document → List Container → Place → Type 0
 StaysAt d path p = ends_footnote (around d path) p ≡ false
+
+-- so it is where no other begins, and outside of footnote definitions
+and_no : (b : Bool) → (b && false) ≡ false
+and_no true = refl
+and_no false = refl
+
+pub stays_without : (d : Document) (path : List Container) (p : Place) → footnote_head_at (around d path) p ≡ None → StaysAt d path p
+stays_without d path p none = ap (λ (o : Option (ℕ × List ℕ)). in_footnote path && is_some o) none ∙ and_no (in_footnote path)
+
+pub stays_outside : (d : Document) (path : List Container) (p : Place) → in_footnote path ≡ false → StaysAt d path p
+stays_outside d path p out = ap (λ (b : Bool). b && is_some (footnote_head_at (around d path) p)) out
+
+-- the label of a container that opens, if it has one
+abbrev pub label_opened : Opening → List (List ℕ)
+label_opened (OpensLeaf leaf there left) = []
+label_opened (OpensNode head inside behind) = label_of head.opener
+
+no_head : (d : Document) (path : List Container) (p : Place) (lines : List Place) (head : Option (ℕ × List ℕ)) (o : Opening) → label_opened o ≡ []
+    → MatchOption head (OpensBy d path p lines (start_at d.options p) o) (λ h. OpensFootnote d p lines h o) → head ≡ None
+unfolding OpensFootnote
+no_head d path p lines None o none opens = refl
+no_head d path p lines (Some (size, label)) o none (index, named, is) = let both : [] ≡ label ∷ [] = sym none ∙ ap label_opened is in cc
+
+-- and where something else begins
+pub opens_stays : (d : Document) (path : List Container) (p : Place) (lines : List Place) (o : Opening) → label_opened o ≡ [] → Opens d path p lines o
+    → StaysAt d path p
+opens_stays d path p lines o none opens = stays_without d path p (no_head d path p lines (footnote_head_at (around d path) p) o none opens)
 
 first_here : (d : Document) (path : List Container) (before : Before) (p : Place) (lines : List Place) (opening : Opening)
     → StaysAt d path p → Opens d path p lines opening → IsFirst d (level path before) (Inside p) lines opening
@@ -521,6 +558,17 @@ away_leaf : (byte at : ℕ) (leaf : Leaf) (there : From) (left : List Place) (ne
 away_leaf byte at BlankLine there left next away = away
 away_leaf byte at (Block b) there left next away = away
 
+closes_alone : (o : Opener) (line start : ℕ)
+    → head_closes (head_alone (record { opener = o; line = line; start = start })) ≡ head_closes (record { opener = o; line = line; start = start })
+closes_alone (QuoteMarker kind) line start = refl
+closes_alone (ItemMarker byte number columns) line start = refl
+closes_alone (FootnoteMarker columns index label) line start = refl
+
+joins_alone : (byte : ℕ) (o : Opener) → joins byte (opener_alone o) ≡ joins byte o
+joins_alone byte (QuoteMarker kind) = refl
+joins_alone byte (ItemMarker list number columns) = refl
+joins_alone byte (FootnoteMarker columns index label) = refl
+
 -- what is alike ends a list alike
 alike_away : (m n : Names) (byte at : ℕ) (o o' : Opening) → AlikeOpening m n o o' → OpensAway byte at o → OpensAway byte at o'
 alike_away m n byte at (OpensLeaf BlankLine there left) (OpensLeaf leaf' there' left') a away = absurd away
@@ -529,8 +577,10 @@ alike_away m n byte at (OpensLeaf (Block b) there left) (OpensLeaf (Block b') th
     sym (ap (λ (z : Kind × ℕ × ℕ). if is_paragraph z.0 then z.2 else z.1) a.0.0) ∙ away
 alike_away m n byte at (OpensLeaf leaf there left) (OpensNode head' inside' behind') a away = absurd a
 alike_away m n byte at (OpensNode head inside behind) (OpensLeaf leaf' there' left') a away = absurd a
-alike_away m n byte at (OpensNode head inside behind) (OpensNode head' inside' behind') a away =
-    subst (λ (h : Head). (head_closes h ≡ at) × (joins byte h.opener ≡ false)) a.0 away
+alike_away m n byte at (OpensNode head inside behind) (OpensNode head' inside' behind') a away = (
+  sym (sym (closes_alone head.opener head.line head.start) ∙ ap head_closes a.0.0 ∙ closes_alone head'.opener head'.line head'.start) ∙ away.0,
+  sym (sym (joins_alone byte head.opener) ∙ ap (λ (h : Head). joins byte h.opener) a.0.0 ∙ joins_alone byte head'.opener) ∙ away.1,
+)
 
 -- a first block opens at the place where the sequence continues
 opens_first : (d : Document) (l : Level) (p : Place) (lines : List Place) (opening : Opening)
@@ -594,6 +644,8 @@ container_away : (byte at last : ℕ) (opener : Opener) (line start e : ℕ) (ga
 container_away byte at last (QuoteMarker kind) line start e gap inner next closes other = record { none = refl; until = closes; past = refl }
 container_away byte at last (ItemMarker list number columns) line start e gap inner next closes other =
     record { none = rw other refl; until = rw other closes; past = rw other refl }
+container_away byte at last (FootnoteMarker columns index label) line start e gap inner next closes other =
+    record { none = refl; until = closes; past = refl }
 
 rows_away : (quoted : Bool) (byte at last : ℕ) (before : Before) (s : Skeleton) → EndsList byte at s → AreAway byte at last (rows_of quoted before last s)
 unfolding rows_of
@@ -682,6 +734,7 @@ container_noted : (opener : Opener) (line start e at : ℕ) (run : Bool) (inner 
 unfolding items_of any_gap
 container_noted (QuoteMarker kind) line start e at run inner next = (λ depth. refl, refl)
 container_noted (ItemMarker byte number columns) line start e at run inner next = (λ depth. refl, refl)
+container_noted (FootnoteMarker columns index label) line start e at run inner next = (λ depth. refl, refl)
 
 node_noted : (quoted run : Bool) (last last' : Last) (head : Head) (e : ℕ) (kids next : Skeleton) → IsNoted quoted run last last' (Node head e kids next)
 unfolding rows_of before_end
@@ -921,12 +974,14 @@ completes-leaf d defined frames nodes os from lines left b plain alike first c =
 -- after a block with no blocks in it, which begins inside a line
 pub completes-block : (d : Document) (defined : Tables) (frames : List Frame) (nodes : List (ℕ × Item)) (os : List ℕ) (p : Place) (lines left : List Place)
     (b : LeafBlock)
-    → IsPlain frames → StaysAt d (containers_of frames) p → Opens d (containers_of frames) p lines (OpensLeaf (Block b) Line left)
+    → IsPlain frames → Opens d (containers_of frames) p lines (OpensLeaf (Block b) Line left)
     → CompletesAt d defined false frames nodes os (Inside p) lines
     → CompletesAt d (told defined b.definitions) b.gap frames (nodes ++ block_items (suc (length os)) false b) os Line left
-completes-block d defined frames nodes os p lines left b plain stays opens c =
+completes-block d defined frames nodes os p lines left b plain opens c =
+    let path : List Container = containers_of frames in
+    let leaf : Opening = OpensLeaf (Block b) Line left in
     completes-leaf d defined frames nodes os (Inside p) lines left b plain (λ path mid. refl)
-    (first_here d (containers_of frames) (before_of frames false) p lines (OpensLeaf (Block b) Line left) stays opens) c
+    (first_here d path (before_of frames false) p lines leaf (opens_stays d path p lines leaf refl opens) opens) c
 
 -- after the text of a task list item marker
 pub completes-text : (d : Document) (defined : Tables) (frames : List Frame) (nodes : List (ℕ × Item)) (os : List ℕ) (marker : Item) (p : Place)
@@ -999,11 +1054,13 @@ completes-blank d defined run frames nodes os from lines left alike first c = re
 -- after a blank line that begins inside a line
 pub completes-blank_line : (d : Document) (defined : Tables) (run : Bool) (frames : List Frame) (nodes : List (ℕ × Item)) (os : List ℕ) (p : Place)
     (lines left : List Place)
-    → StaysAt d (containers_of frames) p → Opens d (containers_of frames) p lines (OpensLeaf BlankLine Line left)
+    → Opens d (containers_of frames) p lines (OpensLeaf BlankLine Line left)
     → CompletesAt d defined run frames nodes os (Inside p) lines → CompletesAt d defined (counts_in frames run) frames nodes os Line left
-completes-blank_line d defined run frames nodes os p lines left stays opens c =
+completes-blank_line d defined run frames nodes os p lines left opens c =
+    let path : List Container = containers_of frames in
+    let leaf : Opening = OpensLeaf BlankLine Line left in
     completes-blank d defined run frames nodes os (Inside p) lines left (λ path mid. refl)
-    (first_here d (containers_of frames) (before_of frames run) p lines (OpensLeaf BlankLine Line left) stays opens) c
+    (first_here d path (before_of frames run) p lines leaf (opens_stays d path p lines leaf refl opens) opens) c
 
 -- after a blank line in an item that takes blank lines alone
 pub completes-only_blank : (d : Document) (defined : Tables) (run : Bool) (columns : ℕ) (frames : List Frame) (nodes : List (ℕ × Item)) (os : List ℕ) (e : ℕ)
@@ -1152,31 +1209,32 @@ completes-reflag_list d defined run byte loose l frames nodes o os from lines k 
 -- a block quote opened
 pub completes-quote : (d : Document) (defined : Tables) (frames : List Frame) (nodes : List (ℕ × Item)) (os : List ℕ) (p : Place) (lines behind : List Place)
     (kind : Option BlockQuoteKind) (start line some_end : ℕ) (inside : From)
-    → IsPlain frames → StaysAt d (containers_of frames) p
+    → IsPlain frames
     → Opens d (containers_of frames) p lines (OpensNode (record { opener = QuoteMarker kind; start = start; line = line }) inside behind)
     → CompletesAt d defined false frames nodes os (Inside p) lines
     → CompletesAt d defined false (InContainer (BlockQuote kind) ∷ frames) (nodes ++ (suc (length os), node_of start some_end (BlockQuoteBody kind)) ∷ [])
     (length nodes ∷ os) inside behind
-completes-quote d defined frames nodes os p lines behind kind start line some_end inside plain stays opens k =
+completes-quote d defined frames nodes os p lines behind kind start line some_end inside plain opens k =
     let l : length (nodes ++ (suc (length os), node_of start some_end (BlockQuoteBody kind)) ∷ []) ≡ length nodes + 1 =
     length-append nodes ((suc (length os), node_of start some_end (BlockQuoteBody kind)) ∷ []) in
     record {
       below = (omega arith, k.below);
       shape = (sym (ap (λ z. z.last) (plain_before false frames plain)), k.shape);
       whole = whole_by _ _ _ _ _ _ _ _ (λ forest tables fin. finish_derives _ _ _ _ _ _ _ _ k forest tables
-          (quote_step d defined frames nodes os p lines behind kind start line some_end inside forest tables plain stays opens fin));
+          (quote_step d defined frames nodes os p lines behind kind start line some_end inside forest tables plain
+          (opens_stays d (containers_of frames) p lines _ refl opens) opens fin));
     }
 
 -- a list opened, with its first item
 pub completes-list : (d : Document) (defined : Tables) (frames : List Frame) (nodes : List (ℕ × Item)) (os : List ℕ) (p : Place) (lines behind : List Place)
     (byte number columns start line some_end other_end : ℕ) (flags : ListFlags) (inside : From)
-    → IsPlain frames → StaysAt d (containers_of frames) p
+    → IsPlain frames
     → Opens d (containers_of frames) p lines (OpensNode (record { opener = ItemMarker byte number columns; start = start; line = line }) inside behind)
     → CompletesAt d defined false frames nodes os (Inside p) lines
     → CompletesAt d defined false (InContainer (ListItem columns) ∷ InList byte false ∷ frames)
     (nodes ++ (suc (length os), node_of start some_end (ListBody flags byte number)) ∷ (suc (suc (length os)), node_of start other_end (ListItemBody columns))
     ∷ []) (suc (length nodes) ∷ length nodes ∷ os) inside behind
-completes-list d defined frames nodes os p lines behind byte number columns start line some_end other_end flags inside plain stays opens k =
+completes-list d defined frames nodes os p lines behind byte number columns start line some_end other_end flags inside plain opens k =
     let more : List (ℕ × Item) =
     (suc (length os), node_of start some_end (ListBody flags byte number)) ∷ (suc (suc (length os)), node_of start other_end (ListItemBody columns)) ∷ [] in
     let l : length (nodes ++ more) ≡ length nodes + 2 = length-append nodes more in
@@ -1184,24 +1242,89 @@ completes-list d defined frames nodes os p lines behind byte number columns star
       below = (omega arith, (omega arith, k.below));
       shape = (refl, (plain, k.shape));
       whole = whole_by _ _ _ _ _ _ _ _ (λ forest tables fin. finish_derives _ _ _ _ _ _ _ _ k forest tables
-          (list_step d defined frames nodes os p lines behind byte number columns start line some_end other_end flags inside forest tables plain stays opens
-          fin));
+          (list_step d defined frames nodes os p lines behind byte number columns start line some_end other_end flags inside forest tables plain
+          (opens_stays d (containers_of frames) p lines _ refl opens) opens fin));
     }
 
 -- an item opened in a list that continues
 pub completes-item : (d : Document) (defined : Tables) (run loose : Bool) (frames : List Frame) (nodes : List (ℕ × Item)) (o : ℕ) (os : List ℕ) (p : Place)
     (lines behind : List Place) (byte number columns start line some_end : ℕ) (inside : From)
-    → StaysAt d (containers_of frames) p
     → Opens d (containers_of frames) p lines (OpensNode (record { opener = ItemMarker byte number columns; start = start; line = line }) inside behind)
     → CompletesAt d defined run (InList byte loose ∷ frames) nodes (o ∷ os) (Inside p) lines
     → CompletesAt d defined false (InContainer (ListItem columns) ∷ InList byte (loose || run) ∷ frames)
     (nodes ++ (suc (suc (length os)), node_of start some_end (ListItemBody columns)) ∷ []) (length nodes ∷ o ∷ os) inside behind
-completes-item d defined run loose frames nodes o os p lines behind byte number columns start line some_end inside stays opens k =
+completes-item d defined run loose frames nodes o os p lines behind byte number columns start line some_end inside opens k =
     let l : length (nodes ++ (suc (suc (length os)), node_of start some_end (ListItemBody columns)) ∷ []) ≡ length nodes + 1 =
     length-append nodes ((suc (suc (length os)), node_of start some_end (ListItemBody columns)) ∷ []) in
     record {
       below = (omega arith, k.below);
       shape = (refl, k.shape);
       whole = whole_by _ _ _ _ _ _ _ _ (λ forest tables fin. finish_derives _ _ _ _ _ _ _ _ k forest tables (item_step d defined frames run loose nodes o os p
-          lines behind byte number columns start line some_end inside forest tables k.shape.0 k.below.0 stays opens fin));
+          lines behind byte number columns start line some_end inside forest tables k.shape.0 k.below.0
+          (opens_stays d (containers_of frames) p lines _ refl opens) opens fin));
     }
+
+-- a footnote definition opened, before which no gap is to be noted
+footnote_step : (d : Document) (defined : Tables) (frames : List Frame) (nodes : List (ℕ × Item)) (os : List ℕ) (p : Place) (lines behind : List Place)
+    (columns : ℕ) (index : CowIndex) (label : List ℕ) (start line some_end : ℕ) (inside : From) (forest : List (ℕ × Item)) (tables : Tables)
+    → IsPlain frames → StaysAt d (containers_of frames) p
+    → Opens d (containers_of frames) p lines (OpensNode (record { opener = FootnoteMarker columns index label; start = start; line = line }) inside behind)
+    → FinishesAt d (told_label defined label) false (InContainer (FootnoteDefinition columns) ∷ frames)
+    (nodes ++ (suc (length os), node_of start some_end (FootnoteDefinitionBody index)) ∷ []) (length nodes ∷ os) inside behind forest tables
+    → FinishesAt d defined false frames nodes os (Inside p) lines forest tables
+unfolding Finish IsSequence rows_of before_end items_of any_gap rendered definitions_of footnotes_of with_labels
+footnote_step d defined frames nodes os p lines behind columns index label start line some_end inside forest tables plain stays opens (kids, mid, inner, fin) =
+    let n : ℕ = length d.text in
+    let path : List Container = containers_of frames in
+    let k : ℕ = suc (length os) in
+    let e : ℕ = end_before n path inside mid in
+    let head : Head = record { opener = FootnoteMarker columns index label; start = start; line = line } in
+    let x : ℕ × Item = (k, node_of start some_end (FootnoteDefinitionBody index)) in
+    let y : ℕ × Item = (k, node_of start e (FootnoteDefinitionBody index)) in
+    let rows : Rows = rows_of false nothing e kids in
+    let items : List (ℕ × Item) = items_of (suc k) false rows in
+    let later : List (ℕ × Item) = nodes ++ y ∷ items in
+    let same : ended ((nodes ++ x ∷ []) ++ items) (length nodes) e ≡ later =
+    ap (λ z. ended z (length nodes) e) (append_assoc nodes (x ∷ []) items)
+    ∙ ended-mid nodes items k e (node_of start some_end (FootnoteDefinitionBody index)) in
+    let now : Before = after_container (FootnoteDefinition columns) (before_end false nothing kids) in
+    extend d defined (told_by (told_label defined label) kids) frames NoList NoList (before_of frames false) now false nodes later os
+    (Inside p) (onward mid).0 lines (onward mid).1 forest tables (λ s. Node head e kids s) plain (alike_onward n p mid)
+    (λ s left seq. record {
+      seq = (inside, behind, mid, first_here d path (before_of frames false) p lines (OpensNode head inside behind) stays opens, inner, refl, seq);
+      items = λ last is. sym (append_assoc nodes (y ∷ items) _);
+      counts = refl;
+      gaps = λ last. refl;
+    })
+    (λ s. told_kids (told_label defined label) kids s)
+    (finish_moved d _ now now _ _ _ later os (onward mid).0 (onward mid).1 forest tables refl
+    (plain_loosened (any_gap rows) frames plain ∙ sym (loosened_in-false frames)) same fin)
+
+-- a footnote definition opened, where no other ends
+pub completes-footnote : (d : Document) (defined : Tables) (frames : List Frame) (nodes : List (ℕ × Item)) (os : List ℕ) (p : Place)
+    (lines behind : List Place) (columns : ℕ) (index : CowIndex) (label : List ℕ) (start line some_end : ℕ) (inside : From)
+    → IsPlain frames → StaysAt d (containers_of frames) p
+    → Opens d (containers_of frames) p lines (OpensNode (record { opener = FootnoteMarker columns index label; start = start; line = line }) inside behind)
+    → CompletesAt d defined false frames nodes os (Inside p) lines
+    → CompletesAt d (told_label defined label) false (InContainer (FootnoteDefinition columns) ∷ frames)
+    (nodes ++ (suc (length os), node_of start some_end (FootnoteDefinitionBody index)) ∷ []) (length nodes ∷ os) inside behind
+completes-footnote d defined frames nodes os p lines behind columns index label start line some_end inside plain stays opens k =
+    let l : length (nodes ++ (suc (length os), node_of start some_end (FootnoteDefinitionBody index)) ∷ []) ≡ length nodes + 1 =
+    length-append nodes ((suc (length os), node_of start some_end (FootnoteDefinitionBody index)) ∷ []) in
+    record {
+      below = (omega arith, k.below);
+      shape = (sym (ap (λ z. z.last) (plain_before false frames plain)), k.shape);
+      whole = whole_by _ _ _ _ _ _ _ _ (λ forest tables fin. finish_derives _ _ _ _ _ _ _ _ k forest tables
+          (footnote_step d defined frames nodes os p lines behind columns index label start line some_end inside forest tables plain stays opens fin));
+    }
+
+-- a footnote definition closed, which is innermost, where another begins
+pub completes-pop_in_line : (d : Document) (defined : Tables) (run : Bool) (columns : ℕ) (frames : List Frame) (nodes : List (ℕ × Item)) (o : ℕ)
+    (os : List ℕ) (p : Place) (lines : List Place) (head : ℕ × List ℕ)
+    → footnote_head_at (around d (FootnoteDefinition columns ∷ containers_of frames)) p ≡ Some head
+    → CompletesAt d defined run (InContainer (FootnoteDefinition columns) ∷ frames) nodes (o ∷ os) (Inside p) lines
+    → CompletesAt d defined run frames (ended nodes o (offset (unindented p))) os (Inside p) lines
+completes-pop_in_line d defined run columns frames nodes o os p lines head is k =
+    let c : Container = FootnoteDefinition columns in
+    completes-pop d defined run c frames nodes o os (Inside p) lines (InLine p lines)
+    (ends_inside d.options (level (c ∷ containers_of frames) (before_of (InContainer c ∷ frames) run)) p lines (ap (λ z. is_some z) is)) k

@@ -7,7 +7,7 @@ use Rattle.first_pass_items.specs.declared.item.Item.{Item}
 use Rattle.first_pass_items.specs.declared.item.ItemBody.TheVariants.{TableRow}
 use Rattle.first_pass_lines.specs.Places.{Place}
 use Rattle.first_pass_grammar.specs.declared.kind.Container.{Container}
-use Rattle.first_pass_grammar.specs.Leaves.{Document}
+use Rattle.first_pass_grammar.specs.Leaves.{Document, around}
 use Rattle.first_pass_grammar.specs.Tables.{filled, row_block, row_text, Taken, taking, FoundRow, HasCells, braces_after_rows, TakesRows, all_filled}
 use Rattle.first_pass_grammar.specs.Tables.{TableSoFar, table_so_far, with_rows, EndRows, row_blocks, AreRows}
 
@@ -23,7 +23,7 @@ with_row table row = table_so_far table.columns (table.room - filled table.colum
 unfoldable pub CountedRows : Document → List Container → TableSoFar → List Place → Taken → Type 0
 CountedRows d path table [] t = t ≡ taking [] []
 CountedRows d path table (line ∷ lines) t =
-    ((row_text path line ≡ None) × (t ≡ taking [] (line ∷ lines)))
+    ((row_text (around d path) line ≡ None) × (t ≡ taking [] (line ∷ lines)))
     ⊎ ((row : FoundRow) × HasCells d path line table.braces row
     × (((is_row table row.cells ≡ false) × (t ≡ taking [] (line ∷ lines)))
     ⊎ ((is_row table row.cells ≡ true)

@@ -38,7 +38,7 @@ next_named : (names later : Names) (cow : CowStr) → Extends later (with_named 
 unfolding next_index
 next_named names later cow e = text_last names (with_named names cow) later (next_index names) cow refl refl e
 
-named_text : (names : Names) (text : List ℕ) → Found names CowIndex (λ later ix. NamesText later ix text)
+pub named_text : (names : Names) (text : List ℕ) → Found names CowIndex (λ later ix. NamesText later ix text)
 unfolding borrowed
 named_text names text = record {
   value = next_index names;

@@ -8,6 +8,7 @@ pub mod EachToken
 pub mod Finishes
 pub mod FirstLabels
 pub mod FirstLinks
+pub mod FootnoteHeads
 pub mod Found
 pub mod Goings
 pub mod HeadCells

@@ -4,10 +4,10 @@ use Rattle.std.proofs.Common.{◌∙◌, subst, arith, if◌then◌else◌}
 use Rattle.first_pass_items.specs.declared.item.Item.{Item}
 use Rattle.first_pass_items.specs.declared.item.Alignment.{Alignment}
 use Rattle.first_pass_lines.specs.Places.{Place, line_place, lines_behind, lines_at, offset}
-use Rattle.first_pass_lines.specs.Lines.{ends_line}
+use Rattle.first_pass_lines.specs.Lines.{ends_line, is_white}
 use Rattle.first_pass_grammar.specs.declared.kind.Container.{Container}
 use Rattle.first_pass_grammar.specs.Containers.{Context, at_rest, front}
-use Rattle.first_pass_grammar.specs.Kinds.{unindented}
+use Rattle.first_pass_grammar.specs.Kinds.{unindented, is_blank_rest}
 use Rattle.first_pass_grammar.specs.Leaves.{Document, around, add_break, TextLines, AreTextLines}
 use Rattle.first_pass_tokens.specs.Braces.{no_braces}
 use Rattle.first_pass_tokens.specs.LineTokens.{Spot, spot}
@@ -21,6 +21,8 @@ use Rattle.first_pass_grammar.specs.Texts.{IsPlainText, IsText, IsUnderlined, un
 use Rattle.first_pass_grammar.proofs.CountedRows.{with_row, CountedRows, counted}
 use Rattle.first_pass_grammar.proofs.PlacesKept.{IsAt, AreAt, at_front}
 use Rattle.first_pass_items.specs.declared.item.HeadingLevel.{HeadingLevel}
+use Rattle.first_pass_grammar.specs.Footnotes.{behind_head, place_behind}
+use Rattle.std.specs.List.{prefix_len}
 
 -- the lines of a text from an offset on
 unless_at : (text : List ℕ) (t : Bool) (further all : List Place) → AreAt text further → AreAt text all → AreAt text (if t then further else all)
@@ -57,6 +59,23 @@ pub beyond_at : (text : List ℕ) (e : ℕ) (lines : List Place) → AreAt text 
 unfolding lines_beyond
 beyond_at text e [] h = tt
 beyond_at text e (line ∷ lines) h = unless_at text (nat_lt line.line e) (lines_beyond e lines) (line ∷ lines) (beyond_at text e lines h.1) h
+
+-- the place after the head of a footnote definition, and where blocks continue there
+pub place_behind_at : (text : List ℕ) (n : ℕ) (p : Place) → IsAt text p → IsAt text (place_behind n p)
+place_behind_at text n p i =
+    let same : offset p + n ≡ offset p + n + 0 = omega arith in
+    ap (drop n) i ∙ drop-drop n (offset p) text ∙ ap (λ (k : ℕ). drop k text) same
+
+head_if : (text : List ℕ) (t : Bool) (q line : Place) (lines : List Place) → IsAt text q → AreAt text (line ∷ lines)
+    → (let there : Place × List Place = if◌then◌else◌ {A = Place × List Place} t (line, lines) (q, line ∷ lines) in IsAt text there.0 × AreAt text there.1)
+head_if text true q line lines i h = h
+head_if text false q line lines i h = (i, h)
+
+pub head_at : (text : List ℕ) (gfm : Bool) (q : Place) (lines : List Place) → IsAt text q → AreAt text lines
+    → IsAt text (behind_head gfm q lines).0 × AreAt text (behind_head gfm q lines).1
+head_at text true q lines i h = (place_behind_at text (prefix_len is_white q.rest.left) q i, h)
+head_at text false q [] i h = (i, h)
+head_at text false q (line ∷ lines) i h = head_if text (is_blank_rest q.rest) q line lines i h
 
 -- what stands after a run of definitions
 abbrev pub BeyondAt : List ℕ → Beyond → Type 0

@@ -1,35 +1,44 @@
 -- At each place where blocks continue something opens, and inside a container less of the text is left.
 use Rattle.std.proofs.Common.{◌≡◌, inl, inr, ℕ, suc, ◌-◌, ◌<◌, ◌≤◌, Bool, true, false, List, [], ◌∷◌, length, Option, Some, None, refl, sym, ap, arith, nat_lt}
-use Rattle.std.proofs.Common.{if◌then◌else◌}
-use Rattle.std.specs.Option.{option_map}
+use Rattle.std.proofs.Common.{if◌then◌else◌, ◌+◌, ◌&&◌, drop, MatchOption}
+use Rattle.std.proofs.lemmas.Bool.{false≢true, and_parts}
+use Rattle.std.specs.Option.{option_map, option_and_then}
+use Rattle.std.specs.List.{prefix_len}
 use Rattle.std.proofs.lemmas.List.{length-drop}
 use Rattle.std.proofs.lemmas.List.Sums.{prefix_len-le-length}
 use Rattle.std.proofs.lemmas.Option.{none-some, same_Some}
 use Rattle.first_pass_items.specs.declared.item.Item.{Item}
 use Rattle.first_pass_items.specs.declared.option_set.Options.{Options}
-use Rattle.first_pass_items.specs.OptionWords.{has, tasklists}
-use Rattle.first_pass_lines.specs.Lines.{is_content}
+use Rattle.first_pass_items.specs.OptionWords.{has, tasklists, footnotes, gfm_footnotes}
+use Rattle.first_pass_items.specs.Bytes.{colon, left_bracket, circumflex}
+use Rattle.first_pass_links.specs.Footnotes.{begins_footnote, head_behind, footnote_head}
+use Rattle.first_pass_links.specs.Labels.{label_at}
+use Rattle.first_pass_grammar.specs.Footnotes.{footnote_prefix, footnote_at, footnote_head_at, place_behind, behind_head}
+use Rattle.first_pass_grammar.specs.LinkRuns.{lines_beyond}
+use Rattle.first_pass_grammar.proofs.Found.{named_text}
+use Rattle.first_pass_lines.specs.Lines.{is_content, begins, is_white}
 use Rattle.first_pass_lines.specs.Rest.{Rest, indent, after_columns, past_bytes, past_quote}
-use Rattle.first_pass_lines.specs.Places.{Place, start_of}
+use Rattle.first_pass_lines.specs.Places.{Place, offset, start_of}
 use Rattle.first_pass_lines.proofs.PlaceFacts.{columns_shorter, quote_shorter}
 use Rattle.first_pass_scan.specs.Markers.{item_of, task_of}
 use Rattle.first_pass_scan.proofs.MarkerPlaces.{IsMarked, item-marked, task-marked}
 use Rattle.first_pass_grammar.specs.declared.kind.Container.{Container}
 use Rattle.first_pass_grammar.specs.declared.kind.Container.TheVariants.{BlockQuote}
 use Rattle.first_pass_grammar.specs.Names.{Names}
-use Rattle.first_pass_grammar.specs.Containers.{Context, at_rest, prefix, front}
-use Rattle.first_pass_grammar.specs.Kinds.{Paragraph, all_taken, unindented, item_at, ends_tag}
+use Rattle.first_pass_grammar.specs.Containers.{Context, context, at_rest, prefix, front, footnote_columns}
+use Rattle.first_pass_grammar.specs.Kinds.{Paragraph, all_taken, unindented, is_blank_rest, item_at, ends_tag}
 use Rattle.first_pass_grammar.specs.Leaves.{Document, document}
-use Rattle.first_pass_grammar.specs.Blocks.{leaf_block, Head}
+use Rattle.first_pass_grammar.specs.Blocks.{leaf_block, FootnoteMarker, Head}
 use Rattle.first_pass_grammar.specs.Skeleton.{From, Line, At, May, Anything, ALeafAlone, TextOf, MarkAlone, Inside, behind_marker, Opening, OpensNode}
 use Rattle.first_pass_grammar.specs.Skeleton.{next_is_blank, task_alone}
 use Rattle.first_pass_grammar.specs.Openers.{task_by, task_behind}
 use Rattle.first_pass_grammar.specs.Skeleton.{behind_tag, Opens, OpensIf}
 use Rattle.first_pass_grammar.proofs.KindsFound.{IsShorter, leads_alone, leads_leaf, reach, Shrinks, Leads, leads_text, leads_block}
 use Rattle.first_pass_grammar.specs.Openers.{AfterMarker, OnLine, TaskText, LineEnds, TagAlone, Start, start_at}
-use Rattle.first_pass_grammar.specs.Skeleton.{OpensBy, opening_by, opening_of, without_indent}
+use Rattle.first_pass_grammar.specs.Skeleton.{OpensBy, OpensFootnote, footnote_opening, opening_by, opening_of, without_indent}
 use Rattle.first_pass_grammar.specs.Blocks.{opened}
 use Rattle.first_pass_grammar.proofs.OpenerFacts.{start_cases}
+use Rattle.first_pass_grammar.proofs.RunsFound.{beyond_shorter}
 use Rattle.first_pass_grammar.specs.Leaves.{around}
 
 -- after a marker less is left
@@ -147,9 +156,84 @@ leads_by text options names path p lines (Some s) less =
     leads_alone (opening_of d path p lines s) (λ later. refl)
     (start_shrinks d (length p.rest.left) path s.head (at_rest p s.rest) lines s.after (omega arith))
 
+-- a footnote definition, after whose head less is left
+begun_head : (bs : List ℕ) (t : Bool) (o : Option (ℕ × List ℕ)) (head : ℕ × List ℕ) → (if t then o else None) ≡ Some head
+    → (t ≡ true) × (o ≡ Some head)
+begun_head bs true o head h = (refl, h)
+begun_head bs false o head h = absurd (none-some head h)
+
+head_size_if : (t : Bool) (label head : ℕ × List ℕ) → (if t then Some (label.0 + 3, label.1) else None) ≡ Some head → 0 < head.0
+head_size_if true label head h = let size = ap (λ (z : ℕ × List ℕ). z.0) (same_Some (label.0 + 3, label.1) head h) in omega arith
+head_size_if false label head h = absurd (none-some head h)
+
+head_size : (bs : List ℕ) (o : Option (ℕ × List ℕ)) (head : ℕ × List ℕ) → option_and_then (head_behind bs) o ≡ Some head → 0 < head.0
+head_size bs None head h = absurd (none-some head h)
+head_size bs (Some label) head h = head_size_if (begins colon (drop label.0 bs)) label head h
+
+some_bytes : (b : ℕ) (bs : List ℕ) → begins b bs ≡ true → 0 < length bs
+some_bytes b [] h = absurd (false≢true h)
+some_bytes b (c ∷ bs) h = omega arith
+
+head_shorter_by : (prefix : List ℕ → Option ℕ) (bs : List ℕ) (head : ℕ × List ℕ) → footnote_head prefix false bs ≡ Some head
+    → length (drop head.0 bs) < length bs
+unfolding footnote_head
+head_shorter_by prefix bs head h =
+    let begun = begun_head bs (begins_footnote bs) (option_and_then (head_behind (drop 2 bs)) (label_at prefix false (drop 2 bs))) head h in
+    let size = head_size (drop 2 bs) (label_at prefix false (drop 2 bs)) head begun.1 in
+    let some = some_bytes left_bracket bs (and_parts (begins left_bracket bs) (begins circumflex (drop 1 bs)) begun.0).0 in
+    let left = length-drop head.0 bs in
+    omega arith
+
+head_shorter : (c : Context) (p : Place) (head : ℕ × List ℕ) → footnote_head_at c p ≡ Some head
+    → length (drop head.0 (unindented p).rest.left) < length p.rest.left
+unfolding footnote_head_at
+head_shorter c p head h =
+    let found = (begun_head (unindented p).rest.left (has c.options footnotes && nat_lt (indent p.rest) 4)
+    (footnote_at false c (unindented p).rest.left) head h).1 in
+    let less = head_shorter_by (footnote_prefix c) (unindented p).rest.left head found in
+    let all = columns_shorter (indent p.rest) p.rest in
+    omega arith
+
+behind_if : (most : ℕ) (t : Bool) (q line : Place) (behind lines : List Place) → suc (length q.rest.left) ≤ most → length (line ∷ behind) ≤ length lines
+    → (let there : Place × List Place = if◌then◌else◌ {A = Place × List Place} t (line, behind) (q, line ∷ behind) in
+    IsShorter most lines (Inside there.0) there.1)
+behind_if most true q line behind lines less few = (omega arith, inr (omega arith))
+behind_if most false q line behind lines less few = (few, inl less)
+
+behind_shorter : (most : ℕ) (gfm : Bool) (q : Place) (behind lines : List Place) → suc (length q.rest.left) ≤ most → length behind ≤ length lines
+    → IsShorter most lines (Inside (behind_head gfm q behind).0) (behind_head gfm q behind).1
+behind_shorter most true q behind lines less few =
+    let n = length-drop (prefix_len is_white q.rest.left) q.rest.left in (few, inl (omega arith))
+behind_shorter most false q [] lines less few = (few, inl less)
+behind_shorter most false q (line ∷ behind) lines less few = behind_if most (is_blank_rest q.rest) q line behind lines less few
+
+leads_footnote : (text : List ℕ) (options : Options) (names : Names) (most : ℕ) (p : Place) (lines : List Place) (head : ℕ × List ℕ)
+    → length (drop head.0 (unindented p).rest.left) < most
+    → Leads names most lines (λ later x. OpensFootnote (document text options later) p lines head x)
+unfolding OpensFootnote
+leads_footnote text options names most p lines (size, label) less =
+    let ix = named_text names label in
+    let d : Document = document text options names in
+    let q : Place = place_behind size (unindented p) in
+    record {
+      opening = footnote_opening d p lines size (FootnoteMarker (footnote_columns options) ix.value label);
+      more = ix.more;
+      extends = ix.extends;
+      opens = λ later x. (ix.value, ix.holds later x, refl);
+      shrinks = behind_shorter most (gfm_footnotes options) q (lines_beyond (offset q) lines) lines (omega arith) (beyond_shorter (offset q) lines);
+    }
+
+leads_head : (text : List ℕ) (options : Options) (names : Names) (path : List Container) (p : Place) (lines : List Place) (o : Option (ℕ × List ℕ))
+    → ((head : ℕ × List ℕ) → o ≡ Some head → length (drop head.0 (unindented p).rest.left) < length p.rest.left)
+    → Leads names (length p.rest.left) lines (λ later x. MatchOption o (OpensBy (document text options later) path p lines (start_at options p) x)
+    (λ head. OpensFootnote (document text options later) p lines head x))
+leads_head text options names path p lines None less = leads_by text options names path p lines (start_at options p) (start_shorter options p)
+leads_head text options names path p lines (Some head) less = leads_footnote text options names (length p.rest.left) p lines head (less head refl)
+
 pub leads_any : (text : List ℕ) (options : Options) (names : Names) (path : List Container) (p : Place) (lines : List Place)
     → Leads names (length p.rest.left) lines (λ later x. Opens (document text options later) path p lines x)
-leads_any text options names path p lines = leads_by text options names path p lines (start_at options p) (start_shorter options p)
+leads_any text options names path p lines =
+    leads_head text options names path p lines (footnote_head_at (context options path) p) (head_shorter (context options path) p)
 
 pub leads_if : (text : List ℕ) (options : Options) (names : Names) (path : List Container) (may : May) (p : Place) (lines : List Place)
     → Leads names (length p.rest.left) lines (λ later x. OpensIf (document text options later) path may p lines x)

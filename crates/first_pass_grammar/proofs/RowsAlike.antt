@@ -2,26 +2,32 @@
 use Rattle.std.proofs.Common.{◌≡◌, ℕ, suc, ◌||◌, not, Bool, true, false, List, [], ◌∷◌, ◌++◌, map, Option, None, refl, sym, ap, ◌∙◌, subst, if◌then◌else◌}
 use Rattle.first_pass_items.specs.declared.item.Item.{Item}
 use Rattle.first_pass_items.specs.declared.item.ItemBody.TheVariants.{BlockQuote as BlockQuoteBody, List as ListBody, ListItem as ListItemBody}
+use Rattle.first_pass_items.specs.declared.item.ItemBody.TheVariants.{FootnoteDefinition as FootnoteDefinitionBody}
 use Rattle.first_pass_tree.specs.Forest.{at_depth}
 use Rattle.first_pass_grammar.specs.declared.kind.Container.{Container}
 use Rattle.first_pass_grammar.specs.Names.{Names, Named, read_nodes}
 use Rattle.first_pass_grammar.specs.Kinds.{Kind}
-use Rattle.first_pass_grammar.specs.Blocks.{LeafBlock, BlankLine, Block, Head, Opener, QuoteMarker, ItemMarker, opened, label_of, Skeleton, Nil, Then, Node}
+use Rattle.first_pass_grammar.specs.Blocks.{LeafBlock, BlankLine, Block, Head, Opener, QuoteMarker, ItemMarker, FootnoteMarker, opened, label_of, Skeleton, Nil}
+use Rattle.first_pass_grammar.specs.Blocks.{Then, Node}
 use Rattle.first_pass_grammar.specs.LinkTables.{LinkEntry, with_links, with_labels}
 use Rattle.first_pass_grammar.specs.Before.{Before, LastOther, nothing, after_blank, after_block, after_container, before_end}
 use Rattle.first_pass_grammar.specs.Containers.{is_quote}
-use Rattle.first_pass_grammar.specs.Rows.{What, ALeaf, AQuote, AList, AnItem, Row, Rows, End, OneOf, gapped, any_gap, is_loose, closing_place, is_list_of}
+use Rattle.first_pass_grammar.specs.Rows.{What, ALeaf, AQuote, AList, AnItem, AFootnote, Row, Rows, End, OneOf, gapped, any_gap, is_loose, closing_place}
+use Rattle.first_pass_grammar.specs.Rows.{is_list_of}
 use Rattle.first_pass_grammar.specs.Rows.{end_of, list_until, items_behind, list_behind, row_of, row_of_leaf, container_row, rows_of}
 use Rattle.first_pass_grammar.specs.Derivation.{Tables, definitions_of, footnotes_of, told_by, node_of, list_flags, row_items, tight_in, items_of}
-use Rattle.first_pass_grammar.proofs.Alike.{AlikeNodes, stands, Alike, nodes_append, tight_read, read_tight, read_at_depth}
+use Rattle.first_pass_grammar.proofs.Alike.{AlikeNodes, stands, head_alone, label_node, opened_alike, label_alike, Alike, nodes_append, tight_read, read_tight}
+use Rattle.first_pass_grammar.proofs.Alike.{read_at_depth}
 
--- a row without the items of its leaf block, and these
+-- a row without the items of its leaf block or the index of its label, and these
 abbrev bare_what : What → What
 bare_what (ALeaf b) = ALeaf (record { kind = b.kind; line = b.line; start = b.start; items = []; gap = b.gap; definitions = [] })
+bare_what (AFootnote index e) = AFootnote (record { 0 = 0 }) e
 bare_what w = w
 
 abbrev inside : What → List (ℕ × Item)
 inside (ALeaf b) = b.items
+inside (AFootnote index e) = (0, node_of 0 0 (FootnoteDefinitionBody index)) ∷ []
 inside w = []
 
 abbrev bare : Row → Row
@@ -38,10 +44,12 @@ AlikeRows m n (OneOf row inner next) (OneOf row' inner' next') = AlikeRow m n ro
 
 list_bare : (byte : ℕ) (w : What) → is_list_of byte (bare_what w) ≡ is_list_of byte w
 list_bare byte (ALeaf b) = refl
+list_bare byte (AFootnote index e) = refl
 list_bare byte w = refl
 
 tight_bare : (tight loose : Bool) (w : What) → tight_in tight loose (bare_what w) ≡ tight_in tight loose w
 tight_bare tight loose (ALeaf b) = refl
+tight_bare tight loose (AFootnote index e) = refl
 tight_bare tight loose w = refl
 
 abbrev until_at : ℕ → ℕ → Row → ℕ
@@ -51,6 +59,7 @@ until_what : (byte last line start : ℕ) (gap : Bool) (w : What)
     → until_at byte last (record { what = bare_what w; line = line; start = start; gap = gap })
     ≡ until_at byte last (record { what = w; line = line; start = start; gap = gap })
 until_what byte last line start gap (ALeaf b) = refl
+until_what byte last line start gap (AFootnote index e) = refl
 until_what byte last line start gap w = refl
 
 same_list : (m n : Names) (byte : ℕ) (row row' : Row) → AlikeRow m n row row' → is_list_of byte row.what ≡ is_list_of byte row'.what
@@ -110,14 +119,47 @@ past_alike m n byte (OneOf row inner next) End a = absurd a
 past_alike m n byte (OneOf row inner next) (OneOf row' inner' next') a =
     chosen m n _ _ next next' (OneOf row inner next) (OneOf row' inner' next') (same_list m n byte row row' a.0) a.2 a
 
-container_alike : (m n : Names) (last : ℕ) (opener : Opener) (line start e : ℕ) (gap : Bool) (inner inner' next next' : Rows)
+abbrev head_of : Opener → ℕ → ℕ → Head
+head_of opener line start = record { opener = opener; line = line; start = start }
+
+same_container : (m n : Names) (last : ℕ) (opener : Opener) (line start e : ℕ) (gap : Bool) (inner inner' next next' : Rows)
     → AlikeRows m n inner inner' → AlikeRows m n next next'
-    → (let row : Row = row_of (record { opener = opener; line = line; start = start }) e gap in
-    AlikeRows m n (container_row last opener row inner next) (container_row last opener row inner' next'))
-container_alike m n last (QuoteMarker kind) line start e gap inner inner' next next' a b = ((refl, refl), a, b)
-container_alike m n last (ItemMarker byte number columns) line start e gap inner inner' next next' a b =
+    → (let row : Opener → Row = λ o. row_of (head_of o line start) e gap in
+    AlikeNodes m n (label_node opener) (label_node opener)
+    → AlikeRows m n (container_row last opener (row opener) inner next) (container_row last opener (row opener) inner' next'))
+same_container m n last (QuoteMarker kind) line start e gap inner inner' next next' a b named = ((refl, refl), a, b)
+same_container m n last (ItemMarker byte number columns) line start e gap inner inner' next next' a b named =
     let list : ℕ → Row = λ until. record { what = AList byte number until; line = line; start = start; gap = gap } in
     ((ap list (until_alike m n byte last next next' b), refl), ((refl, refl), a, items_alike m n byte next next' b), past_alike m n byte next next' b)
+same_container m n last (FootnoteMarker columns index label) line start e gap inner inner' next next' a b named = ((refl, named), a, b)
+
+container_alike : (m n : Names) (last : ℕ) (o o' : Opener) (line line' start start' e : ℕ) (gap : Bool) (inner inner' next next' : Rows)
+    → head_alone (head_of o line start) ≡ head_alone (head_of o' line' start') → AlikeNodes m n (label_node o) (label_node o')
+    → AlikeRows m n inner inner' → AlikeRows m n next next'
+    → AlikeRows m n (container_row last o (row_of (head_of o line start) e gap) inner next)
+    (container_row last o' (row_of (head_of o' line' start') e gap) inner' next')
+container_alike m n last (QuoteMarker kind) (QuoteMarker kind') line line' start start' e gap inner inner' next next' is named a b =
+    ((ap (λ (h : Head). row_of h e gap) is, refl), a, b)
+container_alike m n last (ItemMarker byte number columns) (ItemMarker byte' number' columns') line line' start start' e gap inner inner' next next' is named
+    a b =
+    let o : Opener = ItemMarker byte number columns in
+    subst (λ (h : Head). AlikeRows m n (container_row last o (row_of (head_of o line start) e gap) inner next)
+    (container_row last h.opener (row_of h e gap) inner' next')) is
+    (same_container m n last o line start e gap inner inner' next next' a b refl)
+container_alike m n last (FootnoteMarker columns index label) (FootnoteMarker columns' index' label') line line' start start' e gap inner inner' next next'
+    is named a b = ((ap (λ (h : Head). row_of h e gap) is, named), a, b)
+container_alike m n last (QuoteMarker kind) (ItemMarker byte' number' columns') line line' start start' e gap inner inner' next next' is named a b =
+    let not : QuoteMarker kind ≡ ItemMarker byte' number' columns' = ap (λ (h : Head). h.opener) is in cc
+container_alike m n last (QuoteMarker kind) (FootnoteMarker columns' index' label') line line' start start' e gap inner inner' next next' is named a b =
+    let not : QuoteMarker kind ≡ FootnoteMarker columns' (record { 0 = 0 }) label' = ap (λ (h : Head). h.opener) is in cc
+container_alike m n last (ItemMarker byte number columns) (QuoteMarker kind') line line' start start' e gap inner inner' next next' is named a b =
+    let not : ItemMarker byte number columns ≡ QuoteMarker kind' = ap (λ (h : Head). h.opener) is in cc
+container_alike m n last (ItemMarker byte number columns) (FootnoteMarker columns' index' label') line line' start start' e gap inner inner' next next' is
+    named a b = let not : ItemMarker byte number columns ≡ FootnoteMarker columns' (record { 0 = 0 }) label' = ap (λ (h : Head). h.opener) is in cc
+container_alike m n last (FootnoteMarker columns index label) (QuoteMarker kind') line line' start start' e gap inner inner' next next' is named a b =
+    let not : FootnoteMarker columns (record { 0 = 0 }) label ≡ QuoteMarker kind' = ap (λ (h : Head). h.opener) is in cc
+container_alike m n last (FootnoteMarker columns index label) (ItemMarker byte' number' columns') line line' start start' e gap inner inner' next next' is
+    named a b = let not : FootnoteMarker columns (record { 0 = 0 }) label ≡ ItemMarker byte' number' columns' = ap (λ (h : Head). h.opener) is in cc
 
 leaf_row : (b b' : LeafBlock) (gap : Bool) → stands b ≡ stands b' → b.gap ≡ b'.gap → bare (row_of_leaf b gap) ≡ bare (row_of_leaf b' gap)
 leaf_row b b' gap is own =
@@ -145,7 +187,7 @@ end_alike m n quoted before (Node head e kids next) (Node head' e' kids' next') 
     let c : Container = opened head.opener in
     end_alike m n quoted (after_container c (before_end (is_quote c) nothing kids)) next next' a.3
     ∙ ap (λ z. before_end quoted (after_container c z) next') (end_alike m n (is_quote c) nothing kids kids' a.2)
-    ∙ ap (λ (h : Head). before_end quoted (after_container (opened h.opener) (before_end (is_quote (opened h.opener)) nothing kids')) next') a.0
+    ∙ ap (λ (z : Container). before_end quoted (after_container z (before_end (is_quote z) nothing kids')) next') (opened_alike head head' a.0.0)
 
 -- the rows of alike skeletons
 rows_alike : (m n : Names) (quoted : Bool) (before : Before) (last : ℕ) (s t : Skeleton) → Alike m n s t
@@ -169,15 +211,26 @@ rows_alike m n quoted before last (Then (Block b) next) (Then (Block b') next') 
 )
 rows_alike m n quoted before last (Node head e kids next) (Node head' e' kids' next') a =
     let c : Container = opened head.opener in
+    let c' : Container = opened head'.opener in
+    let same : c ≡ c' = opened_alike head head' a.0.0 in
     let rows : Rows = rows_of quoted before last (Node head e kids next) in
     let inner : Before = before_end (is_quote c) nothing kids in
     let inner' : Before = before_end (is_quote c) nothing kids' in
     let after : AlikeRows m n (rows_of quoted (after_container c inner) last next) (rows_of quoted (after_container c inner') last next') =
     subst (λ (z : Before). AlikeRows m n (rows_of quoted (after_container c inner) last next) (rows_of quoted (after_container c z) last next'))
     (end_alike m n (is_quote c) nothing kids kids' a.2) (rows_alike m n quoted (after_container c inner) last next next' a.3) in
-    subst (λ (h : Head). AlikeRows m n rows (rows_of quoted before last (Node h e' kids' next'))) a.0
-    (subst (λ (x : ℕ). AlikeRows m n rows (rows_of quoted before last (Node head x kids' next'))) a.1
-    (container_alike m n last head.opener head.line head.start e before.counted _ _ _ _ (rows_alike m n (is_quote c) nothing e kids kids' a.2) after))
+    let own : AlikeRows m n (rows_of (is_quote c) nothing e kids) (rows_of (is_quote c) nothing e kids') =
+    rows_alike m n (is_quote c) nothing e kids kids' a.2 in
+    subst (λ (x : ℕ). AlikeRows m n rows (rows_of quoted before last (Node head' x kids' next'))) a.1
+    (container_alike m n last head.opener head'.opener head.line head'.line head.start head'.start e before.counted _ _ _ _ a.0.0 a.0.1
+    (subst (λ (z : Container). AlikeRows m n (rows_of (is_quote c) nothing e kids) (rows_of (is_quote z) nothing e kids')) same own)
+    (subst (λ (z : Container). AlikeRows m n (rows_of quoted (after_container c inner) last next)
+    (rows_of quoted (after_container z (before_end (is_quote z) nothing kids')) last next')) same after))
+
+-- a footnote definition read, whose index is
+abbrev footnote_shown : ℕ → ℕ → ℕ → List (ℕ × (Item × Option Named)) → List (ℕ × (Item × Option Named))
+footnote_shown depth start e [] = []
+footnote_shown depth start e (x ∷ more) = (depth, (node_of start e x.1.0.body, x.1.1)) ∷ []
 
 -- a row read
 abbrev shown : ℕ → Bool → Bool → ℕ → What → List (ℕ × (Item × Option Named)) → List (ℕ × (Item × Option Named))
@@ -185,6 +238,7 @@ shown depth tight loose start (ALeaf b) items = if tight then map (tight_read de
 shown depth tight loose start (AQuote kind e) items = (depth, (node_of start e (BlockQuoteBody kind), None)) ∷ []
 shown depth tight loose start (AList byte number e) items = (depth, (node_of start e (ListBody (list_flags (not loose)) byte number), None)) ∷ []
 shown depth tight loose start (AnItem columns e) items = (depth, (node_of start e (ListItemBody columns), None)) ∷ []
+shown depth tight loose start (AFootnote index e) items = footnote_shown depth start e items
 
 shown_is : (m : Names) (depth : ℕ) (tight loose : Bool) (start : ℕ) (w : What)
     → read_nodes m (row_items depth tight loose start w) ≡ shown depth tight loose start (bare_what w) (read_nodes m (inside w))
@@ -249,7 +303,7 @@ footnotes_alike m n (Node head e kids next) Nil a = absurd a
 footnotes_alike m n (Node head e kids next) (Then leaf' next') a = absurd a
 footnotes_alike m n (Then leaf next) (Then leaf' next') a = footnotes_alike m n next next' a.1
 footnotes_alike m n (Node head e kids next) (Node head' e' kids' next') a =
-    ap (λ (h : Head). label_of h.opener ++ (footnotes_of kids ++ footnotes_of next)) a.0
+    ap (λ z. z ++ (footnotes_of kids ++ footnotes_of next)) (label_alike head head' a.0.0)
     ∙ ap (λ z. label_of head'.opener ++ (z ++ footnotes_of next)) (footnotes_alike m n kids kids' a.2)
     ∙ ap (λ z. label_of head'.opener ++ (footnotes_of kids' ++ z)) (footnotes_alike m n next next' a.3)
 

@@ -13,7 +13,7 @@ shorter_by : (e : ℕ) (line : Place) (lines : List Place) (t : Bool)
 shorter_by e line lines true less = omega arith
 shorter_by e line lines false less = omega arith
 
-beyond_shorter : (e : ℕ) (lines : List Place) → length (lines_beyond e lines) ≤ length lines
+pub beyond_shorter : (e : ℕ) (lines : List Place) → length (lines_beyond e lines) ≤ length lines
 unfolding lines_beyond
 beyond_shorter e [] = omega arith
 beyond_shorter e (line ∷ lines) = shorter_by e line lines (nat_lt line.line e) (beyond_shorter e lines)

@@ -177,7 +177,7 @@ row_by names mid text options path table line lines row false e has h more =
     record { rows = taking [] (line ∷ lines); more = mid; extends = e; are = inr (row, has, inl (h, refl)); shorter = omega arith }
 
 rows_by : (names : Names) (text : List ℕ) (options : Options) (path : List Container) (table : TableSoFar) (line : Place) (lines : List Place)
-    (o : Option ℕ) → row_text path line ≡ o → ((mid : Names) (further : TableSoFar) → RowsFrom mid text options path further lines)
+    (o : Option ℕ) → row_text (context options path) line ≡ o → ((mid : Names) (further : TableSoFar) → RowsFrom mid text options path further lines)
     → RowsFrom names text options path table (line ∷ lines)
 unfolding CountedRows
 rows_by names text options path table line lines None e f =
@@ -194,7 +194,7 @@ unfolding CountedRows
 rows_found names text options path [] table =
     record { rows = taking [] []; more = names; extends = extends_none names; are = refl; shorter = omega arith }
 rows_found names text options path (line ∷ lines) table =
-    rows_by names text options path table line lines (row_text path line) refl (λ mid further. rows_found mid text options path lines further)
+    rows_by names text options path table line lines (row_text (context options path) line) refl (λ mid further. rows_found mid text options path lines further)
 
 -- What is taken of a text, and names that continue these, so that this holds of it for all names that continue those.
 pub record TakenFrom (names : Names) (lines : List Place) (Holds : Names → Taken → Type 0) : Type 0 where

@@ -7,13 +7,15 @@ use Rattle.first_pass_items.specs.declared.item.Item.{Item}
 use Rattle.first_pass_items.specs.declared.item.ListFlags.{ListFlags}
 use Rattle.first_pass_items.specs.declared.item.BlockQuoteKind.{BlockQuoteKind}
 use Rattle.first_pass_items.specs.declared.item.ItemBody.TheVariants.{BlockQuote as BlockQuoteBody, List as ListBody, ListItem as ListItemBody}
+use Rattle.first_pass_items.specs.declared.item.ItemBody.TheVariants.{FootnoteDefinition as FootnoteDefinitionBody}
 use Rattle.first_pass_tree.specs.Forest.{modify, map_from, at_depth}
 use Rattle.first_pass_tree.specs.Tight.{tightened}
 use Rattle.first_pass_grammar.specs.Before.{Before, nothing, after_blank, after_block}
-use Rattle.first_pass_grammar.specs.Blocks.{BlankLine, Block, Opener, QuoteMarker, ItemMarker, Skeleton, Nil, Then, Node}
+use Rattle.first_pass_grammar.specs.Blocks.{BlankLine, Block, Opener, QuoteMarker, ItemMarker, Skeleton, Nil, Then, Node, FootnoteMarker}
 use Rattle.first_pass_grammar.specs.Rows.{What, ALeaf, AQuote, AList, AnItem, Row, Rows, End, OneOf, is_loose, list_behind, row_of, container_row, rows_of}
 use Rattle.first_pass_grammar.specs.Derivation.{node_of, list_flags, row_items, tight_in, items_of}
 use Rattle.first_pass_grammar.specs.Completion.{flagged, list_closed}
+use Rattle.first_pass_grammar.specs.Rows.{AFootnote}
 
 pub eqb-same : (n : ℕ) → eqb n n ≡ true
 eqb-same n = eq-eqb n n refl
@@ -39,6 +41,7 @@ deep_row d e false loose start (ALeaf b) h = deep_at d e b.items h
 deep_row d e tight loose start (AQuote kind x) h = ap (λ z. z ∷ []) (deep_node d e (node_of start x (BlockQuoteBody kind)) h)
 deep_row d e tight loose start (AList byte number x) h = ap (λ z. z ∷ []) (deep_node d e (node_of start x (ListBody (list_flags (not loose)) byte number)) h)
 deep_row d e tight loose start (AnItem columns x) h = ap (λ z. z ∷ []) (deep_node d e (node_of start x (ListItemBody columns)) h)
+deep_row d e tight loose start (AFootnote index x) h = ap (λ z. z ∷ []) (deep_node d e (node_of start x (FootnoteDefinitionBody index)) h)
 
 map_parts : (d : ℕ) (x a b x' a' b' : List (ℕ × Item)) → map (tightened d) x ≡ x' → map (tightened d) a ≡ a' → map (tightened d) b ≡ b'
     → map (tightened d) (x ++ (a ++ b)) ≡ x' ++ (a' ++ b')
@@ -57,6 +60,7 @@ NoItem (ALeaf b) = Unit {0}
 NoItem (AQuote kind e) = Unit {0}
 NoItem (AList byte number e) = Unit {0}
 NoItem (AnItem columns e) = ⊥
+NoItem (AFootnote index e) = Unit {0}
 
 abbrev AreBlocks : Rows → Type 0
 AreBlocks End = Unit {0}
@@ -74,6 +78,7 @@ blocks_container : (last : ℕ) (opener : Opener) (line start e : ℕ) (gap : Bo
     → AreBlocks (container_row last opener (row_of (record { opener = opener; line = line; start = start }) e gap) inner next)
 blocks_container last (QuoteMarker kind) line start e gap inner next h = (tt, h)
 blocks_container last (ItemMarker byte number columns) line start e gap inner next h = (tt, blocks_past byte next h)
+blocks_container last (FootnoteMarker columns index label) line start e gap inner next h = (tt, h)
 
 are_blocks : (quoted : Bool) (before : Before) (last : ℕ) (s : Skeleton) → AreBlocks (rows_of quoted before last s)
 unfolding rows_of
@@ -104,12 +109,14 @@ tight_row d loose start (ALeaf b) = refl
 tight_row d loose start (AQuote kind x) = ap (λ z. z ∷ []) (same_quote d d start x kind)
 tight_row d loose start (AList byte number x) = ap (λ z. z ∷ []) (same_list d d start x byte number (list_flags (not loose)))
 tight_row d loose start (AnItem columns x) = ap (λ z. z ∷ []) (same_at (eqb d d) d (node_of start x (ListItemBody columns)))
+tight_row d loose start (AFootnote index x) = ap (λ z. z ∷ []) (same_at (eqb d d) d (node_of start x (FootnoteDefinitionBody index)))
 
 block_in : (loose : Bool) (w : What) → NoItem w → tight_in false loose w ≡ tight_in true loose w
 block_in loose (ALeaf b) h = refl
 block_in loose (AQuote kind x) h = refl
 block_in loose (AList byte number x) h = refl
 block_in loose (AnItem columns x) h = absurd h
+block_in loose (AFootnote index x) h = refl
 
 -- the items of blocks in a tight list are those of blocks that aren't, with their paragraphs made tight
 tight_items : (d : ℕ) (r : Rows) → AreBlocks r → map (tightened d) (items_of d false r) ≡ items_of d true r

@@ -1,5 +1,6 @@
 -- The grammar derives one forest from a text, read through what its indices name, and one pair of tables.
-use Rattle.std.proofs.Common.{◌≡◌, inl, inr, ℕ, ◌+◌, Bool, true, false, List, [], ◌∷◌, length, map, drop, Option, Some, None, IfSome, refl, sym, ap, ◌∙◌, subst}
+use Rattle.std.proofs.Common.{◌≡◌, inl, inr, ℕ, ◌+◌, Bool, true, false, List, [], ◌∷◌, length, map, drop, Option, Some, None, IfSome, MatchOption, refl, sym}
+use Rattle.std.proofs.Common.{ap, ◌∙◌, subst}
 use Rattle.std.proofs.Common.{if◌then◌else◌}
 use Rattle.first_pass_items.specs.declared.item.Item.{Item}
 use Rattle.first_pass_items.specs.declared.item.BlockQuoteKind.{BlockQuoteKind}
@@ -14,7 +15,7 @@ use Rattle.first_pass_lines.specs.Places.{Place, offset, lines_at, start_of, mov
 use Rattle.first_pass_links.specs.Escapes.{unescaped}
 use Rattle.first_pass_grammar.specs.declared.kind.Container.{Container}
 use Rattle.first_pass_grammar.specs.Names.{Names, Named, read_nodes}
-use Rattle.first_pass_grammar.specs.Containers.{Context, at_rest, front}
+use Rattle.first_pass_grammar.specs.Containers.{Context, at_rest, front, footnote_columns}
 use Rattle.first_pass_grammar.specs.Kinds.{Kind, Blank, IndentedCode, Metadata, HtmlToEnd, HtmlToBlank, ThematicBreak, AtxHeading, FencedCode, LinkDefinitions}
 use Rattle.first_pass_grammar.specs.Kinds.{Paragraph, unindented, is_blank_rest, first_kind, IsKindBy, IsKind, ends_tag}
 use Rattle.first_pass_grammar.specs.Headings.{heading_attributes_of}
@@ -27,7 +28,8 @@ use Rattle.first_pass_grammar.specs.LinkTables.{LinkEntry}
 use Rattle.first_pass_grammar.specs.LinkRuns.{kind_in, lines_beyond, ends_run, Beyond, Ended, FlowsOn, IsRun}
 use Rattle.std.proofs.lemmas.Bool.{true≢false}
 use Rattle.std.proofs.lemmas.Option.{none-some, same_Some}
-use Rattle.first_pass_grammar.specs.Blocks.{leaf_block, Leaf, BlankLine, Block, Head, opened, Skeleton, Nil, Then, Node}
+use Rattle.first_pass_grammar.specs.Blocks.{leaf_block, Leaf, BlankLine, Block, Opener, QuoteMarker, ItemMarker, FootnoteMarker, Head, opened, Skeleton, Nil}
+use Rattle.first_pass_grammar.specs.Blocks.{Then, Node}
 use Rattle.first_pass_grammar.specs.Skeleton.{OpensBeyond, OpensRun, From, Line, Blanks, At, Anything, ALeafAlone, TextOf, MarkAlone, behind_marker, Opening}
 use Rattle.first_pass_grammar.specs.Skeleton.{OpensLeaf, OpensNode, OpensText, OpensExtent, OpensAs, OpensBlockAt, next_is_blank}
 use Rattle.first_pass_grammar.specs.Skeleton.{task_alone, behind_tag}
@@ -37,16 +39,18 @@ use Rattle.first_pass_grammar.specs.Skeleton.{going, onward, behind_first, end_b
 use Rattle.first_pass_grammar.specs.Derivation.{Tables, no_tables, node_of, Derives}
 use Rattle.first_pass_grammar.proofs.NoIndex.{HasNoIndex, read_alone}
 use Rattle.first_pass_grammar.specs.RawLines.{range_text, range_html}
-use Rattle.first_pass_grammar.proofs.Alike.{with_names, AlikeNodes, HoldsNoIndex, AlikeLeaf, AlikeOpening, Alike, text_free, html_free, raw_alike, block_alike}
+use Rattle.first_pass_grammar.proofs.Alike.{with_names, AlikeNodes, HoldsNoIndex, AlikeLeaf, AlikeOpening, Alike, label_node, opened_alike, label_named}
+use Rattle.first_pass_grammar.proofs.Alike.{text_free, html_free, raw_alike, block_alike}
 use Rattle.first_pass_grammar.proofs.Alike.{fence_alike, heading_alike}
 use Rattle.first_pass_grammar.proofs.LinesAlike.{one_heading}
 use Rattle.first_pass_grammar.proofs.TablesAlike.{one_text}
-use Rattle.first_pass_grammar.specs.Before.{LastOther, Before, nothing, after_container}
+use Rattle.first_pass_grammar.specs.Before.{LastOther, Before, nothing, after_container, before_end}
 use Rattle.first_pass_grammar.specs.Containers.{is_quote}
 use Rattle.first_pass_grammar.proofs.Goings.{same_left}
 use Rattle.first_pass_grammar.proofs.RowsAlike.{end_alike, forest_alike, told_alike}
 use Rattle.first_pass_grammar.specs.Openers.{AfterMarker, OnLine, TaskText, LineEnds, TagAlone, Start, after_task, after_quote, start_at}
-use Rattle.first_pass_grammar.specs.Skeleton.{OpensBy, opening_by, without_indent}
+use Rattle.first_pass_grammar.specs.Skeleton.{OpensBy, OpensFootnote, opening_by, without_indent}
+use Rattle.first_pass_grammar.specs.Footnotes.{footnote_head_at}
 use Rattle.first_pass_grammar.proofs.OpenerFacts.{start_cases}
 use Rattle.first_pass_items.specs.OptionWords.{tasklists}
 
@@ -212,14 +216,14 @@ opens_block d n path p lines o o' (k, is, e) (k', is', f) =
     opens_once d n path p lines (kind_in (around d path) p k) o o' e
     (subst (λ z. OpensAs (with_names d n) path p lines (kind_in (around d path) p z) o') (one_kind d.options p.rest k' k is' is) f)
 
--- a container that opens, in which blocks continue where no item with an index stands
+-- a container that opens, with no label, in which blocks continue where no item with an index stands
 abbrev OpensFree : Opening → Type 0
 OpensFree (OpensLeaf leaf there left) = ⊥
-OpensFree (OpensNode head inside behind) = HoldsNoIndex inside
+OpensFree (OpensNode head inside behind) = HoldsNoIndex inside × (label_node head.opener ≡ [])
 
 node_alike : (m n : Names) (o : Opening) → OpensFree o → AlikeOpening m n o o
 node_alike m n (OpensLeaf leaf there left) h = absurd h
-node_alike m n (OpensNode head inside behind) h = (refl, refl, h, refl)
+node_alike m n (OpensNode head inside behind) h = ((refl, rw h.1 refl), refl, h.0, refl)
 
 task_free : (line : ℕ) (r : Rest) (o : Option (Bool × Rest)) → IfSome (task_by line r o).0 HasNoIndex
 task_free line r None = tt
@@ -262,36 +266,59 @@ quote_after_free : (kind : Option BlockQuoteKind) → AfterFree (after_quote kin
 quote_after_free None = tt
 quote_after_free (Some kind) = tt
 
-start_free : (options : Options) (p : Place) (s : Start) → start_at options p ≡ Some s → AfterFree s.after
+-- such a container has no label
+abbrev StartFree : Start → Type 0
+StartFree s = AfterFree s.after × (label_node s.head.opener ≡ [])
+
+start_free : (options : Options) (p : Place) (s : Start) → start_at options p ≡ Some s → StartFree s
 start_free options p =
-    start_cases options p (λ s. AfterFree s.after)
-    (λ item is. task_after_free (is_blank_rest (task_behind options p.line item.1).1) (task_behind options p.line item.1).0
-    (task_free p.line item.1 (if has options tasklists then task_of item.1 else None)))
-    (λ r none is. quote_after_free (tag_behind options r))
+    start_cases options p StartFree
+    (λ item is. (
+      task_after_free (is_blank_rest (task_behind options p.line item.1).1) (task_behind options p.line item.1).0
+          (task_free p.line item.1 (if has options tasklists then task_of item.1 else None)),
+      refl,
+    ))
+    (λ r none is. (quote_after_free (tag_behind options r), refl))
+
+label_without : (o : Opener) → label_node o ≡ [] → label_node (without_indent o) ≡ []
+label_without (QuoteMarker kind) h = h
+label_without (ItemMarker byte number columns) h = h
+label_without (FootnoteMarker columns index label) h = h
 
 opening_free : (d : Document) (path : List Container) (head : Head) (inside : Place) (lines : List Place) (after : AfterMarker) → AfterFree after
-    → OpensFree (opening_by d path head inside lines after)
-opening_free d path head inside lines OnLine h = tt
-opening_free d path head inside lines (TaskText marker) h = h
-opening_free d path head inside lines (LineEnds marker) h =
+    → label_node head.opener ≡ [] → OpensFree (opening_by d path head inside lines after)
+opening_free d path head inside lines OnLine h none = (tt, none)
+opening_free d path head inside lines (TaskText marker) h none = (h, none)
+opening_free d path head inside lines (LineEnds marker) h none =
     let blanks : Option ℕ = Some (start_of (length d.text) lines) in
     unless_opens (next_is_blank (opened head.opener ∷ path) lines)
     (OpensNode (record head { opener = without_indent head.opener }) (task_alone marker inside blanks) lines)
     (OpensNode head (task_alone marker inside None) lines)
-    (alone_free marker inside blanks h) (alone_free marker inside None h)
-opening_free d path head inside lines TagAlone h = tag_free (around d (opened head.opener ∷ path)) lines
+    (alone_free marker inside blanks h, label_without head.opener none) (alone_free marker inside None h, none)
+opening_free d path head inside lines TagAlone h none = (tag_free (around d (opened head.opener ∷ path)) lines, none)
 
 opens_by : (d : Document) (n : Names) (path : List Container) (p : Place) (lines : List Place) (q : Option Start) (o o' : Opening)
-    → ((s : Start) → q ≡ Some s → AfterFree s.after) → OpensBy d path p lines q o → OpensBy (with_names d n) path p lines q o' → AlikeOpening d.names n o o'
+    → ((s : Start) → q ≡ Some s → StartFree s) → OpensBy d path p lines q o → OpensBy (with_names d n) path p lines q o' → AlikeOpening d.names n o o'
 unfolding OpensBy
 opens_by d n path p lines (Some s) o o' free e f =
-    alike_by d.names n o o' _ _ e f (node_alike d.names n _ (opening_free d path s.head (at_rest p s.rest) lines s.after (free s refl)))
+    let begun : StartFree s = free s refl in
+    alike_by d.names n o o' _ _ e f (node_alike d.names n _ (opening_free d path s.head (at_rest p s.rest) lines s.after begun.0 begun.1))
 opens_by d n path p lines None o o' free e f = opens_block d n path p lines o o' e f
+
+-- a footnote definition, or what else begins
+by_head : (d : Document) (n : Names) (path : List Container) (p : Place) (lines : List Place) (head : Option (ℕ × List ℕ)) (o o' : Opening)
+    → MatchOption head (OpensBy d path p lines (start_at d.options p) o) (λ h. OpensFootnote d p lines h o)
+    → MatchOption head (OpensBy (with_names d n) path p lines (start_at d.options p) o') (λ h. OpensFootnote (with_names d n) p lines h o')
+    → AlikeOpening d.names n o o'
+unfolding OpensFootnote
+by_head d n path p lines None o o' e f = opens_by d n path p lines (start_at d.options p) o o' (start_free d.options p) e f
+by_head d n path p lines (Some (size, label)) o o' (i, named, e) (j, named', f) =
+    alike_by d.names n o o' _ _ e f ((refl, label_named d.names n (footnote_columns d.options) i j label named named'), refl, tt, refl)
 
 -- a place opens one thing, read alike
 pub one_opening : (d : Document) (n : Names) (path : List Container) (p : Place) (lines : List Place) (o o' : Opening)
     → Opens d path p lines o → Opens (with_names d n) path p lines o' → AlikeOpening d.names n o o'
-one_opening d n path p lines o o' e f = opens_by d n path p lines (start_at d.options p) o o' (start_free d.options p) e f
+one_opening d n path p lines o o' e f = by_head d n path p lines (footnote_head_at (around d path) p) o o' e f
 
 opens_at : (d : Document) (n : Names) (path : List Container) (from : From) (p : Place) (lines : List Place) (o o' : Opening) → HoldsNoIndex from
     → OpensAt d path from p lines o → OpensAt (with_names d n) path from p lines o' → AlikeOpening d.names n o o'
@@ -392,14 +419,15 @@ one_sequence d n (Node head x kids next) (Node head' x' kids' next') l from line
     (inside', behind', mid', first', inner', is', seq') =
     let o = first_once d n l from lines (OpensNode head inside behind) (OpensNode head' inside' behind') free first first' in
     let h = one_sequence d n kids kids' (level_in (opened head.opener) l) inside behind mid mid' o.2 inner
-    (subst (λ (z : Head). IsSequence (with_names d n) kids' (level_in (opened z.opener) l) inside behind mid') (sym o.0)
+    (subst (λ (z : Container). IsSequence (with_names d n) kids' (level_in z l) inside behind mid') (sym (opened_alike head head' o.0.0))
     (subst (λ z. IsSequence (with_names d n) kids' (level_in (opened head'.opener) l) z behind mid') (sym o.1)
     (subst (λ z. IsSequence (with_names d n) kids' (level_in (opened head'.opener) l) inside' z mid') (sym o.3) inner'))) in
     let m : mid ≡ mid' = h.1 in
     let there : Left → From = λ z. behind_first from (onward z).0 in
     let now : Level = level_after l head kids in
     let same : level_after l head' kids' ≡ now =
-    sym (container_after d.names n l head kids kids' h.0 ∙ ap (λ (z : Head). level_after l z kids') o.0) in
+    sym (container_after d.names n l head kids kids' h.0
+    ∙ ap (λ (c : Container). level l.path (after_container c (before_end (is_quote c) nothing kids'))) (opened_alike head head' o.0.0)) in
     let r = one_sequence d n next next' now (there mid) (onward mid).1 a b (behind_first_free from (onward mid).0 free (onward_free mid)) seq
     (subst (λ (z : Left). IsSequence (with_names d n) next' now (there z) (onward z).1 b) (sym m)
     (at_level (with_names d n) next' (level_after l head' kids') now (there mid') (onward mid').1 b same seq')) in

@@ -41,11 +41,14 @@ use Rattle.first_pass_grammar.specs.WholeTables.{Mark, marks, table_marks, AreFu
 use Rattle.first_pass_grammar.proofs.EachToken.{AreEach, heading_each, range_text_each, range_html_each, raw_lines_each, lines_each, children_each}
 use Rattle.first_pass_grammar.proofs.EachToken.{heading_children_each}
 use Rattle.first_pass_grammar.proofs.PlacesKept.{IsAt, AreAt, at_unindented, at_front, at_taken, at_quote, at_item, extent_at, tag_left_at, code_at}
-use Rattle.first_pass_grammar.proofs.LinesLeft.{BeyondAt, run_at, text_left}
+use Rattle.first_pass_grammar.proofs.LinesLeft.{BeyondAt, run_at, text_left, beyond_at, place_behind_at, head_at}
+use Rattle.first_pass_items.specs.OptionWords.{gfm_footnotes}
+use Rattle.first_pass_grammar.specs.Footnotes.{footnote_head_at, place_behind}
+use Rattle.first_pass_grammar.specs.LinkRuns.{lines_beyond}
 use Rattle.first_pass_grammar.proofs.TableMarks.{ShowsNothing, text_shows, tokens_show, raw_shows, block_shows, table_shows}
 use Rattle.first_pass_items.specs.declared.item.HeadingLevel.{HeadingLevel}
 use Rattle.first_pass_grammar.specs.Openers.{AfterMarker, OnLine, TaskText, LineEnds, TagAlone, Start, after_task, after_quote, start_at}
-use Rattle.first_pass_grammar.specs.Skeleton.{OpensBy, Opens, opening_by, without_indent}
+use Rattle.first_pass_grammar.specs.Skeleton.{OpensBy, OpensFootnote, Opens, opening_by, without_indent}
 use Rattle.first_pass_grammar.specs.Blocks.{Head}
 use Rattle.first_pass_grammar.proofs.OpenerFacts.{start_cases}
 use Rattle.first_pass_grammar.proofs.Goings.{BeginsAt, LeavesAt, begins_at, leaves_at}
@@ -275,9 +278,19 @@ module _ (d : Document) (full : HeadsAreFull d) where
       subst (WholeOpening d) (sym e) (opening_whole path s.head (at_rest p s.rest) lines s.after now.0 now.1 h)
   opens_by path p lines None o plain i h e = opens_block path p lines o i h e
 
+  opens_head : (path : List Container) (p : Place) (lines : List Place) (head : Option (ℕ × List ℕ)) (o : Opening) → IsAt d.text p → AreAt d.text lines
+      → MatchOption head (OpensBy d path p lines (start_at d.options p) o) (λ h. OpensFootnote d p lines h o) → WholeOpening d o
+  unfolding OpensFootnote
+  opens_head path p lines None o i h e = opens_by path p lines (start_at d.options p) o (start_plain p i) i h e
+  opens_head path p lines (Some (size, label)) o i h (index, named, e) =
+      let q : Place = place_behind size (unindented p) in
+      let at = head_at d.text (gfm_footnotes d.options) q (lines_beyond (offset q) lines)
+      (place_behind_at d.text size (unindented p) (at_unindented d.text p i)) (beyond_at d.text (offset q) lines h) in
+      subst (WholeOpening d) (sym e) ((at.0, tt), at.1)
+
   opens_any : (path : List Container) (p : Place) (lines : List Place) (o : Opening) → IsAt d.text p → AreAt d.text lines
       → Opens d path p lines o → WholeOpening d o
-  opens_any path p lines o i h e = opens_by path p lines (start_at d.options p) o (start_plain p i) i h e
+  opens_any path p lines o i h e = opens_head path p lines (footnote_head_at (around d path) p) o i h e
 
   opens_if : (path : List Container) (may : May) (p : Place) (lines : List Place) (o : Opening) → PlainMay may → IsAt d.text p → AreAt d.text lines
       → OpensIf d path may p lines o → WholeOpening d o

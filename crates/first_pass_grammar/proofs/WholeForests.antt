@@ -9,12 +9,12 @@ use Rattle.first_pass_tree.specs.Tight.{tight_body, tightened}
 use Rattle.first_pass_lines.specs.Places.{lines_at}
 use Rattle.first_pass_grammar.specs.Names.{Names}
 use Rattle.first_pass_grammar.specs.Leaves.{Document}
-use Rattle.first_pass_grammar.specs.Blocks.{BlankLine, Block, Opener, QuoteMarker, ItemMarker, opened, Skeleton, Nil, Then, Node}
+use Rattle.first_pass_grammar.specs.Blocks.{BlankLine, Block, Opener, QuoteMarker, ItemMarker, opened, Skeleton, Nil, Then, Node, FootnoteMarker}
 use Rattle.first_pass_grammar.specs.Skeleton.{Line, level, Lines}
 use Rattle.first_pass_grammar.specs.Before.{Before, nothing, after_blank, after_block}
 use Rattle.first_pass_grammar.specs.Containers.{is_quote}
 use Rattle.first_pass_grammar.specs.Rows.{What, ALeaf, AQuote, AList, AnItem, Row, Rows, End, OneOf, gapped, is_loose, is_list_of, items_behind, list_behind}
-use Rattle.first_pass_grammar.specs.Rows.{what_of, row_of, container_row, rows_of}
+use Rattle.first_pass_grammar.specs.Rows.{what_of, row_of, container_row, rows_of, AFootnote}
 use Rattle.first_pass_grammar.specs.Derivation.{row_items, tight_in, items_of, Tables, root_of, Derives}
 use Rattle.first_pass_grammar.specs.WholeTables.{Mark, ATable, shown, marks, row_marks, TableRows, table_marks, AreFull, AreWholeTables}
 use Rattle.first_pass_grammar.proofs.HeadCells.{heads_are_full}
@@ -71,6 +71,7 @@ WholeWhat names (ALeaf block) = AreWholeTables names block.items
 WholeWhat names (AQuote kind e) = Unit {0}
 WholeWhat names (AList byte number e) = Unit {0}
 WholeWhat names (AnItem columns e) = Unit {0}
+WholeWhat names (AFootnote index e) = Unit {0}
 
 unfoldable pub WholeRows : Names → Rows → Type 0
 WholeRows names End = Unit {0}
@@ -101,10 +102,12 @@ container_whole : (names : Names) (last : ℕ) (opener : Opener) (row : Row) (in
 unfolding WholeRows
 container_whole names last (QuoteMarker kind) row inner next own h k = (own, h, k)
 container_whole names last (ItemMarker byte number columns) row inner next own h k = (tt, (own, h, items_whole names byte next k), list_whole names byte next k)
+container_whole names last (FootnoteMarker columns index label) row inner next own h k = (own, h, k)
 
 what_whole : (names : Names) (opener : Opener) (e : ℕ) → WholeWhat names (what_of opener e)
 what_whole names (QuoteMarker kind) e = tt
 what_whole names (ItemMarker byte number columns) e = tt
+what_whole names (FootnoteMarker columns index label) e = tt
 
 pub rows_whole : (names : Names) (quoted : Bool) (before : Before) (last : ℕ) (s : Skeleton) → WholeSkeleton names s
     → WholeRows names (rows_of quoted before last s)
@@ -126,6 +129,7 @@ row_whole names depth false loose start (ALeaf block) h = whole_deeper names dep
 row_whole names depth tight loose start (AQuote kind e) h = whole_none names _ refl
 row_whole names depth tight loose start (AList byte number e) h = whole_none names _ refl
 row_whole names depth tight loose start (AnItem columns e) h = whole_none names _ refl
+row_whole names depth tight loose start (AFootnote index e) h = whole_none names _ refl
 
 pub forest_whole : (names : Names) (depth : ℕ) (tight : Bool) (rows : Rows) → WholeRows names rows → AreWholeTables names (items_of depth tight rows)
 unfolding WholeRows items_of marks

@@ -2,6 +2,7 @@
 use Rattle.std.specs.Prelude.{ℕ, nat_le, ◌==◌, Bool, true, false, ◌||◌, Option, Some, None, List, [], ◌∷◌, is_some, if◌then◌else◌}
 use Rattle.std.specs.Option.{option_map, option_and_then}
 use Rattle.first_pass_items.specs.declared.option_set.Options.{Options}
+use Rattle.first_pass_items.specs.OptionWords.{gfm_footnotes}
 use Rattle.first_pass_lines.specs.Lines.{at_line_end}
 use Rattle.first_pass_lines.specs.Rest.{Rest, indent, after_columns, past_quote}
 use Rattle.first_pass_lines.specs.Places.{Place}
@@ -23,6 +24,10 @@ at_rest p r = record { line = p.line; rest = r }
 -- so many columns are there, or fewer and then the end of the line (CommonMark 5.2)
 abbrev pub has_columns : ℕ → Rest → Bool
 has_columns n r = nat_le n (indent r) || at_line_end (after_columns n r).left
+
+-- the columns that a line needs to continue a footnote definition: four as GitHub has footnotes, none in their old form (this project)
+abbrev pub footnote_columns : Options → ℕ
+footnote_columns options = if gfm_footnotes options then 4 else 0
 
 -- What is left of a line after the prefix by which it continues a container, or none where it doesn't:
 -- a block quote has up to three columns, `>` with no column owed before it, and one column if there is one (CommonMark 5.1);

@@ -3,16 +3,17 @@ use Rattle.std.specs.Prelude.{◌≡◌, ℕ, suc, not, Bool, false, List, [], �
 use Rattle.first_pass_items.specs.declared.item.Item.{Item}
 use Rattle.first_pass_items.specs.declared.item.ItemBody.{ItemBody}
 use Rattle.first_pass_items.specs.declared.item.ItemBody.TheVariants.{Root, BlockQuote as BlockQuoteBody, List as ListBody, ListItem as ListItemBody}
+use Rattle.first_pass_items.specs.declared.item.ItemBody.TheVariants.{FootnoteDefinition as FootnoteDefinitionBody}
 use Rattle.first_pass_items.specs.declared.item.ListFlags.{ListFlags}
 use Rattle.first_pass_tree.specs.Forest.{at_depth}
 use Rattle.first_pass_tree.specs.Tight.{tightened}
 use Rattle.first_pass_lines.specs.Places.{lines_at}
 use Rattle.first_pass_grammar.specs.Leaves.{Document}
-use Rattle.first_pass_grammar.specs.LinkTables.{LinkEntry, with_links, with_labels}
+use Rattle.first_pass_grammar.specs.LinkTables.{LinkEntry, with_links, with_label, with_labels}
 use Rattle.first_pass_grammar.specs.Blocks.{BlankLine, Block, LeafBlock, label_of, Skeleton, Nil, Then, Node}
 use Rattle.first_pass_grammar.specs.Skeleton.{Line, level, Lines, IsSequence}
 use Rattle.first_pass_grammar.specs.Before.{nothing}
-use Rattle.first_pass_grammar.specs.Rows.{What, ALeaf, AQuote, AList, AnItem, Rows, End, OneOf, is_loose, rows_of}
+use Rattle.first_pass_grammar.specs.Rows.{What, ALeaf, AQuote, AList, AnItem, AFootnote, Rows, End, OneOf, is_loose, rows_of}
 
 abbrev pub node_of : ℕ → ℕ → ItemBody → Item
 node_of start «end» body = record { start = start; «end» = «end»; body = body }
@@ -31,6 +32,7 @@ row_items depth tight loose start (ALeaf block) = block_items depth tight block
 row_items depth tight loose start (AQuote kind e) = (depth, node_of start e (BlockQuoteBody kind)) ∷ []
 row_items depth tight loose start (AList byte number e) = (depth, node_of start e (ListBody (list_flags (not loose)) byte number)) ∷ []
 row_items depth tight loose start (AnItem columns e) = (depth, node_of start e (ListItemBody columns)) ∷ []
+row_items depth tight loose start (AFootnote index e) = (depth, node_of start e (FootnoteDefinitionBody index)) ∷ []
 
 -- What stands in a row is directly in an item of a tight list: in an item of such a list, or such a list's items.
 abbrev pub tight_in : Bool → Bool → What → Bool
@@ -38,6 +40,7 @@ tight_in tight loose (ALeaf block) = false
 tight_in tight loose (AQuote kind e) = false
 tight_in tight loose (AList byte number e) = not loose
 tight_in tight loose (AnItem columns e) = tight
+tight_in tight loose (AFootnote index e) = false
 
 -- The items of rows in reading order, each with its depth, of which the rows have this one, directly in an item of a tight list or not (CommonMark 5.3).
 unfoldable pub items_of : ℕ → Bool → Rows → List (ℕ × Item)
@@ -58,6 +61,10 @@ no_tables = record { links = []; footnotes = [] }
 -- what is defined with these link definitions too, in the order of the text
 abbrev pub told : Tables → List LinkEntry → Tables
 told tables definitions = record { links = with_links tables.links definitions; footnotes = tables.footnotes }
+
+-- what is defined with the label of a footnote definition too (this project)
+abbrev pub told_label : Tables → List ℕ → Tables
+told_label tables label = record { links = tables.links; footnotes = with_label label tables.footnotes }
 
 -- the link definitions in a sequence of blocks, in the order of the text (CommonMark 4.7)
 unfoldable pub definitions_of : Skeleton → List LinkEntry

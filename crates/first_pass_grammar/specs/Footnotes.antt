@@ -1,11 +1,13 @@
 -- Heads of footnote definitions in a document (this project).
-use Rattle.std.specs.Prelude.{ℕ, ◌&&◌, Bool, true, false, nat_lt, List, Option, None, is_some, if◌then◌else◌}
+use Rattle.std.specs.Prelude.{ℕ, ◌+◌, ◌&&◌, Bool, true, false, nat_lt, List, [], ◌∷◌, drop, Option, None, is_some, if◌then◌else◌}
+use Rattle.std.specs.List.{prefix_len}
 use Rattle.first_pass_items.specs.OptionWords.{has, footnotes, gfm_footnotes}
 use Rattle.first_pass_lines.specs.Rest.{indent}
-use Rattle.first_pass_lines.specs.Places.{Place}
+use Rattle.first_pass_lines.specs.Lines.{is_white}
+use Rattle.first_pass_lines.specs.Places.{Place, offset, line_place}
 use Rattle.first_pass_links.specs.Footnotes.{footnote_head}
 use Rattle.first_pass_grammar.specs.Containers.{Context, in_footnote}
-use Rattle.first_pass_grammar.specs.Kinds.{unindented}
+use Rattle.first_pass_grammar.specs.Kinds.{unindented, is_blank_rest}
 use Rattle.first_pass_grammar.specs.Definitions.{prefix_crossed}
 
 -- Where the label of a footnote continues in a line: as GitHub has footnotes, nowhere; in their old form where that of a link reference definition does
@@ -21,6 +23,18 @@ footnote_at in_table around bs = footnote_head (footnote_prefix around) in_table
 unfoldable pub footnote_head_at : Context → Place → Option (ℕ × List ℕ)
 footnote_head_at around p =
     if has around.options footnotes && nat_lt (indent p.rest) 4 then footnote_at false around (unindented p).rest.left else None
+
+-- Where reading continues so many bytes after a place, as at the start of a line: tab stops count anew there, and no column is owed (this project).
+abbrev pub place_behind : ℕ → Place → Place
+place_behind n p = line_place (offset p + n) (drop n p.rest.left)
+
+-- Where blocks continue after the colon of a footnote definition's head, and the lines then. As GitHub has footnotes, after the white space there. In their
+-- old form there; but where the rest of the line is blank and another line follows, at the start of that one, whatever containers it continues, as if it
+-- followed the colon (this project).
+abbrev pub behind_head : Bool → Place → List Place → Place × List Place
+behind_head true q lines = (place_behind (prefix_len is_white q.rest.left) q, lines)
+behind_head false q [] = (q, [])
+behind_head false q (line ∷ lines) = if is_blank_rest q.rest then (line, lines) else (q, line ∷ lines)
 
 -- A footnote definition that is innermost ends where another begins (this project).
 abbrev pub ends_footnote : Context → Place → Bool

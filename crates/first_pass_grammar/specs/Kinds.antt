@@ -2,7 +2,7 @@
 use Rattle.std.specs.Prelude.{◌≡◌, ◌⊎◌, ℕ, ◌==◌, ◌&&◌, ◌||◌, not, Bool, false, List, drop, Option, Some, None, nat_lt, is_some, if◌then◌else◌}
 use Rattle.first_pass_items.specs.declared.item.HeadingLevel.{HeadingLevel}
 use Rattle.first_pass_items.specs.declared.option_set.Options.{Options}
-use Rattle.first_pass_items.specs.OptionWords.{has, yaml_style_metadata_blocks, pluses_delimited_metadata_blocks}
+use Rattle.first_pass_items.specs.OptionWords.{has, footnotes, yaml_style_metadata_blocks, pluses_delimited_metadata_blocks}
 use Rattle.first_pass_html.specs.Starts.{html_end, begins_block_tag}
 use Rattle.first_pass_html.specs.Tags.{BeginsTagLine}
 use Rattle.first_pass_items.specs.Bytes.{less_than, greater_than}
@@ -10,6 +10,7 @@ use Rattle.first_pass_lines.specs.Lines.{at_line_end, begins, blank_len, atx_lev
 use Rattle.first_pass_scan.specs.LeafLines.{hrule_len, code_fence, setext_underline}
 use Rattle.first_pass_metadata.specs.Metadata.{metadata_byte}
 use Rattle.first_pass_lines.specs.Rest.{Rest, indent, after_columns}
+use Rattle.first_pass_links.specs.Footnotes.{footnote_head}
 use Rattle.first_pass_lines.specs.Places.{Place, offset, moved_columns}
 use Rattle.first_pass_scan.specs.Markers.{is_bullet, listitem, item_of}
 use Rattle.first_pass_grammar.specs.Containers.{Context, at_rest, after, front}
@@ -128,9 +129,13 @@ interrupts_with whole bs =
     || begins greater_than bs || item_interrupts whole bs (listitem bs)
     || begins_html_to_end bs || begins_html_to_blank bs
 
--- the same, or a table (GFM 4.10)
+-- The head of a footnote definition interrupts, in either form of footnotes, whose label holds no line end (this project).
+abbrev pub footnote_interrupts : Options → Bool → List ℕ → Bool
+footnote_interrupts options in_table bs = has options footnotes && is_some (footnote_head (λ further. None) in_table bs)
+
+-- the same, or a footnote definition (this project), or a table (GFM 4.10)
 abbrev pub interrupts_in : Context → Bool → List ℕ → Bool
-interrupts_in around whole bs = interrupts_with whole bs || table_interrupts around bs
+interrupts_in around whole bs = interrupts_with whole bs || (footnote_interrupts around.options false bs || table_interrupts around bs)
 
 -- A line ends a paragraph before it where its text interrupts the paragraph; at four columns or more only where nothing but spaces and tabs is left.
 unfoldable pub interrupts : Context → Bool → Rest → Bool

@@ -9,7 +9,7 @@ use Rattle.first_pass_items.specs.declared.item.AlignmentIndex.{AlignmentIndex}
 use Rattle.first_pass_items.specs.declared.item.HeadingIndex.{HeadingIndex}
 use Rattle.first_pass_items.specs.declared.item.Item.{Item}
 use Rattle.first_pass_items.specs.declared.item.ItemBody.{ItemBody}
-use Rattle.first_pass_items.specs.declared.item.ItemBody.TheVariants.{Heading, SynthesizeText, FencedCodeBlock, Table}
+use Rattle.first_pass_items.specs.declared.item.ItemBody.TheVariants.{Heading, SynthesizeText, FencedCodeBlock, Table, FootnoteDefinition}
 use Rattle.first_pass_attributes.specs.Attributes.{Attributes, no_attributes}
 use Rattle.first_pass_tokens.specs.NamedTexts.{NamesAmong}
 
@@ -71,6 +71,7 @@ pub data Named : Type 0 where
 abbrev pub index_of : ItemBody → Option Index
 index_of (SynthesizeText ix) = Some (TextAt ix)
 index_of (FencedCodeBlock ix) = Some (TextAt ix)
+index_of (FootnoteDefinition ix) = Some (TextAt ix)
 index_of (Table ix) = Some (AlignmentsAt ix)
 index_of (Heading level ix) = option_map AttributesAt ix
 index_of _ = None
@@ -79,6 +80,7 @@ index_of _ = None
 abbrev pub kind_alone : ItemBody → ItemBody
 kind_alone (SynthesizeText ix) = SynthesizeText (record { 0 = 0 })
 kind_alone (FencedCodeBlock ix) = FencedCodeBlock (record { 0 = 0 })
+kind_alone (FootnoteDefinition ix) = FootnoteDefinition (record { 0 = 0 })
 kind_alone (Table ix) = Table (record { 0 = 0 })
 kind_alone (Heading level ix) = Heading level (option_map (λ at. record { 0 = 0 }) ix)
 kind_alone body = body

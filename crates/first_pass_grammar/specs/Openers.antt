@@ -1,4 +1,4 @@
--- Which container begins at a place, and what stands after its marker (CommonMark 5.1, 5.2).
+-- Which list item or block quote begins at a place, and what stands after its marker (CommonMark 5.1, 5.2).
 use Rattle.std.specs.Prelude.{ℕ, Bool, Option, Some, None, if◌then◌else◌}
 use Rattle.std.specs.Option.{option_map, option_or}
 use Rattle.first_pass_items.specs.declared.item.Item.{Item}
@@ -22,7 +22,7 @@ pub data AfterMarker : Type 0 where
   LineEnds : Option Item → AfterMarker
   TagAlone : AfterMarker
 
--- a container that begins at a place: how it begins, what stands after its marker, and what is left of the line there
+-- a list item or a block quote that begins at a place: how it begins, what stands after its marker, and what is left of the line there
 pub record Start : Type 0 where
   pub head : Head
   pub after : AfterMarker
@@ -70,7 +70,7 @@ after_quote (Some kind) = TagAlone
 abbrev pub quote_begun : Place → Option BlockQuoteKind → Rest → Start
 quote_begun p kind r = record { head = quote_head p kind; after = after_quote kind; rest = r }
 
--- the container that begins at a place: a list item where one does, else a block quote where one does (CommonMark 5.1, 5.2)
+-- what begins at a place where no footnote definition does: a list item where one does, else a block quote where one does (CommonMark 5.1, 5.2)
 unfoldable pub start_at : Options → Place → Option Start
 start_at options p =
     option_or (option_map (λ item. item_start p item.0 (task_behind options p.line item.1)) (item_at p.rest))

@@ -1,17 +1,21 @@
 -- Rows: what stands side by side in a container once items that follow each other are lists (CommonMark 5.2, 5.3).
 use Rattle.std.specs.Prelude.{ℕ, ◌==◌, ◌||◌, Bool, true, false, Option, if◌then◌else◌}
+use Rattle.first_pass_items.specs.declared.item.CowIndex.{CowIndex}
 use Rattle.first_pass_items.specs.declared.item.BlockQuoteKind.{BlockQuoteKind}
 use Rattle.first_pass_grammar.specs.Kinds.{Kind, Paragraph}
-use Rattle.first_pass_grammar.specs.Blocks.{LeafBlock, BlankLine, Block, Opener, QuoteMarker, ItemMarker, Head, opened, Skeleton, Nil, Then, Node}
+use Rattle.first_pass_grammar.specs.Blocks.{LeafBlock, BlankLine, Block, Opener, QuoteMarker, ItemMarker, FootnoteMarker, Head, opened, Skeleton, Nil, Then}
+use Rattle.first_pass_grammar.specs.Blocks.{Node}
 use Rattle.first_pass_grammar.specs.Before.{Before, nothing, after_blank, after_block, after_container, before_end}
 use Rattle.first_pass_grammar.specs.Containers.{is_quote}
 
--- what a row is: a leaf block; or a block quote of a kind or none, a list with its byte and number, an item of one with its indent, each with its end
+-- what a row is: a leaf block; or a block quote of a kind or none, a list with its byte and number, an item of one with its indent, or a footnote definition
+-- with the index of its label, each with its end
 pub data What : Type 0 where
   ALeaf : LeafBlock → What
   AQuote : Option BlockQuoteKind → ℕ → What
   AList : ℕ → ℕ → ℕ → What
   AnItem : ℕ → ℕ → What
+  AFootnote : CowIndex → ℕ → What
 
 -- A row: what it is, where its line starts and where it starts itself, and whether it has a gap before it: the run of blank lines directly before it
 -- holds one that counts (CommonMark 5.3).
@@ -46,13 +50,14 @@ abbrev pub is_paragraph : Kind → Bool
 is_paragraph Paragraph = true
 is_paragraph _ = false
 
--- Where a list ends that stands before what starts at an offset, in a line that starts at another: at the first byte of a text or at the start of an
--- item of another list, else at the start of the line (this project).
+-- Where a list ends that stands before what starts at an offset, in a line that starts at another: at the first byte of a text, or at the start of an
+-- item of another list or of a footnote definition, else at the start of the line (this project).
 abbrev pub closing_place : What → ℕ → ℕ → ℕ
 closing_place (ALeaf block) line start = if is_paragraph block.kind then start else line
 closing_place (AQuote kind e) line start = line
 closing_place (AList byte number e) line start = start
 closing_place (AnItem columns e) line start = start
+closing_place (AFootnote index e) line start = start
 
 -- a list that an item continues which has this byte (CommonMark 5.3)
 abbrev pub is_list_of : ℕ → What → Bool
@@ -60,6 +65,7 @@ is_list_of byte (ALeaf block) = false
 is_list_of byte (AQuote kind e) = false
 is_list_of byte (AList list number e) = byte == list
 is_list_of byte (AnItem columns e) = false
+is_list_of byte (AFootnote index e) = false
 
 -- where what has rows in it ends
 abbrev pub end_of : What → ℕ → ℕ
@@ -67,6 +73,7 @@ end_of (ALeaf block) last = last
 end_of (AQuote kind e) last = e
 end_of (AList byte number e) last = e
 end_of (AnItem columns e) last = e
+end_of (AFootnote index e) last = e
 
 -- After an item with a byte: where its list ends, in a container that ends at an offset; the items of its list; and the rows after the list.
 abbrev pub list_until : ℕ → ℕ → Rows → ℕ
@@ -92,6 +99,7 @@ in_list last byte number item blocks next =
 abbrev pub what_of : Opener → ℕ → What
 what_of (QuoteMarker kind) e = AQuote kind e
 what_of (ItemMarker byte number columns) e = AnItem columns e
+what_of (FootnoteMarker columns index label) e = AFootnote index e
 
 -- the row of a container that ends at an offset, with a gap before it or without one
 abbrev pub row_of : Head → ℕ → Bool → Row
@@ -101,6 +109,7 @@ row_of head e gap = record { what = what_of head.opener e; line = head.line; sta
 abbrev pub container_row : ℕ → Opener → Row → Rows → Rows → Rows
 container_row last (QuoteMarker kind) row inner next = OneOf row inner next
 container_row last (ItemMarker byte number columns) row inner next = in_list last byte number row inner next
+container_row last (FootnoteMarker columns index label) row inner next = OneOf row inner next
 
 -- the row of a leaf block, with a gap before it or without one
 abbrev pub row_of_leaf : LeafBlock → Bool → Row

@@ -1,25 +1,30 @@
 -- Sequences of blocks, and the blocks in them (CommonMark 3.1).
-use Rattle.std.specs.Prelude.{◌≡◌, ℕ, ◌&&◌, not, Bool, false, Option, Some, None, List, [], ◌∷◌, length, drop, if◌then◌else◌}
+use Rattle.std.specs.Prelude.{◌≡◌, ℕ, ◌&&◌, not, Bool, false, Option, Some, None, MatchOption, List, [], ◌∷◌, length, drop, if◌then◌else◌}
 use Rattle.first_pass_items.specs.declared.item.Item.{Item}
 use Rattle.first_pass_items.specs.declared.item.HeadingIndex.{HeadingIndex}
 use Rattle.first_pass_items.specs.declared.option_set.Options.{Options}
+use Rattle.first_pass_items.specs.declared.item.CowIndex.{CowIndex}
+use Rattle.first_pass_items.specs.OptionWords.{gfm_footnotes}
+use Rattle.first_pass_grammar.specs.Names.{NamesText}
 use Rattle.first_pass_lines.specs.Lines.{level_number}
 use Rattle.first_pass_lines.specs.Rest.{Rest, indent}
 use Rattle.first_pass_lines.specs.Places.{Place, offset, start_of, moved_columns}
 use Rattle.first_pass_grammar.specs.declared.kind.Container.{Container}
-use Rattle.first_pass_grammar.specs.Blocks.{Leaf, BlankLine, Block, leaf_block, Opener, QuoteMarker, ItemMarker, Head, opened, run_block, flowing_block}
+use Rattle.first_pass_grammar.specs.Blocks.{Leaf, BlankLine, Block, leaf_block, Opener, QuoteMarker, ItemMarker, FootnoteMarker, Head, opened, run_block}
+use Rattle.first_pass_grammar.specs.Blocks.{flowing_block}
 use Rattle.first_pass_grammar.specs.Blocks.{Skeleton, Nil, Then, Node}
 use Rattle.first_pass_grammar.specs.Openers.{AfterMarker, OnLine, TaskText, LineEnds, TagAlone, Start, start_at}
 use Rattle.first_pass_grammar.specs.Before.{Before, nothing, list_is_open, after_leaf, after_container, before_end}
 use Rattle.first_pass_grammar.specs.Containers.{Context, context, at_rest, after, front, taken, next_goes_on, is_quote, in_quote, in_old_footnote}
-use Rattle.first_pass_grammar.specs.Footnotes.{ends_footnote}
+use Rattle.first_pass_grammar.specs.Containers.{footnote_columns}
+use Rattle.first_pass_grammar.specs.Footnotes.{footnote_head_at, place_behind, behind_head, ends_footnote}
 use Rattle.first_pass_grammar.specs.Kinds.{Kind, Blank, IndentedCode, Metadata, HtmlToEnd, HtmlToBlank, ThematicBreak, AtxHeading, FencedCode, LinkDefinitions}
 use Rattle.first_pass_grammar.specs.Kinds.{Paragraph, all_taken, unindented, is_blank_rest, IsKind, ends_tag}
 use Rattle.first_pass_html.specs.Starts.{html_end}
 use Rattle.first_pass_grammar.specs.CodeBlocks.{code_lines, last_is_blank, IsIndentedCode, metadata_lines, IsMetadata, fenced_lines, IsFencedCode}
 use Rattle.first_pass_grammar.specs.Extents.{Extent}
 use Rattle.first_pass_grammar.specs.LinkTables.{LinkEntry}
-use Rattle.first_pass_grammar.specs.LinkRuns.{kind_in, Beyond, Ended, FlowsOn, IsRun}
+use Rattle.first_pass_grammar.specs.LinkRuns.{kind_in, lines_beyond, Beyond, Ended, FlowsOn, IsRun}
 use Rattle.first_pass_grammar.specs.HtmlBlocks.{until_end, until_blank, IsHtml}
 use Rattle.first_pass_grammar.specs.Leaves.{Document, around, IsHeading, heading_text_at, rule_block, heading_block}
 use Rattle.first_pass_grammar.specs.Tables.{Taken}
@@ -128,6 +133,7 @@ task_alone (Some marker) p blanks = At p (MarkAlone marker blanks)
 abbrev pub without_indent : Opener → Opener
 without_indent (QuoteMarker kind) = QuoteMarker kind
 without_indent (ItemMarker byte number columns) = ItemMarker byte number 0
+without_indent (FootnoteMarker columns index label) = FootnoteMarker columns index label
 
 -- An item may begin with one blank line, that of its marker; where the next is blank too, it takes blank lines alone (CommonMark 5.2).
 abbrev pub empty_opening : Document → List Container → Head → Place → List Place → Option Item → Opening
@@ -154,13 +160,27 @@ opening_by d path head inside lines TagAlone =
 abbrev pub opening_of : Document → List Container → Place → List Place → Start → Opening
 opening_of d path p lines s = opening_by d path s.head (at_rest p s.rest) lines s.after
 
--- What begins at a place: a container where one does, else what the kind of the place says.
+-- What a footnote definition opens whose head at a place has so many bytes: it starts at its `[`. Its label may take further lines (this project).
+abbrev pub footnote_opening : Document → Place → List Place → ℕ → Opener → Opening
+footnote_opening d p lines size opener =
+    let q : Place = place_behind size (unindented p) in
+    let there : Place × List Place = behind_head (gfm_footnotes d.options) q (lines_beyond (offset q) lines) in
+    OpensNode (record { opener = opener; line = p.line; start = offset (unindented p) }) (Inside there.0) there.1
+
+-- A footnote definition opens whose head has so many bytes and this label, which its index names (this project).
+unfoldable pub OpensFootnote : Document → Place → List Place → ℕ × List ℕ → Opening → Type 0
+OpensFootnote d p lines (size, label) opening =
+    (index : CowIndex) × NamesText d.names index label × (opening ≡ footnote_opening d p lines size (FootnoteMarker (footnote_columns d.options) index label))
+
+-- What begins at a place where no footnote definition does: a container where one does, else what the kind of the place says.
 unfoldable pub OpensBy : Document → List Container → Place → List Place → Option Start → Opening → Type 0
 OpensBy d path p lines (Some s) opening = opening ≡ opening_of d path p lines s
 OpensBy d path p lines None opening = OpensBlockAt d path p lines opening
 
+-- What begins at a place: a footnote definition where one does (this project), else another container or a leaf.
 abbrev pub Opens : Document → List Container → Place → List Place → Opening → Type 0
-Opens d path p lines opening = OpensBy d path p lines (start_at d.options p) opening
+Opens d path p lines opening =
+    MatchOption (footnote_head_at (around d path) p) (OpensBy d path p lines (start_at d.options p) opening) (λ head. OpensFootnote d p lines head opening)
 
 -- What begins where blocks continue: where no container may, what the kind of the place says; after a task list item marker a text; or the marker
 -- alone, in the place of a text.
@@ -175,7 +195,7 @@ OpensAt d path Line p lines opening = Opens d path p lines opening
 OpensAt d path (Blanks e) p lines opening = Opens d path p lines opening
 OpensAt d path (At q may) p lines opening = OpensIf d path may p lines opening
 
--- the containers around a place, the innermost first, and what stands before it in the innermost
+-- the containers around a place, the innermost first, and what stands before it in the innermost (this project)
 pub record Level : Type 0 where
   pub path : List Container
   pub before : Before
@@ -183,23 +203,24 @@ pub record Level : Type 0 where
 abbrev pub level : List Container → Before → Level
 level path before = record { path = path; before = before }
 
--- inside a container that begins at a level
+-- inside a container that begins at a level (this project)
 abbrev pub level_in : Container → Level → Level
 level_in c l = level (c ∷ l.path) nothing
 
--- after a leaf, and after a container with these blocks in it
+-- after a leaf, and after a container with these blocks in it (this project)
 abbrev pub level_after_leaf : Level → Leaf → Level
 level_after_leaf l leaf = level l.path (after_leaf (in_quote l.path) l.before leaf)
 
 abbrev pub level_after : Level → Head → Skeleton → Level
 level_after l head kids = level l.path (after_container (opened head.opener) (before_end (is_quote (opened head.opener)) nothing kids))
 
--- What a sequence of blocks leaves: these lines; or, where another footnote definition ends it, what is after a place in a line, and the lines after that.
+-- What a sequence of blocks leaves: these lines; or, where another footnote definition ends it, what is after a place in a line, and the lines after that
+-- (this project).
 pub data Left : Type 0 where
   Lines : List Place → Left
   InLine : Place → List Place → Left
 
--- Where the next block of a sequence begins, and the lines after that one; or that the sequence ends, and what it leaves.
+-- Where the next block of a sequence begins, and the lines after that place; or that the sequence ends, and what it leaves (this project).
 pub data Going : Type 0 where
   Begins : Place → List Place → Going
   Ends : Left → Going
@@ -209,11 +230,11 @@ pub data Going : Type 0 where
 abbrev pub ends_old_footnote : Level → Bool
 ends_old_footnote l = in_old_footnote l.path && (l.before.counted && not (list_is_open l.before.last))
 
--- at a place in a line, after what the path takes of it
+-- at a place in a line, after what the path takes of it: a footnote definition ends there, or a block begins (this project)
 abbrev pub going_at : Context → Place → List Place → Going
 going_at around p lines = if ends_footnote around p then Ends (InLine p lines) else Begins p lines
 
--- where the next of these lines continues the path, with that place in it; or doesn't
+-- the same where the next of these lines continues the path, and this is the place after what that takes; or where it doesn't (CommonMark 5)
 abbrev pub going_in : Options → Level → Option Place → List Place → Going
 going_in options l None lines = Ends (Lines lines)
 going_in options l (Some q) lines = if ends_old_footnote l then Ends (Lines lines) else going_at (context options l.path) q (drop 1 lines)
@@ -224,7 +245,8 @@ going_blank None lines = Ends (Lines lines)
 going_blank (Some q) lines = if is_blank_rest q.rest then Begins q (drop 1 lines) else Ends (Lines lines)
 
 -- Whether a sequence of blocks continues, and where: at a place inside a line, or after what the path takes of the next line. It ends where the next line
--- doesn't continue its path, or with the text; in an item that takes blank lines alone also where the next line isn't blank (CommonMark 5).
+-- doesn't continue its path, or with the text; in an item that takes blank lines alone also where the next line isn't blank; in a footnote definition also
+-- where that ends (CommonMark 5, and this project).
 unfoldable pub going : Options → Level → From → List Place → Going
 going options l (At p Anything) lines = going_at (context options l.path) p lines
 going options l (At p ALeafAlone) lines = Begins p lines
@@ -235,7 +257,7 @@ going options l Line (line ∷ lines) = going_in options l (taken l.path line) (
 going options l (Blanks e) [] = Ends (Lines [])
 going options l (Blanks e) (line ∷ lines) = going_blank (taken l.path line) (line ∷ lines)
 
--- where blocks continue around a container that leaves this, and the lines then
+-- where blocks continue around a container that leaves this, and the lines then (this project)
 abbrev pub onward : Left → From × List Place
 onward (Lines lines) = (Line, lines)
 onward (InLine p lines) = (Inside p, lines)

@@ -1,12 +1,13 @@
 -- Tables (GFM 4.10): the cells of a row, the rows of a table, and the table.
 use Rattle.std.specs.Prelude.{◌≡◌, ◌⊎◌, ℕ, ◌+◌, ◌-◌, ◌<◌, ◌≤◌, ◌==◌, true, false, List, [], ◌∷◌, ◌++◌, length, map, take, drop, slice_index, replicate, Option}
-use Rattle.std.specs.Prelude.{Some, None, if◌then◌else◌}
+use Rattle.std.specs.Prelude.{Some, None, Bool, ◌||◌, if◌then◌else◌}
 use Rattle.std.specs.Option.{option_and_then}
 use Rattle.std.specs.List.{prefix_len}
 use Rattle.first_pass_items.specs.Bytes.{pipe}
 use Rattle.first_pass_items.specs.declared.item.Alignment.{Alignment}
 use Rattle.first_pass_items.specs.declared.item.AlignmentIndex.{AlignmentIndex}
 use Rattle.first_pass_items.specs.declared.item.Item.{Item}
+use Rattle.first_pass_items.specs.declared.option_set.Options.{Options}
 use Rattle.first_pass_items.specs.declared.item.ItemBody.{ItemBody}
 use Rattle.first_pass_items.specs.declared.item.ItemBody.TheVariants.{Table, TableHead, TableRow, TableCell}
 use Rattle.first_pass_tree.specs.Forest.{block_of}
@@ -17,9 +18,9 @@ use Rattle.first_pass_tokens.specs.Braces.{MathBraces, no_braces}
 use Rattle.first_pass_tokens.specs.LineTokens.{Spot, spot, IsCell}
 use Rattle.first_pass_grammar.specs.declared.kind.Container.{Container}
 use Rattle.first_pass_grammar.specs.Names.{NamesAlignments}
-use Rattle.first_pass_grammar.specs.Containers.{taken}
-use Rattle.first_pass_grammar.specs.Kinds.{unindented, interrupts_with}
-use Rattle.first_pass_grammar.specs.Leaves.{Document, block_with}
+use Rattle.first_pass_grammar.specs.Containers.{Context, taken}
+use Rattle.first_pass_grammar.specs.Kinds.{unindented, interrupts_with, footnote_interrupts}
+use Rattle.first_pass_grammar.specs.Leaves.{Document, around, block_with}
 
 -- the content of a cell that begins at a place, with the brace contexts before it (GFM 4.10)
 abbrev pub cell_content : Document → Spot → Source
@@ -64,10 +65,15 @@ row_cells columns cells «end» = side_by_side (take columns cells ++ replicate 
 abbrev pub row_block : ItemBody → ℕ → ℕ → List (List (ℕ × Item)) → ℕ → List (ℕ × Item)
 row_block body columns start cells «end» = block_of (record { start = start; «end» = «end»; body = body }) (row_cells columns cells «end»)
 
+-- what ends a table, as it interrupts a paragraph: any list item does here, and a table doesn't (GFM 4.10, and this project)
+abbrev pub interrupts_row : Options → List ℕ → Bool
+interrupts_row options bs = interrupts_with false bs || footnote_interrupts options true bs
+
 -- Where the text of a row begins in a line: after what the path takes of it and after all columns. A line that doesn't continue the whole path is no row,
--- nor one whose text would interrupt a paragraph, as any list item does here (GFM 4.10, and this project).
-abbrev pub row_text : List Container → Place → Option ℕ
-row_text path line = option_and_then (λ p. if interrupts_with false (unindented p).rest.left then None else Some (offset (unindented p))) (taken path line)
+-- nor one whose text interrupts rows (GFM 4.10, and this project).
+abbrev pub row_text : Context → Place → Option ℕ
+row_text around line =
+    option_and_then (λ p. if interrupts_row around.options (unindented p).rest.left then None else Some (offset (unindented p))) (taken around.path line)
 
 -- what is taken of a text by a block: its items, and the lines that it leaves
 pub record Taken : Type 0 where
@@ -86,7 +92,7 @@ pub record FoundRow : Type 0 where
 
 -- the text of a line, with these brace contexts before it, has the cells of this row, if any (GFM 4.10)
 pub record HasCells (d : Document) (path : List Container) (line : Place) (before : MathBraces) (row : FoundRow) : Type 0 where
-  pub begins : row_text path line ≡ Some row.start
+  pub begins : row_text (around d path) line ≡ Some row.start
   pub are_cells : AreCells d (spot row.start before) row.cells (spot row.row_end row.after)
 
 -- the brace contexts after rows, before the first of which these are (this project)
@@ -121,7 +127,7 @@ table_so_far columns room braces = record { columns = columns; room = room; brac
 unfoldable pub EndRows : Document → List Container → TableSoFar → List Place → Type 0
 EndRows d path table [] = Unit {0}
 EndRows d path table (line ∷ lines) =
-    (row_text path line ≡ None)
+    (row_text (around d path) line ≡ None)
     ⊎ ((row : FoundRow) × HasCells d path line table.braces row × ((row.cells ≡ []) ⊎ (table.room < filled table.columns row.cells)))
 
 -- the items of rows of so many columns, one after the other (GFM 4.10)

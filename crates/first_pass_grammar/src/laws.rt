@@ -35,9 +35,9 @@ pub fn every_text_derives()
 
 /// Whatever is open can be completed: whichever lines are left, and wherever in the text blocks continue,
 /// each open container takes a sequence of blocks further, up to a line that doesn't continue it
-/// (CommonMark 5), and what stands becomes a forest with them. `frames` are the open containers and lists,
-/// and `places` those of their nodes, both from the innermost on; that blank lines are taken alone is
-/// asked to be so in a container only.
+/// (CommonMark 5) or, in a footnote definition, to where that ends, and what stands becomes a forest with
+/// them. `frames` are the open containers and lists, and `places` those of their nodes, both from the
+/// innermost on; that blank lines are taken alone is asked to be so in a container only.
 pub fn always_a_completion()
     ensures { (d : Document) (frames : List Frame) (places : List ℕ) (w : Standing) (from : From)
         (lines : List Place) → length frames ≡ length places → CanGoOn (containers_of frames) from

@@ -1,11 +1,12 @@
 //! Which lines end a paragraph before them.
 
-ghost use Rattle.std.specs.Prelude.{◌≡◌, min, drop, is_some, nat_lt, ◌&&◌, ◌||◌, not, true, IfOk, IfSome, OnErr, OnOk, Some, None, if◌then◌else◌, IsUtf8, IsCharBoundary};
+ghost use Rattle.std.specs.Prelude.{◌≡◌, Bool, min, drop, is_some, nat_lt, ◌&&◌, ◌||◌, not, true, IfOk, IfSome, OnErr, OnOk, Some, None, if◌then◌else◌, IsUtf8, IsCharBoundary};
 ghost use Rattle.first_pass_lines.specs.Lines.{at_line_end};
 ghost use Rattle.first_pass_lines.specs.Places.{line_rest, place_at, offset, IsPlaceOf};
 ghost use Rattle.first_pass_lines.specs.Rest.{indent};
 ghost use Rattle.first_pass_scan.specs.LeafLines.{setext_underline};
 ghost use Rattle.first_pass_scan.specs.Markers.{is_bullet, listitem};
+ghost use Rattle.first_pass_links.specs.Footnotes.{footnote_head};
 ghost use Rattle.first_pass_grammar.specs.Containers.{after, front};
 ghost use Rattle.first_pass_grammar.specs.Kinds.{all_taken, interrupts_with, interrupts_in, interrupts, item_interrupts, ends_tag, unindented};
 ghost use Rattle.first_pass_grammar.specs.Definitions.{is_underline, crossed};
@@ -16,11 +17,14 @@ ghost use Rattle.std.specs.Option.{option_map};
 
 use crate::kinds::html_kind;
 use crate::table_start::interrupts_as_table;
+use bitflags::Flags;
 use first_pass_items::item::{HeadingLevel, Item};
+use first_pass_items::option_set::Options;
 use first_pass_lines::lines::{
     begins, is_plain_front, scan_atx_heading, scan_blank_line, scan_eol,
 };
 use first_pass_lines::places::rest_of;
+use first_pass_links::footnote::is_at_line_head;
 use first_pass_open::front::{Front, front_of, scan_front};
 use first_pass_open::indentation::scan_indentation;
 use first_pass_open::source::Source;
@@ -77,6 +81,16 @@ fn interrupts_by_mark(bytes: &[u8], current_container: bool) -> bool
         || html_kind(bytes).is_some()
 }
 
+/// Whether, with footnotes in either form, `bytes` interrupt a paragraph as the head of a footnote definition does
+/// whose label holds no line end (this project). What a table drops of a label makes no difference.
+#[inline(always)]
+pub fn interrupts_as_footnote(bytes: &[u8], has_footnotes: bool) -> bool
+    ensures { (in_table : Bool) → result
+        ≡ (has_footnotes && is_some (footnote_head (λ further. None) in_table bytes.now)) }
+{
+    has_footnotes && is_at_line_head(bytes)
+}
+
 /// Whether `bytes`, what is left of a line after its indentation of under four columns and all that the text has
 /// after it, interrupt a paragraph that is read inside the open containers: as above, in a line that continues all
 /// of them or not, or as a table does that the line heads (CommonMark 4.8, GFM 4.10).
@@ -92,6 +106,9 @@ pub fn scan_interruption(
     ensures err { OnErr result (may_head (context_of source.now.options tree.now) bytes.now ≡ true) }
 {
     if interrupts_without_table(bytes, whole) {
+        return Ok(true);
+    }
+    if interrupts_as_footnote(bytes, source.options.contains(Options::ENABLE_FOOTNOTES)) {
         return Ok(true);
     }
     interrupts_as_table(source, tree, bytes)

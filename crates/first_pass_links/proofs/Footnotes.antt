@@ -42,7 +42,7 @@ label_missing : (o : Option (ℕ × List ℕ)) → IsAnswer o None → o ≡ Non
 label_missing None h = refl
 label_missing (Some l) h = absurd h
 
-head_of : (prefix : List ℕ → Option ℕ) (t : Bool) (text : List ℕ) → begins_footnote text ≡ true
+pub head_of : (prefix : List ℕ → Option ℕ) (t : Bool) (text : List ℕ) → begins_footnote text ≡ true
     → footnote_head prefix t text ≡ option_and_then (head_behind (drop 2 text)) (label_at prefix t (drop 2 text))
 unfolding footnote_head
 head_of prefix t text h = ap (λ (b : Bool). if b then option_and_then (head_behind (drop 2 text)) (label_at prefix t (drop 2 text)) else None) h

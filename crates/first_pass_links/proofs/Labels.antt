@@ -28,7 +28,7 @@ joined_behind h at zero bs = let e : at + zero ≡ at = omega arith in rw e
 joined_behind h at (suc n) [] = refl
 joined_behind h at (suc n) (b ∷ bs) = let e : at + suc n ≡ at + 1 + n = omega arith in rw e (joined_behind h (at + 1) n bs)
 
-joined-byte : (h : List ℕ → Option ℕ) (at b : ℕ) (bs : List ℕ) → ends_line b bs ≡ false → joined h at 0 (b ∷ bs) ≡ (at, b) ∷ joined h (at + 1) 0 bs
+pub joined-byte : (h : List ℕ → Option ℕ) (at b : ℕ) (bs : List ℕ) → ends_line b bs ≡ false → joined h at 0 (b ∷ bs) ≡ (at, b) ∷ joined h (at + 1) 0 bs
 unfolding joined
 joined-byte h at b bs e = rw e
 
@@ -37,11 +37,11 @@ joined-end : (h : List ℕ → Option ℕ) (at b n : ℕ) (bs : List ℕ)
 unfolding joined
 joined-end h at b n bs e f = rw (e, f)
 
-joined-stop : (h : List ℕ → Option ℕ) (at b : ℕ) (bs : List ℕ) → ends_line b bs ≡ true → h bs ≡ None → joined h at 0 (b ∷ bs) ≡ []
+pub joined-stop : (h : List ℕ → Option ℕ) (at b : ℕ) (bs : List ℕ) → ends_line b bs ≡ true → h bs ≡ None → joined h at 0 (b ∷ bs) ≡ []
 unfolding joined
 joined-stop h at b bs e f = rw (e, f)
 
-joined-nil : (h : List ℕ → Option ℕ) (at : ℕ) → joined h at 0 [] ≡ []
+pub joined-nil : (h : List ℕ → Option ℕ) (at : ℕ) → joined h at 0 [] ≡ []
 unfolding joined
 joined-nil h at = refl
 
@@ -69,7 +69,7 @@ first_by false h at b bs o e f = inl (ap (λ cs. slice_index (bytes_of cs) 0) (j
 first_by true h at b bs (Some n) e f = inl (ap (λ cs. slice_index (bytes_of cs) 0) (joined-end h at b n bs e f))
 first_by true h at b bs None e f = inr (ap (λ cs. slice_index (bytes_of cs) 0) (joined-stop h at b bs e f))
 
-first_of : (h : List ℕ → Option ℕ) (at : ℕ) (bs : List ℕ)
+pub first_of : (h : List ℕ → Option ℕ) (at : ℕ) (bs : List ℕ)
     → (slice_index (bytes_of (joined h at 0 bs)) 0 ≡ slice_index bs 0) ⊎ (slice_index (bytes_of (joined h at 0 bs)) 0 ≡ 0)
 first_of h at [] = inr (ap (λ cs. slice_index (bytes_of cs) 0) (joined-nil h at))
 first_of h at (b ∷ bs) = first_by _ h at b bs _ refl refl

@@ -8,3 +8,4 @@ pub mod Parts
 pub mod Labels
 pub mod Rewritten
 pub mod Footnotes
+pub mod LineLabels

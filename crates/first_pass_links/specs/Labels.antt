@@ -7,7 +7,7 @@ use Rattle.std.specs.Borrow.{Bor}
 use Rattle.std.specs.Str.{IsCharBoundary}
 use Rattle.std.specs.declared.alloc.AllocError.{AllocError}
 use Rattle.first_pass_items.specs.Bytes.{space, left_bracket, right_bracket, ascii_end, least_lead}
-use Rattle.first_pass_lines.specs.Lines.{begins, is_ascii_white, ends_line}
+use Rattle.first_pass_lines.specs.Lines.{begins, is_ascii_white, is_line_end, ends_line}
 use Rattle.first_pass_links.specs.Escapes.{read_in}
 use Rattle.first_pass_links.specs.Destinations.{unescaped_upto}
 
@@ -49,6 +49,10 @@ bytes_of cs = map (λ c. c.1) cs
 -- the offsets of bytes (this project)
 abbrev pub offsets_of : List (ℕ × ℕ) → List ℕ
 offsets_of cs = map (λ c. c.0) cs
+
+-- what ends a label that holds no line end: a bracket or a line end (CommonMark 4.7)
+abbrev pub ends_line_label : ℕ → Bool
+ends_line_label b = is_bracket b || is_line_end b
 
 -- how many bytes stand before the first bracket that is not escaped (CommonMark 4.7)
 abbrev pub label_len : List ℕ → ℕ

@@ -1,13 +1,13 @@
 //! Heads of footnote definitions (this project; CommonMark 4.7 on their labels).
 
-ghost use Rattle.std.specs.Prelude.{◌≡◌, ◌+◌, ◌-◌, ◌<◌, ℕ, List, Option, None, take, drop, IfOk, IfSome, OnErr, true, IsSomeAnd, MatchOption};
+ghost use Rattle.std.specs.Prelude.{◌≡◌, ◌+◌, ◌-◌, ◌<◌, ℕ, Bool, List, Option, None, is_some, take, drop, IfOk, IfSome, OnErr, true, IsSomeAnd, MatchOption};
 ghost use Rattle.std.specs.Str.{IsCharBoundary};
 ghost use Rattle.first_pass_items.specs.CowText.{text_of};
 ghost use Rattle.first_pass_links.specs.Texts.{Borrows};
 ghost use Rattle.first_pass_links.specs.Labels.{AnswersWith, AnswersPlaces, CanErr};
 ghost use Rattle.first_pass_links.specs.Footnotes.{begins_footnote as begins_head, footnote_head};
 
-use crate::label::scan_link_label_rest;
+use crate::label::{is_label, scan_line_label, scan_link_label_rest};
 use first_pass_items::cow_str::CowStr;
 use first_pass_lines::lines::begins;
 use first_pass_lines::places::rest_of;
@@ -60,6 +60,22 @@ where
         return Ok(None);
     }
     Ok(Some((len + 3, label)))
+}
+
+/// Whether the head of a footnote definition begins here whose label holds no line end. A backslash before a pipe,
+/// which is dropped from a label in a table, makes no difference. No memory is asked for.
+pub fn is_at_line_head(bytes: &[u8]) -> bool
+    ensures { (in_table : Bool) → result ≡ is_some (footnote_head (λ further. None) in_table bytes.now) }
+{
+    if !begins_footnote(bytes) {
+        return false;
+    }
+    let label = rest_of(bytes, 2);
+    let len = scan_line_label(label);
+    if !begins(b']', rest_of(label, len)) {
+        return false;
+    }
+    begins(b':', rest_of(label, len + 1)) && is_label(&label[..len])
 }
 
 /// Whether `[^` stands first in `bytes`.

@@ -1,17 +1,20 @@
 //! Link labels (CommonMark 4.7, 6.3).
 
-ghost use Rattle.std.specs.Prelude.{◌≡◌, ◌≢◌, ◌+◌, ◌-◌, ◌<◌, ◌≤◌, ◌++◌, ◌∷◌, [], ℕ, List, Option, true, false, None, Some, length, take, drop, slice_index, nat_lt, IfOk, IfSome, IsUtf8, OnOk, OnErr, IsSomeAnd, MatchOption, if◌then◌else◌};
+ghost use Rattle.std.specs.Prelude.{◌≡◌, ◌≢◌, ◌+◌, ◌-◌, ◌<◌, ◌≤◌, ◌++◌, ◌∷◌, [], ℕ, List, Option, true, false, not, None, Some, length, take, drop, slice_index, nat_lt, IfOk, IfSome, IsUtf8, OnOk, OnErr, IsSomeAnd, MatchOption, if◌then◌else◌};
+ghost use Rattle.std.specs.List.{list_any, count_by};
 ghost use Rattle.std.specs.String.{string_bytes};
 ghost use Rattle.std.specs.Str.{IsCharBoundary};
 ghost use Rattle.first_pass_items.specs.Bytes.{backslash, space};
 ghost use Rattle.first_pass_items.specs.CowText.{text_of};
 ghost use Rattle.first_pass_lines.specs.Lines.{ends_line, is_ascii_white};
+ghost use Rattle.first_pass_links.specs.Destinations.{unescaped_upto};
 ghost use Rattle.first_pass_links.specs.Texts.{Borrows};
-ghost use Rattle.first_pass_links.specs.Labels.{AnswersWith, AnswersPlaces, CanErr, ErrsBehind, is_bracket, begins_character, label_at};
+ghost use Rattle.first_pass_links.specs.Labels.{AnswersWith, AnswersPlaces, CanErr, ErrsBehind, is_bracket, begins_character, ends_line_label, is_label, label_at};
 ghost use Rattle.first_pass_links.specs.Units.{part, read_of, left_at, kept_unit, space_unit, dropped_unit, backslash_unit, IsUnit, Reads, IsRead, IsWhiteRun, EndsWhiteRun, StopsByError, IsBlankRest};
 
+use crate::destination::unit_len;
 use first_pass_items::cow_str::CowStr;
-use first_pass_lines::lines::{begins, is_ascii_white};
+use first_pass_lines::lines::{begins, is_ascii_white, is_line_end};
 use first_pass_lines::places::rest_of;
 use std::alloc::{AllocError, Global};
 
@@ -76,6 +79,47 @@ where
         return Ok(None);
     }
     Ok(Some((at + 1, finish(written, text, from, at)?)))
+}
+
+/// How many bytes stand before the first bracket or line end, escaped brackets aside, or before the end: those of a
+/// label that holds no line end, where that is a `]` (CommonMark 4.7).
+pub(crate) fn scan_line_label(bytes: &[u8]) -> usize
+    ensures value { result ≡ unescaped_upto ends_line_label 0 bytes.now }
+    ensures within { result ≤ length bytes.now }
+{
+    let mut at = 0;
+    while at < bytes.len() && !ends_line_label(bytes[at]) {
+        at += unit_len(rest_of(bytes, at));
+    }
+    at
+}
+
+// Whether a byte ends a label that holds no line end: a bracket or a line end.
+fn ends_line_label(byte: u8) -> bool
+    ensures { result ≡ ends_line_label byte }
+{
+    is_bracket(byte) || is_line_end(byte)
+}
+
+/// Whether bytes may be a label: they are at most 999 characters, one of which is not white space (CommonMark 4.7).
+pub(crate) fn is_label(bytes: &[u8]) -> bool
+    ensures { result ≡ is_label bytes.now }
+{
+    count_characters(bytes) <= MOST_CHARACTERS && holds_text(bytes)
+}
+
+// How many characters begin in bytes.
+fn count_characters(bytes: &[u8]) -> usize
+    ensures { result ≡ count_by begins_character bytes.now }
+{
+    bytes.iter().filter(|b| begins_character(**b)).count()
+}
+
+// Whether one of the bytes is not white space.
+fn holds_text(bytes: &[u8]) -> bool
+    ensures { result ≡ list_any (λ b. not (is_ascii_white b)) bytes.now }
+{
+    bytes.iter().any(|b| !is_ascii_white(*b))
 }
 
 // Bytes of a label that are read together, up to the offset `next`. Those from `kept` up to `resumed` are
@@ -310,11 +354,18 @@ fn is_bracket(byte: u8) -> bool
     byte == b'[' || byte == b']'
 }
 
+// Whether a byte is the first of a character.
+fn begins_character(byte: u8) -> bool
+    ensures { result ≡ begins_character byte }
+{
+    byte < 0x80 || byte >= 0xc0
+}
+
 // How many characters begin with a byte: one, or none within a character.
 fn begun_characters(byte: u8) -> usize
     ensures { result ≡ (if begins_character byte then 1 else 0) }
 {
-    if byte < 0x80 || byte >= 0xc0 { 1 } else { 0 }
+    if begins_character(byte) { 1 } else { 0 }
 }
 
 // Whether a line ends with a byte, before those after it.

@@ -5,6 +5,8 @@ use Rattle.std.specs.Option.{option_and_then}
 use Rattle.first_pass_items.specs.declared.item.Item.{Item}
 use Rattle.first_pass_items.specs.declared.item.ItemBody.{ItemBody}
 use Rattle.first_pass_items.specs.declared.item.ItemBody.TheVariants.{BlockQuote as BlockQuoteBody, List as ListBody, ListItem as ListItemBody}
+use Rattle.first_pass_items.specs.declared.item.ItemBody.TheVariants.{FootnoteDefinition as FootnoteDefinitionBody}
+use Rattle.first_pass_items.specs.declared.item.CowIndex.{CowIndex}
 use Rattle.first_pass_tree.specs.declared.tree_index.TreeIndex.{TreeIndex}
 use Rattle.first_pass_tree.specs.Forest.{Forest, appended, pushed, with_body_at, body_at}
 use Rattle.first_pass_grammar.specs.Derivation.{list_flags}
@@ -48,6 +50,10 @@ abbrev pub is_item : Option ItemBody → Bool
 is_item (Some (ListItemBody columns)) = true
 is_item _ = false
 
+abbrev pub is_footnote : Option ItemBody → Bool
+is_footnote (Some (FootnoteDefinitionBody label)) = true
+is_footnote _ = false
+
 -- the innermost open node is closed: the paragraphs of a tight list become tight, and no item is empty after an item
 abbrev pub popped_by : Reading → Forest Item → TreeIndex → Option ItemBody → Reading
 popped_by r f ix (Some (ListBody flags byte number)) = record r { tree = if bit_and flags.0 1 == 1 then tight_items f ix else f }
@@ -72,6 +78,14 @@ item_finished r = item_finished_by r r.empty_item
 -- the list that is innermost, if one is, is closed
 abbrev pub list_left : ℕ → Reading → Reading
 list_left e r = if is_list (top_body r.tree) then popped e r else r
+
+-- the footnote definition that is innermost, if one is, is closed
+abbrev pub footnote_left : ℕ → Reading → Reading
+footnote_left e r = if is_footnote (top_body r.tree) then popped e r else r
+
+-- the same, where a blank line that counts is directly before (asked of footnotes in their old form alone)
+abbrev pub old_footnote_finished : ℕ → Reading → Reading
+old_footnote_finished e r = if r.blank then footnote_left e r else r
 
 -- a block with a blank line before it makes the list loose in whose item it stands
 abbrev pub gap_tree : Forest Item → List TreeIndex → Forest Item
@@ -98,6 +112,10 @@ list_kept r = if r.blank then record r { tree = loosened_top r.tree r.tree.spine
 abbrev pub begun : ℕ → ItemBody → Reading → Reading
 begun start body r =
     record r { tree = pushed (appended r.tree (record { start = start; «end» = 0; body = body })) (record { 0 = length r.tree.nodes }) }
+
+-- a footnote definition is opened, with its label, that starts at an offset: what is innermost ends there, a list, and then another footnote definition
+unfoldable pub footnote_begun : ℕ → CowIndex → Reading → Reading
+footnote_begun start label r = begun start (FootnoteDefinitionBody label) (gap_noted (footnote_left start (list_left start (item_finished r))))
 
 -- before an item of this byte and number: in the list that continues, or in a new one
 unfoldable pub list_continued : ℕ → ℕ → ℕ → Reading → Reading

@@ -1,14 +1,14 @@
 //! Lists and their items: how they continue, become loose and are closed (CommonMark 5.2, 5.3).
 
 ghost use Rattle.std.specs.Prelude.{◌≡◌, ◌==◌, ◌<◌, length, None, IsSome, slice_get, OnOk, bit_and, if◌then◌else◌};
-ghost use Rattle.first_pass_lists.specs.Closing.{loosened_at, top_body, is_item, is_list_of, popped, item_finished, list_left, with_tree, gap_noted, list_finished, list_kept, list_continued, begun, blank_read};
+ghost use Rattle.first_pass_lists.specs.Closing.{loosened_at, top_body, is_item, is_list_of, popped, item_finished, list_left, footnote_left, old_footnote_finished, footnote_begun, with_tree, gap_noted, list_finished, list_kept, list_continued, begun, blank_read};
 ghost use Rattle.first_pass_tree.specs.Tight.{tight_items};
 ghost use Rattle.first_pass_open.specs.OpenBlock.{closed_by};
 ghost use Rattle.first_pass_items.specs.declared.item.ItemBody.TheVariants.{BlockQuote as BlockQuoteBody, ListItem as ListItemBody};
 
 use crate::reading::Reading;
 use bitflags::Flags;
-use first_pass_items::item::{BlockQuoteKind, Item, ItemBody, ListFlags};
+use first_pass_items::item::{BlockQuoteKind, CowIndex, Item, ItemBody, ListFlags};
 use first_pass_tree::forest::Tree;
 use first_pass_tree::tight::surgerize_tight_list;
 use first_pass_tree::tree_index::TreeIndex;
@@ -126,6 +126,30 @@ impl Reading {
         }
     }
 
+    /// Closes the innermost open node at the offset `ix`, where the line begins that is read, if the node is a footnote
+    /// definition and a blank line that counts is directly before. A list that is open in a footnote definition is
+    /// innermost then, and keeps it open (this project, on footnotes in their old form).
+    pub fn finish_old_footnote(&mut self, ix: usize)
+        ensures { self.new ≡ old_footnote_finished ix self.old }
+    {
+        if self.blank {
+            self.leave_footnote(ix);
+        }
+    }
+
+    // Closes the innermost open node, if it is a footnote definition, at the offset `ix`.
+    #[tactic(auto, using(crate::proofs::WithinLemmas::top_within))]
+    fn leave_footnote(&mut self, ix: usize)
+        ensures { self.new ≡ footnote_left ix self.old }
+    {
+        self.tree.is_forest();
+        if let Some(footnote_ix) = self.tree.peek_up() {
+            if matches!(self.tree[footnote_ix].body, ItemBody::FootnoteDefinition(_)) {
+                self.pop(ix);
+            }
+        }
+    }
+
     // Where a blank line stands before a block, makes the list loose in whose item the block stands.
     #[tactic(auto, using(crate::proofs::WithinLemmas::second_within))]
     fn note_gap(&mut self)
@@ -224,6 +248,20 @@ impl Reading {
     {
         self.finish_list(line);
         self.open_node(start, ItemBody::BlockQuote(kind))
+    }
+
+    /// Opens a footnote definition at the offset `start`, that of its `[`, with the label that an index names. What is
+    /// innermost ends there: a list, and then another footnote definition, so that none stands directly in one. A blank
+    /// line before makes the list loose in whose item the new one stands (this project).
+    #[tactic(auto, unfolding(crate::specs::Closing::footnote_begun))]
+    pub fn open_footnote(&mut self, start: usize, label: CowIndex) -> Result<(), AllocError>
+        ensures { OnOk result (self.new ≡ footnote_begun start label self.old) }
+    {
+        self.finish_empty_list_item();
+        self.leave_list(start);
+        self.leave_footnote(start);
+        self.note_gap();
+        self.open_node(start, ItemBody::FootnoteDefinition(label))
     }
 
     // Opens a node at the offset `start`, as a last child of the innermost open one.

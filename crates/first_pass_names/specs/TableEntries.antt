@@ -8,6 +8,7 @@ use Rattle.first_pass_grammar.specs.LinkTables.{LinkEntry}
 use Rattle.first_pass_grammar.specs.Derivation.{Tables}
 use Rattle.first_pass_attributes.specs.Attributes.{attributes_in}
 use Rattle.first_pass_links.specs.Labels.{label_at}
+use Rattle.first_pass_links.specs.Texts.{Borrows}
 use Rattle.first_pass_labels.specs.Foldings.{folded}
 use Rattle.first_pass_labels.specs.LabelTables.{defined_under, with_first}
 use Rattle.first_pass_labels.specs.declared.label_table.LinkDef.{LinkDef}
@@ -17,6 +18,10 @@ use Rattle.first_pass_names.specs.declared.items.Allocations.{Allocations}
 -- a link definition with its label
 abbrev pub link_entry : CowStr × LinkDef → LinkEntry
 link_entry e = record { label = text_of e.0; dest = text_of e.1.dest; title = option_map text_of e.1.title; start = e.1.span.start; «end» = e.1.span.«end» }
+
+-- the label of a footnote, as its entry spells it (this project)
+abbrev pub footnote_label : CowStr × FootnoteDef → List ℕ
+footnote_label e = text_of e.0
 
 -- The entries of the tables as they stand: each text with where it stands too (this project).
 pub record Entries : Type 0 where
@@ -31,9 +36,24 @@ entries a = record { links = a.refdefs; footnotes = a.footdefs }
 abbrev pub with_definition : Entries → CowStr → LinkDef → Entries
 with_definition es label definition = record { links = with_first es.links label definition; footnotes = es.footnotes }
 
+-- these with a footnote definition more, where none of its label stands there; no use of it is counted yet (this project)
+abbrev pub with_footnote : Entries → CowStr → Entries
+with_footnote es label = record { links = es.links; footnotes = with_first es.footnotes label (record { use_count = 0 }) }
+
+-- the same text once more, which is borrowed where that is (this project)
+pub record IsCopy (text copy : CowStr) : Type 0 where
+  pub same : text_of copy ≡ text_of text
+  pub borrowed : (bytes : List ℕ) → Borrows bytes text → Borrows bytes copy
+
+-- a footnote definition is told with a copy of its label (this project)
+pub record TellsFootnote (old new : Entries) (label : CowStr) : Type 0 where
+  pub copy : CowStr
+  pub is_copy : IsCopy label copy
+  pub told : new ≡ with_footnote old copy
+
 -- what entries define, as bytes alone (CommonMark 4.7)
 abbrev pub told_by : Entries → Tables
-told_by es = record { links = map link_entry es.links; footnotes = map (λ (e : CowStr × FootnoteDef). text_of e.0) es.footnotes }
+told_by es = record { links = map link_entry es.links; footnotes = map footnote_label es.footnotes }
 
 -- what the tables define
 abbrev pub tables : Allocations → Tables

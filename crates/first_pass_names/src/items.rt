@@ -6,18 +6,19 @@ ghost use Rattle.std.specs.Prelude.{◌≡◌, ◌<◌, ◌∷◌, ◌++◌, [],
 ghost use Rattle.first_pass_links.specs.Labels.{label_at};
 ghost use Rattle.first_pass_grammar.specs.Names.{NamesText, Extends};
 ghost use Rattle.first_pass_items.specs.CowText.{text_of};
-ghost use Rattle.first_pass_names.specs.TableEntries.{entries, with_definition, tables, names_of, no_names, with_named, with_alignments, with_heading, link_entry, link_at as link_at_of, refdefs_of, footdefs_of};
+ghost use Rattle.first_pass_names.specs.TableEntries.{entries, with_definition, IsCopy, TellsFootnote, tables, names_of, no_names, with_named, with_alignments, with_heading, link_entry, link_at as link_at_of, refdefs_of, footdefs_of};
 ghost use Rattle.first_pass_grammar.specs.Names.{text_named, alignments_named};
-ghost use Rattle.first_pass_grammar.specs.Derivation.{no_tables, told};
+ghost use Rattle.first_pass_grammar.specs.Derivation.{no_tables, told, told_label};
 
 pub use first_pass_attributes::attrs::HeadingAttributes;
-use first_pass_items::cow_str::CowStr;
+use first_pass_items::cow_str::{CowStr, InlineStr};
 use first_pass_items::item::{Alignment, AlignmentIndex, CowIndex, HeadingIndex};
 pub use first_pass_labels::label_key::LabelKey;
 use first_pass_labels::label_table::LabelTable;
 pub use first_pass_labels::label_table::{FootDefs, FootnoteDef, LinkDef, RefDefs};
 use first_pass_links::label::scan_link_label_rest;
 use std::alloc::{AllocError, Global};
+use std::boxed::BoxedStr;
 use std::ops::{DerefStr, Index};
 
 /// The tables beside a tree: what the text defines, and the texts, the alignments and the attributes of headings that
@@ -53,7 +54,7 @@ impl<'a> Allocations<'a> {
         &self.refdefs
     }
 
-    /// The footnote definitions. No block that the pass reads so far makes one.
+    /// The footnote definitions: the label of each once, as the first has it.
     pub fn footdefs(&self) -> &FootDefs<'a>
         ensures { result.now ≡ footdefs_of self.now }
     {
@@ -125,6 +126,21 @@ impl<'a> Allocations<'a> {
         Ok(())
     }
 
+    /// Puts the label of a footnote definition into the table of them, unless one of its folding stands there: the
+    /// first of several stays, as it is spelled. No use of the footnote is counted yet. What is borrowed from the text
+    /// stays borrowed. The one error is that a request for memory was refused; then nothing changes (this project).
+    pub fn define_footnote(&mut self, alloc: Global, label: &CowStr<'a>) -> Result<(), AllocError>
+        ensures entries { OnOk result (TellsFootnote (entries self.old) (entries self.new) label.now) }
+        ensures tables { OnOk result (tables self.new ≡ told_label (tables self.old) (text_of label.now)) }
+        ensures names { names_of self.new ≡ names_of self.old }
+        ensures refused { OnErr result (entries self.new ≡ entries self.old) }
+    {
+        let label = LabelKey::new(alloc, copy_of(alloc, label)?)?;
+        let footnote = FootnoteDef { use_count: 0 };
+        self.footdefs.insert_first(label, footnote)?;
+        Ok(())
+    }
+
     /// The link definition that a label names which stands at the start of `text`, the bytes after a `[`: how many
     /// bytes the label has with its `]`, and the definition. `None` where no label stands there, or none of the
     /// definitions has it. The label may cross line ends; on further lines nothing is left out as the prefix of a
@@ -171,6 +187,19 @@ impl<'a> Allocations<'a> {
         ensures { option_map (λ h. attributes_in h.now) result ≡ slice_get (names_of self.now).headings ix.0 }
     {
         self.headings.get(ix.0)
+    }
+}
+
+// The same text once more: borrowed where it is borrowed, else a copy of it.
+fn copy_of<'a>(alloc: Global, text: &CowStr<'a>) -> Result<CowStr<'a>, AllocError>
+    ensures { IfOk result (λ copy. IsCopy text.now copy) }
+{
+    match text {
+        CowStr::Borrowed(text) => Ok(CowStr::Borrowed(text)),
+        CowStr::Boxed(text) => Ok(CowStr::Boxed(BoxedStr::from_str(alloc, text.as_str())?)),
+        CowStr::Inlined(text) => Ok(CowStr::Inlined(InlineStr::try_from_str(
+            text.as_str(),
+        ).unwrap())),
     }
 }
 

@@ -1,5 +1,5 @@
 -- The containers that are open in a tree.
-use Rattle.std.specs.Prelude.{ℕ, ◌-◌, if◌then◌else◌, List, [], ◌∷◌, length, drop, Option, Some, None}
+use Rattle.std.specs.Prelude.{ℕ, ◌-◌, List, [], ◌∷◌, length, drop, Option, Some, None}
 use Rattle.std.specs.Option.{option_and_then}
 use Rattle.first_pass_items.specs.declared.item.Item.{Item}
 use Rattle.first_pass_items.specs.declared.item.ItemBody.{ItemBody}
@@ -11,12 +11,7 @@ use Rattle.first_pass_lines.specs.Rest.{Rest}
 use Rattle.first_pass_grammar.specs.declared.kind.Container.{Container}
 use Rattle.first_pass_grammar.specs.declared.kind.Container.TheVariants.{BlockQuote, ListItem, FootnoteDefinition}
 use Rattle.first_pass_items.specs.declared.option_set.Options.{Options}
-use Rattle.first_pass_items.specs.OptionWords.{gfm_footnotes}
-use Rattle.first_pass_grammar.specs.Containers.{Context, context, prefix}
-
--- the columns that a line needs to continue a footnote definition: four as GitHub has footnotes, none in their old form (this project)
-abbrev pub footnote_columns : Options → ℕ
-footnote_columns options = if gfm_footnotes options then 4 else 0
+use Rattle.first_pass_grammar.specs.Containers.{Context, context, footnote_columns, prefix}
 
 -- the container that a node is under these options, if it is one
 abbrev pub container_of : Options → ItemBody → Option Container

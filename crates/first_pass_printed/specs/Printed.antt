@@ -132,6 +132,7 @@ alignment_signs (first ∷ others) = alignment_sign first ++ signs_behind others
 -- what an item names by its index, in parentheses where it has one: a text, the signs of a table's columns, or the attributes of a heading, after its level
 abbrev pub named_values : Names → ItemBody → List ℕ
 named_values names (FencedCodeBlock ix) = enclosed (visible (text_named names ix))
+named_values names (FootnoteDefinition ix) = enclosed (visible (text_named names ix))
 named_values names (SynthesizeText ix) = enclosed (visible (text_named names ix))
 named_values names (Table ix) = enclosed (alignment_signs (alignments_named names ix))
 named_values names (Heading level ix) = heading_values level (option_and_then (λ at. slice_get names.headings at.0) ix)

@@ -87,6 +87,7 @@ fn append_named(
 {
     match body {
         ItemBody::FencedCodeBlock(ix) => append_text(line, allocs.text_at(ix)),
+        ItemBody::FootnoteDefinition(ix) => append_text(line, allocs.text_at(ix)),
         ItemBody::SynthesizeText(ix) => append_text(line, allocs.text_at(ix)),
         ItemBody::Table(ix) => append_alignments(line, allocs.alignments_at(ix)),
         ItemBody::Heading(level, ix) => append_heading(line, level, attributes_at(allocs, ix)),

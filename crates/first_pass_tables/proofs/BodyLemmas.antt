@@ -20,7 +20,7 @@ use Rattle.first_pass_tokens.specs.Braces.{MathBraces, no_braces}
 use Rattle.first_pass_tokens.specs.LineTokens.{Spot, spot}
 use Rattle.first_pass_grammar.specs.declared.kind.Container.{Container}
 use Rattle.first_pass_grammar.specs.Names.{Names, Extends}
-use Rattle.first_pass_grammar.specs.Leaves.{Document, document}
+use Rattle.first_pass_grammar.specs.Leaves.{Document, document, around}
 use Rattle.first_pass_grammar.specs.Completion.{lines_from}
 use Rattle.first_pass_grammar.specs.Tables.{AreCells, filled, row_block, row_text, Taken, taking, FoundRow, HasCells, TableSoFar, table_so_far, AreRows}
 use Rattle.first_pass_grammar.specs.Tables.{most_filled}
@@ -40,9 +40,9 @@ use Rattle.first_pass_items.specs.declared.option_set.Options.{Options}
 -- a row ends where its line ends
 row_line : (d : Document) (path : List Container) (n : ℕ) (start : Spot) (cells : List (List (ℕ × Item))) (stop : Spot) → IsUtf8 d.text
     → IsCharBoundary d.text n
-    → row_text path (line_place n (drop n d.text)) ≡ Some start.at → AreCells d start cells stop → stop.at ≡ n + line_len (drop n d.text)
+    → row_text (around d path) (line_place n (drop n d.text)) ≡ Some start.at → AreCells d start cells stop → stop.at ≡ n + line_len (drop n d.text)
 row_line d path n start cells stop utf8 boundary h are =
-    let b = begins_row d.text path n start.at utf8 boundary h in
+    let b = begins_row d.text (around d path) n start.at utf8 boundary h in
     row_ends_at_place d b.place start.braces cells stop b.stands (subst (λ k. AreCells d (spot k start.braces) cells stop) b.start_is are) ∙ b.ends
     ∙ line_start_end d.text n
 
@@ -86,7 +86,7 @@ row_more d path table at row more within next_is has is rest =
     (sym next_is))) all
 
 -- no row, before lines that are left
-row_none_by : (d : Document) (path : List Container) (table : TableSoFar) (line : Place) (lines : List Place) → row_text path line ≡ None
+row_none_by : (d : Document) (path : List Container) (table : TableSoFar) (line : Place) (lines : List Place) → row_text (around d path) line ≡ None
     → AreRows d path table (line ∷ lines) (taking [] (line ∷ lines))
 unfolding CountedRows
 row_none_by d path table line lines h = are_rows d path table (line ∷ lines) (taking [] (line ∷ lines)) (inl (h, refl))
@@ -132,18 +132,18 @@ module _ (d : Document) (before : Names) (columns start : ℕ) (old now new : Op
   path_is : path_of d.options now.tree ≡ path_of d.options old.tree
   path_is = same_path d.options old.tree now.tree (at_depth (length old.tree.spine + 1) s.body) s.nodes s.spine there
 
-  begins : (begin : ℕ) → row_text (path_of d.options now.tree) (line_place at (drop at d.text)) ≡ Some begin
-      → row_text (path_of d.options old.tree) (line_place at (drop at d.text)) ≡ Some begin
-  begins begin h = subst (λ path. row_text path (line_place at (drop at d.text)) ≡ Some begin) path_is h
+  begins : (begin : ℕ) → row_text (around d (path_of d.options now.tree)) (line_place at (drop at d.text)) ≡ Some begin
+      → row_text (around d (path_of d.options old.tree)) (line_place at (drop at d.text)) ≡ Some begin
+  begins begin h = subst (λ path. row_text (around d path) (line_place at (drop at d.text)) ≡ Some begin) path_is h
 
   -- after a row
   more_by : (next begin : ℕ) (ix : TreeIndex)
-      → row_text (path_of d.options now.tree) (line_place at (drop at d.text)) ≡ Some begin → ReadsRow d columns begin now new (Some (next, ix))
+      → row_text (around d (path_of d.options now.tree)) (line_place at (drop at d.text)) ≡ Some begin → ReadsRow d columns begin now new (Some (next, ix))
       → BodySoFar d columns start old new next × (at < next)
   more_by next begin ix h r =
       let a = r.adds in
       let here = begins begin h in
-      let within : at < length d.text = row_within d.text (path_of d.options old.tree) at begin here in
+      let within : at < length d.text = row_within d.text (around d (path_of d.options old.tree)) at begin here in
       let stop_is : next ≡ r.row_end = a.3 in
       let line : r.row_end ≡ at + line_len (drop at d.text) =
       row_line d (path_of d.options old.tree) at (spot begin now.braces) r.cells (spot r.row_end r.after) utf8 s.boundary here r.are_cells in
@@ -207,7 +207,7 @@ module _ (d : Document) (before : Names) (columns start : ℕ) (old now new : Op
   body_over (inl (none, answer, same)) =
       over_by (ap (λ (t : OpenTable). t.tree) same) (left_by d (path_of d.options old.tree) (so_far columns now) at
       (row_none_by d (path_of d.options old.tree) (so_far columns now) (line_place at (drop at d.text)) (lines_from d.text (at + line_len (drop at d.text)))
-      (subst (λ path. row_text path (line_place at (drop at d.text)) ≡ None) path_is none)))
+      (subst (λ path. row_text (around d path) (line_place at (drop at d.text)) ≡ None) path_is none)))
   body_over (inr (begin, h, r)) =
       let a = r.adds in
       let row : FoundRow = record { start = begin; cells = r.cells; row_end = r.row_end; after = r.after } in

@@ -4,39 +4,41 @@ use Rattle.std.proofs.Common.{Some, None, IsUtf8, IsCharBoundary, refl, sym, ap,
 use Rattle.std.specs.Option.{option_map, option_and_then}
 use Rattle.std.proofs.lemmas.Bool.{cases_lt}
 use Rattle.std.proofs.lemmas.Option.{none-some}
+use Rattle.first_pass_items.specs.declared.option_set.Options.{Options}
 use Rattle.first_pass_lines.specs.Rest.{Rest, indent, after_columns}
 use Rattle.first_pass_lines.specs.Places.{Place, offset, line_end, line_rest, line_place, place_at, IsPlaceOf}
 use Rattle.first_pass_lines.proofs.Columns.{after-none}
 use Rattle.first_pass_lines.proofs.PlaceFacts.{line_is_place, columns_line_end}
-use Rattle.first_pass_grammar.specs.declared.kind.Container.{Container}
-use Rattle.first_pass_grammar.specs.Containers.{at_rest, after}
-use Rattle.first_pass_grammar.specs.Kinds.{all_taken, unindented, interrupts_with}
-use Rattle.first_pass_grammar.specs.Tables.{row_text}
+use Rattle.first_pass_grammar.specs.Containers.{Context, at_rest, after}
+use Rattle.first_pass_grammar.specs.Kinds.{all_taken, unindented}
+use Rattle.first_pass_grammar.specs.Tables.{interrupts_row, row_text}
 use Rattle.first_pass_open.proofs.PathLemmas.{after-end}
 use Rattle.first_pass_open.proofs.PlaceLemmas.{after_keeps, all_keep}
 use Rattle.first_pass_open.proofs.PlaceLemmas.{ends_past}
 
 -- the place at which the text of a row begins
-pub record BeginsRow (text : List ℕ) (path : List Container) (n start : ℕ) : Type 0 where
+pub record BeginsRow (text : List ℕ) (around : Context) (n start : ℕ) : Type 0 where
   pub place : Place
   pub start_is : start ≡ offset place
   pub stands : IsPlaceOf text place
   pub ends : line_end place ≡ line_end (line_place n (drop n text))
-  pub goes : interrupts_with false place.rest.left ≡ false
+  pub goes : interrupts_row around.options place.rest.left ≡ false
+
+-- where the text of a row begins at a place, if it does
+abbrev row_in : Options → Place → Option ℕ
+row_in options p = if interrupts_row options (unindented p).rest.left then None else Some (offset (unindented p))
 
 row_by : (t : Bool) (v start : ℕ) → (if t then None else Some v) ≡ Some start → (t ≡ false) × (start ≡ v)
 row_by true v start e = cc
 row_by false v start e = (refl, cc)
 
-begins_by : (text : List ℕ) (path : List Container) (n start : ℕ) (o : Option Rest)
-    → IsUtf8 text → IsCharBoundary text n → after path (line_rest (drop n text)) ≡ o
-    → option_and_then (λ (p : Place). if interrupts_with false (unindented p).rest.left then None else Some (offset (unindented p))) (option_map (place_at n) o)
-    ≡ Some start
-    → BeginsRow text path n start
-begins_by text path n start None utf8 boundary e h = absurd (none-some start h)
-begins_by text path n start (Some r) utf8 boundary e h =
-    let k = after_keeps text n path (line_rest (drop n text)) r utf8 e (line_is_place text n boundary) in
-    let s = row_by (interrupts_with false (unindented (place_at n r)).rest.left) (offset (unindented (place_at n r))) start h in
+begins_by : (text : List ℕ) (around : Context) (n start : ℕ) (o : Option Rest)
+    → IsUtf8 text → IsCharBoundary text n → after around.path (line_rest (drop n text)) ≡ o
+    → option_and_then (row_in around.options) (option_map (place_at n) o) ≡ Some start → BeginsRow text around n start
+begins_by text around n start None utf8 boundary e h = absurd (none-some start h)
+begins_by text around n start (Some r) utf8 boundary e h =
+    let k = after_keeps text n around.path (line_rest (drop n text)) r utf8 e (line_is_place text n boundary) in
+    let s = row_by (interrupts_row around.options (unindented (place_at n r)).rest.left) (offset (unindented (place_at n r))) start h in
     record {
       place = unindented (place_at n r);
       start_is = s.1;
@@ -45,9 +47,9 @@ begins_by text path n start (Some r) utf8 boundary e h =
       goes = s.0;
     }
 
-pub begins_row : (text : List ℕ) (path : List Container) (n start : ℕ)
-    → IsUtf8 text → IsCharBoundary text n → row_text path (line_place n (drop n text)) ≡ Some start → BeginsRow text path n start
-begins_row text path n start utf8 boundary h = begins_by text path n start (after path (line_rest (drop n text))) utf8 boundary refl h
+pub begins_row : (text : List ℕ) (around : Context) (n start : ℕ)
+    → IsUtf8 text → IsCharBoundary text n → row_text around (line_place n (drop n text)) ≡ Some start → BeginsRow text around n start
+begins_row text around n start utf8 boundary h = begins_by text around n start (after around.path (line_rest (drop n text))) utf8 boundary refl h
 
 -- the place of the text in a line that continues the path
 pub text_stands : (text : List ℕ) (n at : ℕ) (r s : Rest)
@@ -59,52 +61,49 @@ pub text_bounds : (text : List ℕ) (n at : ℕ) (r s : Rest)
     → IsUtf8 text → IsPlaceOf text (place_at n r) → at ≡ offset (place_at n s) → s ≡ after_columns (indent r) r → IsCharBoundary text at
 text_bounds text n at r s utf8 i is taken = let t = text_stands text n at r s utf8 i is taken in subst (IsCharBoundary text) (sym t.1) t.0.boundary
 
-row_at : (path : List Container) (line : Place) (o : Option Rest) (r : Rest) → o ≡ after path line.rest → o ≡ Some r
-    → row_text path line ≡ (if interrupts_with false (unindented (at_rest line r)).rest.left then None else Some (offset (unindented (at_rest line r))))
-row_at path line o r e f =
-    ap (λ (o : Option Rest). option_and_then (λ (p : Place). if interrupts_with false (unindented p).rest.left then None else Some (offset (unindented p)))
-    (option_map (at_rest line) o)) (sym e ∙ f)
+row_at : (around : Context) (line : Place) (o : Option Rest) (r : Rest) → o ≡ after around.path line.rest → o ≡ Some r
+    → row_text around line ≡ row_in around.options (at_rest line r)
+row_at around line o r e f =
+    ap (λ (o : Option Rest). option_and_then (row_in around.options) (option_map (at_rest line) o)) (sym e ∙ f)
 
-pub row_none : (path : List Container) (line : Place) (o : Option Rest) → o ≡ after path line.rest → o ≡ None → None ≡ row_text path line
-row_none path line o e f =
-    sym (ap (λ (o : Option Rest). option_and_then (λ (p : Place). if interrupts_with false (unindented p).rest.left then None else Some (offset (unindented p)))
-    (option_map (at_rest line) o)) (sym e ∙ f))
+pub row_none : (around : Context) (line : Place) (o : Option Rest) → o ≡ after around.path line.rest → o ≡ None → None ≡ row_text around line
+row_none around line o e f =
+    sym (ap (λ (o : Option Rest). option_and_then (row_in around.options) (option_map (at_rest line) o)) (sym e ∙ f))
 
-module _ (text : List ℕ) (path : List Container) (n at : ℕ) (o : Option Rest) (r : Rest) (stops : Bool)
-    (e : o ≡ after path (line_rest (drop n text))) (f : o ≡ Some r) (at_is : at ≡ offset (unindented (place_at n r)))
-    (says : stops ≡ interrupts_with false (unindented (place_at n r)).rest.left) where
-  value_is : row_text path (line_place n (drop n text)) ≡ (if stops then None else Some at)
+module _ (text : List ℕ) (around : Context) (n at : ℕ) (o : Option Rest) (r : Rest) (stops : Bool)
+    (e : o ≡ after around.path (line_rest (drop n text))) (f : o ≡ Some r) (at_is : at ≡ offset (unindented (place_at n r)))
+    (says : stops ≡ interrupts_row around.options (unindented (place_at n r)).rest.left) where
+  value_is : row_text around (line_place n (drop n text)) ≡ (if stops then None else Some at)
   value_is =
-      row_at path (line_place n (drop n text)) o r e f
+      row_at around (line_place n (drop n text)) o r e f
       ∙ ap (λ b. if b then None else Some (offset (unindented (place_at n r)))) (sym says)
       ∙ ap (λ k. if stops then None else Some k) (sym at_is)
 
-  pub row_stops : stops ≡ true → None ≡ row_text path (line_place n (drop n text))
+  pub row_stops : stops ≡ true → None ≡ row_text around (line_place n (drop n text))
   row_stops h = sym (value_is ∙ ap (λ b. if b then None else Some at) h)
 
-  pub row_goes : stops ≡ false → Some at ≡ row_text path (line_place n (drop n text))
+  pub row_goes : stops ≡ false → Some at ≡ row_text around (line_place n (drop n text))
   row_goes h = sym (value_is ∙ ap (λ b. if b then None else Some at) h)
 
 -- a row has a line, in the text
 none_left : all_taken (line_rest []) ≡ line_rest []
 none_left = after-none (indent (line_rest [])) (line_rest []) refl
 
-begin_by : (n start : ℕ) (o : Option Rest) → (o ≡ None) ⊎ (o ≡ Some (line_rest []))
-    → option_and_then (λ (p : Place). if interrupts_with false (unindented p).rest.left then None else Some (offset (unindented p))) (option_map (place_at n) o)
-    ≡ Some start → ⊥
-begin_by n start None h e = cc
-begin_by n start (Some r) (inl none) e = cc
-begin_by n start (Some r) (inr some) e =
+begin_by : (around : Context) (n start : ℕ) (o : Option Rest) → (o ≡ None) ⊎ (o ≡ Some (line_rest []))
+    → option_and_then (row_in around.options) (option_map (place_at n) o) ≡ Some start → ⊥
+begin_by around n start None h e = cc
+begin_by around n start (Some r) (inl none) e = cc
+begin_by around n start (Some r) (inr some) e =
     let same : r ≡ line_rest [] = cc in
-    let over : interrupts_with false (all_taken r).left ≡ true =
-    ap (λ z. interrupts_with false (all_taken z).left) same ∙ ap (λ (z : Rest). interrupts_with false z.left) none_left in
-    let stops = row_by (interrupts_with false (all_taken r).left) (offset (unindented (place_at n r))) start e in
+    let over : interrupts_row around.options (all_taken r).left ≡ true =
+    ap (λ z. interrupts_row around.options (all_taken z).left) same ∙ ap (λ (z : Rest). interrupts_row around.options z.left) none_left in
+    let stops = row_by (interrupts_row around.options (all_taken r).left) (offset (unindented (place_at n r))) start e in
     true≢false (sym over ∙ stops.0)
 
-pub row_within : (text : List ℕ) (path : List Container) (n start : ℕ) → row_text path (line_place n (drop n text)) ≡ Some start → n < length text
-row_within text path n start h =
+pub row_within : (text : List ℕ) (around : Context) (n start : ℕ) → row_text around (line_place n (drop n text)) ≡ Some start → n < length text
+row_within text around n start h =
     elim (cases_lt n (length text)) [
       | inl more ↦ more
-      | inr past ↦ absurd (begin_by n start (after path (line_rest [])) (after-end path)
-          (subst (λ bs. row_text path (line_place n bs) ≡ Some start) (ends_past text n past) h))
+      | inr past ↦ absurd (begin_by around n start (after around.path (line_rest [])) (after-end around.path)
+          (subst (λ bs. row_text around (line_place n bs) ≡ Some start) (ends_past text n past) h))
     ]

@@ -14,7 +14,7 @@ use Rattle.first_pass_lines.proofs.PlaceFacts.{start_of-lines}
 use Rattle.first_pass_tokens.specs.Braces.{no_braces}
 use Rattle.first_pass_tokens.specs.LineTokens.{Spot, spot}
 use Rattle.first_pass_grammar.specs.Completion.{lines_from}
-use Rattle.first_pass_grammar.specs.Leaves.{Document}
+use Rattle.first_pass_grammar.specs.Leaves.{Document, around}
 use Rattle.first_pass_grammar.specs.OpenOrder.{within_top}
 use Rattle.first_pass_grammar.specs.Order.{Within, Elsewhere, FitsBetween}
 use Rattle.first_pass_grammar.specs.Tables.{AreCells, filled, row_block, taking, table_so_far, most_filled}
@@ -80,7 +80,7 @@ pub line_row_ends : (d : Document) (columns n : ℕ) (old new : OpenTable) (answ
 line_row_ends d columns n old new answer utf8 boundary (inl (none, is, same)) =
     subst (λ (o : Option (ℕ × TreeIndex)). IfSome o (λ r. r.0 ≤ length d.text)) (sym is) tt
 line_row_ends d columns n old new answer utf8 boundary (inr (start, begins, r)) =
-    let p = row_place d.text (path_of d.options old.tree) n start utf8 boundary begins in
+    let p = row_place d.text (around d (path_of d.options old.tree)) n start utf8 boundary begins in
     row_ends d columns start old new answer (subst (λ (k : ℕ). k ≤ length d.text) (sym p.start_is) p.is.within) r
 
 pub line_row_none : (d : Document) (columns n : ℕ) (old new : OpenTable) (answer : Option (ℕ × TreeIndex))

@@ -14,11 +14,11 @@ use Rattle.first_pass_lines.proofs.PlaceFacts.{line_is_place, columns_line_end, 
 use Rattle.first_pass_tokens.specs.LineTokens.{Spot, spot}
 use Rattle.first_pass_grammar.specs.declared.kind.Container.{Container}
 use Rattle.first_pass_grammar.specs.Completion.{lines_from}
-use Rattle.first_pass_grammar.specs.Containers.{at_rest, after}
+use Rattle.first_pass_grammar.specs.Containers.{Context, at_rest, after}
 use Rattle.first_pass_grammar.specs.Counting.{own_nodes}
-use Rattle.first_pass_grammar.specs.Kinds.{unindented, interrupts_with}
-use Rattle.first_pass_grammar.specs.Leaves.{Document}
-use Rattle.first_pass_grammar.specs.Tables.{AreCells, filled, row_block, row_text, Taken, taking, TableSoFar, AreRows}
+use Rattle.first_pass_grammar.specs.Kinds.{unindented}
+use Rattle.first_pass_grammar.specs.Leaves.{Document, around}
+use Rattle.first_pass_grammar.specs.Tables.{AreCells, filled, row_block, interrupts_row, row_text, Taken, taking, TableSoFar, AreRows}
 use Rattle.first_pass_grammar.proofs.CountedRows.{with_row, CountedRows, counted}
 use Rattle.first_pass_grammar.proofs.OwnNodes.{own_at_most, own_join}
 use Rattle.first_pass_grammar.proofs.RowEnds.{row_ends_at_place}
@@ -37,16 +37,16 @@ uninterrupted : (t : Bool) (m start : ℕ) → (if t then None else Some m) ≡ 
 uninterrupted true m start h = absurd (none-some start h)
 uninterrupted false m start h = same_Some m start h
 
-row_by : (text : List ℕ) (path : List Container) (n start : ℕ) (o : Option Rest) → IsUtf8 text → IsCharBoundary text n
-    → after path (line_rest (drop n text)) ≡ o
-    → option_and_then (λ (p : Place). if interrupts_with false (unindented p).rest.left then None else Some (offset (unindented p)))
+row_by : (text : List ℕ) (c : Context) (n start : ℕ) (o : Option Rest) → IsUtf8 text → IsCharBoundary text n
+    → after c.path (line_rest (drop n text)) ≡ o
+    → option_and_then (λ (p : Place). if interrupts_row c.options (unindented p).rest.left then None else Some (offset (unindented p)))
     (option_map (at_rest (line_place n (drop n text))) o) ≡ Some start
     → RowPlace text n start
-row_by text path n start None utf8 boundary e h = absurd (none-some start h)
-row_by text path n start (Some r) utf8 boundary e h =
-    let k = after_keeps text n path (line_rest (drop n text)) r utf8 e (line_is_place text n boundary) in
+row_by text c n start None utf8 boundary e h = absurd (none-some start h)
+row_by text c n start (Some r) utf8 boundary e h =
+    let k = after_keeps text n c.path (line_rest (drop n text)) r utf8 e (line_is_place text n boundary) in
     let p : Place = unindented (place_at n r) in
-    let same = uninterrupted (interrupts_with false p.rest.left) (offset p) start h in
+    let same = uninterrupted (interrupts_row c.options p.rest.left) (offset p) start h in
     record {
       place = p;
       start_is = sym same;
@@ -55,9 +55,9 @@ row_by text path n start (Some r) utf8 boundary e h =
       behind = omega arith;
     }
 
-pub row_place : (text : List ℕ) (path : List Container) (n start : ℕ) → IsUtf8 text → IsCharBoundary text n
-    → row_text path (line_place n (drop n text)) ≡ Some start → RowPlace text n start
-row_place text path n start utf8 boundary h = row_by text path n start (after path (line_rest (drop n text))) utf8 boundary refl h
+pub row_place : (text : List ℕ) (c : Context) (n start : ℕ) → IsUtf8 text → IsCharBoundary text n
+    → row_text c (line_place n (drop n text)) ≡ Some start → RowPlace text n start
+row_place text c n start utf8 boundary h = row_by text c n start (after c.path (line_rest (drop n text))) utf8 boundary refl h
 
 -- the first of the lines from an offset on, and the others
 first_line : (text : List ℕ) (n : ℕ) (line : Place) (lines : List Place) → line ∷ lines ≡ lines_from text n
@@ -115,7 +115,7 @@ counted_fit d path table (line ∷ lines) n t utf8 boundary is (inr (row, has, i
     let ended : Spot = spot row.row_end row.after in
     let are = has.are_cells in
     let first = first_line d.text n line lines is in
-    let p = row_place d.text path n start utf8 boundary (ap (row_text path) (sym first.0) ∙ has.begins) in
+    let p = row_place d.text (around d path) n start utf8 boundary (ap (row_text (around d path)) (sym first.0) ∙ has.begins) in
     let starts : IsCharBoundary d.text start = subst (IsCharBoundary d.text) (sym p.start_is) p.is.boundary in
     let ends : row.row_end ≡ n + line_len (drop n d.text) =
     row_ends_at_place d p.place table.braces cells ended p.is (subst (λ (k : ℕ). AreCells d (spot k table.braces) cells ended) p.start_is are) ∙ p.ends in

@@ -11,7 +11,7 @@ use Rattle.first_pass_table_scan.specs.TableHead.{head_columns}
 use Rattle.first_pass_tokens.specs.Braces.{MathBraces, no_braces}
 use Rattle.first_pass_tokens.specs.LineTokens.{Spot, spot, IsCell}
 use Rattle.first_pass_grammar.specs.Names.{Names}
-use Rattle.first_pass_grammar.specs.Leaves.{Document}
+use Rattle.first_pass_grammar.specs.Leaves.{Document, around}
 use Rattle.first_pass_grammar.specs.Completion.{lines_from}
 use Rattle.first_pass_grammar.specs.OpenOrder.{within_top}
 use Rattle.first_pass_grammar.specs.Order.{FitsBetween}
@@ -110,8 +110,8 @@ pub record ReadsRow (d : Document) (columns start : ℕ) (old new : OpenTable) (
 -- the line that begins at an offset is read as a row: it is none, or the row that begins in it is read (GFM 4.10)
 abbrev pub ReadsRowLine : Document → ℕ → ℕ → OpenTable → OpenTable → Option (ℕ × TreeIndex) → Type 0
 ReadsRowLine d columns ix old new answer =
-    ((row_text (path_of d.options old.tree) (line_place ix (drop ix d.text)) ≡ None) × (answer ≡ None) × (new ≡ old))
-    ⊎ ((start : ℕ) × (row_text (path_of d.options old.tree) (line_place ix (drop ix d.text)) ≡ Some start) × ReadsRow d columns start old new answer)
+    ((row_text (around d (path_of d.options old.tree)) (line_place ix (drop ix d.text)) ≡ None) × (answer ≡ None) × (new ≡ old))
+    ⊎ ((start : ℕ) × (row_text (around d (path_of d.options old.tree)) (line_place ix (drop ix d.text)) ≡ Some start) × ReadsRow d columns start old new answer)
 
 -- The rows of a table stand in the innermost open node, which is closed after them: the header row, which begins at an offset, before which no brace context
 -- is open, and those among the lines from another on, with the brace contexts that the header row leaves (GFM 4.10, and this project).

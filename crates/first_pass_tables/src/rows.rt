@@ -5,9 +5,9 @@ ghost use Rattle.first_pass_lines.specs.Places.{line_place};
 ghost use Rattle.first_pass_tree.specs.declared.tree_index.TreeIndex.{TreeIndex};
 ghost use Rattle.first_pass_names.specs.TableEntries.{names_of, AddsTexts, NamesMore};
 ghost use Rattle.first_pass_grammar.specs.Leaves.{document};
-ghost use Rattle.first_pass_grammar.specs.Tables.{most_filled, row_text};
+ghost use Rattle.first_pass_grammar.specs.Tables.{most_filled, interrupts_row, row_text};
 ghost use Rattle.first_pass_open.specs.OpenBlock.{IsJustPushed};
-ghost use Rattle.first_pass_open.specs.Path.{path_of};
+ghost use Rattle.first_pass_open.specs.Path.{context_of};
 ghost use Rattle.first_pass_open.specs.Between.{line_end_at};
 ghost use Rattle.first_pass_open.specs.Between.{AddsBetween};
 ghost use Rattle.first_pass_tables.specs.Appends.{IsOpenNode, open_table, ReadsRowLine, AppendsRows, AddsWholeRows, ClosesBetween};
@@ -16,8 +16,10 @@ ghost use Rattle.first_pass_tables.specs.RowsRead.{AppendsBody};
 use crate::row::{
     CellsWanted, MAX_AUTOCOMPLETED_CELLS, TableSoFar, append_head_row, parse_table_row_inner,
 };
+use bitflags::Flags;
 use first_pass_items::item::Item;
-use first_pass_kinds::interrupt::interrupts_without_table;
+use first_pass_items::option_set::Options;
+use first_pass_kinds::interrupt::{interrupts_as_footnote, interrupts_without_table};
 use first_pass_names::items::Allocations;
 use first_pass_open::front::scan_continued;
 use first_pass_open::open_block::close_block;
@@ -28,12 +30,22 @@ use first_pass_tree::tree_index::TreeIndex;
 use std::alloc::AllocError;
 use std::cmp::min;
 
+// Whether `bytes`, what is left of a line after its columns, end a table before it: they interrupt a paragraph, as any
+// list item does here, but for tables (GFM 4.10, and this project).
+#[inline(always)]
+fn interrupts_rows(options: Options, bytes: &[u8]) -> bool
+    ensures { result ≡ interrupts_row options bytes.now }
+{
+    interrupts_without_table(bytes, false)
+        || interrupts_as_footnote(bytes, options.contains(Options::ENABLE_FOOTNOTES))
+}
+
 // Where the text of a row begins in the line that begins at the offset `start`; `None` where that line is no row:
-// where it doesn't continue all open containers, or its text would interrupt a paragraph, as any list item does here.
+// where it doesn't continue all open containers, or its text interrupts rows.
 fn scan_row_text(source: &Source<'_>, tree: &Tree<Item>, start: usize) -> Option<usize>
     requires { IsCharBoundary source.now.text.now start }
     ensures value { result
-        ≡ row_text (path_of source.now.options tree.now) (line_place start (drop start source.now.text.now)) }
+        ≡ row_text (context_of source.now.options tree.now) (line_place start (drop start source.now.text.now)) }
     ensures place { IfSome result (λ n. IsCharBoundary source.now.text.now n) }
     ensures utf8 { IsUtf8 source.now.text.now }
 {
@@ -43,7 +55,7 @@ fn scan_row_text(source: &Source<'_>, tree: &Tree<Item>, start: usize) -> Option
     };
     let mut text = rest;
     text.scan_all_space();
-    if interrupts_without_table(text.left(), false) {
+    if interrupts_rows(source.options, text.left()) {
         return None;
     }
     Some(start + text.bytes_scanned())

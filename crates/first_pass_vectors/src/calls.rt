@@ -33,6 +33,43 @@ fn block_end(alloc: Global) -> Result<usize, AllocError> {
     pass.parse_block(0)
 }
 
+// How many bytes the head of a footnote definition has that a text of one line begins with.
+fn head_size(alloc: Global, text: &str, options: Options) -> Result<Option<usize>, AllocError> {
+    let mut pass = FirstPass::new(alloc, text, options)?;
+    pass.parse_footnote(0)
+}
+
+// The labels of the footnotes that a text defines, as GitHub has footnotes.
+fn footnote_labels(alloc: Global, text: &str) -> Result<String, AllocError> {
+    let (_tree, allocs) = run_first_pass(alloc, text, Options::ENABLE_FOOTNOTES)?;
+    let mut labels = String::new(alloc);
+    for (label, _) in allocs.footdefs().iter() {
+        labels.push_str(label.label())?;
+        labels.push_str(", ")?;
+    }
+    Ok(labels)
+}
+
+#[test]
+fn footnotes_of_a_text(rt: HostRuntime) -> Result<(), Fail> {
+    let github = Options::ENABLE_FOOTNOTES;
+    assert_eq!(rt; head_size(rt.alloc(), "[^a]: b", github)?, Some(6));
+    assert_eq!(rt;
+        head_size(rt.alloc(), "[^a]: b", Options::ENABLE_OLD_FOOTNOTES)?,
+        Some(5)
+    );
+    assert_eq!(rt; head_size(rt.alloc(), "[a]: b", github)?, None);
+    assert!(rt; footnote_labels(rt.alloc(), "[^A]: > [^a]: c")?.as_str() == "A, ");
+    let nested = footnote_labels(rt.alloc(), "> [^b]: > [^a]: c\n\n[^A]: d")?;
+    assert!(rt; nested.as_str() == "a, b, ");
+    let (_tree, allocs) = run_first_pass(rt.alloc(), "[^A]: x\n\n[^a]: y", github)?;
+    assert_eq!(rt;
+        allocs.footdefs().get("a")?.ok_or("no footnote")?.use_count,
+        0
+    );
+    Ok(())
+}
+
 #[test]
 fn blocks_of_a_text(rt: HostRuntime) -> Result<(), Fail> {
     assert!(rt; interrupts_lazily(rt.alloc(), TEXT, "2. b")?);

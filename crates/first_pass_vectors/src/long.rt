@@ -123,3 +123,19 @@ fn long_paragraphs_and_tables(rt: HostRuntime) -> Result<(), Fail> {
     assert!(rt; count(rt.alloc(), filled, Options::ENABLE_TABLES)? == (264_711, 0));
     Ok(())
 }
+
+// In a head that interrupts a paragraph too.
+#[test]
+fn footnote_labels_of_so_many_characters(rt: HostRuntime) -> Result<(), Fail> {
+    let options = Options::ENABLE_FOOTNOTES;
+    for character in ["a", "\u{bf}"] {
+        let fits = &[("a\n[^", 1), (character, 999), ("]: b", 1)];
+        assert!(rt; count(rt.alloc(), fits, options)? == (6, 0), "{character}");
+        let longer = &[("a\n[^", 1), (character, 1000), ("]: b", 1)];
+        assert!(rt;
+            count(rt.alloc(), longer, options)? == (8, 0),
+            "{character}"
+        );
+    }
+    Ok(())
+}

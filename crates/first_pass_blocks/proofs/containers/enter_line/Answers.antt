@@ -17,7 +17,9 @@ use Rattle.first_pass_blocks.proofs.WholeKept.{IsReadWhole, blank_whole, item_fi
 use Rattle.first_pass_blocks.proofs.CountLemmas.{count, item_finished_count, blank_count}
 use Rattle.first_pass_blocks.proofs.HandedOn.{handed_whole, ordered_blank_line, ordered_other_line}
 use Rattle.first_pass_blocks.proofs.OrderSteps.{ordered_at_place}
-use Rattle.first_pass_blocks.proofs.LineLemmas.{IsAtLine, at_line, blank_line_read, line_entered, finished_none, line_kept}
+use Rattle.first_pass_blocks.proofs.LineLemmas.{IsSettled, settled, at_line, blank_line_read, line_entered, finished_none, line_kept}
+use Rattle.first_pass_blocks.specs.Entering.{footnote_ended}
+use Rattle.first_pass_blocks.proofs.EndedLemmas.{ended_count, ended_named, ended_whole, ended_ordered, ended_unblank}
 use Rattle.first_pass_blocks.proofs.containers.enter_line.Goals as goal
 use Rattle.first_pass_blocks.proofs.containers.enter_line.Goals.{After-is_some}
 
@@ -28,14 +30,16 @@ left c = c.scan_front-front.result.rest
 blank : (c : After-is_some) → is_some (blank_len (left c).left) ≡ c.is_some.result
 blank c = ap (λ bs. is_some (blank_len bs)) (sym c.left.ensures) ∙ ap is_some (sym c.scan_blank_line.ensures.value) ∙ sym c.is_some.ensures
 
-at_its_line : (c : After-is_some) (names : Names) (defined : Tables)
-    → IsAtLine (document c.args.source.now.text.now c.args.source.now.options names) defined c.args.reading.now c.close_containers.new.reading c.args.start_ix
-    (left c)
-at_its_line c names defined =
+settled_line : (c : After-is_some) (names : Names) (defined : Tables)
+    → IsSettled (document c.args.source.now.text.now c.args.source.now.options names) defined c.args.reading.now c.end_old_footnote.new.reading
+    c.args.start_ix (left c)
+settled_line c names defined =
     let d : Document = document c.args.source.now.text.now c.args.source.now.options names in
-    at_line d defined c.args.reading.now c.close_containers.new.reading c.args.start_ix c.scan_front-front.result.kept _ (left c)
+    subst (λ (q : Reading). IsSettled d defined c.args.reading.now q c.args.start_ix (left c)) (sym c.end_old_footnote.ensures)
+    (settled d defined c.args.reading.now c.close_containers.new.reading c.args.start_ix (left c)
+    (at_line d defined c.args.reading.now c.close_containers.new.reading c.args.start_ix c.scan_front-front.result.kept _ (left c)
     refl c.requires.within c.close_containers.ensures.spine (c.close_containers.ensures.kept.paths c.args.source.now.options)
-    (λ e lines. c.close_containers.ensures.kept.ready e defined lines) c.scan_front-front.ensures.taken c.scan_front-front.ensures.stops
+    (λ e lines. c.close_containers.ensures.kept.ready e defined lines) c.scan_front-front.ensures.taken c.scan_front-front.ensures.stops))
 
 pub returns-then-is_some-clause-entered : goal.returns-then-is_some-clause-entered
 returns-then-is_some-clause-entered c =
@@ -43,24 +47,32 @@ returns-then-is_some-clause-entered c =
     let source = c.args.source.now in
     let text = source.text.now in
     let start = c.args.start_ix in
+    let options = source.options in
     let closed : Reading = c.close_containers.new.reading in
+    let now : Reading = c.end_old_footnote.new.reading in
+    let is : now ≡ footnote_ended options start closed = c.end_old_footnote.ensures in
     let kept = c.close_containers.ensures.kept in
     let w = c.requires.within in
-    let same = ap count c.read_blank_line.ensures ∙ blank_count closed ∙ kept.count in
+    let same = ap count c.read_blank_line.ensures ∙ blank_count now ∙ ap count is ∙ ended_count options start closed ∙ kept.count in
     record {
       ready = λ names defined ready.
           let d : Document = document text source.options names in
           subst (λ q. Ready d defined q (lines_from text (start + line_len (drop start text)))) (sym c.read_blank_line.ensures)
-          (blank_line_read d defined _ closed start _ (at_its_line a names defined) (blank a ∙ c.if-is_some.true) ready);
+          (blank_line_read d defined _ now start _ (settled_line a names defined) (blank a ∙ c.if-is_some.true) ready);
       order = λ ordered. inl (subst (λ (q : Reading). IsOrderedAt text q (start + line_len (drop start text))) (sym c.read_blank_line.ensures)
-          (ordered_blank_line source.options text c.args.reading.now closed start c.scan_front-front.ensures.utf8 w
-          c.requires.boundary (kept.order text (omega arith) c.requires.boundary)
-          (λ h. kept.all_kept (handed_whole source.options text c.args.reading.now start c.scan_front-front.result.kept
+          (ordered_blank_line options text c.args.reading.now now start c.scan_front-front.ensures.utf8 w
+          c.requires.boundary
+          (λ o. subst (λ (q : Reading). IsOrderedAt text q start) (sym is)
+          (ended_ordered options text start closed (omega arith) c.requires.boundary (kept.order text (omega arith) c.requires.boundary o)))
+          (λ h. is ∙ ended_unblank options start c.args.reading.now closed h.uncounted
+          (kept.all_kept (handed_whole options text c.args.reading.now start c.scan_front-front.result.kept
           _ (left a) refl c.scan_front-front.ensures.within c.scan_front-front.ensures.taken
-          c.scan_front-front.ensures.stops h).0) ordered));
+          c.scan_front-front.ensures.stops h).0)) ordered));
       few = λ first grows. omega arith;
-      named = λ names h. subst (AreReadNamed names) (sym c.read_blank_line.ensures) (blank_named names closed (kept.named names h));
-      whole = λ names h. subst (IsReadWhole names) (sym c.read_blank_line.ensures) (blank_whole names closed (kept.whole names h));
+      named = λ names h. subst (AreReadNamed names) (sym c.read_blank_line.ensures) (blank_named names now
+          (subst (AreReadNamed names) (sym is) (ended_named options names start closed (kept.named names h))));
+      whole = λ names h. subst (IsReadWhole names) (sym c.read_blank_line.ensures) (blank_whole names now
+          (subst (IsReadWhole names) (sym is) (ended_whole options names start closed (kept.whole names h))));
     }
 
 pub returns-clause-entered : goal.returns-clause-entered
@@ -70,28 +82,35 @@ returns-clause-entered c =
     let text = source.text.now in
     let start = c.args.start_ix in
     let p : Place = place_at start (left a) in
+    let options = source.options in
     let closed : Reading = c.close_containers.new.reading in
+    let now : Reading = c.end_old_footnote.new.reading in
+    let is : now ≡ footnote_ended options start closed = c.end_old_footnote.ensures in
     let kept = c.close_containers.ensures.kept in
     let w = c.requires.within in
-    let same = ap count c.finish_empty_list_item.ensures ∙ item_finished_count closed ∙ kept.count in
+    let same = ap count c.finish_empty_list_item.ensures ∙ item_finished_count now ∙ ap count is ∙ ended_count options start closed ∙ kept.count in
     let here = line_kept source.options text start c.scan_front-front.result.kept c.args.reading.now.tree (left a) c.scan_front-front.ensures.utf8
     c.requires.boundary c.scan_front-front.ensures.taken in (
       (here.0, refl, here.1),
-      ap (λ (q : Reading). q.empty_item) c.finish_empty_list_item.ensures ∙ finished_none closed,
+      ap (λ (q : Reading). q.empty_item) c.finish_empty_list_item.ensures ∙ finished_none now,
       record {
         ready = λ names defined ready.
             let d : Document = document text source.options names in
             subst (λ (q : Reading). ReadyAt d defined q.tree q.blank (Inside p) (lines_from text (line_end p))) (sym c.finish_empty_list_item.ensures)
-            (subst (λ n. ReadyAt d defined (item_finished closed).tree (item_finished closed).blank (Inside p) (lines_from text n)) (sym here.1)
-            (line_entered d defined _ closed start _ (at_its_line a names defined) (blank a ∙ c.if-is_some.false) ready));
+            (subst (λ n. ReadyAt d defined (item_finished now).tree (item_finished now).blank (Inside p) (lines_from text n)) (sym here.1)
+            (line_entered d defined _ now start _ (settled_line a names defined) (blank a ∙ c.if-is_some.false) ready));
         order = λ ordered. ordered_at_place text _ start p refl c.requires.boundary here.0
             (subst (λ (q : Reading). IsOrderedTo text q.tree start) (sym c.finish_empty_list_item.ensures)
-            (ordered_other_line source.options text c.args.reading.now closed start (kept.order text (omega arith) c.requires.boundary)
+            (ordered_other_line options text c.args.reading.now now start
+            (λ o. subst (λ (q : Reading). IsOrderedAt text q start) (sym is)
+            (ended_ordered options text start closed (omega arith) c.requires.boundary (kept.order text (omega arith) c.requires.boundary o)))
             (λ h. let some = (handed_whole source.options text c.args.reading.now start c.scan_front-front.result.kept _ (left a)
             refl c.scan_front-front.ensures.within c.scan_front-front.ensures.taken c.scan_front-front.ensures.stops h).1 in
             let none = blank a ∙ c.if-is_some.false in cc) ordered));
         few = λ first grows. omega arith;
-        named = λ names h. subst (AreReadNamed names) (sym c.finish_empty_list_item.ensures) (item_finished_named names closed (kept.named names h));
-        whole = λ names h. subst (IsReadWhole names) (sym c.finish_empty_list_item.ensures) (item_finished_whole names closed (kept.whole names h));
+        named = λ names h. subst (AreReadNamed names) (sym c.finish_empty_list_item.ensures) (item_finished_named names now
+            (subst (AreReadNamed names) (sym is) (ended_named options names start closed (kept.named names h))));
+        whole = λ names h. subst (IsReadWhole names) (sym c.finish_empty_list_item.ensures) (item_finished_whole names now
+            (subst (IsReadWhole names) (sym is) (ended_whole options names start closed (kept.whole names h))));
       },
     )

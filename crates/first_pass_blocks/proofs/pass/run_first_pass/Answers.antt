@@ -8,8 +8,8 @@ use Rattle.first_pass_lists.specs.declared.reading.Reading.{Reading}
 use Rattle.first_pass_open.specs.declared.source.Source.{Source}
 use Rattle.first_pass_blocks.specs.Ordered.{reached, IsOrderedAt, IsOrderedFrom}
 use Rattle.first_pass_blocks.specs.State.{Ready}
-use Rattle.first_pass_names.specs.TableEntries.{tables, names_of, refdefs_of}
-use Rattle.first_pass_definitions.specs.Found.{AreWritten}
+use Rattle.first_pass_names.specs.TableEntries.{tables, names_of}
+use Rattle.first_pass_blocks.specs.Written.{TablesAreWritten}
 use Rattle.first_pass_blocks.proofs.WrittenLemmas.{none_written}
 use Rattle.first_pass_grammar.proofs.OwnNodes.{own_at_most}
 use Rattle.first_pass_grammar.proofs.WholeForests.{derived_whole}
@@ -55,7 +55,7 @@ loop-ix-preserved c =
       order = subst (λ (z : List ℕ × Options). IsOrderedFrom z.1 z.0 before c.loop-ix.ix → IsOrderedFrom z.1 z.0 behind next)
           (both_same i.same_text i.same_options) e.order i.order;
       named = e.named i.named;
-      written = subst (λ t. AreWritten t (refdefs_of pass.allocs) → AreWritten t (refdefs_of new.allocs)) i.same_text e.written i.written;
+      written = subst (λ t. TablesAreWritten t pass.allocs → TablesAreWritten t new.allocs) i.same_text e.written i.written;
       few = (let read = i.few in let grows = e.few in let later = e.later in omega arith);
     }
 
@@ -117,4 +117,7 @@ pub returns-clause-named : goal.returns-clause-named
 returns-clause-named c = c.close_containers.ensures.kept.named (names_of c.loop-ix.pass.allocs) c.loop-ix.invariant.named
 
 pub returns-clause-written : goal.returns-clause-written
-returns-clause-written c = c.loop-ix.invariant.written
+returns-clause-written c = c.loop-ix.invariant.written.0
+
+pub returns-clause-footnotes : goal.returns-clause-footnotes
+returns-clause-footnotes c = c.loop-ix.invariant.written.1

@@ -1,7 +1,7 @@
 use Rattle.std.proofs.Common.{false, ◌+◌, refl, ap, ◌∙◌, arith}
 use Rattle.first_pass_lines.specs.Rest.{Rest}
-use Rattle.first_pass_grammar.specs.Kinds.{interrupts_with}
-use Rattle.first_pass_open.specs.Path.{path_of}
+use Rattle.first_pass_grammar.specs.Tables.{interrupts_row}
+use Rattle.first_pass_open.specs.Path.{context_of}
 use Rattle.first_pass_open.proofs.PlaceLemmas.{all_keep}
 use Rattle.first_pass_tables.proofs.RowPlaces.{text_stands, text_bounds, row_stops, row_goes}
 use Rattle.first_pass_tables.proofs.rows.scan_row_text.Goals as goal
@@ -15,23 +15,23 @@ overflow_add-result c =
     let s = c.is_short.ensures in
     omega arith
 
-pub returns-then-interrupts_without_table-clause-value : goal.returns-then-interrupts_without_table-clause-value
-returns-then-interrupts_without_table-clause-value c =
-    row_stops c.args.source.now.text.now (path_of c.args.source.now.options c.args.tree.now) c.args.start _ c.scan_continued.result
-    c.in-Some.rest c.interrupts_without_table.result
+pub returns-then-interrupts_rows-clause-value : goal.returns-then-interrupts_rows-clause-value
+returns-then-interrupts_rows-clause-value c =
+    row_stops c.args.source.now.text.now (context_of c.args.source.now.options c.args.tree.now) c.args.start _ c.scan_continued.result
+    c.in-Some.rest c.interrupts_rows.result
     c.scan_continued.ensures.value c.in-Some.is refl
-    (c.interrupts_without_table.ensures ∙ ap (interrupts_with false) (c.left.ensures ∙ ap (λ (r : Rest). r.left) c.scan_all_space.ensures))
-    c.if-interrupts_without_table.true
+    (c.interrupts_rows.ensures ∙ ap (interrupts_row c.args.source.now.options) (c.left.ensures ∙ ap (λ (r : Rest). r.left) c.scan_all_space.ensures))
+    c.if-interrupts_rows.true
 
 pub returns-clause-value : goal.returns-clause-value
 returns-clause-value c =
     let t = text_stands c.args.source.now.text.now c.args.start _ c.in-Some.rest c.scan_all_space.new.self c.scan_continued.ensures.utf8
     c.in-Some.ensures.place (ap (λ n. c.args.start + n) c.bytes_scanned.ensures) c.scan_all_space.ensures in
-    row_goes c.args.source.now.text.now (path_of c.args.source.now.options c.args.tree.now) c.args.start _ c.scan_continued.result
-    c.in-Some.rest c.interrupts_without_table.result
+    row_goes c.args.source.now.text.now (context_of c.args.source.now.options c.args.tree.now) c.args.start _ c.scan_continued.result
+    c.in-Some.rest c.interrupts_rows.result
     c.scan_continued.ensures.value c.in-Some.is t.1
-    (c.interrupts_without_table.ensures ∙ ap (interrupts_with false) (c.left.ensures ∙ ap (λ (r : Rest). r.left) c.scan_all_space.ensures))
-    c.if-interrupts_without_table.false
+    (c.interrupts_rows.ensures ∙ ap (interrupts_row c.args.source.now.options) (c.left.ensures ∙ ap (λ (r : Rest). r.left) c.scan_all_space.ensures))
+    c.if-interrupts_rows.false
 
 pub returns-clause-place : goal.returns-clause-place
 returns-clause-place c =

@@ -1,27 +1,33 @@
-use Rattle.std.proofs.Common.{◌≡◌, ℕ, ◌<◌, ◌≤◌, List, length, Option, Some, None, MatchOption, refl, sym, subst, arith}
+use Rattle.std.proofs.Common.{◌≡◌, ℕ, ◌<◌, ◌≤◌, Bool, true, false, List, length, Option, Some, None, MatchOption, refl, sym, ap, subst, ◌∙◌, arith}
 use Rattle.first_pass_lines.specs.Places.{Place, offset, line_end, IsPlaceOf}
 use Rattle.first_pass_lines.proofs.PlaceFacts.{place_length}
+use Rattle.first_pass_tree.specs.Forest.{in_table}
 use Rattle.first_pass_grammar.specs.Containers.{at_rest}
+use Rattle.first_pass_grammar.specs.Footnotes.{footnote_head_at}
 use Rattle.first_pass_grammar.specs.Openers.{Start as ContainerStart, start_at}
+use Rattle.first_pass_open.specs.Path.{context_of}
 use Rattle.first_pass_open.specs.declared.source.Source.{Source}
 use Rattle.first_pass_lists.specs.declared.reading.Reading.{Reading}
 use Rattle.first_pass_blocks.specs.declared.openers.AfterMarker.{AfterMarker}
 use Rattle.first_pass_blocks.specs.declared.openers.AfterMarker.TheVariants.{OnLine, TaskText, LineEnds, TagAlone}
 use Rattle.first_pass_blocks.specs.declared.openers.Start.{Start}
+use Rattle.first_pass_blocks.specs.declared.state.BlockPass.{BlockPass}
+use Rattle.first_pass_blocks.specs.FootnoteHeads.{StaysSame, TriesFootnote}
 use Rattle.first_pass_blocks.specs.Positions.{Position, InLine, LeafAt, IsFrom, ReadsTo}
 use Rattle.first_pass_blocks.specs.Progress.{PassesTo}
 use Rattle.first_pass_blocks.specs.Starts.{start_told, after_at, last_at, IsAfter}
+use Rattle.first_pass_blocks.specs.Views.{reading_of, source_of, tree_of}
 use Rattle.first_pass_blocks.proofs.BlockRead.{passes_reading, passes_both}
 use Rattle.first_pass_blocks.proofs.StartLemmas.{start_opens, no_start, opened_start, start_found, start_missing, reads_none}
 use Rattle.first_pass_blocks.proofs.state.BlockPass.open_containers.Goals as goal
-use Rattle.first_pass_blocks.proofs.state.BlockPass.open_containers.Goals.{In_ok-open_start}
+use Rattle.first_pass_blocks.proofs.state.BlockPass.open_containers.Goals.{Else-branch, In_ok-open_start}
 
 -- where less of a line is left is after where more is
 rest_later : (text : List ℕ) (p new : Place) → IsPlaceOf text p → IsPlaceOf text new → length new.rest.left < length p.rest.left → offset p ≤ offset new
 rest_later text p new i j less = let a = place_length text p i in let b = place_length text new j in omega (arith, a, b, less)
 
-pub loop-start-init : goal.loop-start-init
-loop-start-init c =
+pub loop-place-init : goal.loop-place-init
+loop-place-init c =
     let self = c.args.self.now in
     let first : Place = c.args.place.now in
     record {
@@ -30,6 +36,85 @@ loop-start-init c =
       opened = passes_reading self.source first.line self self (InLine first) (InLine first) refl refl
           (reads_none self.source first.line self.reading (InLine first));
     }
+
+-- no footnote definition begins at the place, and another container is sought
+record IsTried (over : Source) (first : Place) (old mid : BlockPass) (p : Place) : Type 0 where
+  here : IsFrom over.text.now first p
+  no_empty : (reading_of mid).empty_item ≡ None
+  opened : PassesTo over first.line old mid (InLine first) (InLine p)
+  bare : in_table (tree_of mid).nodes (tree_of mid).spine ≡ false → footnote_head_at (context_of over.options (tree_of mid)) p ≡ None
+
+tried : (over : Source) (first : Place) (old now mid : BlockPass) (p q : Place) (t : Bool) → t ≡ false → IsFrom over.text.now first p
+    → (reading_of now).empty_item ≡ None → source_of now ≡ over → PassesTo over first.line old now (InLine first) (InLine p) → TriesFootnote now mid p q t
+    → IsTried over first old mid q
+tried over first old now mid p q t is here none source opened tries =
+    let no = subst (TriesFootnote now mid p q) is tries in
+    let same : StaysSame now mid = no.0 in
+    let at : q ≡ p = no.1 in
+    let kept = subst (λ (r : Reading). ReadsTo over first.line (reading_of now) r (InLine p) (InLine p)) (sym same.1)
+    (reads_none over first.line (reading_of now) (InLine p)) in
+    let steps = passes_both over first.line old now mid (InLine first) (InLine p) (InLine p) opened
+    (passes_reading over first.line now mid (InLine p) (InLine p) same.0 same.2 kept) in
+    record {
+      here = subst (IsFrom over.text.now first) (sym at) here;
+      no_empty = ap (λ (r : Reading). r.empty_item) same.1 ∙ none;
+      opened = subst (λ (z : Place). PassesTo over first.line old mid (InLine first) (InLine z)) (sym at) steps;
+      bare = λ no_table.
+          ap (footnote_head_at (context_of over.options (tree_of mid))) at
+          ∙ ap (λ (r : Reading). footnote_head_at (context_of over.options r.tree) p) same.1
+          ∙ ap (λ (z : Source). footnote_head_at (context_of z.options (tree_of now)) p) (sym source)
+          ∙ no.2 (ap (λ (r : Reading). in_table r.tree.nodes r.tree.spine) (sym same.1) ∙ no_table);
+    }
+
+-- a footnote definition is open at the place
+record IsNoted (over : Source) (first : Place) (old mid : BlockPass) (p q : Place) : Type 0 where
+  here : IsFrom over.text.now first q
+  no_empty : (reading_of mid).empty_item ≡ None
+  less : length q.rest.left < length p.rest.left
+  opened : PassesTo over first.line old mid (InLine first) (InLine q)
+
+opens_note : (over : Source) (first : Place) (old now mid : BlockPass) (p q : Place) (t : Bool) → t ≡ true → IsFrom over.text.now first p
+    → source_of now ≡ over → PassesTo over first.line old now (InLine first) (InLine p) → TriesFootnote now mid p q t → IsNoted over first old mid p q
+opens_note over first old now mid p q t is here source opened tries =
+    let yes = subst (TriesFootnote now mid p q) is tries in
+    let from = subst (λ (z : Source). IsFrom z.text.now p q) source yes.0 in
+    let low = here.1 in
+    let later = here.2 in
+    let far = here.3 in
+    let line = from.1 in
+    let on = from.2 in
+    let stop = from.3 in
+    let steps = subst (λ (z : Source). PassesTo z first.line now mid (InLine p) (InLine q)) source (yes.3 first.line low) in
+    record {
+      here = (from.0, omega arith, omega arith, omega arith);
+      no_empty = yes.2;
+      less = yes.1;
+      opened = passes_both over first.line old now mid (InLine first) (InLine p) (InLine q) opened steps;
+    }
+
+pub loop-place-smaller-then-branch : goal.loop-place-smaller-then-branch
+loop-place-smaller-then-branch c =
+    let i = c.loop-place.invariant in
+    (opens_note c.args.self.now.source c.args.place.now c.args.self.now c.loop-place.self c.open_footnote.new.self c.loop-place.place c.open_footnote.new.place
+    c.in_ok-open_footnote.field-0 c.if-branch.true i.here i.opened.source i.opened c.in_ok-open_footnote.ensures).less
+
+pub loop-place-preserved-then-branch : goal.loop-place-preserved-then-branch
+loop-place-preserved-then-branch c =
+    let over = c.args.self.now.source in
+    let first : Place = c.args.place.now in
+    let p : Place = c.loop-place.place in
+    let q : Place = c.open_footnote.new.place in
+    let i = c.loop-place.invariant in
+    let o = opens_note over first c.args.self.now c.loop-place.self c.open_footnote.new.self p q c.in_ok-open_footnote.field-0 c.if-branch.true i.here
+    i.opened.source i.opened c.in_ok-open_footnote.ensures in
+    record { no_empty = o.no_empty; here = o.here; opened = o.opened }
+
+-- at the place where another container is sought
+at_place : (c : Else-branch) → IsTried c.args.self.now.source c.args.place.now c.args.self.now c.open_footnote.new.self c.open_footnote.new.place
+at_place c =
+    let i = c.loop-place.invariant in
+    tried c.args.self.now.source c.args.place.now c.args.self.now c.loop-place.self c.open_footnote.new.self c.loop-place.place c.open_footnote.new.place
+    c.in_ok-open_footnote.field-0 c.if-branch.false i.here i.no_empty i.opened.source i.opened c.in_ok-open_footnote.ensures
 
 -- no container begins any more
 absent : (over now : Source) (p new : Place) (r : Option Start) → now ≡ over → r ≡ None
@@ -41,21 +126,22 @@ absent over now p new r same is says =
 pub returns-in_default-clause-place : goal.returns-in_default-clause-place
 returns-in_default-clause-place c =
     let over = c.args.self.now.source in
-    let a = absent over c.loop-start.self.source c.loop-start.place c.start_at.new.place c.start_at.result c.loop-start.invariant.opened.source
-    c.in_default.is c.start_at.ensures in
-    subst (λ (q : Place). IsFrom over.text.now c.args.place.now q) (sym a.1) c.loop-start.invariant.here
+    let i = at_place (goal.at.returns-in_default-clause-place c).Else-branch in
+    let a = absent over c.open_footnote.new.self.source c.open_footnote.new.place c.start_at.new.place c.start_at.result i.opened.source c.in_default.is
+    c.start_at.ensures in
+    subst (λ (q : Place). IsFrom over.text.now c.args.place.now q) (sym a.1) i.here
 
 pub returns-in_default-clause-opened : goal.returns-in_default-clause-opened
 returns-in_default-clause-opened c =
     let over = c.args.self.now.source in
     let first : Place = c.args.place.now in
-    let p : Place = c.loop-start.place in
-    let i = c.loop-start.invariant in
-    let a = absent over c.loop-start.self.source p c.start_at.new.place c.start_at.result i.opened.source c.in_default.is c.start_at.ensures in
-    let none = no_start over c.loop-start.self.reading p c.requires.utf8 i.here.0 c.is_forest.ensures i.no_empty first.line i.here.1 a.0 in
-    subst (λ (q : Place). PassesTo over first.line c.args.self.now c.loop-start.self (InLine first) (LeafAt q)) (sym a.1)
-    (passes_both over first.line c.args.self.now c.loop-start.self c.loop-start.self (InLine first) (InLine p) (LeafAt p) i.opened
-    (passes_reading over first.line c.loop-start.self c.loop-start.self (InLine p) (LeafAt p) refl refl none))
+    let p : Place = c.open_footnote.new.place in
+    let i = at_place (goal.at.returns-in_default-clause-opened c).Else-branch in
+    let a = absent over c.open_footnote.new.self.source p c.start_at.new.place c.start_at.result i.opened.source c.in_default.is c.start_at.ensures in
+    let none = no_start over c.open_footnote.new.self.reading p c.requires.utf8 i.here.0 c.is_forest.ensures i.no_empty first.line i.here.1 i.bare a.0 in
+    subst (λ (q : Place). PassesTo over first.line c.args.self.now c.open_footnote.new.self (InLine first) (LeafAt q)) (sym a.1)
+    (passes_both over first.line c.args.self.now c.open_footnote.new.self c.open_footnote.new.self (InLine first) (InLine p) (LeafAt p) i.opened
+    (passes_reading over first.line c.open_footnote.new.self c.open_footnote.new.self (InLine p) (LeafAt p) refl refl none))
 
 -- a container begins
 record Found (over : Source) (p new : Place) (told : Start) : Type 0 where
@@ -80,29 +166,30 @@ pub open_start-requires : goal.open_start-requires
 open_start-requires c =
     let over = c.args.self.now.source in
     let first : Place = c.args.place.now in
-    let p : Place = c.loop-start.place in
+    let p : Place = c.open_footnote.new.place in
     let new : Place = c.start_at.new.place in
-    let i = c.loop-start.invariant in
-    let f = found over c.loop-start.self.source p new c.start_at.result c.in-Some.start i.opened.source c.in-Some.is c.start_at.ensures in
-    let opens = start_opens over c.loop-start.self.reading p c.requires.utf8 i.here.0 c.is_forest.ensures i.no_empty first.line i.here.1 f.start f.begins in
+    let i = at_place (goal.at.open_start-requires c).Else-branch in
+    let f = found over c.open_footnote.new.self.source p new c.start_at.result c.in-Some.start i.opened.source c.in-Some.is c.start_at.ensures in
+    let opens = start_opens over c.open_footnote.new.self.reading p c.requires.utf8 i.here.0 c.is_forest.ensures i.no_empty first.line i.here.1 i.bare
+    f.start f.begins in
     subst (λ (z : Source). IsPlaceOf z.text.now new) (sym i.opened.source)
     (subst (λ (q : Place). IsPlaceOf over.text.now q) (sym f.new_is) opens.2.0)
 
 -- one more container is open
 step : (c : In_ok-open_start) → IsAfter c.in-Some.start.after c.open_start.new.reading
-    × (length c.start_at.new.place.rest.left < length c.loop-start.place.rest.left)
+    × (length c.start_at.new.place.rest.left < length c.open_footnote.new.place.rest.left)
     × IsFrom c.args.self.now.source.text.now c.args.place.now c.start_at.new.place
-    × ReadsTo c.args.self.now.source c.args.place.now.line c.loop-start.self.reading c.open_start.new.reading (InLine c.loop-start.place)
+    × ReadsTo c.args.self.now.source c.args.place.now.line c.open_footnote.new.self.reading c.open_start.new.reading (InLine c.open_footnote.new.place)
     (after_at c.start_at.new.place (line_end c.start_at.new.place) c.in-Some.start.after)
 step c =
     let over = c.args.self.now.source in
     let first : Place = c.args.place.now in
-    let p : Place = c.loop-start.place in
-    let i = c.loop-start.invariant in
+    let p : Place = c.open_footnote.new.place in
+    let i = at_place (goal.at.In_ok-open_start c).Else-branch in
     let q : Reading = c.open_start.new.reading in
     let new : Place = c.start_at.new.place in
-    let f = found over c.loop-start.self.source p new c.start_at.result c.in-Some.start i.opened.source c.in-Some.is c.start_at.ensures in
-    let s = opened_start over c.loop-start.self.reading p c.requires.utf8 i.here.0 c.is_forest.ensures i.no_empty first.line i.here.1 f.start new
+    let f = found over c.open_footnote.new.self.source p new c.start_at.result c.in-Some.start i.opened.source c.in-Some.is c.start_at.ensures in
+    let s = opened_start over c.open_footnote.new.self.reading p c.requires.utf8 i.here.0 c.is_forest.ensures i.no_empty first.line i.here.1 i.bare f.start new
     c.in-Some.start
     q f.begins f.told_is f.new_is c.in_ok-open_start.ensures in
     let line = s.2.1 in
@@ -115,28 +202,31 @@ step c =
       s.0,
       less,
       (s.2.0, omega (arith, line, low), omega (arith, later, from), omega (arith, stop, far)),
-      subst (λ (e : ℕ). ReadsTo over first.line c.loop-start.self.reading q (InLine p) (after_at new e c.in-Some.start.after)) (sym stop) s.3,
+      subst (λ (e : ℕ). ReadsTo over first.line c.open_footnote.new.self.reading q (InLine p) (after_at new e c.in-Some.start.after)) (sym stop) s.3,
     )
 
-pub loop-start-smaller : goal.loop-start-smaller
-loop-start-smaller c = (step (goal.at.loop-start-smaller c).In_ok-open_start).1
+pub loop-place-smaller : goal.loop-place-smaller
+loop-place-smaller c =
+    let no = subst (TriesFootnote c.loop-place.self c.open_footnote.new.self c.loop-place.place c.open_footnote.new.place) c.if-branch.false
+    c.in_ok-open_footnote.ensures in
+    subst (λ (p : Place). length c.start_at.new.place.rest.left < length p.rest.left) no.1 (step (goal.at.loop-place-smaller c).In_ok-open_start).1
 
-pub loop-start-preserved : goal.loop-start-preserved
-loop-start-preserved c =
+pub loop-place-preserved : goal.loop-place-preserved
+loop-place-preserved c =
     let over = c.args.self.now.source in
     let first : Place = c.args.place.now in
-    let p : Place = c.loop-start.place in
+    let p : Place = c.open_footnote.new.place in
     let new : Place = c.start_at.new.place in
-    let i = c.loop-start.invariant in
-    let s = step (goal.at.loop-start-preserved c).In_ok-open_start in
-    let opens = subst (λ (a : AfterMarker). ReadsTo over first.line c.loop-start.self.reading c.open_start.new.reading (InLine p)
+    let i = at_place (goal.at.loop-place-preserved c).Else-branch in
+    let s = step (goal.at.loop-place-preserved c).In_ok-open_start in
+    let opens = subst (λ (a : AfterMarker). ReadsTo over first.line c.open_footnote.new.self.reading c.open_start.new.reading (InLine p)
     (after_at new (line_end new) a))
     c.in-OnLine.is s.3 in
     record {
       no_empty = subst (λ (a : AfterMarker). IsAfter a c.open_start.new.reading) c.in-OnLine.is s.0;
       here = s.2;
-      opened = passes_both over first.line c.args.self.now c.loop-start.self _ (InLine first) (InLine p) (InLine new) i.opened
-          (passes_reading over first.line c.loop-start.self _ (InLine p) (InLine new) refl refl opens);
+      opened = passes_both over first.line c.args.self.now c.open_footnote.new.self _ (InLine first) (InLine p) (InLine new) i.opened
+          (passes_reading over first.line c.open_footnote.new.self _ (InLine p) (InLine new) refl refl opens);
     }
 
 -- a marker that more of the line doesn't follow stands last
@@ -150,16 +240,16 @@ pub returns-in_default-after : goal.returns-in_default-after
 returns-in_default-after c =
     let over = c.args.self.now.source in
     let first : Place = c.args.place.now in
-    let p : Place = c.loop-start.place in
+    let p : Place = c.open_footnote.new.place in
     let new : Place = c.start_at.new.place in
-    let i = c.loop-start.invariant in
+    let i = at_place (goal.at.returns-in_default-after c).Else-branch in
     let s = step (goal.at.returns-in_default-after c).In_ok-open_start in
     let there : Position = last_at new (line_end new) c.in-Some.start.after in
-    let opens = subst (λ (t : Position). ReadsTo over first.line c.loop-start.self.reading c.open_start.new.reading (InLine p) t)
+    let opens = subst (λ (t : Position). ReadsTo over first.line c.open_footnote.new.self.reading c.open_start.new.reading (InLine p) t)
     (last_is new (line_end new) c.in-Some.start.after c.in_default-after.not-OnLine) s.3 in
     record {
       after = s.0;
       place = s.2;
-      opened = passes_both over first.line c.args.self.now c.loop-start.self _ (InLine first) (InLine p) there i.opened
-          (passes_reading over first.line c.loop-start.self _ (InLine p) there refl refl opens);
+      opened = passes_both over first.line c.args.self.now c.open_footnote.new.self _ (InLine first) (InLine p) there i.opened
+          (passes_reading over first.line c.open_footnote.new.self _ (InLine p) there refl refl opens);
     }

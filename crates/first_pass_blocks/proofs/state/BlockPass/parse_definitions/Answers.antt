@@ -9,10 +9,11 @@ use Rattle.first_pass_open.specs.declared.source.Source.{Source}
 use Rattle.first_pass_lists.specs.declared.reading.Reading.{Reading}
 use Rattle.first_pass_open.proofs.PlaceLemmas.{text_place}
 use Rattle.first_pass_grammar.specs.Definitions.{reference_at}
-use Rattle.first_pass_names.specs.TableEntries.{tables, refdefs_of}
-use Rattle.first_pass_definitions.specs.Found.{IsWritten, AreWritten}
+use Rattle.first_pass_names.specs.TableEntries.{tables}
+use Rattle.first_pass_definitions.specs.Found.{IsWritten}
 use Rattle.first_pass_blocks.proofs.WrittenLemmas.{one_written, written_here}
 use Rattle.first_pass_open.specs.Path.{context_of}
+use Rattle.first_pass_blocks.specs.Written.{TablesAreWritten}
 use Rattle.first_pass_blocks.specs.Views.{context_in}
 use Rattle.first_pass_blocks.specs.declared.state.BlockPass.{BlockPass}
 use Rattle.first_pass_blocks.proofs.RunLemmas.{run_begun, run_flows, run_ends, run_goes_on, defined_none, text_at}
@@ -52,8 +53,8 @@ returns-clause-kept c =
     record { source = i.same_source; reading = i.same_reading; names = i.same_names; written = i.written }
 
 -- the definition that was found is one more
-one_more_written : (c : After-rest_of) → AreWritten c.args.self.now.source.text.now (refdefs_of c.args.self.now.allocs)
-    → AreWritten c.args.self.now.source.text.now (refdefs_of c.define_link.new.self)
+one_more_written : (c : After-rest_of) → TablesAreWritten c.args.self.now.source.text.now c.args.self.now.allocs
+    → TablesAreWritten c.args.self.now.source.text.now c.define_link.new.self
 one_more_written c h =
     let text = c.args.self.now.source.text.now in
     let now : BlockPass = c.loop-size.self in

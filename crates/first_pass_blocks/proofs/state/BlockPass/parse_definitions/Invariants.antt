@@ -1,8 +1,8 @@
 use Rattle.std.proofs.Common.{◌≡◌, ◌-◌, length, IsCharBoundary}
 use Rattle.first_pass_lines.specs.Places.{Place, offset, IsPlaceOf}
 use Rattle.first_pass_tree.specs.Forest.{in_table}
-use Rattle.first_pass_names.specs.TableEntries.{tables, names_of, refdefs_of}
-use Rattle.first_pass_definitions.specs.Found.{AreWritten}
+use Rattle.first_pass_names.specs.TableEntries.{tables, names_of}
+use Rattle.first_pass_blocks.specs.Written.{TablesAreWritten}
 use Rattle.first_pass_blocks.specs.Views.{context_in}
 use Rattle.first_pass_blocks.specs.Runs.{RunSoFar}
 use Rattle.first_pass_blocks.proofs.state.BlockPass.parse_definitions.Given as goal
@@ -13,7 +13,7 @@ invariant-loop-size l = record {
   same_source : l.self.source ≡ l.fn.self.source;
   same_reading : l.self.reading ≡ l.fn.self.reading;
   same_names : names_of l.self.allocs ≡ names_of l.fn.self.allocs;
-  written : AreWritten l.fn.self.source.text.now (refdefs_of l.fn.self.allocs) → AreWritten l.fn.self.source.text.now (refdefs_of l.self.allocs);
+  written : TablesAreWritten l.fn.self.source.text.now l.fn.self.allocs → TablesAreWritten l.fn.self.source.text.now l.self.allocs;
   boundary : IsCharBoundary l.fn.self.source.text.now l.at;
   so_far : (p : Place) → p.line ≡ l.fn.line → offset p ≡ l.fn.at → IsPlaceOf l.fn.self.source.text.now p
       → (q : Place) × (q.line ≡ l.line) × (offset q ≡ l.at)

@@ -1,0 +1,48 @@
+-- What ends a footnote definition in the old form at a line adds no node, and keeps names, whole tables and order.
+use Rattle.std.proofs.Common.{◌≡◌, inl, inr, ℕ, ◌≤◌, true, false, List, length, IsCharBoundary, refl, sym, ap, subst, ◌∙◌, arith}
+use Rattle.first_pass_items.specs.declared.option_set.Options.{Options}
+use Rattle.first_pass_grammar.specs.Names.{Names}
+use Rattle.first_pass_grammar.specs.Containers.{in_old_footnote}
+use Rattle.first_pass_open.specs.Path.{path_of}
+use Rattle.first_pass_lists.specs.Closing.{popped}
+use Rattle.first_pass_lists.specs.declared.reading.Reading.{Reading}
+use Rattle.first_pass_blocks.specs.Entering.{footnote_ended}
+use Rattle.first_pass_blocks.specs.Ordered.{IsOrderedAt}
+use Rattle.first_pass_blocks.proofs.CountLemmas.{count, popped_count}
+use Rattle.first_pass_blocks.proofs.NamedLemmas.{AreReadNamed, popped_named}
+use Rattle.first_pass_blocks.proofs.OldFootnotes.{ended_as, in_old}
+use Rattle.first_pass_blocks.proofs.OrderLemmas.{ordered_popped}
+use Rattle.first_pass_blocks.proofs.WholeKept.{IsReadWhole, popped_whole}
+
+-- what holds of what is remembered and once what is innermost is closed, holds then
+ended_holds : (options : Options) (e : ℕ) (r : Reading) (P : Reading → Type 0) → P r → P (popped e r) → P (footnote_ended options e r)
+ended_holds options e r P here closed = elim (ended_as options e r) [
+  | inl stays ↦ subst P (sym stays.0) here
+  | inr left ↦ subst P (sym left.0) closed
+]
+
+pub ended_count : (options : Options) (e : ℕ) (r : Reading) → count (footnote_ended options e r) ≡ count r
+ended_count options e r = ended_holds options e r (λ q. count q ≡ count r) refl (popped_count e r)
+
+pub ended_named : (options : Options) (names : Names) (e : ℕ) (r : Reading) → AreReadNamed names r → AreReadNamed names (footnote_ended options e r)
+ended_named options names e r h = ended_holds options e r (λ q. AreReadNamed names q) h (popped_named names e r h)
+
+pub ended_whole : (options : Options) (names : Names) (e : ℕ) (r : Reading) → IsReadWhole names r → IsReadWhole names (footnote_ended options e r)
+ended_whole options names e r h = ended_holds options e r (λ q. IsReadWhole names q) h (popped_whole names e r h)
+
+pub ended_ordered : (options : Options) (text : List ℕ) (e : ℕ) (r : Reading) → e ≤ length text → IsCharBoundary text e → IsOrderedAt text r e
+    → IsOrderedAt text (footnote_ended options e r) e
+ended_ordered options text e r within boundary h =
+    let here : e ≤ e = omega arith in
+    ended_holds options e r (λ q. IsOrderedAt text q e) h (ordered_popped text r e e here within boundary h)
+
+-- nothing ends where no blank line counts, if a footnote definition in the old form is innermost
+unblank_by : (options : Options) (e : ℕ) (r : Reading) → (in_old_footnote (path_of options r.tree) ≡ true → r.blank ≡ false) → footnote_ended options e r ≡ r
+unblank_by options e r none = elim (ended_as options e r) [
+  | inl stays ↦ stays.0
+  | inr left ↦ (let both = sym left.2 ∙ none (in_old options r left.1 left.3) in cc)
+]
+
+pub ended_unblank : (options : Options) (e : ℕ) (old closed : Reading) → (in_old_footnote (path_of options old.tree) ≡ true → old.blank ≡ false)
+    → closed ≡ old → footnote_ended options e closed ≡ old
+ended_unblank options e old closed none same = ap (footnote_ended options e) same ∙ unblank_by options e old none

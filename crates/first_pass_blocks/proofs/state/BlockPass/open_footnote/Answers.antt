@@ -1,0 +1,56 @@
+use Rattle.std.proofs.Common.{ℕ, ◌+◌, ◌<◌, Bool, drop, Option, IfSome, IsCharBoundary, refl, sym, ap, subst, ◌∙◌, arith}
+use Rattle.first_pass_grammar.specs.Footnotes.{footnote_at}
+use Rattle.first_pass_open.specs.declared.source.Source.{Source}
+use Rattle.first_pass_open.proofs.PlaceLemmas.{all_keep}
+use Rattle.first_pass_blocks.specs.declared.state.BlockPass.{BlockPass}
+use Rattle.first_pass_blocks.specs.FootnoteHeads.{StaysSame, IsAfterHead}
+use Rattle.first_pass_blocks.specs.Views.{context_in}
+use Rattle.first_pass_blocks.proofs.FootnoteFound.{IsRead, no_mark, head_at_mark, none_found, some_found, note_opened}
+use Rattle.first_pass_blocks.proofs.state.BlockPass.open_footnote.Goals as goal
+use Rattle.first_pass_blocks.proofs.state.BlockPass.open_footnote.Goals.{In-Some-2}
+
+pub returns-in_default : goal.returns-in_default
+returns-in_default c =
+    let self = c.args.self.now in
+    let bare = no_mark (context_in self) c.args.place.now (sym c.footnote_mark.ensures.value ∙ c.in_default.is) in
+    ((refl, refl, refl), refl, λ no_table. bare)
+
+-- how long the head is that was read
+read : (c : In-Some-2)
+    → (3 < c.in-Some-2.size) × IsCharBoundary c.args.self.now.source.text.now (c.in-Some.start + c.in-Some-2.size)
+read c =
+    subst (λ (z : Option ℕ). IfSome z (λ n. (3 < n) × IsCharBoundary c.args.self.now.source.text.now (c.in-Some.start + n))) c.in-Some-2.is
+    c.in_ok-parse_footnote.ensures.within
+
+pub overflow_add-start : goal.overflow_add-start
+overflow_add-start c =
+    let r = read c in
+    let short = c.is_short.ensures in
+    let within = r.1.0 in
+    omega arith
+
+pub returns-in-None : goal.returns-in-None
+returns-in-None c =
+    let self : BlockPass = c.args.self.now in
+    let new : BlockPass = c.parse_footnote.new.self in
+    let p = c.args.place.now in
+    let text = self.source.text.now in
+    let f = none_found (StaysSame self new) (IsRead self new c.in-Some.start) _ _ c.in-None.is c.in_ok-parse_footnote.ensures.head in
+    let i = all_keep text p.line p.rest c.requires.utf8 c.requires.place in
+    let m = head_at_mark text (context_in self) p c.in-Some.start i (sym c.footnote_mark.ensures.value ∙ c.in-Some.is) in (
+      f.1,
+      refl,
+      λ no_table. m.1 ∙ ap (λ (t : Bool). footnote_at t (context_in self) (drop c.in-Some.start text)) (sym no_table) ∙ f.0,
+    )
+
+pub returns-in-Some-2 : goal.returns-in-Some-2
+returns-in-Some-2 c =
+    let self : BlockPass = c.args.self.now in
+    let new : BlockPass = c.parse_footnote.new.self in
+    let f = some_found (StaysSame self new) (IsRead self new c.in-Some.start) _ _ c.in-Some-2.size c.in-Some-2.is
+    c.in_ok-parse_footnote.ensures.head in
+    let r = read (goal.at.returns-in-Some-2 c).In-Some-2 in
+    let source = c.parse_footnote.ensures.source in
+    let behind = subst (λ (z : Source). IsAfterHead z (c.in-Some.start + c.in-Some-2.size) c.place_behind_head.result) source c.place_behind_head.ensures in
+    note_opened self new c.args.place.now c.place_behind_head.result c.in-Some.start c.in-Some-2.size f.0 c.requires.utf8 c.requires.place c.is_forest.ensures
+    c.requires.no_empty source (sym c.footnote_mark.ensures.value ∙ c.in-Some.is) f.1 f.2.0 f.2.1 r.0 behind

@@ -1,0 +1,123 @@
+//! Footnote definitions: which begins at a place, and how it is opened (this project).
+
+ghost use Rattle.std.specs.Prelude.{◌≡◌, ◌≤◌, ◌+◌, ◌<◌, length, drop, None, IfOk, IfSome, IsUtf8, IsCharBoundary, if◌then◌else◌};
+ghost use Rattle.first_pass_items.specs.OptionWords.{gfm_footnotes};
+ghost use Rattle.first_pass_lines.specs.Places.{IsPlaceOf};
+ghost use Rattle.first_pass_blocks.specs.FootnoteHeads.{footnote_mark_at, ReadsFootnote, blank_before_more, IsAfterHead, TriesFootnote};
+ghost use Rattle.first_pass_blocks.specs.Views.{reading_of, source_of, source_text};
+
+use crate::state::BlockPass;
+use bitflags::Flags;
+use first_pass_definitions::footnote::scan_footnote;
+use first_pass_items::option_set::Options;
+use first_pass_lines::lines::{scan_blank_line, scan_whitespace_no_nl};
+use first_pass_lines::places::rest_of;
+use first_pass_links::footnote::begins_footnote;
+use first_pass_open::indentation::scan_indentation;
+use first_pass_open::place::Place;
+use first_pass_open::source::Source;
+use first_pass_scan::line_start::LineStart;
+use std::alloc::AllocError;
+
+impl<'a> BlockPass<'a> {
+    /// Opens the footnote definition that begins at a place, where one does at under four columns and the options have
+    /// footnotes, and takes its head; says whether it does. What is innermost ends there, a list and then another
+    /// footnote definition.
+    pub(crate) fn open_footnote(&mut self, place: &mut Place<'a>) -> Result<bool, AllocError>
+        requires utf8 { IsUtf8 (source_text self.old) }
+        requires place { IsPlaceOf (source_text self.old) place.old }
+        requires no_empty { (reading_of self.old).empty_item ≡ None }
+        ensures { IfOk result (λ opens. TriesFootnote self.old self.new place.old place.new opens) }
+    {
+        self.source.is_short();
+        self.reading.tree.is_forest();
+        let Some(start) = footnote_mark(&self.source, place) else {
+            return Ok(false);
+        };
+        match self.parse_footnote(start)? {
+            None => Ok(false),
+            Some(size) => {
+                *place = place_behind_head(&self.source, start + size);
+                Ok(true)
+            }
+        }
+    }
+
+    /// Opens the footnote definition that begins at the offset `start` into the text, where one does: what is innermost
+    /// ends there, a list and then another footnote definition, and the label is put into the table, unless one of its
+    /// folding stands there. Returns how many bytes its head has: up to after its colon, or as GitHub has footnotes up
+    /// to after the white space there without line ends; `None` where none begins, and then nothing changes. Whether
+    /// the options have footnotes isn't asked; without GitHub's form the head is read in the old one. The error is that
+    /// a request for memory was refused (this project).
+    pub fn parse_footnote(&mut self, start: usize) -> Result<Option<usize>, AllocError>
+        requires boundary { IsCharBoundary (source_text self.old) start }
+        ensures source { source_of self.new ≡ source_of self.old }
+        ensures head { IfOk result (λ size. ReadsFootnote self.old self.new start size) }
+        ensures within { IfOk result (λ size. IfSome size (λ n.
+            (3 < n) × IsCharBoundary (source_text self.old) (start + n))) }
+    {
+        let Some((size, label)) = scan_footnote(&self.source, &self.reading.tree, start)? else {
+            return Ok(None);
+        };
+        self.allocs.define_footnote(self.source.alloc, &label)?;
+        let index = self.allocs.allocate_cow(label)?;
+        self.reading.open_footnote(start, index)?;
+        if !self.source.options.has_gfm_footnotes() {
+            return Ok(Some(size));
+        }
+        let rest = rest_of(self.source.text.as_bytes(), start + size);
+        Ok(Some(size + scan_whitespace_no_nl(rest)))
+    }
+}
+
+// The offset into the text at which `[^` stands at a place, after under four columns, where the options have footnotes.
+#[inline(always)]
+fn footnote_mark<'a>(source: &Source<'a>, place: &Place<'a>) -> Option<usize>
+    requires utf8 { IsUtf8 source.now.text.now }
+    requires place { IsPlaceOf source.now.text.now place.now }
+    ensures value { result ≡ footnote_mark_at source.now.options place.now }
+    ensures boundary { IfSome result (λ at. IsCharBoundary source.now.text.now at) }
+{
+    source.is_short();
+    if !source.options.contains(Options::ENABLE_FOOTNOTES) {
+        return None;
+    }
+    let mut next = place.copy();
+    if scan_indentation(&mut next.rest) >= 4 || !begins_footnote(next.left()) {
+        return None;
+    }
+    Some(next.offset())
+}
+
+// Where blocks continue after the head of a footnote definition that ends at the offset `end`: there; in the old form,
+// where the rest of that line is blank and another line follows, at the start of that one.
+fn place_behind_head<'a>(source: &Source<'a>, end: usize) -> Place<'a>
+    requires utf8 { IsUtf8 source.now.text.now }
+    requires boundary { IsCharBoundary source.now.text.now end }
+    ensures { IsAfterHead source.now end result }
+{
+    let bytes = source.text.as_bytes();
+    let line = end + skipped_rest(source, end);
+    Place {
+        line,
+        rest: LineStart::new(rest_of(bytes, line)),
+    }
+}
+
+// How many bytes are skipped after the head of a footnote definition that ends at the offset `end`: in the old form a
+// blank rest of its line with the line end, where a line follows.
+fn skipped_rest(source: &Source<'_>, end: usize) -> usize
+    requires { end ≤ length source.now.text.now }
+    ensures { result ≡ (if gfm_footnotes source.now.options
+        then 0
+        else blank_before_more (drop end source.now.text.now)) }
+{
+    if source.options.has_gfm_footnotes() {
+        return 0;
+    }
+    let rest = rest_of(source.text.as_bytes(), end);
+    match scan_blank_line(rest) {
+        Some(size) if size < rest.len() => size,
+        _ => 0,
+    }
+}

@@ -1,0 +1,105 @@
+-- A footnote definition takes nothing from the labels of others: the head of one is the same in a footnote definition as around that.
+use Rattle.std.proofs.Common.{◌≡◌, ℕ, ◌&&◌, ◌||◌, not, Bool, true, false, nat_lt, List, [], ◌∷◌, drop, Option, Some, None, refl, ap, ◌∙◌, if◌then◌else◌}
+use Rattle.std.specs.Option.{option_map, option_and_then, is_some}
+use Rattle.std.proofs.Math.Dec.{leb-zero}
+use Rattle.first_pass_items.specs.declared.item.Alignment.{Alignment}
+use Rattle.first_pass_items.specs.declared.option_set.Options.{Options}
+use Rattle.first_pass_items.specs.Bytes.{pipe}
+use Rattle.first_pass_items.specs.OptionWords.{has, tables, footnotes, gfm_footnotes}
+use Rattle.first_pass_lines.specs.Lines.{begins, at_line_end, line_len}
+use Rattle.first_pass_lines.specs.Rest.{Rest, indent, after_columns}
+use Rattle.first_pass_lines.specs.Places.{Place, line_rest}
+use Rattle.first_pass_links.specs.Footnotes.{footnote_head}
+use Rattle.first_pass_table_scan.specs.TableHead.{head_columns, delimiter_row_of}
+use Rattle.first_pass_grammar.specs.declared.kind.Container.{Container}
+use Rattle.first_pass_grammar.specs.declared.kind.Container.TheVariants.{FootnoteDefinition}
+use Rattle.first_pass_grammar.specs.Containers.{context, footnote_columns, prefix, after, or_shorter, front}
+use Rattle.first_pass_grammar.specs.Kinds.{all_taken, unindented, interrupts_with, footnote_interrupts, interrupts, ends_paragraph}
+use Rattle.first_pass_grammar.specs.TableHeads.{if_as_many, table_at}
+use Rattle.first_pass_grammar.specs.Definitions.{is_underline, crossed}
+use Rattle.first_pass_grammar.specs.Footnotes.{footnote_prefix, footnote_head_at}
+
+-- a path with a footnote definition in the old form inside it
+abbrev with_old : List Container → List Container
+with_old path = FootnoteDefinition 0 ∷ path
+
+-- such a definition takes nothing of a line
+after_by : (o : Option Rest) → option_and_then (prefix (FootnoteDefinition 0)) o ≡ o
+unfolding prefix
+after_by None = refl
+after_by (Some r) = ap (λ (t : Bool). if t || at_line_end r.left then Some r else None) (leb-zero (indent r))
+
+after_same : (path : List Container) (r : Rest) → after (with_old path) r ≡ after path r
+unfolding after
+after_same path r = after_by (after path r)
+
+shorter_twice : (o : Option Rest) (r : Rest) → or_shorter o (or_shorter o r) ≡ or_shorter o r
+shorter_twice None r = refl
+shorter_twice (Some q) r = refl
+
+front_again : (path : List Container) (r : Rest) → or_shorter (after path r) (front path r) ≡ front path r
+unfolding after front
+front_again [] r = refl
+front_again (c ∷ path) r = shorter_twice (after (c ∷ path) r) (front path r)
+
+front_same : (path : List Container) (r : Rest) → front (with_old path) r ≡ front path r
+unfolding front
+front_same path r = ap (λ (o : Option Rest). or_shorter o (front path r)) (after_same path r) ∙ front_again path r
+
+-- nor does it change what interrupts a paragraph
+table_same : (path : List Container) (bs : List ℕ) → table_at (with_old path) bs ≡ table_at path bs
+unfolding table_at
+table_same path bs =
+    ap (λ (o : Option Rest). option_and_then (if_as_many (head_columns bs)) (option_and_then delimiter_row_of o))
+    (after_same path (line_rest (drop (line_len bs) bs)))
+
+interrupts_same : (options : Options) (path : List Container) (whole : Bool) (r : Rest)
+    → interrupts (context options (with_old path)) whole r ≡ interrupts (context options path) whole r
+unfolding interrupts
+interrupts_same options path whole r =
+    let bs : List ℕ = (all_taken r).left in
+    ap (λ (o : Option (List Alignment)).
+    if nat_lt (indent r) 4
+    then interrupts_with whole bs || (footnote_interrupts options false bs || (has options tables && (begins pipe bs && is_some o)))
+    else at_line_end bs)
+    (table_same path bs)
+
+paragraph_same : (options : Options) (path : List Container) (r : Rest)
+    → ends_paragraph (context options (with_old path)) r ≡ ends_paragraph (context options path) r
+paragraph_same options path r =
+    ap (λ (o : Option Rest). interrupts (context options (with_old path)) (is_some o) (front (with_old path) r)) (after_same path r)
+    ∙ ap (interrupts (context options (with_old path)) (is_some (after path r))) (front_same path r)
+    ∙ interrupts_same options path (is_some (after path r)) (front path r)
+
+crossed_same : (options : Options) (path : List Container) (in_label : Bool) (r : Rest)
+    → crossed in_label (context options (with_old path)) r ≡ crossed in_label (context options path) r
+unfolding crossed
+crossed_same options path in_label r =
+    let by : Bool → Rest → Option Rest → Option Rest =
+    λ t q o. if t || (is_underline q && (not in_label || is_some o)) then None else Some (after_columns 4 q) in
+    ap (λ t. by t (front (with_old path) r) (after (with_old path) r)) (paragraph_same options path r)
+    ∙ ap (λ q. by (ends_paragraph (context options path) r) q (after (with_old path) r)) (front_same path r)
+    ∙ ap (by (ends_paragraph (context options path) r) (front path r)) (after_same path r)
+
+-- as GitHub has footnotes, no label continues in another line
+prefix_by : (options : Options) (columns : ℕ) (path : List Container) (bs : List ℕ) (t : Bool) → gfm_footnotes options ≡ t
+    → columns ≡ (if t then 4 else 0)
+    → footnote_prefix (context options (FootnoteDefinition columns ∷ path)) bs ≡ footnote_prefix (context options path) bs
+prefix_by options columns path bs true gfm is = rw gfm refl
+prefix_by options columns path bs false gfm is =
+    ap (λ (n : ℕ). footnote_prefix (context options (FootnoteDefinition n ∷ path)) bs) is
+    ∙ ap (λ (o : Option ℕ). if gfm_footnotes options then None else o)
+    (ap (option_map (λ (r : Rest). r.taken)) (crossed_same options path true (line_rest bs)))
+
+prefix_same : (options : Options) (columns : ℕ) (path : List Container) (bs : List ℕ) → columns ≡ footnote_columns options
+    → footnote_prefix (context options (FootnoteDefinition columns ∷ path)) bs ≡ footnote_prefix (context options path) bs
+prefix_same options columns path bs is = prefix_by options columns path bs (gfm_footnotes options) refl is
+
+pub head_around : (options : Options) (columns : ℕ) (path : List Container) (p : Place) → columns ≡ footnote_columns options
+    → footnote_head_at (context options (FootnoteDefinition columns ∷ path)) p ≡ footnote_head_at (context options path) p
+unfolding footnote_head_at
+head_around options columns path p is =
+    let same : footnote_prefix (context options (FootnoteDefinition columns ∷ path)) ≡ footnote_prefix (context options path) =
+    λ i bs. prefix_same options columns path bs is i in
+    ap (λ (f : List ℕ → Option ℕ).
+    if has options footnotes && nat_lt (indent p.rest) 4 then footnote_head f false (unindented p).rest.left else None) same

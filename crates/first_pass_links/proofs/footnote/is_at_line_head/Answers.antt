@@ -1,0 +1,50 @@
+use Rattle.std.proofs.Common.{◌≡◌, ℕ, ◌+◌, ◌&&◌, Bool, true, false, List, take, drop, refl, sym, ◌∙◌}
+use Rattle.std.proofs.lemmas.Bool.{false≢true}
+use Rattle.first_pass_lines.specs.Lines.{begins}
+use Rattle.first_pass_links.specs.Labels.{is_label}
+use Rattle.first_pass_links.proofs.LineLabels.{line_len, head_unmarked, head_none, head_some}
+use Rattle.first_pass_links.proofs.footnote.is_at_line_head.Goals as goal
+
+-- what the calls said of the bracket after the label, and of the colon after that
+bracket : (text label rest : List ℕ) (n : ℕ) (b : Bool) → label ≡ drop 2 text → n ≡ line_len label → rest ≡ drop n label → b ≡ begins 93 rest
+    → begins 93 (drop (line_len (drop 2 text)) (drop 2 text)) ≡ b
+bracket text label rest n b l k r e = sym (e ∙ rw (r, k, l) refl)
+
+colon : (text label rest : List ℕ) (n : ℕ) (u b : Bool) → label ≡ drop 2 text → n ≡ line_len label → rest ≡ drop (n + 1) label → b ≡ begins 58 rest
+    → u ≡ is_label (take n label)
+    → (b && u) ≡ (begins 58 (drop (line_len (drop 2 text) + 1) (drop 2 text)) && is_label (take (line_len (drop 2 text)) (drop 2 text)))
+colon text label rest n u b l k r e f = rw (f, e, r, k, l) refl
+
+and_true : (u b : Bool) → b ≡ true → u ≡ (b && u)
+and_true u true h = refl
+and_true u false h = absurd (false≢true h)
+
+and_false : (u b : Bool) → b ≡ false → b ≡ (b && u)
+and_false u true h = absurd (false≢true (sym h))
+and_false u false h = refl
+
+pub returns-then-not-begins_footnote : goal.returns-then-not-begins_footnote
+returns-then-not-begins_footnote c = λ t. sym (head_unmarked c.args.bytes.now (sym c.begins_footnote.ensures ∙ c.if-not-begins_footnote.true) t)
+
+pub returns-then-not-begins : goal.returns-then-not-begins
+returns-then-not-begins c = λ t.
+    let e = bracket c.args.bytes.now _ _ _ _ c.rest_of-label.ensures.value c.scan_line_label-len.ensures.value c.rest_of.ensures.value c.begins.ensures.value in
+    sym (head_none c.args.bytes.now (sym c.begins_footnote.ensures ∙ c.if-not-begins_footnote.false) (e ∙ c.if-not-begins.true) t)
+
+pub returns-then-begins : goal.returns-then-begins
+returns-then-begins c = λ t.
+    let l = c.rest_of-label.ensures.value in
+    let k = c.scan_line_label-len.ensures.value in
+    let e = bracket c.args.bytes.now _ _ _ _ l k c.rest_of.ensures.value c.begins.ensures.value ∙ c.if-not-begins.false in
+    and_true c.is_label.result c.begins-2.result c.if-begins.true
+    ∙ colon c.args.bytes.now _ _ _ _ _ l k c.rest_of-2.ensures.value c.begins-2.ensures.value c.is_label.ensures
+    ∙ sym (head_some c.args.bytes.now (sym c.begins_footnote.ensures ∙ c.if-not-begins_footnote.false) e t)
+
+pub returns-else-begins : goal.returns-else-begins
+returns-else-begins c = λ t.
+    let l = c.rest_of-label.ensures.value in
+    let k = c.scan_line_label-len.ensures.value in
+    let u = is_label (take c.scan_line_label-len.result c.rest_of-label.result.now) in
+    let e = bracket c.args.bytes.now _ _ _ _ l k c.rest_of.ensures.value c.begins.ensures.value ∙ c.if-not-begins.false in
+    and_false u c.begins-2.result c.if-begins.false ∙ colon c.args.bytes.now _ _ _ u _ l k c.rest_of-2.ensures.value c.begins-2.ensures.value refl
+    ∙ sym (head_some c.args.bytes.now (sym c.begins_footnote.ensures ∙ c.if-not-begins_footnote.false) e t)
