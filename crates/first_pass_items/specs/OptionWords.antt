@@ -50,6 +50,10 @@ math = 1024
 abbrev pub gfm : ℕ
 gfm = 2048
 
+-- the bits of `ENABLE_DEFINITION_LIST`
+abbrev pub definition_list : ℕ
+definition_list = 4096
+
 -- the bits of `ENABLE_SUPERSCRIPT`
 abbrev pub superscript : ℕ
 superscript = 8192

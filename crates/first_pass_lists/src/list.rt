@@ -195,7 +195,7 @@ impl Reading {
         }
         self.finish_list(start);
         self.open_node(start, ItemBody::List(ListFlags::IS_TIGHT, ch, index))?;
-        self.tree.remember_last()?;
+        self.tree.remember()?;
         Ok(())
     }
 

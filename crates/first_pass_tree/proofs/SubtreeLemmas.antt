@@ -1,5 +1,5 @@
 -- Subtrees, as some are forgotten and as the depths of a tree change.
-use Rattle.std.proofs.Common.{◌≡◌, ℕ, ◌+◌, ◌-◌, ◌<◌, ◌≤◌, ◌==◌, ◌||◌, nat_lt, Bool, true, false, suc, zero, List, [], ◌∷◌, ◌++◌, length, get_or, set, take}
+use Rattle.std.proofs.Common.{◌≡◌, ℕ, ◌+◌, ◌<◌, ◌≤◌, ◌==◌, ◌||◌, nat_lt, Bool, true, false, suc, zero, List, [], ◌∷◌, ◌++◌, length, get_or, set, take}
 use Rattle.std.proofs.Common.{reverse, slice_index, if◌then◌else◌, IfSome, Option, Some, None, refl, sym, ◌∙◌, ap, subst, arith}
 use Rattle.std.proofs.lemmas.Bool.Decides.{nat_tests}
 use Rattle.std.proofs.lemmas.List.{reverse-append, length-reverse, take_all, take_more_set, length-set, length-map, length-append, length-take-le}
@@ -90,10 +90,19 @@ ended-set place past k xs d l m e =
     let s : set xs k x ≡ take k xs ++ x ∷ [] = sym (take_all (k + 1) (set xs k x) (omega (arith, length-set xs k x))) ∙ take_more_set xs k x (omega arith) in
     ap (ended_last place past) (last_seen xs k d l) ∙ set_by place past _ _ w t ∙ sym (ap reverse s ∙ reverse-append (take k xs) (x ∷ []))
 
--- with the last node alone
-pub subtrees-added : (ds : List ℕ) (n : ℕ) (es fs : List Subtree) → fs ≡ subtree (n - 1) n ∷ es → 0 < n → AreSubtrees ds n es → AreSubtrees ds n fs
-subtrees-added ds n es fs e l h =
-    subst (AreSubtrees ds n) (sym e) (omega arith, record { behind = omega arith; deeper = λ k a b. absurd (omega arith) }, h)
+-- with one more, that of a node alone
+pub subtrees-added : (ds : List ℕ) (n place : ℕ) (es fs : List Subtree) → fs ≡ subtree place (place + 1) ∷ within_first place es → place < n
+    → AreSubtrees ds n es → AreSubtrees ds n fs
+subtrees-added ds n place es fs e l h =
+    subst (AreSubtrees ds n) (sym e) (
+      omega arith,
+      record { behind = omega arith; deeper = λ k a b. absurd (omega arith) },
+      subtrees-up_to ds place (place + 1) _ (omega arith) (first-are ds n place es h),
+    )
+
+-- without those that end after one of the nodes
+pub subtrees-dropped : (ds : List ℕ) (n place : ℕ) (es fs : List Subtree) → fs ≡ within_first place es → place < n → AreSubtrees ds n es → AreSubtrees ds n fs
+subtrees-dropped ds n place es fs e l h = subtrees-up_to ds place n fs (omega arith) (subtrees-first ds n place es fs e h)
 
 left_by : (t : Bool) (ds : List ℕ) (n : ℕ) (e : Subtree) (es : List Subtree) → AreSubtrees ds n (e ∷ es) → AreSubtrees ds n (if t then e ∷ es else es)
 left_by true ds n e es h = h

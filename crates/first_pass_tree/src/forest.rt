@@ -341,12 +341,17 @@ impl Tree<Item> {
         }
     }
 
-    /// Remembers where the subtree of the last node begins, of which `note_end` is to say where it ends. What
-    /// is remembered shows in no contract: it saves `surgerize_tight_list` time. An error where memory is refused.
-    pub fn remember_last(&mut self) -> Result<(), AllocError>
+    /// Remembers where the subtree of the innermost open node begins, of which `note_end` is to say where it ends.
+    /// What is remembered shows in no contract: it saves `surgerize_tight_list` time. An error where memory is refused.
+    pub fn remember(&mut self) -> Result<(), AllocError>
         ensures { self.new ≡ self.old }
     {
-        self.subtrees.add_last(self.nodes.len())?;
+        if let Some(ix) = self.peek_up() {
+            self.subtrees.add(Subtree {
+                place: ix.0,
+                past: ix.0 + 1,
+            })?;
+        }
         Ok(())
     }
 

@@ -38,16 +38,13 @@ impl Subtrees {
         }
     }
 
-    /// Adds the last of `count` nodes, alone. An error where memory is refused.
-    pub(crate) fn add_last(&mut self, count: usize) -> Result<(), AllocError>
-        requires { 0 < count }
-        ensures ok { OnOk result (self.new ≡ subtree (count - 1) count ∷ self.old) }
-        ensures err { OnErr result (self.new ≡ self.old) }
+    /// Adds one, and forgets those that end after it begins. An error where memory is refused.
+    pub(crate) fn add(&mut self, subtree: Subtree) -> Result<(), AllocError>
+        ensures ok { OnOk result (self.new ≡ subtree ∷ within_first subtree.place self.old) }
+        ensures err { OnErr result (self.new ≡ within_first subtree.place self.old) }
     {
-        self.list.push(Subtree {
-            place: count - 1,
-            past: count,
-        })?;
+        self.cut_to(subtree.place);
+        self.list.push(subtree)?;
         Ok(())
     }
 

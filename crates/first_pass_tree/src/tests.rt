@@ -18,8 +18,8 @@ fn list_in_list(alloc: Global) -> Result<Tree<Item>, AllocError> {
     let mut tree = Tree::with_capacity(alloc, 5)?;
     for start in [0, 2] {
         tree.append(list)?;
-        tree.remember_last()?;
         tree.push()?;
+        tree.remember()?;
         tree.append(item(start, 4, ItemBody::ListItem(2)))?;
         tree.push()?;
     }
