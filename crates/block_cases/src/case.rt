@@ -1,6 +1,7 @@
 //! One case: how it is read, run and told.
 
 use first_pass_cases::pictures::{append_shown, read_shown};
+use first_pass_cases::texts::read_text;
 use first_pass_host::fault::BlocksFault;
 use first_pass_program::run::blocks_run;
 use std::alloc::{AllocError, Global};
@@ -43,23 +44,6 @@ fn read_options(group: &str) -> (Option<&str>, &str) {
         },
         None => (None, group),
     }
-}
-
-/// The text that lines after bars show, joined by line ends, or `None` where one has no bar.
-fn read_text(alloc: Global, above: &str) -> Result<Option<String>, AllocError> {
-    let mut text = String::new(alloc);
-    let mut is_first = true;
-    for line in above.split('\n') {
-        let Some(shown) = line.strip_prefix('|') else {
-            return Ok(None);
-        };
-        if !is_first {
-            text.push('\n')?;
-        }
-        text.push_str(read_shown(alloc, shown)?.as_str())?;
-        is_first = false;
-    }
-    Ok(Some(text))
 }
 
 /// What `blocks` prints for the case, or `None` where its word is not that of options.

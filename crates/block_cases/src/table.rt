@@ -3,6 +3,7 @@
 use crate::case::{append_difference, printed, read_case};
 use first_pass_cases::fault::CasesFault;
 use first_pass_cases::tally::{Tally, append_place};
+use first_pass_cases::texts::is_heading;
 use std::alloc::Global;
 
 /// Runs each case of the table, and appends to the report each that differs.
@@ -17,16 +18,6 @@ pub fn compare(alloc: Global, table: &str, report: &mut String) -> Result<Tally,
         line = line.saturating_add(group.lines().count()).saturating_add(1);
     }
     Ok(tally)
-}
-
-/// Whether all lines of a group begin with a number sign.
-fn is_heading(group: &str) -> bool {
-    for line in group.lines() {
-        if !line.starts_with('#') {
-            return false;
-        }
-    }
-    true
 }
 
 /// Runs the case whose first line has this number, and tells whether it differs.

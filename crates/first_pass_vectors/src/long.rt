@@ -1,6 +1,7 @@
 //! Long texts: each is read without an error, and has so many nodes and link definitions.
 
 use bitflags::Flags;
+use first_pass::below::{AlignmentIndex, Item, ItemBody, Tree};
 use first_pass::pass::run_first_pass;
 use first_pass_items::option_set::Options;
 use std::alloc::{AllocError, Global};
@@ -121,6 +122,57 @@ fn long_paragraphs_and_tables(rt: HostRuntime) -> Result<(), Fail> {
         ("a|", 512),
     ];
     assert!(rt; count(rt.alloc(), filled, Options::ENABLE_TABLES)? == (264_711, 0));
+    Ok(())
+}
+
+// The tree of a table of 1,025 columns with 256 rows of one cell that is not filled in, which fill in all that may be,
+// and then a line.
+fn wide(alloc: Global, line: &[(&str, usize)]) -> Result<Tree<Item>, AllocError> {
+    let head = &[
+        ("a|", 1025),
+        ("\n", 1),
+        ("-|", 1025),
+        ("\n", 1),
+        ("a\n", 256),
+    ];
+    let mut text = repeated(alloc, head)?;
+    text.push_str(repeated(alloc, line)?.as_str())?;
+    let (tree, _allocs) = run_first_pass(alloc, text.as_str(), Options::ENABLE_TABLES)?;
+    Ok(tree)
+}
+
+// How many nodes are cells that are filled in.
+fn count_filled(tree: &Tree<Item>) -> usize {
+    let is_filled = |node: &&(usize, Item)| {
+        node.1.body == ItemBody::TableCell && node.1.start == node.1.end
+    };
+    tree.nodes().iter().filter(is_filled).count()
+}
+
+fn item(start: usize, end: usize, body: ItemBody) -> Item {
+    Item { start, end, body }
+}
+
+// Whether the node at a place is of a depth, and is this item.
+fn is_node(tree: &Tree<Item>, place: usize, depth: usize, item: Item) -> bool {
+    tree.nodes().get(place) == Some(&(depth, item))
+}
+
+#[test]
+fn tables_of_1025_columns(rt: HostRuntime) -> Result<(), Fail> {
+    // The root, the table, the head, its cells with a text each, the rows with a text each, the paragraph and its text.
+    let tree = wide(rt.alloc(), &[("a\n", 1)])?;
+    assert_eq!(rt; tree.node_count(), 264_967);
+    assert_eq!(rt; count_filled(&tree), 262_144);
+    let table = ItemBody::Table(AlignmentIndex(0));
+    assert!(rt; is_node(&tree, 1, 1, item(0, 4614, table)));
+    assert!(rt; is_node(&tree, 264_965, 1, item(4614, 4616, ItemBody::Paragraph)));
+    // A row of all cells in the place of the paragraph.
+    let tree = wide(rt.alloc(), &[("a|", 1025), ("\n", 1)])?;
+    assert_eq!(rt; tree.node_count(), 267_016);
+    assert_eq!(rt; count_filled(&tree), 262_144);
+    assert!(rt; is_node(&tree, 1, 1, item(0, 6665, table)));
+    assert!(rt; is_node(&tree, 264_965, 2, item(4614, 6665, ItemBody::TableRow)));
     Ok(())
 }
 

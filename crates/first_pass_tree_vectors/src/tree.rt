@@ -1,3 +1,5 @@
+//! The calls of a tree, one after the other.
+
 use first_pass_items::item::{AlignmentIndex, Item, ItemBody, ListFlags};
 use first_pass_tree::forest::Tree;
 use first_pass_tree::tree_index::TreeIndex;

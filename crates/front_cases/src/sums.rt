@@ -1,0 +1,63 @@
+//! What was checked, and what it came to.
+
+use first_pass_cases::tally::Tally;
+use std::alloc::AllocError;
+
+/// How many texts and fronts were read, how many trees of them were not in order, and how many wrong trees were told.
+#[derive(Clone, Copy)]
+pub struct Sums {
+    pub texts: usize,
+    pub fronts: usize,
+    pub breaches: usize,
+    pub wrong: usize,
+    pub told: usize,
+}
+
+impl Sums {
+    pub fn new() -> Sums {
+        Sums {
+            texts: 0,
+            fronts: 0,
+            breaches: 0,
+            wrong: 0,
+            told: 0,
+        }
+    }
+
+    /// Counts one more text.
+    pub fn count_text(&mut self) {
+        self.texts = self.texts.saturating_add(1);
+    }
+
+    /// Counts one more front.
+    pub fn count_front(&mut self, is_breach: bool) {
+        self.fronts = self.fronts.saturating_add(1);
+        self.breaches = self.breaches.saturating_add(usize::from(is_breach));
+    }
+
+    /// Counts one more wrong tree.
+    pub fn count_wrong(&mut self, is_told: bool) {
+        self.wrong = self.wrong.saturating_add(1);
+        self.told = self.told.saturating_add(usize::from(is_told));
+    }
+
+    /// Appends the line that ends a report.
+    pub fn append_line(&self, report: &mut String) -> Result<(), AllocError> {
+        let (texts, fronts, breaches) = (self.texts, self.fronts, self.breaches);
+        let (wrong, told) = (self.wrong, self.told);
+        write!(
+            report,
+            "{texts} texts, {fronts} fronts, {breaches} breaches, "
+        )?;
+        write!(report, "{told} of {wrong} wrong trees told\n")
+    }
+
+    /// The trees as cases, of which those differ that are told wrongly.
+    pub fn tally(&self) -> Tally {
+        let untold = self.wrong.saturating_sub(self.told);
+        Tally {
+            cases: self.fronts.saturating_add(self.wrong),
+            differ: self.breaches.saturating_add(untold),
+        }
+    }
+}
