@@ -1,0 +1,89 @@
+//! Random texts, one after the other.
+
+use crate::random::{random_options, random_pieces};
+use crate::report::{append_breach, append_line};
+use crate::task::{Task, parse_task};
+use first_pass_blocks::pass::run_first_pass;
+use first_pass_host::fault::BlocksFault;
+use first_pass_items::option_set::Options;
+use first_pass_ranges::breach::Breach;
+use first_pass_ranges::pieces::{joined, remove_pieces};
+use first_pass_ranges::ranges::find_breach;
+use first_pass_timing::clock::TimeSource;
+use first_pass_timing::timing::read_clock;
+use rand_pcg::Pcg32;
+use std::alloc::{AllocError, Global};
+
+/// How many texts are read between two looks at the clock.
+const BATCH: u32 = 1000;
+
+/// The nanoseconds of a second.
+const SECOND: u128 = 1_000_000_000;
+
+/// Reads random texts as the words ask, appends to the report what came of it, and returns the status to end with.
+pub fn soak<T: TimeSource>(
+    clock: &mut T,
+    alloc: Global,
+    words: &[String],
+    report: &mut String,
+) -> Result<u8, BlocksFault> {
+    let Some(Task { seconds, seed }) = parse_task(words) else {
+        return Err(BlocksFault::BadOptions);
+    };
+    let began = read_clock(clock)?;
+    let seed = seed.unwrap_or(u64::try_from(began).unwrap_or(0));
+    let mut rng = Pcg32::new(seed, 0);
+    for batch in 1..=u32::MAX {
+        if let Some(number) = read_batch(alloc, &mut rng, report)? {
+            let texts = u64::from(batch - 1) * u64::from(BATCH) + u64::from(number);
+            append_line(report, seed, texts, 1)?;
+            return Ok(1);
+        }
+        if u128::from(seconds) * SECOND <= read_clock(clock)?.saturating_sub(began) {
+            append_line(report, seed, u64::from(batch) * u64::from(BATCH), 0)?;
+            break;
+        }
+    }
+    Ok(0)
+}
+
+/// Reads a batch of texts. Where the tree of one is not in order, appends that to the report, and returns its number.
+fn read_batch(
+    alloc: Global,
+    rng: &mut Pcg32,
+    report: &mut String,
+) -> Result<Option<u32>, AllocError> {
+    for number in 1..=BATCH {
+        let mut pieces = random_pieces(alloc, rng)?;
+        let options = random_options(rng);
+        let text = joined(alloc, pieces.as_slice())?;
+        if breach_of(alloc, text.as_str(), options)?.is_some() {
+            report_smallest(alloc, &mut pieces, options, report)?;
+            return Ok(Some(number));
+        }
+    }
+    Ok(None)
+}
+
+/// What is wrong with the tree of a text.
+fn breach_of(alloc: Global, text: &str, options: Options) -> Result<Option<Breach>, AllocError> {
+    let (tree, _allocs) = run_first_pass(alloc, text, options)?;
+    find_breach(alloc, text, tree.nodes())
+}
+
+/// Appends to the report the smallest text found of these pieces whose tree is not in order.
+fn report_smallest(
+    alloc: Global,
+    pieces: &mut Vec<&str>,
+    options: Options,
+    report: &mut String,
+) -> Result<(), AllocError> {
+    remove_pieces(alloc, pieces, |text: &str| {
+        Ok(breach_of(alloc, text, options)?.is_some())
+    })?;
+    let text = joined(alloc, pieces.as_slice())?;
+    match breach_of(alloc, text.as_str(), options)? {
+        Some(breach) => append_breach(report, text.as_str(), options, breach),
+        None => Ok(()),
+    }
+}
