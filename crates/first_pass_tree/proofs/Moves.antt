@@ -5,8 +5,8 @@ use Rattle.std.proofs.lemmas.List.{length-map, length-set, get_or-set_other}
 use Rattle.std.proofs.lemmas.Bool.{cases_lt, cases_eq}
 use Rattle.std.proofs.lemmas.Bool.Decides.{nat_tests}
 use Rattle.first_pass_tree.specs.declared.tree_index.TreeIndex.{TreeIndex}
-use Rattle.first_pass_tree.specs.Forest.{Forest, IsForest, IsLastAt, IsOpenPath, IsPreorder, IsChildOfCurrent, depths, map_from, shallower, end_of, run_end}
-use Rattle.first_pass_tree.specs.Forest.{last_before, moved_out, open_place}
+use Rattle.first_pass_tree.specs.Forest.{Forest, IsForest, IsLastAt, IsOpenPath, IsPreorder, IsChildOfCurrent, CanMoveFrom, depths, map_from, shallower, end_of}
+use Rattle.first_pass_tree.specs.Forest.{last_before, moved_from, open_place}
 use Rattle.first_pass_tree.proofs.Depths.{last-order, open-last, at-end}
 use Rattle.first_pass_tree.proofs.Keeps.{map_set, run-within}
 
@@ -124,27 +124,36 @@ some-and : {P : TreeIndex → Type 0} (o : Option TreeIndex) → IsSomeAnd o P �
 some-and None h = absurd h
 some-and (Some c) h = (c, (refl, h))
 
-pub moved_out-is : {T : Type 0} (f : Forest T) (ix : TreeIndex) → IsChildOfCurrent f ix → IsForest f → IsForest (moved_out f ix)
-moved_out-is f ix g h =
+-- what stands right before a place after a last node has its depth at least
+before-place : (ds : List ℕ) (d c e : ℕ) → IsLastAt ds d c → c < e → e ≤ length ds → d ≤ get_or ds (e - 1) 0
+before-place ds d c e h l w =
+    ⊎_elim
+    (λ x. let u = ap (λ i. get_or ds i 0) x in omega (arith, h.depth))
+    (λ x. let u = h.behind (e - 1) (omega arith) (omega arith) in omega arith)
+    (cases_eq c (e - 1))
+
+-- a current node before a place is before each later one
+later : (o : Option TreeIndex) (i e : ℕ) → i ≤ e → IsSomeAnd o (λ c. c.0 < i) → IsSomeAnd o (λ c. c.0 < e)
+later None i e l h = absurd h
+later (Some c) i e l h = omega arith
+
+pub moved_from-is : {T : Type 0} (f : Forest T) (e : ℕ) → CanMoveFrom f e → IsForest f → IsForest (moved_from f e)
+moved_from-is f e g h =
     let ds = depths f.nodes in
-    let e = end_of ds ix.0 in
     let ns = map_from shallower e f.nodes in
     let s = some-and f.current g.current in
     let c = s.0 in
     let lc = subst (λ (o : Option TreeIndex). IfSome o (λ c. IsLastAt ds (length f.spine + 1) c.0)) s.1.0 h.at_current in
-    let cx : c.0 < ix.0 = s.1.1 in
+    let w : c.0 < e = s.1.1 in
     let m = length-map f.nodes (λ n. n.0) in
     let o = last-order ds _ _ _ c.0 (open-last ds f.spine h.opened) lc (omega arith) in
-    let l : ix.0 < length ds = omega (arith, g.within) in
-    let v : e ≤ length ds = omega (arith, run-within f.nodes (get_or ds ix.0 0) (ix.0 + 1) (omega arith)) in
-    let w : ix.0 < e = omega arith in
+    let v : e ≤ length ds = omega (arith, g.within) in
     let b = λ (k : ℕ) (x : e ≤ k) (y : k < length ds). lc.behind k (omega arith) y in
-    let q : e < length ds → get_or ds e 0 ≤ length f.spine + 2 = λ x.
-    omega (arith, g.depth, at-end ds ix.0 l x) in
-    let z = lc.behind (e - 1) (omega arith) (omega arith) in
+    let q : e < length ds → get_or ds e 0 ≤ length f.spine + 2 = λ x. g.depth (omega arith) in
+    let z = before-place ds (length f.spine + 1) c.0 e lc w v in
     let n = lower-length f.nodes e in
     let len = length-map ns (λ n. n.0) in
-    let i = last_before-is (depths ns) (length f.spine + 1) c.0 (length ns) (omega (arith, lc.within)) (lower-before f.nodes e c.0 (omega arith) ∙ lc.depth)
+    let i = last_before-is (depths ns) (length f.spine + 1) c.0 (length ns) (omega (arith, lc.within)) (lower-before f.nodes e c.0 w ∙ lc.depth)
     (λ k x y. ⊎_elim
     (λ a. let j = lower-before f.nodes e k a in let u = lc.behind k x (omega arith) in omega arith)
     (λ a. let j = lower-behind f.nodes e k a in let u = lc.behind k x (omega arith) in omega arith)
@@ -159,12 +168,22 @@ abbrev at_place : ℕ → TreeIndex
 at_place n = record { 0 = n }
 
 -- the same, from what the calls on the fields answer
-pub moved-by : {T : Type 0} (f : Forest T) (ix : TreeIndex) (d e r : ℕ) (ns : List (ℕ × T))
-    → d ≡ length f.spine + 1 → d + 1 ≡ get_or (depths f.nodes) ix.0 0 → e ≡ run_end (depths f.nodes) (d + 1) (ix.0 + 1) → ns ≡ map_from shallower e f.nodes
-    → r ≡ last_before (depths ns) d (length ns) → record f { nodes = ns; current = Some (record { 0 = r }) } ≡ moved_out f ix
-moved-by {T = T} f ix d e r ns ed ei ee en er =
-    let x : e ≡ end_of (depths f.nodes) ix.0 = ee ∙ ap (λ k. run_end (depths f.nodes) k (ix.0 + 1)) ei in
-    let y : ns ≡ map_from shallower (end_of (depths f.nodes) ix.0) f.nodes = en ∙ ap (λ k. map_from shallower k f.nodes) x in
+pub moved-by : {T : Type 0} (f : Forest T) (e d r : ℕ) (ns : List (ℕ × T))
+    → d ≡ length f.spine + 1 → ns ≡ map_from shallower e f.nodes → r ≡ last_before (depths ns) d (length ns)
+    → record f { nodes = ns; current = Some (record { 0 = r }) } ≡ moved_from f e
+moved-by {T = T} f e d r ns ed en er =
     let z : r ≡ last_before (depths ns) (length f.spine + 1) (length ns) = er ∙ ap (λ k. last_before (depths ns) k (length ns)) ed in
     ap (λ k. record f { nodes = ns; current = Some (at_place k) }) z
-    ∙ ap (λ (ms : List (ℕ × T)). record f { nodes = ms; current = Some (at_place (last_before (depths ms) (length f.spine + 1) (length ms))) }) y
+    ∙ ap (λ (ms : List (ℕ × T)). record f { nodes = ms; current = Some (at_place (last_before (depths ms) (length f.spine + 1) (length ms))) }) en
+
+-- the siblings after a child of the current node can be moved out
+pub rest-moves : {T : Type 0} (f : Forest T) (ix : TreeIndex) → IsChildOfCurrent f ix → CanMoveFrom f (end_of (depths f.nodes) ix.0)
+rest-moves f ix g =
+    let ds = depths f.nodes in
+    let m = length-map f.nodes (λ n. n.0) in
+    let l : ix.0 < length ds = omega (arith, g.within) in
+    record {
+      within = omega (arith, run-within f.nodes (get_or ds ix.0 0) (ix.0 + 1) (omega (arith, g.within)));
+      depth = λ x. let u = at-end ds ix.0 l (omega arith) in omega (arith, g.depth);
+      current = later f.current ix.0 (end_of ds ix.0) (omega arith) g.current;
+    }

@@ -255,8 +255,18 @@ pub record IsChildOfCurrent {T : Type 0} (f : Forest T) (ix : TreeIndex) : Type 
   pub depth : slice_index (depths f.nodes) ix.0 ≡ length f.spine + 2
   pub current : IsSomeAnd f.current (λ c. c.0 < ix.0)
 
+-- a place after the current node where the nodes end, or where one stands that is at most as deep as a child of the current node
+pub record CanMoveFrom {T : Type 0} (f : Forest T) (place : ℕ) : Type 0 where
+  pub within : place ≤ length f.nodes
+  pub depth : place < length f.nodes → slice_index (depths f.nodes) place ≤ length f.spine + 2
+  pub current : IsSomeAnd f.current (λ c. c.0 < place)
+
+-- with the nodes from a place on one less deep; the last node of the current node's depth is current
+abbrev pub moved_from : {T : Type 0} → Forest T → ℕ → Forest T
+moved_from f place =
+    let ns = map_from shallower place f.nodes in
+    record f { nodes = ns; current = Some (record { 0 = last_before (depths ns) (length f.spine + 1) (length ns) }) }
+
 -- with the siblings after a node, and all below them, after the current node in its parent; the last of them is current
 abbrev pub moved_out : {T : Type 0} → Forest T → TreeIndex → Forest T
-moved_out f ix =
-    let ns = map_from shallower (end_of (depths f.nodes) ix.0) f.nodes in
-    record f { nodes = ns; current = Some (record { 0 = last_before (depths ns) (length f.spine + 1) (length ns) }) }
+moved_out f ix = moved_from f (end_of (depths f.nodes) ix.0)

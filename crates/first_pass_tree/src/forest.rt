@@ -1,7 +1,7 @@
 //! The tree as one list in reading order, with the path of its open nodes.
 
 ghost use Rattle.std.specs.Prelude.{◌≡◌, ◌+◌, ◌<◌, ◌≤◌, ◌∷◌, [], ◌-◌, length, reverse, Some, None, if◌then◌else◌, IfOk, IfSome, OnOk, OnErr, IsSome, MatchOption, slice_get};
-ghost use Rattle.first_pass_tree.specs.Forest.{empty_forest, appended, pushed, popped, cut_to, with_text, with_item, with_end_at, with_body_at, item_at, depths, child_of, sibling_of, kept_after, childless, in_table, wrapped, IsChildOfCurrent, moved_out, IsChild, cut_siblings, IsForest, end_of};
+ghost use Rattle.first_pass_tree.specs.Forest.{empty_forest, appended, pushed, popped, cut_to, with_text, with_item, with_end_at, with_body_at, item_at, depths, child_of, sibling_of, kept_after, childless, in_table, wrapped, IsChildOfCurrent, CanMoveFrom, moved_from, moved_out, IsChild, cut_siblings, IsForest, end_of};
 ghost use Rattle.first_pass_tree.specs.Subtrees.{IsSubtree};
 ghost use Rattle.std.specs.Borrow.{sem};
 
@@ -253,10 +253,28 @@ impl Tree<Item> {
         requires { IsChildOfCurrent self.old ix }
         ensures { self.new ≡ moved_out self.old ix }
     {
+        let end = deeper_end(&self.nodes, self.spine.len() + 2, ix.0 + 1);
+        self.move_from(end);
+    }
+
+    /// Moves `ix`, a child of the current node, out, with the siblings after it and all below them: in their
+    /// order they follow the current node, and the last of them becomes current.
+    pub fn move_out(&mut self, ix: TreeIndex)
+        requires { IsChildOfCurrent self.old ix }
+        ensures { self.new ≡ moved_from self.old ix.0 }
+    {
+        self.move_from(ix.0);
+    }
+
+    // Puts the nodes from `place` on, which are all below the current node, one less deep; the last node of the
+    // depth of the current node becomes current.
+    fn move_from(&mut self, place: usize)
+        requires { CanMoveFrom self.old place }
+        ensures { self.new ≡ moved_from self.old place }
+    {
         let depth = self.spine.len() + 1;
-        let end = deeper_end(&self.nodes, depth + 1, ix.0 + 1);
-        self.subtrees.cut_to(end);
-        lower(&mut self.nodes, end);
+        self.subtrees.cut_to(place);
+        lower(&mut self.nodes, place);
         self.cur = Some(TreeIndex(last_of_depth(&self.nodes, depth)));
     }
 

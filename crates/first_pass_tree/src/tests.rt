@@ -56,3 +56,23 @@ fn forgets_subtrees_that_are_cut(rt: HostRuntime) -> Result<(), Fail> {
     assert!(rt; tree.take_subtree(0, 5) == None);
     Ok(())
 }
+
+#[test]
+fn forgets_a_subtree_that_a_child_leaves(rt: HostRuntime) -> Result<(), Fail> {
+    let mut tree = Tree::with_capacity(rt.alloc(), 4)?;
+    tree.append(item(0, 4, ItemBody::BlockQuote(None)))?;
+    tree.push()?;
+    tree.remember()?;
+    let list = tree.append(item(2, 4, ItemBody::List(ListFlags::IS_TIGHT, b'-', 0)))?;
+    tree.push()?;
+    tree.remember()?;
+    let left = tree.append(item(2, 4, ItemBody::ListItem(2)))?;
+    tree.pop();
+    tree.note_end();
+    tree.move_out(left);
+    assert!(rt; tree.cur() == Some(left) && tree.next_sibling(list) == Some(left));
+    let outer = Subtree { place: 1, past: 2 };
+    assert!(rt; tree.take_subtree(0, 4) == Some(outer));
+    assert!(rt; tree.take_subtree(0, 4) == None);
+    Ok(())
+}
