@@ -47,7 +47,7 @@ heading_ordered : (text : List ℕ) (f : Forest Item) (at : ℕ) (block : TreeIn
     → body_at f.nodes block.0 ≡ Some Paragraph
     → IsOrderedTo text f at → IsOrderedTo text (with_body_at f block (Heading level index)) at
 heading_ordered text f at block level index is o =
-    ordered_same text f (with_body_at f block (Heading level index)) at (extents-body f.nodes block.0 Paragraph (Heading level index) is refl refl refl) refl o
+    ordered_same text f (with_body_at f block (Heading level index)) at (extents-body f.nodes block.0 Paragraph (Heading level index) is refl) refl o
 
 body_of : (o : Option (ℕ × Item)) (x : Item) → option_map (λ n. n.1) o ≡ Some x → option_map (λ n. n.1.body) o ≡ Some x.body
 body_of None x e = cc

@@ -1,4 +1,5 @@
 pub mod Holds
+pub mod Interrupts
 pub mod Kept
 pub mod Lines
 pub mod Views

@@ -7,16 +7,22 @@ ghost use Rattle.first_pass_grammar.specs.Containers.{front};
 ghost use Rattle.first_pass_grammar.specs.Kinds.{all_taken, ends_tag, footnote_interrupts, interrupts_with, is_blank_rest};
 ghost use Rattle.first_pass_grammar.specs.TableHeads.{table_interrupts};
 ghost use Rattle.first_pass_kinds.specs.Memory.{may_head, line_may_head};
+ghost use Rattle.first_pass_items.specs.declared.option_set.Options.{Options};
+ghost use Rattle.first_pass_items.specs.OptionWords.{has, definition_list};
+ghost use Rattle.first_pass_lists.specs.Closing.{top_body};
 ghost use Rattle.first_pass_tree.specs.Forest.{in_table};
-ghost use Rattle.first_pass.specs.Views.{context_in, tree_of};
+ghost use Rattle.first_pass.specs.Interrupts.{is_open_text, colon_interrupts};
+ghost use Rattle.first_pass.specs.Views.{context_in, source_options, tree_of};
 
 use crate::state::FirstPass;
 use bitflags::Flags;
 use first_pass_blocks::definition::scan_next_line_or_lazy_continuation;
-use first_pass_items::item::Item;
+use first_pass_items::item::{Item, ItemBody};
 use first_pass_items::option_set::Options;
 use first_pass_kinds::interrupt::{interrupts_as_footnote, interrupts_without_table};
 use first_pass_kinds::table_start::interrupts_as_table;
+use first_pass_lines::lines::begins;
+use first_pass_open::front::is_definition_after;
 use first_pass_scan::line_start::LineStart;
 use first_pass_tree::forest::Tree;
 use std::alloc::{AllocError, Global};
@@ -26,24 +32,55 @@ use std::alloc::{AllocError, Global};
 /// block of the kinds 1 to 6 begins. An item interrupts where the line doesn't continue all containers, and in a
 /// table; else only a bullet or the number 1 does, and only with a rest that isn't blank (CommonMark 4.8, 4.1, 4.2,
 /// 4.5, 5.1, 5.2, 4.6; GFM 4.10). With footnotes the head of a footnote definition interrupts whose label holds no
-/// line end (this project). There is no error: no memory is asked for.
+/// line end. With definition lists a `:` does where the line continues all containers and a paragraph or a possible
+/// title is innermost, or where the open node after the outermost `tree_position`, the first that the line doesn't
+/// continue, is a definition (this project). There is no error: no memory is asked for.
 pub fn scan_paragraph_interrupt_no_table(
     _alloc: Global,
     text: &str,
     current_container: bool,
     has_footnote: bool,
-    _definition_list: bool,
+    definition_list: bool,
     tree: &Tree<Item>,
-    _tree_position: usize,
+    tree_position: usize,
 ) -> Result<bool, AllocError>
-    ensures value { IfOk result (λ yes. yes
+    ensures value { (options : Options) → IfOk result (λ yes. yes
         ≡ (interrupts_with (current_container && not (in_table tree.now.nodes tree.now.spine)) text.now
-        || (has_footnote && is_some (footnote_head (λ further. None) false text.now)))) }
+        || ((has_footnote && is_some (footnote_head (λ further. None) false text.now))
+        || (definition_list
+        && colon_interrupts options current_container tree.now tree_position text.now)))) }
     ensures ok { IsOk result }
 {
     let whole = current_container && !tree.is_in_table();
     let bytes = text.as_bytes();
-    Ok(interrupts_without_table(bytes, whole) || interrupts_as_footnote(bytes, has_footnote))
+    Ok(
+        interrupts_without_table(bytes, whole)
+            || interrupts_as_footnote(bytes, has_footnote)
+            || definition_list
+                && interrupts_as_colon(bytes, current_container, tree, tree_position),
+    )
+}
+
+// Whether a `:` interrupts what is read, in a line that continues the outermost `kept` open nodes; `whole` says whether
+// these are all.
+fn interrupts_as_colon(bytes: &[u8], whole: bool, tree: &Tree<Item>, kept: usize) -> bool
+    ensures { (options : Options) → result ≡ colon_interrupts options whole tree.now kept bytes.now }
+{
+    begins(b':', bytes) && (whole && is_in_text(tree) || is_definition_after(tree, kept))
+}
+
+// Whether the innermost open node is a paragraph, tight or not, or a possible title.
+fn is_in_text(tree: &Tree<Item>) -> bool
+    ensures { result ≡ is_open_text (top_body tree.now) }
+{
+    let Some(ix) = tree.peek_up() else {
+        return false;
+    };
+    tree.is_forest();
+    matches!(
+        tree[ix].body,
+        ItemBody::Paragraph | ItemBody::TightParagraph | ItemBody::MaybeDefinitionListTitle
+    )
 }
 
 impl<'a> FirstPass<'a> {
@@ -61,7 +98,9 @@ impl<'a> FirstPass<'a> {
         ensures value { IfOk result (λ yes. let tree = tree_of self.now in
             yes ≡ (interrupts_with (current_container && not (in_table tree.nodes tree.spine)) text.now
             || (footnote_interrupts (context_in self.now).options false text.now
-            || table_interrupts (context_in self.now) text.now))) }
+            || ((has (source_options self.now) definition_list
+            && colon_interrupts (source_options self.now) current_container tree tree_position text.now)
+            || table_interrupts (context_in self.now) text.now)))) }
         ensures err { OnErr result (may_head (context_in self.now) text.now ≡ true) }
     {
         if scan_paragraph_interrupt_no_table(

@@ -2,7 +2,7 @@
 
 ghost use Rattle.std.specs.Prelude.{◌≡◌, ◌≤◌, ℕ, length, IsSome, IsCharBoundary, slice_get, OnOk};
 ghost use Rattle.first_pass_lists.specs.Closing.{popped, item_finished, list_finished, list_continued};
-ghost use Rattle.first_pass_blocks.specs.Ordered.{IsOrderedAt};
+ghost use Rattle.first_pass_blocks.specs.Ordered.{FitsUntitled, IsOrderedAt};
 ghost use Rattle.first_pass.specs.Kept.{KeepsTables};
 ghost use Rattle.first_pass.specs.Views.{reading_of, source_text, tree_of};
 
@@ -16,7 +16,8 @@ impl<'a> FirstPass<'a> {
         requires { IsSome (slice_get (tree_of self.old).spine 0) }
         ensures kept { KeepsTables self.old self.new }
         ensures reading { reading_of self.new ≡ popped ix (reading_of self.old) }
-        ensures order { (at : ℕ) → at ≤ ix → ix ≤ length (source_text self.old)
+        ensures order { (at : ℕ) → FitsUntitled (source_text self.old) (tree_of self.old) at → at ≤ ix
+            → ix ≤ length (source_text self.old)
             → IsCharBoundary (source_text self.old) ix → IsOrderedAt (source_text self.old) (reading_of self.old) at
             → IsOrderedAt (source_text self.old) (reading_of self.new) ix }
     {
@@ -41,7 +42,8 @@ impl<'a> FirstPass<'a> {
     pub fn finish_list(&mut self, ix: usize)
         ensures kept { KeepsTables self.old self.new }
         ensures reading { reading_of self.new ≡ list_finished ix (reading_of self.old) }
-        ensures order { (at : ℕ) → at ≤ ix → ix ≤ length (source_text self.old)
+        ensures order { (at : ℕ) → FitsUntitled (source_text self.old) (tree_of self.old) at → at ≤ ix
+            → ix ≤ length (source_text self.old)
             → IsCharBoundary (source_text self.old) ix → IsOrderedAt (source_text self.old) (reading_of self.old) at
             → IsOrderedAt (source_text self.old) (reading_of self.new) ix }
     {
@@ -54,7 +56,8 @@ impl<'a> FirstPass<'a> {
     pub fn continue_list(&mut self, start: usize, ch: u8, index: u64) -> Result<(), AllocError>
         ensures kept { OnOk result (KeepsTables self.old self.new) }
         ensures reading { OnOk result (reading_of self.new ≡ list_continued start ch index (reading_of self.old)) }
-        ensures order { OnOk result ((at : ℕ) → at ≤ start → start ≤ length (source_text self.old)
+        ensures order { OnOk result ((at : ℕ) → FitsUntitled (source_text self.old) (tree_of self.old) at → at ≤ start
+            → start ≤ length (source_text self.old)
             → IsCharBoundary (source_text self.old) start → IsOrderedAt (source_text self.old) (reading_of self.old) at
             → IsOrderedAt (source_text self.old) (reading_of self.new) start) }
     {

@@ -7,7 +7,7 @@ ghost use Rattle.first_pass_grammar.specs.Leaves.{document};
 ghost use Rattle.first_pass_grammar.specs.Names.{Names, AreNamed};
 ghost use Rattle.first_pass_grammar.specs.WholeTables.{HasWholeTables};
 ghost use Rattle.first_pass_names.specs.TableEntries.{tables, names_of};
-ghost use Rattle.first_pass_blocks.specs.Ordered.{IsOrderedAt};
+ghost use Rattle.first_pass_blocks.specs.Ordered.{IsReadTo};
 ghost use Rattle.first_pass_blocks.specs.Positions.{LineAt};
 ghost use Rattle.first_pass_blocks.specs.Progress.{ReadsBlock};
 ghost use Rattle.first_pass_blocks.specs.State.{Ready};
@@ -19,6 +19,7 @@ pub use first_pass_below::below::{count_header_cols, get_html_end_tag};
 pub use first_pass_blocks::pass::run_first_pass;
 use first_pass_blocks::state::BlockPass;
 use first_pass_items::option_set::Options;
+pub use first_pass_lists::titles::fixup_end_of_definition_list;
 use first_pass_tokens::braces::BraceContexts;
 pub use first_pass_tree::tight::surgerize_tight_list;
 use std::alloc::{AllocError, Global};
@@ -31,7 +32,7 @@ impl<'a> FirstPass<'a> {
         ensures tables { IfOk result (λ pass. tables (allocs_of pass) ≡ no_tables) }
         ensures ready { IfOk result (λ pass. (names : Names)
             → Ready (document text.now options names) no_tables (reading_of pass) (lines_from text.now 0)) }
-        ensures order { IfOk result (λ pass. IsOrderedAt text.now (reading_of pass) 0) }
+        ensures order { IfOk result (λ pass. IsReadTo text.now (reading_of pass) 0) }
         ensures root { IfOk result (λ pass. length (tree_of pass).nodes ≡ 1) }
         ensures named { IfOk result (λ pass. AreNamed (names_of (allocs_of pass)) (tree_of pass).nodes) }
         ensures whole { IfOk result (λ pass. HasWholeTables (names_of (allocs_of pass)) (tree_of pass)) }

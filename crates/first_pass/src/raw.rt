@@ -1,7 +1,6 @@
 //! Leaf blocks whose lines are raw: code, metadata and HTML.
 
 ghost use Rattle.std.specs.Prelude.{◌≡◌, ◌≤◌, ◌<◌, ℕ, Some, None, true, false, max, length, drop, IfOk, OnOk, IsCharBoundary};
-ghost use Rattle.first_pass_grammar.specs.Containers.{in_old_footnote};
 ghost use Rattle.first_pass_lines.specs.Lines.{is_blank_line, is_content};
 ghost use Rattle.first_pass_scan.specs.LeafLines.{code_fence};
 ghost use Rattle.first_pass_lines.specs.Rest.{indent};
@@ -297,7 +296,6 @@ impl<'a> FirstPass<'a> {
             → from ≤ start_ix → AddsBetween (source_text self.old) from (html_to_blank (source_text self.old)
             (context_in self.old).path p).«end» (tree_of self.old) (tree_of self.new)) }
         ensures order { IfOk result (λ next. (at : ℕ) → at ≤ start_ix
-            → (in_old_footnote (context_in self.old).path ≡ true → (reading_of self.old).blank ≡ false)
             → IsOrderedAt (source_text self.old) (reading_of self.old) at
             → IsOrderedFrom (source_options self.old) (source_text self.old) (reading_of self.new) next) }
         ensures few { IfOk result (λ next. (from : ℕ) → from ≤ start_ix → from < next

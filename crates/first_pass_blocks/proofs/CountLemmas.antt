@@ -1,7 +1,8 @@
 -- How many nodes a tree has of its own: what closes nodes and notes blank lines adds none, what opens a container adds one or
 -- two, and each is paid for by a byte.
-use Rattle.std.proofs.Common.{◌≡◌, ℕ, zero, suc, ◌+◌, ◌<◌, ◌≤◌, ◌==◌, ◌&&◌, Bool, true, false, if◌then◌else◌, List, [], ◌∷◌, length, nat_lt, slice_get}
-use Rattle.std.proofs.Common.{slice_index, Option, Some, None, is_some, refl, sym, ap, subst, ◌∙◌, inl, inr, arith}
+use Rattle.std.proofs.Common.{◌≡◌, ℕ, zero, suc, ◌+◌, ◌<◌, ◌≤◌, ◌==◌, ◌&&◌, Bool, true, false, if◌then◌else◌, List, [], ◌∷◌, ◌++◌, length, nat_lt, slice_get}
+use Rattle.std.proofs.Common.{map, take}
+use Rattle.std.proofs.Common.{drop, slice_index, Option, Some, None, is_some, refl, sym, ap, subst, ◌∙◌, inl, inr, arith}
 use Rattle.std.specs.Int.RustNames.{bit_and}
 use Rattle.std.specs.Option.{option_and_then}
 use Rattle.std.proofs.lemmas.Bool.{cond_both, cases_Bool}
@@ -10,8 +11,11 @@ use Rattle.first_pass_items.specs.OptionWords.{has}
 use Rattle.first_pass_items.specs.declared.item.Item.{Item}
 use Rattle.first_pass_items.specs.declared.item.ItemBody.{ItemBody}
 use Rattle.first_pass_items.specs.declared.item.ItemBody.TheVariants.{BlockQuote as BlockQuoteBody, List as ListBody, ListItem as ListItemBody}
+use Rattle.first_pass_items.specs.declared.item.ItemBody.TheVariants.{Paragraph, DefinitionList, DefinitionListTitle, DefinitionListDefinition}
+use Rattle.first_pass_items.specs.declared.item.ItemBody.TheVariants.{MaybeDefinitionListTitle}
 use Rattle.first_pass_tree.specs.declared.tree_index.TreeIndex.{TreeIndex}
-use Rattle.first_pass_tree.specs.Forest.{Forest, depths, body_at}
+use Rattle.first_pass_tree.specs.Forest.{Forest, depths, body_at, item_at, modify, with_body_at, map_from, deeper, shallower, with_end}
+use Rattle.first_pass_tree.proofs.BodyLemmas.{body_of}
 use Rattle.first_pass_tree.specs.Tight.{tightened, tight_run, tight_at, tight_items}
 use Rattle.first_pass_lines.specs.Lines.{blank_len}
 use Rattle.first_pass_scan.specs.Markers.{task_of}
@@ -22,14 +26,17 @@ use Rattle.first_pass_lines.proofs.PlaceFacts.{place_length}
 use Rattle.first_pass_grammar.specs.Derivation.{list_flags}
 use Rattle.first_pass_grammar.specs.Kinds.{Kind, Blank, is_blank_rest, first_kind, IsKindBy, IsKind}
 use Rattle.first_pass_grammar.specs.Openers.{task_by, task_behind}
-use Rattle.first_pass_grammar.specs.Counting.{own, own_nodes}
+use Rattle.first_pass_grammar.specs.Counting.{is_cell, is_row, last_cell, is_filled_behind, own, own_nodes}
 use Rattle.first_pass_grammar.specs.Order.{GrowsBy}
 use Rattle.first_pass_grammar.proofs.OwnNodes.{alike_first, alike_tightened, own_first, own_ended, own_changed, own_one, own_added}
 use Rattle.first_pass_open.specs.OpenBlock.{closed_by, with_child}
 use Rattle.first_pass_open.proofs.PlaceLemmas.{option_on, task_shorter}
 use Rattle.first_pass_lists.specs.Closing.{loosened_by, top_body, is_list, is_list_of, is_item, popped_by, popped_at, popped, item_finished_by, item_finished}
 use Rattle.first_pass_lists.specs.Closing.{list_left, gap_tree, gap_noted, list_finished, loosened_top, list_kept, begun, list_continued, emptied}
-use Rattle.first_pass_lists.specs.Closing.{blank_read_by, blank_read, is_footnote, footnote_left, footnote_begun}
+use Rattle.first_pass_lists.specs.Closing.{blank_read_by, blank_read, is_footnote, footnote_left, footnote_begun, with_tree, current_body, current_moved}
+use Rattle.first_pass_lists.specs.Closing.{definitions_closed, top_end, possible_title, title_closed, popped_after, definitions_left, with_current, title_kept}
+use Rattle.first_pass_lists.specs.Closing.{definitions_by, definitions_at, definitions_opened, definition_begun, emptied_definition}
+use Rattle.first_pass_blocks.proofs.Nests.{TitleThere, title_there}
 use Rattle.first_pass_items.specs.declared.item.CowIndex.{CowIndex}
 use Rattle.first_pass_items.specs.declared.item.ItemBody.TheVariants.{FootnoteDefinition as FootnoteDefinitionBody}
 use Rattle.first_pass_lists.specs.declared.reading.Reading.{Reading}
@@ -69,7 +76,9 @@ tight_count false f ix = refl
 closed_count : (r : Reading) (f : Forest Item) (ix : TreeIndex) (b : Option ItemBody) → count (popped_by r f ix b) ≡ own_nodes f.nodes
 closed_count r f ix None = refl
 closed_count r f ix (Some (ListBody flags byte number)) = tight_count (bit_and flags.0 1 == 1) f ix
+closed_count r f ix (Some (DefinitionList flags)) = tight_count (bit_and flags.0 1 == 1) f ix
 closed_count r f ix (Some (ListItemBody columns)) = refl
+closed_count r f ix (Some (DefinitionListDefinition columns)) = refl
 closed_count r f ix (Some b) = refl
 
 popped_at_count : (e : ℕ) (r : Reading) (s : List TreeIndex) → count (popped_at e r s) ≡ count r
@@ -77,9 +86,37 @@ popped_at_count e r [] = refl
 popped_at_count e r (ix ∷ rest) =
     closed_count r (closed_by r.tree e (ix ∷ rest)) ix (body_at (closed_by r.tree e (ix ∷ rest)).nodes ix.0) ∙ own_ended r.tree.nodes ix.0 e
 
+-- nor what moves nodes out of the one that is closed
+own_shallower : (cell : Option ℕ) (nodes : List (ℕ × Item)) → own cell (map shallower nodes) ≡ own cell nodes
+unfolding own
+own_shallower cell [] = refl
+own_shallower cell (n ∷ nodes) = ap (λ k. (if is_filled_behind cell n.1 then 0 else 1) + k) (own_shallower (last_cell cell n.1) nodes)
+
+own_moved : (place : ℕ) (cell : Option ℕ) (nodes : List (ℕ × Item)) → own cell (map_from shallower place nodes) ≡ own cell nodes
+own_moved zero cell nodes = own_shallower cell nodes
+own_moved (suc place) cell [] = refl
+own_moved (suc place) cell (n ∷ nodes) = own_first cell n nodes (map_from shallower place nodes) (λ after. own_moved place after nodes)
+
+moved_count : (r : Reading) (o : Option TreeIndex) → count (current_moved r o) ≡ count r
+moved_count r None = refl
+moved_count r (Some c) = own_moved c.0 None r.tree.nodes
+
+definitions_closed_count : (e : ℕ) (r : Reading) → count (definitions_closed e r) ≡ count r
+unfolding definitions_closed
+definitions_closed_count e r = moved_count (popped_at e r r.tree.spine) r.tree.current ∙ popped_at_count e r r.tree.spine
+
+title_closed_count : (r : Reading) (title : TreeIndex) → TitleThere r.tree title → count (title_closed r title) ≡ count r
+title_closed_count r title t =
+    definitions_closed_count (top_end r.tree) (with_tree r (with_body_at r.tree title Paragraph))
+    ∙ own_changed r.tree.nodes title.0 MaybeDefinitionListTitle Paragraph t.body refl refl
+
+popped_after_count : (e : ℕ) (r : Reading) (o : Option TreeIndex) → possible_title r.tree ≡ o → count (popped_after e r o) ≡ count r
+popped_after_count e r None is = popped_at_count e r r.tree.spine
+popped_after_count e r (Some title) is = title_closed_count r title (title_there r.tree title is)
+
 pub popped_count : (e : ℕ) (r : Reading) → count (popped e r) ≡ count r
 unfolding popped
-popped_count e r = popped_at_count e r r.tree.spine
+popped_count e r = popped_after_count e r (possible_title r.tree) refl
 
 -- nor what finishes an empty item
 finished_by_count : (r : Reading) (o : Option ℕ) → count (item_finished_by r o) ≡ count r
@@ -96,6 +133,8 @@ loosened_count : (f : Forest Item) (ix : TreeIndex) (b : Option ItemBody) → bo
 loosened_count f ix None is = refl
 loosened_count f ix (Some (ListBody flags byte number)) is =
     own_changed f.nodes ix.0 (ListBody flags byte number) (ListBody (list_flags false) byte number) is refl refl
+loosened_count f ix (Some (DefinitionList flags)) is =
+    own_changed f.nodes ix.0 (DefinitionList flags) (DefinitionList (list_flags false)) is refl refl
 loosened_count f ix (Some b) is = refl
 
 gap_tree_count : (f : Forest Item) (s : List TreeIndex) → own_nodes (gap_tree f s).nodes ≡ own_nodes f.nodes
@@ -106,6 +145,25 @@ gap_tree_count f (ix ∷ outer ∷ rest) = loosened_count f outer (body_at f.nod
 gap_count : (r : Reading) → count (gap_noted r) ≡ count r
 gap_count r = cond_both r.blank (record r { tree = gap_tree r.tree r.tree.spine; blank = false }) r (λ (q : Reading). count q ≡ count r)
     (λ b. gap_tree_count r.tree r.tree.spine) (λ b. refl)
+
+-- nor what ends a definition list before a heading or a table, or keeps a possible title
+pub definitions_left_count : (e : ℕ) (r : Reading) → count (definitions_left e r) ≡ count r
+unfolding definitions_left
+definitions_left_count e r = gap_count (definitions_closed e r) ∙ definitions_closed_count e r
+
+end_count : (f : Forest Item) (e : ℕ) (o : Option TreeIndex) → own_nodes (with_end f e o).nodes ≡ own_nodes f.nodes
+end_count f e None = refl
+end_count f e (Some c) = own_ended f.nodes c.0 e
+
+title_count : (f : Forest Item) (o : Option TreeIndex) → option_and_then (λ ix. body_at f.nodes ix.0) o ≡ Some Paragraph
+    → own_nodes (with_current f MaybeDefinitionListTitle o).nodes ≡ own_nodes f.nodes
+title_count f None is = refl
+title_count f (Some c) is = own_changed f.nodes c.0 Paragraph MaybeDefinitionListTitle is refl refl
+
+pub title_kept_count : (e : ℕ) (r : Reading) → current_body r.tree ≡ Some Paragraph → count (title_kept e r) ≡ count r
+unfolding title_kept
+title_kept_count e r is =
+    end_count (with_current r.tree MaybeDefinitionListTitle r.tree.current) e (slice_get r.tree.spine 0) ∙ title_count r.tree r.tree.current is
 
 -- nor what finishes a list
 left_count : (e : ℕ) (r : Reading) → count (list_left e r) ≡ count r
@@ -130,12 +188,22 @@ emptied_count : (f : Forest Item) (s : List TreeIndex) (columns : ℕ)
 emptied_count f [] columns top = refl
 emptied_count f (ix ∷ rest) columns top = own_changed f.nodes ix.0 (ListItemBody columns) (ListItemBody 0) top refl refl
 
+emptied_definition_count : (f : Forest Item) (s : List TreeIndex) (columns : ℕ)
+    → option_and_then (λ (ix : TreeIndex). body_at f.nodes ix.0) (slice_get s 0) ≡ Some (DefinitionListDefinition columns)
+    → own_nodes (emptied_definition f s).nodes ≡ own_nodes f.nodes
+emptied_definition_count f [] columns top = refl
+emptied_definition_count f (ix ∷ rest) columns top =
+    own_changed f.nodes ix.0 (DefinitionListDefinition columns) (DefinitionListDefinition 0) top refl refl
+
 blank_by_count : (r : Reading) (b : Option ItemBody) → top_body r.tree ≡ b → count (blank_read_by r b) ≡ count r
 blank_by_count r None top = refl
 blank_by_count r (Some (BlockQuoteBody kind)) top = refl
 blank_by_count r (Some (ListItemBody columns)) top =
     cond_both (is_some r.empty_item) (emptied r.tree r.tree.spine) r.tree (λ (f : Forest Item). own_nodes f.nodes ≡ count r)
     (λ b. emptied_count r.tree r.tree.spine columns top) (λ b. refl)
+blank_by_count r (Some (DefinitionListDefinition columns)) top =
+    cond_both (is_some r.empty_item) (emptied_definition r.tree r.tree.spine) r.tree (λ (f : Forest Item). own_nodes f.nodes ≡ count r)
+    (λ b. emptied_definition_count r.tree r.tree.spine columns top) (λ b. refl)
 blank_by_count r (Some b) top = refl
 
 pub blank_count : (r : Reading) → count (blank_read r) ≡ count r
@@ -165,6 +233,58 @@ item_count start byte number columns r =
 
 pub quote_count : (line start : ℕ) (body : ItemBody) (r : Reading) → count (begun start body (list_finished line r)) ≤ count r + 1
 quote_count line start body r = (let one = begun_count start body (list_finished line r) in let same = list_finished_count line r in omega arith)
+
+-- a definition adds one node, and with a new list, whose title was a paragraph, two
+own_deeper : (cell : Option ℕ) (nodes : List (ℕ × Item)) → own cell (map deeper nodes) ≡ own cell nodes
+unfolding own
+own_deeper cell [] = refl
+own_deeper cell (n ∷ nodes) = ap (λ k. (if is_filled_behind cell n.1 then 0 else 1) + k) (own_deeper (last_cell cell n.1) nodes)
+
+filled_one : (t : Bool) (m : ℕ) → (if t then 0 else 1) + m ≤ m + 1
+filled_one true m = omega arith
+filled_one false m = omega arith
+
+own_wrapped : (cell : Option ℕ) (nodes : List (ℕ × Item)) (j d : ℕ) (x : Item) → is_cell x.body ≡ false → is_row x.body ≡ false
+    → own cell (take j nodes ++ (d, x) ∷ map deeper (drop j nodes)) ≤ own cell nodes + 1
+unfolding own
+own_wrapped cell nodes zero d x cells rows =
+    let same : last_cell cell x ≡ cell = rw (rows, cells) refl in
+    let e : own (last_cell cell x) (map deeper nodes) ≡ own cell nodes = ap (λ c. own c (map deeper nodes)) same ∙ own_deeper cell nodes in
+    let most = filled_one (is_filled_behind cell x) (own (last_cell cell x) (map deeper nodes)) in
+    omega arith
+own_wrapped cell [] (suc j) d x cells rows = (let most = filled_one (is_filled_behind cell x) 0 in omega arith)
+own_wrapped cell (n ∷ nodes) (suc j) d x cells rows = (let h = own_wrapped (last_cell cell n.1) nodes j d x cells rows in omega arith)
+
+opened_by_count : (f : Forest Item) (c : TreeIndex) (start e : ℕ) (b : ItemBody) → body_at f.nodes c.0 ≡ Some b
+    → own_nodes (definitions_by f c start e b).nodes ≤ own_nodes f.nodes + 1
+opened_by_count f c start e MaybeDefinitionListTitle is =
+    let same = own_changed f.nodes c.0 MaybeDefinitionListTitle DefinitionListTitle is refl refl in
+    omega arith
+opened_by_count f c start e Paragraph is =
+    let body : ItemBody = DefinitionList (list_flags true) in
+    let same = own_changed f.nodes c.0 Paragraph body is refl refl in
+    let one = own_wrapped None (modify f.nodes c.0 (λ x. record x { body = body })) (c.0 + 1) (length f.spine + 2)
+    (record { start = start; «end» = e; body = DefinitionListTitle }) refl refl in
+    omega arith
+opened_by_count f c start e b is = omega arith
+
+opened_at_count : (f : Forest Item) (c : TreeIndex) (o : Option Item) → item_at f c ≡ o
+    → own_nodes (definitions_at f c o).nodes ≤ own_nodes f.nodes + 1
+opened_at_count f c None is = omega arith
+opened_at_count f c (Some x) is = opened_by_count f c x.start x.«end» x.body (body_of f c x is)
+
+opened_count : (f : Forest Item) (o : Option TreeIndex) → own_nodes (definitions_opened f o).nodes ≤ own_nodes f.nodes + 1
+opened_count f None = omega arith
+opened_count f (Some c) = opened_at_count f c (item_at f c) refl
+
+pub definition_count : (start columns : ℕ) (r : Reading) → count (definition_begun start columns r) ≤ count r + 2
+unfolding definition_begun
+definition_count start columns r =
+    let q : Reading = with_tree r (definitions_opened r.tree r.tree.current) in
+    let list = opened_count r.tree r.tree.current in
+    let kept = kept_count q in
+    let one = begun_count start (DefinitionListDefinition columns) (list_kept q) in
+    omega arith
 
 note_left_count : (e : ℕ) (r : Reading) → count (footnote_left e r) ≡ count r
 note_left_count e r = cond_both (is_footnote (top_body r.tree)) (popped e r) r (λ (q : Reading). count q ≡ count r) (λ b. popped_count e r) (λ b. refl)

@@ -7,12 +7,13 @@ use Rattle.first_pass_open.specs.Path.{path_of}
 use Rattle.first_pass_lists.specs.Closing.{popped}
 use Rattle.first_pass_lists.specs.declared.reading.Reading.{Reading}
 use Rattle.first_pass_blocks.specs.Entering.{footnote_ended}
-use Rattle.first_pass_blocks.specs.Ordered.{IsOrderedAt}
+use Rattle.first_pass_blocks.specs.Ordered.{IsReadTo}
 use Rattle.first_pass_blocks.proofs.CountLemmas.{count, popped_count}
 use Rattle.first_pass_blocks.proofs.NamedLemmas.{AreReadNamed, popped_named}
 use Rattle.first_pass_blocks.proofs.OldFootnotes.{ended_as, in_old}
-use Rattle.first_pass_blocks.proofs.OrderLemmas.{ordered_popped}
-use Rattle.first_pass_blocks.proofs.WholeKept.{IsReadWhole, popped_whole}
+use Rattle.first_pass_blocks.proofs.Nests.{note_untitled}
+use Rattle.first_pass_blocks.proofs.OrderLemmas.{read_popped}
+use Rattle.first_pass_blocks.proofs.WholeKept.{IsReadWhole, popped_plain_whole}
 
 -- what holds of what is remembered and once what is innermost is closed, holds then
 ended_holds : (options : Options) (e : ℕ) (r : Reading) (P : Reading → Type 0) → P r → P (popped e r) → P (footnote_ended options e r)
@@ -28,13 +29,16 @@ pub ended_named : (options : Options) (names : Names) (e : ℕ) (r : Reading) �
 ended_named options names e r h = ended_holds options e r (λ q. AreReadNamed names q) h (popped_named names e r h)
 
 pub ended_whole : (options : Options) (names : Names) (e : ℕ) (r : Reading) → IsReadWhole names r → IsReadWhole names (footnote_ended options e r)
-ended_whole options names e r h = ended_holds options e r (λ q. IsReadWhole names q) h (popped_whole names e r h)
+ended_whole options names e r h = elim (ended_as options e r) [
+  | inl stays ↦ subst (IsReadWhole names) (sym stays.0) h
+  | inr left ↦ subst (IsReadWhole names) (sym left.0) (popped_plain_whole names e r (note_untitled r.tree left.3) h)
+]
 
-pub ended_ordered : (options : Options) (text : List ℕ) (e : ℕ) (r : Reading) → e ≤ length text → IsCharBoundary text e → IsOrderedAt text r e
-    → IsOrderedAt text (footnote_ended options e r) e
+pub ended_ordered : (options : Options) (text : List ℕ) (e : ℕ) (r : Reading) → e ≤ length text → IsCharBoundary text e → IsReadTo text r e
+    → IsReadTo text (footnote_ended options e r) e
 ended_ordered options text e r within boundary h =
     let here : e ≤ e = omega arith in
-    ended_holds options e r (λ q. IsOrderedAt text q e) h (ordered_popped text r e e here within boundary h)
+    ended_holds options e r (λ q. IsReadTo text q e) h (read_popped text r e e here within boundary h)
 
 -- nothing ends where no blank line counts, if a footnote definition in the old form is innermost
 unblank_by : (options : Options) (e : ℕ) (r : Reading) → (in_old_footnote (path_of options r.tree) ≡ true → r.blank ≡ false) → footnote_ended options e r ≡ r

@@ -11,7 +11,6 @@ use Rattle.first_pass_grammar.specs.Derivation.{Tables, told_label}
 use Rattle.first_pass_grammar.specs.Completion.{lines_from}
 use Rattle.first_pass_grammar.specs.Footnotes.{footnote_at, footnote_head_at}
 use Rattle.first_pass_grammar.specs.Order.{GrowsBy}
-use Rattle.first_pass_grammar.specs.OpenOrder.{IsOrderedTo}
 use Rattle.first_pass_grammar.specs.Skeleton.{Inside}
 use Rattle.first_pass_grammar.specs.WholeTables.{HasWholeTables}
 use Rattle.first_pass_grammar.proofs.NamedItems.{named_more}
@@ -23,19 +22,18 @@ use Rattle.first_pass_lists.specs.Closing.{top_body, is_list, item_finished, lis
 use Rattle.first_pass_lists.specs.declared.reading.Reading.{Reading}
 use Rattle.first_pass_blocks.specs.declared.state.BlockPass.{BlockPass}
 use Rattle.first_pass_blocks.specs.State.{ReadyAt}
-use Rattle.first_pass_blocks.specs.Positions.{line_or, InLine}
+use Rattle.first_pass_blocks.specs.Positions.{line_or, OrderedUpTo, OrderedIn, InLine}
 use Rattle.first_pass_blocks.specs.Progress.{PassesTo}
 use Rattle.first_pass_blocks.specs.FootnoteHeads.{OpenedFootnote}
 use Rattle.first_pass_blocks.specs.Views.{allocs_of, reading_of, source_of, source_text, tree_of}
 use Rattle.first_pass_grammar.specs.Containers.{Context}
 use Rattle.first_pass_blocks.proofs.WrittenLemmas.{footnote_written}
 use Rattle.first_pass_blocks.proofs.FootnoteLemmas.{behind_note, note_is_open}
-use Rattle.first_pass_blocks.proofs.OrderLemmas.{ordered_none, ordered_note}
-use Rattle.first_pass_blocks.proofs.OrderSteps.{line_or-below, ordered_on, top_begun, unindented_later}
+use Rattle.first_pass_blocks.proofs.OrderSteps.{line_or-below, ordered_on, ordered_note_in, top_begun, unindented_later}
 use Rattle.first_pass_blocks.proofs.CountLemmas.{note_count}
 use Rattle.first_pass_blocks.proofs.NamedLemmas.{note_named}
 use Rattle.first_pass_blocks.proofs.WholeKept.{note_whole, more_whole}
-use Rattle.first_pass_blocks.proofs.TextLemmas.{no_table}
+use Rattle.first_pass_blocks.proofs.BegunLemmas.{no_table}
 
 module _ (old new : BlockPass) (p q : Place) (head : ℕ × List ℕ) (utf8 : IsUtf8 (source_text old)) (at : IsPlaceOf (source_text old) p)
     (forest : IsForest (tree_of old)) (none : (reading_of old).empty_item ≡ None) (same : source_of new ≡ source_of old)
@@ -95,24 +93,24 @@ module _ (old new : BlockPass) (p q : Place) (head : ℕ × List ℕ) (utf8 : Is
       ap is_list (top_begun start (FootnoteDefinitionBody opened.index)
       (gap_noted (footnote_left start (list_left start (item_finished (reading_of old))))))
 
-  order_then : IsCharBoundary text p.line × IsOrderedTo text (tree_of old) (line_or (tree_of old) p.line (offset p))
-      → IsCharBoundary text q.line → IsOrderedTo text (tree_of new) (line_or (tree_of new) q.line (offset q))
+  order_then : OrderedIn text (tree_of old) p → IsCharBoundary text q.line → OrderedIn text (tree_of new) q
   order_then ordered boundary =
       let a : ℕ = line_or (tree_of old) p.line (offset p) in
       let below : a ≤ offset p = line_or-below (tree_of old) p.line (offset p) (omega arith) in
       let lower = low in
-      let before = ordered_none text (reading_of old) a none (let w = here.within in omega arith) ordered.1 in
-      let now = ordered_note text (reading_of old) a start opened.index (omega arith) here.within here.boundary before in
-      let further : start ≤ offset q = (let l = later in omega arith) in
-      subst (λ (z : Reading). IsOrderedTo text z.tree (line_or z.tree q.line (offset q))) (sym opened.opened)
-      (ordered_on text (footnote_begun start opened.index (reading_of old)).tree q.line start (offset q) top further place.within now)
+      let now = ordered_note_in text (reading_of old) a start opened.index (omega arith) here.within here.boundary none ordered.1 in
+      let further : start ≤ offset q = (let l = later in omega arith) in (
+        boundary,
+        subst (λ (z : Reading). OrderedUpTo text z.tree (line_or z.tree q.line (offset q))) (sym opened.opened)
+            (ordered_on text (footnote_begun start opened.index (reading_of old)).tree q.line start (offset q) top further place.within now),
+      )
 
   pub passes_note : IsCharBoundary text q.line → (line : ℕ) → line ≤ p.line → PassesTo (source_of old) line old new (InLine p) (InLine q)
   passes_note boundary line under = record {
     source = same;
     names = more_names;
     ready = λ more extends ready. ready_then more extends ready;
-    order = λ ordered. (boundary, order_then ordered boundary);
+    order = λ ordered. order_then ordered boundary;
     few = λ first grows.
         let lower = low in
         let one = note_count start opened.index (reading_of old) in

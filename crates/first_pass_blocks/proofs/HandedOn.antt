@@ -22,10 +22,12 @@ use Rattle.first_pass_open.proofs.FrontLemmas.{outer-all}
 use Rattle.first_pass_open.proofs.PathLemmas.{open_are_in, path_in-append}
 use Rattle.first_pass_open.proofs.PlaceLemmas.{after_keeps, line_start_end}
 use Rattle.first_pass_raw.proofs.RawOrder.{first_line}
-use Rattle.first_pass_lists.specs.Closing.{list_left, item_finished, gap_noted, list_finished, blank_read}
+use Rattle.first_pass_lists.specs.Closing.{top_body, is_list, list_left, item_finished, gap_noted, list_finished, blank_read}
 use Rattle.first_pass_lists.specs.declared.reading.Reading.{Reading}
-use Rattle.first_pass_blocks.specs.Ordered.{IsOrderedAt, IsHandedOn, IsOrderedFrom}
-use Rattle.first_pass_blocks.proofs.OrderLemmas.{ordered_none, ordered_blank_read, ordered_item_finished}
+use Rattle.first_pass_blocks.specs.Ordered.{IsOrderedAt, IsHandedOn, IsOrderedFrom, AreNested, IsReadTo, IsReadFrom}
+use Rattle.first_pass_blocks.specs.Positions.{OrderedUpTo}
+use Rattle.first_pass_blocks.proofs.Nests.{tree_closes}
+use Rattle.first_pass_blocks.proofs.OrderLemmas.{ordered_none, read_blank_read, read_item_finished}
 use Rattle.first_pass_blocks.proofs.OrderSteps.{ordered_tree, place_before_end}
 use Rattle.first_pass_blocks.proofs.LineLemmas.{finished_none}
 use Rattle.first_pass_items.specs.declared.option_set.Options.{Options}
@@ -77,12 +79,12 @@ line_by path line q (Some r) h = let e : at_rest line r ≡ q = cc in (r, refl, 
 
 -- What is remembered after such a block is in order up to where reading continues, or the blank line is handed on there.
 pub ordered_stopped : (options : Options) (text : List ℕ) (r : Reading) (path : List Container) (e : Extent) (next : ℕ)
-    → IsCharBoundary text next → r.empty_item ≡ None → (in_old_footnote path ≡ true → r.blank ≡ false) → path_of options r.tree ≡ path
+    → IsCharBoundary text next → r.empty_item ≡ None → path_of options r.tree ≡ path
     → StopsBlank (length text) path e → lines_from text next ≡ e.left → IsOrderedAt text r e.«end» → IsOrderedFrom options text r next
-ordered_stopped options text r path e next b none uncounted path_is (inl h) left o =
+ordered_stopped options text r path e next b none path_is (inl h) left o =
     let there = start_of-lines text next b.0 in
     inl (subst (IsOrderedAt text r) (h ∙ ap (start_of (length text)) (sym left) ∙ there) o)
-ordered_stopped options text r path e next b none uncounted path_is (inr (line, lines, q, e_left, took, blank, at)) left o =
+ordered_stopped options text r path e next b none path_is (inr (line, lines, q, e_left, took, blank, at)) left o =
     let f = first_line text next line lines (sym (left ∙ e_left)) in
     let found = line_by path line q (after path line.rest) took in
     let s : Rest = found.0 in
@@ -93,9 +95,19 @@ ordered_stopped options text r path e next b none uncounted path_is (inr (line, 
       taken = ap (λ z. after z (line_rest (drop next text))) path_is ∙ ap (λ (z : Place). after path z.rest) (sym f.1) ∙ found.1;
       blank = ap (λ (z : Place). is_blank_rest z.rest) (sym found.2) ∙ blank;
       none = none;
-      uncounted = λ old. uncounted (sym (ap in_old_footnote path_is) ∙ old);
       ordered = subst (IsOrderedTo text r.tree) there (ordered_tree text r e.«end» none o);
     })
+
+-- The same of what can be closed in order, where no list is innermost; no footnote definition in the old form ends before a line that is handed on.
+pub read_stopped : (options : Options) (text : List ℕ) (r : Reading) (path : List Container) (e : Extent) (next : ℕ)
+    → IsCharBoundary text next → r.empty_item ≡ None → (in_old_footnote (path_of options r.tree) ≡ true → r.blank ≡ false) → path_of options r.tree ≡ path
+    → StopsBlank (length text) path e → lines_from text next ≡ e.left → AreNested r.tree.nodes r.tree.spine → is_list (top_body r.tree) ≡ false
+    → IsOrderedAt text r e.«end» → IsReadFrom options text r next
+read_stopped options text r path e next b none uncounted path_is stops left nested plain o =
+    elim (ordered_stopped options text r path e next b none path_is stops left o) [
+      | inl read ↦ inl (read, tree_closes text r.tree next nested plain)
+      | inr handed ↦ inr (handed, nested, plain, uncounted)
+    ]
 
 -- A line that is handed on continues all that is open, and is blank after that.
 pub handed_whole : (options : Options) (text : List ℕ) (r : Reading) (at kept : ℕ) (line left : Rest)
@@ -119,28 +131,31 @@ handed_whole options text r at kept line left is within took stops h =
 
 -- Once the blank line is read that was handed on, what is remembered is in order up to its end.
 handed_read : (options : Options) (text : List ℕ) (r : Reading) (at : ℕ)
-    → IsUtf8 text → IsCharBoundary text at → IsHandedOn options text r at → IsOrderedAt text (blank_read r) (at + line_len (drop at text))
-handed_read options text r at u b h =
+    → IsUtf8 text → IsCharBoundary text at → IsHandedOn options text r at → AreNested r.tree.nodes r.tree.spine → is_list (top_body r.tree) ≡ false
+    → IsReadTo text (blank_read r) (at + line_len (drop at text))
+handed_read options text r at u b h nested plain =
     let k = after_keeps text at (path_of options r.tree) (line_rest (drop at text)) h.rest u h.taken (line_is_place text at b) in
     let ends : line_end (place_at at h.rest) ≡ at + line_len (drop at text) = k.1 ∙ line_start_end text at in
     let before = place_before_end (place_at at h.rest) in
     let within = (line_len-within text at h.within).1 in
-    ordered_blank_read text r (offset (place_at at h.rest)) (at + line_len (drop at text)) (omega arith) within
-    (ordered_none text r (offset (place_at at h.rest)) h.none (omega arith) h.ordered)
+    read_blank_read text r (offset (place_at at h.rest)) (at + line_len (drop at text)) (omega arith) within
+    (ordered_none text r (offset (place_at at h.rest)) h.none (omega arith) h.ordered, tree_closes text r.tree (offset (place_at at h.rest)) nested plain)
 
 -- A line is entered where what the line doesn't continue was closed: a blank line is read,
 pub ordered_blank_line : (options : Options) (text : List ℕ) (old closed : Reading) (at : ℕ) → IsUtf8 text → at < length text → IsCharBoundary text at
-    → (IsOrderedAt text old at → IsOrderedAt text closed at) → (IsHandedOn options text old at → closed ≡ old)
-    → IsOrderedFrom options text old at → IsOrderedAt text (blank_read closed) (at + line_len (drop at text))
+    → (IsReadTo text old at → IsReadTo text closed at)
+    → (IsHandedOn options text old at → (in_old_footnote (path_of options old.tree) ≡ true → old.blank ≡ false) → closed ≡ old)
+    → IsReadFrom options text old at → IsReadTo text (blank_read closed) (at + line_len (drop at text))
 ordered_blank_line options text old closed at u w b closes same (inl o) =
     let n = line_len-within text at w in
-    ordered_blank_read text closed at (at + line_len (drop at text)) (omega arith) n.1 (closes o)
-ordered_blank_line options text old closed at u w b closes same (inr h) =
-    subst (λ r. IsOrderedAt text (blank_read r) (at + line_len (drop at text))) (sym (same h)) (handed_read options text old at u b h)
+    read_blank_read text closed at (at + line_len (drop at text)) (omega arith) n.1 (closes o)
+ordered_blank_line options text old closed at u w b closes same (inr (h, nested, plain, uncounted)) =
+    subst (λ r. IsReadTo text (blank_read r) (at + line_len (drop at text))) (sym (same h uncounted)) (handed_read options text old at u b h nested plain)
 
 -- and before any other, which no block hands on, an empty item is closed that blank lines ended.
-pub ordered_other_line : (options : Options) (text : List ℕ) (old closed : Reading) (at : ℕ) → (IsOrderedAt text old at → IsOrderedAt text closed at)
-    → (IsHandedOn options text old at → ⊥) → IsOrderedFrom options text old at → IsOrderedTo text (item_finished closed).tree at
+pub ordered_other_line : (options : Options) (text : List ℕ) (old closed : Reading) (at : ℕ) → (IsReadTo text old at → IsReadTo text closed at)
+    → (IsHandedOn options text old at → ⊥) → IsReadFrom options text old at → OrderedUpTo text (item_finished closed).tree at
 ordered_other_line options text old closed at closes none (inl o) =
-    ordered_tree text (item_finished closed) at (finished_none closed) (ordered_item_finished text closed at (closes o))
-ordered_other_line options text old closed at closes none (inr h) = absurd (none h)
+    let read = read_item_finished text closed at (closes o) in
+    (ordered_tree text (item_finished closed) at (finished_none closed) read.0, read.1)
+ordered_other_line options text old closed at closes none (inr h) = absurd (none h.0)

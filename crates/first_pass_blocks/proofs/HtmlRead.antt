@@ -12,7 +12,7 @@ use Rattle.first_pass_names.specs.TableEntries.{tables, told_by, names_of, Names
 use Rattle.first_pass_open.specs.Path.{path_of}
 use Rattle.first_pass_open.proofs.PlaceLemmas.{all_keep}
 use Rattle.first_pass_raw.specs.RawBlocks.{IsPlaceAt, behind_line_at, html_to_blank}
-use Rattle.first_pass_lists.specs.Closing.{list_finished}
+use Rattle.first_pass_lists.specs.Closing.{top_body, is_list, list_finished}
 use Rattle.first_pass_lists.specs.declared.reading.Reading.{Reading}
 use Rattle.first_pass_kinds.proofs.KindLemmas.{kind_says}
 use Rattle.first_pass_blocks.specs.declared.state.BlockPass.{BlockPass}
@@ -20,13 +20,15 @@ use Rattle.first_pass_blocks.specs.Views.{allocs_of, reading_of, source_of, sour
 use Rattle.first_pass_blocks.specs.Progress.{ReadsLeaf}
 use Rattle.first_pass_blocks.specs.State.{Ready}
 use Rattle.first_pass_blocks.proofs.CountLemmas.{list_finished_count, leaf_left, left_before}
-use Rattle.first_pass_blocks.proofs.HandedOn.{path_added, html_stops, ordered_stopped, list_finished_blank}
+use Rattle.first_pass_blocks.specs.Ordered.{AreNested}
+use Rattle.first_pass_blocks.proofs.FirstItems.{kind_silent}
+use Rattle.first_pass_blocks.proofs.HandedOn.{path_added, html_stops, read_stopped, list_finished_blank}
 use Rattle.first_pass_blocks.proofs.KindBlocks.{AddsHtml, columns_are, html_blank_added, ready_kind}
 use Rattle.first_pass_blocks.proofs.LeafAdded.{found_boundary}
 use Rattle.first_pass_blocks.proofs.LeafLemmas.{line_end_of}
 use Rattle.first_pass_blocks.proofs.LineLemmas.{list_finished_none}
 use Rattle.first_pass_blocks.proofs.NamedLemmas.{block_added, list_finished_named, kind_named}
-use Rattle.first_pass_blocks.proofs.OrderLemmas.{ordered_none}
+use Rattle.first_pass_blocks.proofs.Nests.{list_finished_outside, added_outside}
 use Rattle.first_pass_blocks.proofs.OrderSteps.{block_ordered, ordered_finished, unindented_later}
 use Rattle.first_pass_blocks.proofs.RawFits.{to_blank_between, to_blank_ends, to_blank_few}
 use Rattle.first_pass_blocks.proofs.WholeKept.{list_finished_whole, block_whole, kind_whole}
@@ -75,20 +77,23 @@ html_read old new p at columns next u i empty forest forest_after kind columns_i
       later = omega arith;
       boundary = behind.1;
       ready = λ more extends ready. subst (λ t. Ready (document text options more) t (reading_of new) (lines_from text next)) (sym (ap told_by adds.entries))
-          (ready_kind text options (tables (allocs_of old)) now more r tree p HtmlToBlank false next forest kind refl extends added empty ready
+          (ready_kind text options (tables (allocs_of old)) now more r tree p HtmlToBlank false next forest kind refl refl extends added empty ready
           (reading_of new).empty_item (reading_of new).blank none blank);
       named = λ h. block_added now (names_of (allocs_of old)) q.tree tree added.items adds.names added.tree_is
           (kind_named text options now p HtmlToBlank false q.tree tree next added) (list_finished_named (names_of (allocs_of old)) p.line r h);
       written = written_stay text (allocs_of old) (allocs_of new) adds.entries;
-      order = λ o. ordered_stopped options text (reading_of new) (path_of options q.tree) e next behind.1 none (λ old. blank) path
+      order = λ o. let outside = list_finished_outside p.line r o.1.1.nested in
+          let after = added_outside q.tree block.items outside.0 outside.1 in
+          let read = ordered_finished text r p.line (offset p) p.line at (omega arith) (omega arith) (inl (refl, o.0)) begins.0 begins empty o.1 in
+          read_stopped options text (reading_of new) (path_of options q.tree) e next behind.1 none (λ old. blank) path
           (html_stops (length text) (path_of options q.tree) z (lines_from text (behind_line_at text (offset z)))) block.left_is
-          (block_ordered text q (reading_of new) at at e.«end»
-          (ordered_none text q at (list_finished_none p.line r) begins.0
-          (ordered_finished text r p.line (offset p) p.line at (omega arith) (omega arith) (inl (refl, o.0)) begins.0 begins empty o.1))
-          (omega arith) (to_blank_between text options now q.tree tree at next u begins behind.1.0 columns z there block)
+          (subst (λ f. AreNested f.nodes f.spine) (sym block.tree_is) after.0) (ap (λ f. is_list (top_body f)) block.tree_is ∙ after.1)
+          (block_ordered text q (reading_of new) at at e.«end» read.0 (omega arith)
+          (to_blank_between text options now q.tree tree at next u begins behind.1.0 columns z there block)
           (to_blank_ends text options now q.tree tree at next u begins behind.1.0 z there).0 none);
       whole = λ h k. block_whole now (names_of (allocs_of old)) q.tree tree added.items adds.names added.tree_is
           (kind_whole text options now p HtmlToBlank false q.tree tree next i added)
+          (kind_silent text options now p HtmlToBlank false q.tree tree next added)
           (list_finished_named (names_of (allocs_of old)) p.line r h) (list_finished_whole (names_of (allocs_of old)) p.line r k);
       few = omega arith;
     }

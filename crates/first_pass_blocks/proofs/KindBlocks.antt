@@ -21,7 +21,8 @@ use Rattle.first_pass_grammar.specs.Extents.{Extent}
 use Rattle.first_pass_grammar.specs.CodeBlocks.{code_lines, last_is_blank, IsIndentedCode, metadata_lines, IsMetadata, fenced_lines, IsFencedCode}
 use Rattle.first_pass_grammar.specs.HtmlBlocks.{until_end, until_blank, IsHtml}
 use Rattle.first_pass_grammar.specs.Rows.{is_paragraph}
-use Rattle.first_pass_grammar.specs.Blocks.{block_at, leaf_block}
+use Rattle.first_pass_grammar.specs.Before.{is_run}
+use Rattle.first_pass_grammar.specs.Blocks.{LeafBlock, block_at, leaf_block}
 use Rattle.first_pass_grammar.specs.Skeleton.{Line, Opening, OpensLeaf, OpensAs}
 use Rattle.first_pass_grammar.specs.Completion.{lines_from}
 use Rattle.first_pass_open.specs.Path.{path_of, context_of}
@@ -33,12 +34,13 @@ use Rattle.first_pass_kinds.specs.declared.kinds.MarkedLeaf.{MarkedLeaf}
 use Rattle.first_pass_kinds.specs.declared.kinds.MarkedLeaf.TheVariants.{IndentedCode as MarkedCode, Metadata as MarkedMetadata, HtmlToEnd as MarkedHtml}
 use Rattle.first_pass_kinds.specs.declared.kinds.MarkedLeaf.TheVariants.{ThematicBreak as MarkedBreak, AtxHeading as MarkedHeading, FencedCode as MarkedFence}
 use Rattle.first_pass_text.specs.Appends.{AddsHeading}
-use Rattle.first_pass_lists.specs.Closing.{remembered, list_finished}
+use Rattle.first_pass_grammar.proofs.Closings.{leaf_closes}
+use Rattle.first_pass_lists.specs.Closing.{remembered, top_body, list_finished}
 use Rattle.first_pass_lists.specs.declared.reading.Reading.{Reading}
 use Rattle.first_pass_blocks.specs.Positions.{ReadyLeaf}
-use Rattle.first_pass_blocks.specs.State.{Ready}
+use Rattle.first_pass_blocks.specs.State.{closed_in, Ready}
 use Rattle.first_pass_blocks.proofs.FinishLemmas.{path_finished}
-use Rattle.first_pass_blocks.proofs.LeafLemmas.{told_none, kind_in_other, line_end_of, opens_heading, opens_rule, ready_added}
+use Rattle.first_pass_blocks.proofs.LeafLemmas.{told_none, kind_in_other, kind_away, line_end_of, opens_heading, opens_rule, ready_added}
 
 -- indented code
 pub code_added : (text : List ℕ) (options : Options) (names : Names) (p : Place) (old new : Forest Item) (next : ℕ) (blank : Bool)
@@ -189,19 +191,22 @@ module _ (text : List ℕ) (options : Options) (names : Names) (p : Place) (old 
 
 -- after a leaf block of a kind
 pub ready_kind : (text : List ℕ) (options : Options) (defined : Tables) (own names : Names) (r : Reading) (new : Forest Item) (p : Place) (kind : Kind)
-    (gap : Bool) (next : ℕ) → IsForest r.tree → IsKind options p.rest kind → is_paragraph kind ≡ false → Extends names own
+    (gap : Bool) (next : ℕ) → IsForest r.tree → IsKind options p.rest kind → is_paragraph kind ≡ false → is_run kind ≡ false → Extends names own
     → AddsKind (document text options own) p kind gap (list_finished p.line r).tree new next → r.empty_item ≡ None
     → ReadyLeaf (document text options names) defined r p (lines_from text (line_end p))
     → (empty : Option ℕ) (blank : Bool) → empty ≡ None → blank ≡ gap
     → Ready (document text options names) defined (remembered new empty blank) (lines_from text next)
-ready_kind text options defined own names r new p kind gap next forest is other extends a none ready empty blank e b =
+ready_kind text options defined own names r new p kind gap next forest is other no_run extends a none ready empty blank e b =
     let d : Document = document text options names in
     let lines : List Place = lines_from text (line_end p) in
     let left : List Place = lines_from text next in
     let o : Opening = OpensLeaf (leaf_block kind p a.items gap) Line left in
     let opens = subst (λ path. OpensAs d path p lines kind o) (path_finished options p.line r none) (a.opens names extends) in
+    let block : LeafBlock = block_at kind p a.items gap in
+    let closes : leaf_closes block ≡ p.line = ap (λ (t : Bool). if t then offset (unindented p) else p.line) other in
     subst (λ z. Ready d z (remembered new empty blank) left) (told_none defined)
-    (ready_added d defined r new p lines left p.line (block_at kind p a.items gap) (ap (λ t. if t then offset (unindented p) else p.line) other) kind forest is
+    (ready_added d defined r new p lines left p.line block no_run kind
+    (λ begins. kind_away (top_body r.tree) (closed_in r.tree) p.line block left other (begins other) closes) forest is
     (subst (λ k. OpensAs d (path_of options r.tree) p lines k o) (sym (kind_in_other (context_of options r.tree) p kind other)) opens) a.tree_is none ready
     empty blank e b)
 
@@ -230,6 +235,15 @@ marked_other (MarkedHtml «end») = refl
 marked_other (MarkedBreak size) = refl
 marked_other (MarkedHeading level) = refl
 marked_other (MarkedFence count byte) = refl
+
+-- nor link definitions
+pub marked_no_run : (leaf : MarkedLeaf) → is_run (marked_kind leaf) ≡ false
+marked_no_run MarkedCode = refl
+marked_no_run (MarkedMetadata byte) = refl
+marked_no_run (MarkedHtml «end») = refl
+marked_no_run (MarkedBreak size) = refl
+marked_no_run (MarkedHeading level) = refl
+marked_no_run (MarkedFence count byte) = refl
 
 -- nor a blank line
 pub marked_some : (leaf : MarkedLeaf) → marked_kind leaf ≡ Blank → ⊥

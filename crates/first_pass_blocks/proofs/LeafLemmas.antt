@@ -1,10 +1,11 @@
 -- A leaf block read at a place where no container begins.
-use Rattle.std.proofs.Common.{◌≡◌, inl, inr, ℕ, suc, ◌+◌, Bool, false, is_some, if◌then◌else◌, List, [], ◌∷◌, ◌++◌, append-nil, length, map, Option, Some, None}
-use Rattle.std.proofs.Common.{refl, sym, ap, subst, ◌∙◌, arith}
+use Rattle.std.proofs.Common.{◌≡◌, inl, inr, ℕ, suc, ◌+◌, Bool, true, false, ◌&&◌, not, is_some, if◌then◌else◌, List, [], ◌∷◌, ◌++◌, append-nil, length}
+use Rattle.std.proofs.Common.{map, Option, Some, None, refl, sym, ap, subst, ◌∙◌, arith}
 use Rattle.first_pass_items.specs.declared.item.Item.{Item}
 use Rattle.first_pass_items.specs.declared.item.ItemBody.{ItemBody}
-use Rattle.first_pass_items.specs.declared.item.ItemBody.TheVariants.{BlockQuote as BlockQuoteBody, List as ListBody}
+use Rattle.first_pass_items.specs.declared.item.ItemBody.TheVariants.{BlockQuote as BlockQuoteBody, List as ListBody, DefinitionList, TaskListMarker}
 use Rattle.first_pass_items.specs.declared.item.HeadingLevel.{HeadingLevel}
+use Rattle.first_pass_items.specs.OptionWords.{has, definition_list}
 use Rattle.first_pass_tree.specs.declared.tree_index.TreeIndex.{TreeIndex}
 use Rattle.first_pass_tree.specs.Forest.{Forest, IsForest, added, at_depth}
 use Rattle.first_pass_lines.specs.Lines.{level_number, line_len}
@@ -12,49 +13,60 @@ use Rattle.first_pass_scan.specs.LeafLines.{hrule_len}
 use Rattle.first_pass_lines.specs.Rest.{indent}
 use Rattle.first_pass_lines.specs.Places.{Place, offset, line_end, IsPlaceOf}
 use Rattle.first_pass_lines.proofs.PlaceFacts.{columns_line_end}
+use Rattle.first_pass_grammar.specs.Before.{is_paragraph_body, begins_paragraph, is_run}
 use Rattle.first_pass_grammar.specs.Derivation.{Tables, told}
 use Rattle.first_pass_grammar.specs.LinkTables.{LinkEntry, with_links}
 use Rattle.first_pass_grammar.specs.LinkRuns.{definition_at, kind_in, Beyond, Ended, FlowsOn, IsRun}
+use Rattle.first_pass_grammar.specs.Order.{is_task_marker}
 use Rattle.first_pass_grammar.specs.Rows.{is_paragraph}
 use Rattle.std.proofs.lemmas.Bool.{true≢false}
 use Rattle.first_pass_grammar.specs.declared.kind.Container.{Container}
-use Rattle.first_pass_grammar.specs.declared.kind.Container.TheVariants.{BlockQuote}
-use Rattle.first_pass_grammar.specs.Containers.{Context, prefix}
-use Rattle.first_pass_grammar.specs.Kinds.{Kind, Blank, ThematicBreak, AtxHeading, LinkDefinitions, Paragraph, unindented, item_at, IsKind}
+use Rattle.first_pass_grammar.specs.Containers.{Context}
+use Rattle.first_pass_grammar.specs.Kinds.{Kind, Blank, ThematicBreak, AtxHeading, LinkDefinitions, Paragraph, unindented, IsKind}
 use Rattle.first_pass_grammar.specs.Names.{Names, Extends}
 use Rattle.first_pass_items.specs.declared.option_set.Options.{Options}
 use Rattle.first_pass_grammar.specs.Leaves.{Document, document, around, IsHeading, heading_text_at, rule_block, heading_block}
 use Rattle.first_pass_grammar.specs.Blocks.{BlankLine, LeafBlock, Block, run_block, flowing_block, block_at, leaf_block}
-use Rattle.first_pass_grammar.specs.Skeleton.{OpensBeyond, OpensRun, Line, Inside, At, ALeafAlone, IsFirst, Opening, OpensLeaf, OpensText, OpensAs}
-use Rattle.first_pass_grammar.specs.Skeleton.{OpensBlockAt, Opens, level, going}
+use Rattle.first_pass_grammar.specs.Openers.{start_at}
+use Rattle.first_pass_grammar.specs.Skeleton.{OpensBeyond, OpensRun, Line, Inside, At, ALeafAlone, TextOf, IsFirst, Opening, OpensLeaf, OpensText, OpensAs}
+use Rattle.first_pass_grammar.specs.Skeleton.{OpensBlockAt, OpensBy, Opens, Level, going, may_define as may_begin}
 use Rattle.first_pass_grammar.specs.Tables.{taking}
 use Rattle.first_pass_grammar.specs.Texts.{IsText}
-use Rattle.first_pass_grammar.specs.Completion.{lines_from, Frame, containers_of, AreBelow}
-use Rattle.first_pass_grammar.proofs.Finishes.{CompletesAt, before_of}
-use Rattle.first_pass_grammar.proofs.Completions.{leaf_closes, opens_stays, completes-leaf, completes-blank, completes-block, completes-text, counts_in}
+use Rattle.first_pass_grammar.specs.Footnotes.{footnote_head_at}
+use Rattle.first_pass_grammar.specs.Completion.{lines_from, Closed, OtherClosed, ParagraphAt, DefinitionClosed, TitleAt, Frame, containers_of, AreBelow}
+use Rattle.first_pass_grammar.specs.Completion.{IsPlain}
+use Rattle.first_pass_grammar.specs.WholeTables.{AreEachNode, ShowsNothing, SilentClosed}
+use Rattle.first_pass_grammar.proofs.Finishes.{Tail, CompletesAt}
+use Rattle.first_pass_grammar.proofs.Extending.{tail, lvl, opens_stays}
+use Rattle.first_pass_grammar.proofs.Closings.{leaf_closes}
+use Rattle.first_pass_grammar.proofs.Completions.{completes-leaf, completes-blank, completes-block, completes-text, counted_after}
+use Rattle.first_pass_grammar.proofs.FlatBlocks.{OwnParagraph, kind_holds}
+use Rattle.first_pass_grammar.proofs.SilentTexts.{text_silent, opened_silent}
+use Rattle.first_pass_grammar.proofs.TableMarks.{tokens_show}
+use Rattle.first_pass_grammar.proofs.Titles.{closed_after}
 use Rattle.first_pass_open.specs.Between.{line_end_at}
 use Rattle.first_pass_text.specs.Appends.{AddsHeading}
 use Rattle.first_pass_blocks.specs.TextsAdded.{IsTextAt}
-use Rattle.first_pass_lists.specs.Closing.{remembered, top_body, is_list, list_finished, blank_read_by, blank_read}
+use Rattle.first_pass_lists.specs.Closing.{remembered, top_body, top_end, is_list, is_definition_list, possible_title, is_after_definition, list_finished}
+use Rattle.first_pass_lists.specs.Closing.{blank_read_by, blank_read}
 use Rattle.first_pass_lists.specs.declared.reading.Reading.{Reading}
 use Rattle.first_pass_open.specs.Path.{path_of, context_of}
-use Rattle.first_pass_blocks.specs.State.{AreOpen, ReadyAt, Ready}
-use Rattle.first_pass_blocks.specs.Positions.{ReadyText, ReadyLazy, ReadyLeaf}
+use Rattle.first_pass_blocks.specs.State.{closed_in, AreOpen, ReadyAt, Ready}
+use Rattle.first_pass_blocks.specs.Positions.{may_define, ReadyText, ReadyLazy, ReadyLeaf}
+use Rattle.first_pass_blocks.proofs.AddedLemmas.{begun_at, closed_added, silent_begun, open_added, no_list_added}
+use Rattle.first_pass_blocks.proofs.BegunLemmas.{depth_of, opens_bare}
+use Rattle.first_pass_blocks.proofs.ClosedIn.{level_of, open_level, takes_same, title_is}
 use Rattle.first_pass_blocks.proofs.LineLemmas.{list_finished_none}
 use Rattle.first_pass_blocks.proofs.HandedOn.{list_finished_blank}
-use Rattle.first_pass_blocks.proofs.OpenLemmas.{open_path, open_below, frame-append}
+use Rattle.first_pass_blocks.proofs.OpenLemmas.{open_path}
 use Rattle.first_pass_kinds.proofs.KindLemmas.{kind_says}
 use Rattle.first_pass_blocks.proofs.RuleLemmas.{rule_line}
 use Rattle.first_pass_blocks.proofs.StateLemmas.{ready_plain}
-use Rattle.first_pass_blocks.proofs.FinishLemmas.{EndsListAt, plain_by, ready_finished, path_finished}
-use Rattle.first_pass_blocks.proofs.OpenerLemmas.{depth_of}
+use Rattle.first_pass_blocks.proofs.FinishLemmas.{EndsListAt, plain_by, ready_finished}
 use Rattle.first_pass_blocks.proofs.EnterLemmas.{ready_blank}
 use Rattle.first_pass_blocks.proofs.TagLemmas.{finishes_nothing, quote_counts}
+use Rattle.first_pass_blocks.proofs.WholeKept.{task_shows}
 use Rattle.first_pass_items.specs.declared.item.BlockQuoteKind.{BlockQuoteKind}
-use Rattle.first_pass_grammar.specs.Skeleton.{OpensBy}
-use Rattle.first_pass_grammar.specs.Footnotes.{footnote_head_at}
-use Rattle.first_pass_blocks.proofs.OpenerLemmas.{opens_bare}
-use Rattle.first_pass_grammar.proofs.OpenerFacts.{start_none}
 
 -- The line of a text ends where its line ends.
 pub line_end_of : (text : List ℕ) (p : Place) → IsPlaceOf text (unindented p) → line_end_at text (offset (unindented p)) ≡ line_end p
@@ -64,34 +76,103 @@ line_end_of text p i =
     omega arith
 
 -- where no container begins, what the kind of the place says
-no_container : (d : Document) (path : List Container) (p : Place) (lines : List Place) (k : Kind) (o : Opening)
-    → footnote_head_at (around d path) p ≡ None → item_at p.rest ≡ None
-    → prefix (BlockQuote None) p.rest ≡ None → IsKind d.options p.rest k → OpensAs d path p lines (kind_in (around d path) p k) o → Opens d path p lines o
+pub no_container : (d : Document) (f : Forest Item) (run : Bool) (p : Place) (lines : List Place) (k : Kind) (o : Opening)
+    → footnote_head_at (context_of d.options f) p ≡ None → start_at d.options (may_define d.options f) p ≡ None → IsKind d.options p.rest k
+    → OpensAs d (path_of d.options f) p lines (kind_in (context_of d.options f) p k) o → Opens d (level_of d.options f run) p lines o
 unfolding OpensBy
-no_container d path p lines k o bare no_item none kind opens =
-    opens_bare d path p lines o bare (subst (λ q. OpensBy d path p lines q o) (sym (start_none d.options p no_item none)) (k, kind, opens))
+no_container d f run p lines k o bare no_start kind opens =
+    let l : Level = level_of d.options f run in
+    let may : may_begin d l ≡ may_define d.options f = ap (λ t. has d.options definition_list && t) (takes_same f) in
+    let none : start_at d.options (may_begin d l) p ≡ None = ap (λ t. start_at d.options t p) may ∙ no_start in
+    opens_bare d l p lines o bare (subst (λ q. OpensBy d l.path p lines q o) (sym none) (k, kind, opens))
 
--- a block ends any list at the place that it says
-block_away : (b : Option ItemBody) (at : ℕ) (block : LeafBlock) (left : List Place)
-    → leaf_closes block ≡ at → EndsListAt at b (OpensLeaf (Block block) Line left)
-block_away None at block left closes = tt
-block_away (Some (ListBody flags list number)) at block left closes = closes
-block_away (Some b) at block left closes = tt
+-- a leaf block that is no paragraph ends any list at the place that it says
+pub kind_away : (top : Option ItemBody) (closed : Closed) (at : ℕ) (block : LeafBlock) (left : List Place) → is_paragraph block.kind ≡ false
+    → begins_paragraph block.items ≡ false → leaf_closes block ≡ at → EndsListAt at top closed (OpensLeaf (Block block) Line left)
+kind_away None closed at block left other begins closes = tt
+kind_away (Some (ListBody flags list number)) closed at block left other begins closes = closes
+kind_away (Some (DefinitionList flags)) (DefinitionClosed e blanks) at block left other begins closes =
+    (begins, ap (λ (t : Bool). if t then e else leaf_closes block) other ∙ closes)
+kind_away (Some (DefinitionList flags)) OtherClosed at block left other begins closes = tt
+kind_away (Some (DefinitionList flags)) (ParagraphAt place) at block left other begins closes = tt
+kind_away (Some (DefinitionList flags)) (TitleAt e place) at block left other begins closes = tt
+kind_away (Some b) closed at block left other begins closes = tt
 
--- the items of a block after the nodes
-with_block : (d : Document) (defined : Tables) (f : Forest Item) (frames : List Frame) (items : List (ℕ × Item)) (gap : Bool) (left : List Place)
-    → AreOpen d.options f.nodes f.spine frames
-    → (
+-- any leaf block does where it isn't right after a definition
+items_away : (top : Option ItemBody) (closed : Closed) (at : ℕ) (block : LeafBlock) (left : List Place) → is_definition_list top ≡ false
+    → leaf_closes block ≡ at → EndsListAt at top closed (OpensLeaf (Block block) Line left)
+items_away None closed at block left none closes = tt
+items_away (Some (ListBody flags list number)) closed at block left none closes = closes
+items_away (Some (DefinitionList flags)) closed at block left none closes = cc
+items_away (Some b) closed at block left none closes = tt
+
+title_away : (f : Forest Item) (title : TreeIndex) (at : ℕ) (o : Opening) → possible_title f ≡ Some title → EndsListAt at (top_body f) (closed_in f) o
+title_away f title at o is =
+    let t = title_is f title is in
+    subst (λ z. EndsListAt at (top_body f) z o) (sym t.closed) (subst (λ z. EndsListAt at z (TitleAt (top_end f) title.0) o) (sym t.top) tt)
+
+and_left : (a : Bool) → (a && true) ≡ a
+and_left true = refl
+and_left false = refl
+
+text_by : (f : Forest Item) (o : Option TreeIndex) (at : ℕ) (block : LeafBlock) (left : List Place) → possible_title f ≡ o
+    → is_after_definition f ≡ false → leaf_closes block ≡ at → EndsListAt at (top_body f) (closed_in f) (OpensLeaf (Block block) Line left)
+text_by f None at block left is after closes =
+    let none : is_definition_list (top_body f) ≡ false =
+    sym (and_left (is_definition_list (top_body f)))
+    ∙ ap (λ (o : Option TreeIndex). is_definition_list (top_body f) && not (is_some o)) (sym is) ∙ after in
+    items_away (top_body f) (closed_in f) at block left none closes
+text_by f (Some title) at block left is after closes = title_away f title at (OpensLeaf (Block block) Line left) is
+
+pub text_away : (f : Forest Item) (at : ℕ) (block : LeafBlock) (left : List Place) → is_after_definition f ≡ false → leaf_closes block ≡ at
+    → EndsListAt at (top_body f) (closed_in f) (OpensLeaf (Block block) Line left)
+text_away f at block left after closes = text_by f (possible_title f) at block left refl after closes
+
+-- A leaf block was read after what is open in a tree, and no list is innermost: its items after the nodes can become a derivation.
+record IsRead (d : Document) (defined : Tables) (f : Forest Item) (block : LeafBlock) (left : List Place) : Type 0 where
+  frames : List Frame
+  are_open : AreOpen d.options f.nodes f.spine frames
+  plain : IsPlain frames
+  silent : SilentClosed f.nodes (closed_in f)
+  shows : begins_paragraph block.items ≡ true → AreEachNode ShowsNothing block.items
+  below : AreBelow (length f.nodes) (map (λ (i : TreeIndex). i.0) f.spine)
+  completes : (let os : List ℕ = map (λ (i : TreeIndex). i.0) f.spine in
+      CompletesAt d (told defined block.definitions) (tail (closed_after (length f.nodes) block (closed_in f)) block.gap) frames
+      (f.nodes ++ at_depth (suc (length os)) block.items) os Line left)
+
+begun_after : (place : ℕ) (block : LeafBlock) (closed : Closed) → is_run block.kind ≡ false → closed_after place block closed ≡ begun_at place block.items
+begun_after place block closed other =
+    ap (λ (t : Bool). if begins_paragraph block.items then ParagraphAt place else (if t then closed else OtherClosed)) other
+
+-- the items of a block, added
+block_ready : (d : Document) (defined : Tables) (f : Forest Item) (block : LeafBlock) (left : List Place) → is_run block.kind ≡ false
+    → IsRead d defined f block left → ReadyAt d (told defined block.definitions) (added f block.items) block.gap Line left
+block_ready d defined f block left other is =
     let os : List ℕ = map (λ (i : TreeIndex). i.0) f.spine in
-    AreBelow (length f.nodes) os → CompletesAt d defined gap frames (f.nodes ++ at_depth (suc (length os)) items) os Line left
-    → ReadyAt d defined (added f items) gap Line left)
-with_block d defined f frames items gap left o below k =
+    let g : Forest Item = added f block.items in
+    let now : Tables = told defined block.definitions in
+    let o = open_added d f block.items is.frames is.below is.are_open in
+    let last : closed_in g ≡ begun_at (length f.nodes) block.items = closed_added f block.items (no_list_added d f block.items is.frames is.plain o) in
+    let after : Closed = closed_after (length f.nodes) block (closed_in f) in
+    let same : after ≡ closed_in g = begun_after (length f.nodes) block (closed_in f) other ∙ sym last in
+    record {
+      frames = is.frames;
+      are_open = o;
+      silent = subst (SilentClosed g.nodes) (sym last) (silent_begun f.nodes (length f.spine + 1) block.items is.shows);
+      completes = subst (λ z. CompletesAt d now (tail z block.gap) is.frames g.nodes os Line left) same
+          (subst (λ z. CompletesAt d now (tail after block.gap) is.frames (f.nodes ++ at_depth z block.items) os Line left) (depth_of f.spine) is.completes);
+    }
+
+-- link definitions alone add nothing
+run_ready : (d : Document) (defined : Tables) (f : Forest Item) (q : Place) (xs : List LinkEntry) (left : List Place)
+    → IsRead d defined f (run_block q xs) left → ReadyAt d (told defined xs) f false Line left
+run_ready d defined f q xs left is =
     let os : List ℕ = map (λ (i : TreeIndex). i.0) f.spine in
     record {
-      frames = frames;
-      are_open = open_below d.options f.nodes (f.nodes ++ at_depth (length f.spine + 1) items) (length f.nodes) f.spine frames
-          (λ i h. frame-append d.options f.nodes (at_depth (length f.spine + 1) items) i h) below o;
-      completes = subst (λ z. CompletesAt d defined gap frames (f.nodes ++ at_depth z items) os Line left) (depth_of f.spine) k;
+      frames = is.frames;
+      are_open = is.are_open;
+      silent = is.silent;
+      completes = subst (λ z. CompletesAt d (told defined xs) (tail (closed_in f) false) is.frames z os Line left) (append-nil f.nodes) is.completes;
     }
 
 -- what is remembered then, with no empty item
@@ -100,60 +181,106 @@ remembered_so : (d : Document) (defined : Tables) (new : Forest Item) (empty : O
 remembered_so d defined new empty blank gap left none same ready =
     ready_plain d defined (remembered new empty blank) left none (subst (λ t. ReadyAt d defined new t Line left) (sym same) ready)
 
--- a block is added once a new block has ended what it ends
-added_block : (d : Document) (defined : Tables) (r : Reading) (new : Forest Item) (p : Place) (lines left : List Place) (at : ℕ) (block : LeafBlock)
-    → leaf_closes block ≡ at → IsForest r.tree → Opens d (path_of d.options r.tree) p lines (OpensLeaf (Block block) Line left)
-    → new ≡ added (list_finished at r).tree block.items → r.empty_item ≡ None → ReadyAt d defined r.tree r.blank (Inside p) lines
-    → ReadyAt d (told defined block.definitions) new block.gap Line left
-added_block d defined r new p lines left at block closes forest opens new_is none ready =
+-- what is read where a new block has ended what it ends
+finished_read : (d : Document) (defined : Tables) (r : Reading) (p : Place) (lines left : List Place) (at : ℕ) (block : LeafBlock)
+    → (begins_paragraph block.items ≡ true → AreEachNode ShowsNothing block.items)
+    → EndsListAt at (top_body r.tree) (closed_in r.tree) (OpensLeaf (Block block) Line left) → IsForest r.tree
+    → Opens d (level_of d.options r.tree r.blank) p lines (OpensLeaf (Block block) Line left)
+    → r.empty_item ≡ None → ReadyAt d defined r.tree r.blank (Inside p) lines → IsRead d defined (list_finished at r).tree block left
+finished_read d defined r p lines left at block shows away forest opens none ready =
     let opening : Opening = OpensLeaf (Block block) Line left in
-    let done = ready_finished d defined r p lines at opening forest (opens_stays d (path_of d.options r.tree) p lines opening refl opens) opens tt
-    (block_away (top_body r.tree) at block left closes) none ready in
+    let stays = opens_stays d (level_of d.options r.tree r.blank) p lines opening refl opens in
+    let done = ready_finished d defined r p lines at opening forest stays opens tt refl away none ready in
     let f : Forest Item = (list_finished at r).tree in
-    let frames : List Frame = done.ready.0.frames in
+    let now = done.ready.0 in
+    let frames : List Frame = now.frames in
     let os : List ℕ = map (λ (i : TreeIndex). i.0) f.spine in
-    let opens' : Opens d (containers_of frames) p lines opening =
-    subst (λ z. Opens d z p lines opening) (sym done.path ∙ open_path d.options f.nodes f.spine frames done.ready.0.are_open) opens in
-    let k = completes-block d defined frames f.nodes os p lines left block done.ready.1 opens' done.ready.0.completes in
-    subst (λ z. ReadyAt d (told defined block.definitions) z block.gap Line left) (sym new_is)
-    (with_block d (told defined block.definitions) f frames block.items block.gap left done.ready.0.are_open done.ready.0.completes.below k)
+    let opens' : Opens d (lvl frames (tail (closed_in f) false)) p lines opening =
+    subst (λ z. Opens d z p lines opening) (open_level d.options f frames false now.are_open) done.opens in
+    record {
+      frames = frames;
+      are_open = now.are_open;
+      plain = done.ready.1;
+      silent = now.silent;
+      shows = shows;
+      below = now.completes.below;
+      completes = completes-block d defined (closed_in f) frames f.nodes os p lines left block done.ready.1 opens' now.completes;
+    }
 
 -- the same after the tag of a block quote, where a new block ends nothing
-lazy_block : (d : Document) (defined : Tables) (r : Reading) (new : Forest Item) (p : Place) (lines left : List Place) (at : ℕ) (block : LeafBlock)
-    → OpensBlockAt d (path_of d.options r.tree) p lines (OpensLeaf (Block block) Line left)
-    → new ≡ added (list_finished at r).tree block.items → r.empty_item ≡ None → ReadyLazy d defined r p lines
-    → ReadyAt d (told defined block.definitions) new block.gap Line left
+lazy_read : (d : Document) (defined : Tables) (r : Reading) (p : Place) (lines left : List Place) (at : ℕ) (block : LeafBlock)
+    → (begins_paragraph block.items ≡ true → AreEachNode ShowsNothing block.items)
+    → OpensBlockAt d (path_of d.options r.tree) p lines (OpensLeaf (Block block) Line left) → r.empty_item ≡ None → ReadyLazy d defined r p lines
+    → IsRead d defined (list_finished at r).tree block left
 unfolding going
-lazy_block d defined r new p lines left at block opens new_is none lazy =
+lazy_read d defined r p lines left at block shows opens none lazy =
     let f : Forest Item = r.tree in
-    let frames : List Frame = lazy.ready.frames in
+    let ready = lazy.ready in
+    let frames : List Frame = ready.frames in
     let os : List ℕ = map (λ (i : TreeIndex). i.0) f.spine in
-    let plain = plain_by d.options f.nodes f.spine frames lazy.ready.are_open (ap is_list lazy.quote) in
-    let path = open_path d.options f.nodes f.spine frames lazy.ready.are_open in
-    let first : IsFirst d (level (containers_of frames) (before_of frames false)) (At p ALeafAlone) lines (OpensLeaf (Block block) Line left) = record {
+    let plain = plain_by d.options f.nodes f.spine frames ready.are_open (ap is_list lazy.quote) in
+    let path = open_path d.options f.nodes f.spine frames ready.are_open in
+    let l : Level = lvl frames (tail (closed_in f) false) in
+    let first : IsFirst d l (At p ALeafAlone) lines (OpensLeaf (Block block) Line left) = record {
       place = p;
       behind = lines;
       begins = refl;
       opens = subst (λ z. OpensBlockAt d z p lines (OpensLeaf (Block block) Line left)) path opens;
     } in
-    let k = completes-leaf d defined frames f.nodes os (At p ALeafAlone) lines left block plain (λ path mid. refl) first lazy.ready.completes in
-    let q = with_block d (told defined block.definitions) f frames block.items block.gap left lazy.ready.are_open lazy.ready.completes.below k in
-    let same : list_finished at r ≡ r = finishes_nothing at r lazy.kind lazy.quote lazy.blank none in
-    subst (λ z. ReadyAt d (told defined block.definitions) z block.gap Line left) (sym (new_is ∙ ap (λ (z : Reading). added z.tree block.items) same)) q
+    let is : IsRead d defined f block left = record {
+      frames = frames;
+      are_open = ready.are_open;
+      plain = plain;
+      silent = ready.silent;
+      shows = shows;
+      below = ready.completes.below;
+      completes = completes-leaf d defined (closed_in f) frames f.nodes os (At p ALeafAlone) lines left block plain (λ path mid. refl) tt first
+          ready.completes;
+    } in
+    subst (λ (z : Reading). IsRead d defined z.tree block left) (sym (finishes_nothing at r lazy.kind lazy.quote lazy.blank none)) is
 
--- a leaf is added at its place
+-- what is no paragraph as it is read is none
+begins_by : (block : LeafBlock) (t : Bool) → begins_paragraph block.items ≡ t → OwnParagraph block → is_paragraph block.kind ≡ false → t ≡ false
+begins_by block true begins own other = absurd (true≢false (sym (own.kind begins) ∙ other))
+begins_by block false begins own other = refl
+
+leaf_read_by : (d : Document) (defined : Tables) (r : Reading) (p : Place) (lines left : List Place) (at : ℕ) (block : LeafBlock) (k : Kind)
+    → (begins_paragraph block.items ≡ true → AreEachNode ShowsNothing block.items)
+    → EndsListAt at (top_body r.tree) (closed_in r.tree) (OpensLeaf (Block block) Line left) → IsForest r.tree → IsKind d.options p.rest k
+    → OpensAs d (path_of d.options r.tree) p lines (kind_in (context_of d.options r.tree) p k) (OpensLeaf (Block block) Line left)
+    → r.empty_item ≡ None → ReadyLeaf d defined r p lines → IsRead d defined (list_finished at r).tree block left
+leaf_read_by d defined r p lines left at block k shows away forest kind opens none (inl (bare, no_start, ready)) =
+    finished_read d defined r p lines left at block shows away forest
+    (no_container d r.tree r.blank p lines k (OpensLeaf (Block block) Line left) bare no_start kind opens) none ready
+leaf_read_by d defined r p lines left at block k shows away forest kind opens none (inr lazy) =
+    lazy_read d defined r p lines left at block shows (k, kind, opens) none lazy
+
+-- A leaf block that a kind opens at its place ends what a new block ends, at an offset.
+leaf_is_read : (d : Document) (defined : Tables) (r : Reading) (p : Place) (lines left : List Place) (at : ℕ) (block : LeafBlock) (k : Kind)
+    → ((is_paragraph block.kind ≡ false → begins_paragraph block.items ≡ false)
+    → EndsListAt at (top_body r.tree) (closed_in r.tree) (OpensLeaf (Block block) Line left)) → IsForest r.tree → IsKind d.options p.rest k
+    → OpensAs d (path_of d.options r.tree) p lines (kind_in (context_of d.options r.tree) p k) (OpensLeaf (Block block) Line left)
+    → r.empty_item ≡ None → ReadyLeaf d defined r p lines → IsRead d defined (list_finished at r).tree block left
+leaf_is_read d defined r p lines left at block k away forest kind opens none ready =
+    let o : Opening = OpensLeaf (Block block) Line left in
+    let holds = kind_holds ShowsNothing d (tokens_show d.names.texts) (path_of d.options r.tree) p lines (kind_in (context_of d.options r.tree) p k) o opens in
+    let begins : is_paragraph block.kind ≡ false → begins_paragraph block.items ≡ false =
+    λ other. begins_by block (begins_paragraph block.items) refl holds.1 other in
+    leaf_read_by d defined r p lines left at block k (λ begins. text_silent block.items begins holds.0.tokens) (away begins) forest kind opens none ready
+
+-- a leaf block is added at its place
 pub ready_added : (d : Document) (defined : Tables) (r : Reading) (new : Forest Item) (p : Place) (lines left : List Place) (at : ℕ) (block : LeafBlock)
-    → leaf_closes block ≡ at → (k : Kind) → IsForest r.tree → IsKind d.options p.rest k
+    → is_run block.kind ≡ false → (k : Kind)
+    → ((is_paragraph block.kind ≡ false → begins_paragraph block.items ≡ false)
+    → EndsListAt at (top_body r.tree) (closed_in r.tree) (OpensLeaf (Block block) Line left)) → IsForest r.tree → IsKind d.options p.rest k
     → OpensAs d (path_of d.options r.tree) p lines (kind_in (context_of d.options r.tree) p k) (OpensLeaf (Block block) Line left)
     → new ≡ added (list_finished at r).tree block.items → r.empty_item ≡ None → ReadyLeaf d defined r p lines
     → (empty : Option ℕ) (blank : Bool) → empty ≡ None → blank ≡ block.gap → Ready d (told defined block.definitions) (remembered new empty blank) left
-ready_added d defined r new p lines left at block closes k forest kind opens new_is none (inl (bare, no_item, no_quote, ready)) empty blank e b =
+ready_added d defined r new p lines left at block other k away forest kind opens new_is none ready empty blank e b =
+    let is = leaf_is_read d defined r p lines left at block k away forest kind opens none ready in
     remembered_so d (told defined block.definitions) new empty blank block.gap left e b
-    (added_block d defined r new p lines left at block closes forest
-    (no_container d (path_of d.options r.tree) p lines k (OpensLeaf (Block block) Line left) bare no_item no_quote kind opens) new_is none ready)
-ready_added d defined r new p lines left at block closes k forest kind opens new_is none (inr lazy) empty blank e b =
-    remembered_so d (told defined block.definitions) new empty blank block.gap left e b
-    (lazy_block d defined r new p lines left at block (k, kind, opens) new_is none lazy)
+    (subst (λ z. ReadyAt d (told defined block.definitions) z block.gap Line left) (sym new_is)
+    (block_ready d defined (list_finished at r).tree block left other is))
 
 kind_blank_is : (r : Reading) (b : Option ItemBody) (kind : Option BlockQuoteKind) → b ≡ Some (BlockQuoteBody kind) → blank_read_by r b ≡ r
 kind_blank_is r b kind is = ap (blank_read_by r) is
@@ -162,25 +289,28 @@ kind_blank_is r b kind is = ap (blank_read_by r) is
 pub ready_blank_leaf : (d : Document) (defined : Tables) (r : Reading) (p : Place) (lines : List Place)
     → IsKind d.options p.rest Blank → r.empty_item ≡ None → ReadyLeaf d defined r p lines → Ready d defined (blank_read r) lines
 unfolding blank_read OpensAs going
-ready_blank_leaf d defined r p lines kind none (inl (bare, no_item, no_quote, ready)) =
+ready_blank_leaf d defined r p lines kind none (inl (bare, no_start, ready)) =
     ready_blank d defined r p lines (kind_says d.options p.rest Blank kind) none ready
 ready_blank_leaf d defined r p lines kind none (inr lazy) =
     let f : Forest Item = r.tree in
-    let frames : List Frame = lazy.ready.frames in
+    let ready = lazy.ready in
+    let frames : List Frame = ready.frames in
     let os : List ℕ = map (λ (i : TreeIndex). i.0) f.spine in
+    let t : Tail = tail (closed_in f) false in
     let blank : OpensAs d (containers_of frames) p lines Blank (OpensLeaf BlankLine Line lines) = refl in
-    let first : IsFirst d (level (containers_of frames) (before_of frames false)) (At p ALeafAlone) lines (OpensLeaf BlankLine Line lines) = record {
+    let first : IsFirst d (lvl frames t) (At p ALeafAlone) lines (OpensLeaf BlankLine Line lines) = record {
       place = p;
       behind = lines;
       begins = refl;
       opens = (Blank, kind, blank);
     } in
-    let counts : counts_in frames false ≡ false = quote_counts d.options f.nodes f.spine frames lazy.kind lazy.quote lazy.ready.are_open in
+    let counts : counted_after frames t ≡ false = quote_counts d.options f.nodes f.spine frames lazy.kind (closed_in f) lazy.quote ready.are_open in
     let now : ReadyAt d defined f false Line lines = record {
       frames = frames;
-      are_open = lazy.ready.are_open;
-      completes = subst (λ t. CompletesAt d defined t frames f.nodes os Line lines) counts
-          (completes-blank d defined false frames f.nodes os (At p ALeafAlone) lines lines (λ path mid. refl) first lazy.ready.completes);
+      are_open = ready.are_open;
+      silent = ready.silent;
+      completes = subst (λ z. CompletesAt d defined (tail (closed_in f) z) frames f.nodes os Line lines) counts
+          (completes-blank d defined t frames f.nodes os (At p ALeafAlone) lines lines (λ path mid. refl) first ready.completes);
     } in
     subst (λ q. Ready d defined q lines) (sym (kind_blank_is r (top_body r.tree) lazy.kind lazy.quote))
     (ready_plain d defined r lines none (subst (λ t. ReadyAt d defined f t Line lines) (sym lazy.blank) now))
@@ -244,7 +374,7 @@ kind_in_run : (around : Context) (p : Place) (x : LinkEntry) → definition_at a
 kind_in_run around p x some = ap (λ (x : Option LinkEntry). if is_some x then LinkDefinitions else Paragraph) some
 
 -- what opens after link definitions, or after none
-text_opens : (d : Document) (path : List Container) (p : Place) (lines : List Place) (xs : List LinkEntry) (b : Beyond) (o : Opening)
+pub text_opens : (d : Document) (path : List Container) (p : Place) (lines : List Place) (xs : List LinkEntry) (b : Beyond) (o : Opening)
     → IsRun (around d path) (unindented p) lines xs b → OpensBeyond d path xs b o → OpensAs d path p lines (kind_in (around d path) p Paragraph) o
 unfolding IsRun OpensAs OpensRun OpensText
 text_opens d path p lines [] b o (none, is) opens =
@@ -253,77 +383,84 @@ text_opens d path p lines (x ∷ xs) b o (here, more) opens =
     subst (λ k. OpensAs d path p lines k o) (sym (kind_in_run (around d path) p x here)) (x ∷ xs, b, (here, more), opens)
 
 -- what stands for a text at a place, after link definitions or none
-opens_flow : (d : Document) (path : List Container) (q : Place) (at next : ℕ) (xs : List LinkEntry) (items : List (ℕ × Item))
+pub opens_flow : (d : Document) (path : List Container) (q : Place) (at next : ℕ) (xs : List LinkEntry) (items : List (ℕ × Item))
     → at ≡ offset q → IsPlaceOf d.text q → IsTextAt d path at None items next
     → OpensBeyond d path xs (FlowsOn q (lines_from d.text (line_end q))) (OpensLeaf (Block (flowing_block q xs items)) Line (lines_from d.text next))
 opens_flow d path q at next xs items at_is place is = (taking items (lines_from d.text next), is q place (sym at_is), refl)
 
--- after a text, which stands after link definitions or none
-pub ready_flows : (d : Document) (defined : Tables) (r : Reading) (new : Forest Item) (p q : Place) (at next : ℕ) (xs : List LinkEntry)
+-- after a text, which stands after link definitions or none, and ends any list at an offset
+pub ready_flows : (d : Document) (defined : Tables) (r : Reading) (new : Forest Item) (p q : Place) (ends at next : ℕ) (xs : List LinkEntry)
     (items : List (ℕ × Item)) → IsForest r.tree → IsKind d.options p.rest Paragraph → IsPlaceOf d.text q → at ≡ offset q
     → IsRun (context_of d.options r.tree) (unindented p) (lines_from d.text (line_end p)) xs (FlowsOn q (lines_from d.text (line_end q)))
-    → IsTextAt d (path_of d.options (list_finished at r).tree) at None items next
-    → new ≡ added (list_finished at r).tree items → r.empty_item ≡ None
+    → IsTextAt d (path_of d.options r.tree) at None items next
+    → EndsListAt ends (top_body r.tree) (closed_in r.tree) (OpensLeaf (Block (flowing_block q xs items)) Line (lines_from d.text next))
+    → new ≡ added (list_finished ends r).tree items → r.empty_item ≡ None
     → ReadyLeaf d defined r p (lines_from d.text (line_end p)) → (empty : Option ℕ) (blank : Bool) → empty ≡ None → blank ≡ false
     → Ready d (told defined xs) (remembered new empty blank) (lines_from d.text next)
-ready_flows d defined r new p q at next xs items forest kind place at_is run is new_is none ready =
+ready_flows d defined r new p q ends at next xs items forest kind place at_is run is away new_is none ready =
     let lines : List Place = lines_from d.text (line_end p) in
     let left : List Place = lines_from d.text next in
     let block : LeafBlock = flowing_block q xs items in
-    let here : IsTextAt d (path_of d.options r.tree) at None items next =
-    subst (λ path. IsTextAt d path at None items next) (path_finished d.options at r none) is in
     let opens = text_opens d (path_of d.options r.tree) p lines xs (FlowsOn q (lines_from d.text (line_end q))) (OpensLeaf (Block block) Line left) run
-    (opens_flow d (path_of d.options r.tree) q at next xs items at_is place here) in
-    ready_added d defined r new p lines left at block (sym at_is) Paragraph forest kind opens new_is none ready
-
--- nothing is added where a block has no items
-added_nothing : (d : Document) (defined : Tables) (f : Forest Item) (run : Bool) (left : List Place)
-    → ReadyAt d defined (added f []) run Line left → ReadyAt d defined f run Line left
-added_nothing d defined f run left ready =
-    let same : f.nodes ++ [] ≡ f.nodes = append-nil f.nodes in
-    record {
-      frames = ready.frames;
-      are_open = subst (λ ns. AreOpen d.options ns f.spine ready.frames) same ready.are_open;
-      completes = subst (λ ns. CompletesAt d defined run ready.frames ns (map (λ (i : TreeIndex). i.0) f.spine) Line left) same ready.completes;
-    }
+    (opens_flow d (path_of d.options r.tree) q at next xs items at_is place is) in
+    ready_added d defined r new p lines left ends block refl Paragraph (λ begins. away) forest kind opens new_is none ready
 
 -- after link definitions with no paragraph after them, the last of which begins at a place
 pub ready_ended : (d : Document) (defined : Tables) (r : Reading) (p q : Place) (next : ℕ) (xs : List LinkEntry)
     → IsForest r.tree → IsKind d.options p.rest Paragraph
     → IsRun (context_of d.options r.tree) (unindented p) (lines_from d.text (line_end p)) xs (Ended q (lines_from d.text next)) → r.empty_item ≡ None
     → ReadyLeaf d defined r p (lines_from d.text (line_end p)) → Ready d (told defined xs) (list_finished q.line r) (lines_from d.text next)
-unfolding Ready
 ready_ended d defined r p q next xs forest kind run none ready =
     let lines : List Place = lines_from d.text (line_end p) in
     let left : List Place = lines_from d.text next in
     let now : Reading = list_finished q.line r in
-    let opens = text_opens d (path_of d.options r.tree) p lines xs (Ended q left) (OpensLeaf (Block (run_block q xs)) Line left) run refl in
-    let done : ReadyAt d (told defined xs) (added now.tree []) false Line left =
-    ready_added d defined r (added now.tree []) p lines left q.line (run_block q xs) refl Paragraph forest kind opens refl none ready None false refl refl in
+    let block : LeafBlock = run_block q xs in
+    let opens = text_opens d (path_of d.options r.tree) p lines xs (Ended q left) (OpensLeaf (Block block) Line left) run refl in
+    let is = leaf_is_read d defined r p lines left q.line block Paragraph
+    (λ begins. kind_away (top_body r.tree) (closed_in r.tree) q.line block left refl refl refl) forest kind opens none ready in
     ready_plain d (told defined xs) now left (list_finished_none q.line r)
     (subst (λ t. ReadyAt d (told defined xs) now.tree t Line left) (sym (list_finished_blank q.line r))
-    (added_nothing d (told defined xs) now.tree false left done))
+    (run_ready d defined now.tree q xs left is))
+
+-- the marker of a task is no paragraph
+mark_plain : (body : ItemBody) → is_task_marker body ≡ true → is_paragraph_body body ≡ false
+mark_plain (TaskListMarker checked) is = refl
+mark_plain body is = cc
 
 -- after the text of a task list item
 pub ready_text : (d : Document) (defined : Tables) (r : Reading) (new : Forest Item) (p : Place) (at next : ℕ) (marker : Item) (items : List (ℕ × Item))
-    → at ≡ offset (unindented p) → IsPlaceOf d.text (unindented p)
+    → is_task_marker marker.body ≡ true → at ≡ offset (unindented p) → IsPlaceOf d.text (unindented p)
     → IsTextAt d (path_of d.options r.tree) at (Some marker) items next → new ≡ added r.tree items → r.empty_item ≡ None
     → ReadyText d defined r marker p (lines_from d.text (line_end p)) → Ready d defined (remembered new r.empty_item r.blank) (lines_from d.text next)
-ready_text d defined r new p at next marker items at_is place is new_is none text =
+unfolding going
+ready_text d defined r new p at next marker items mark at_is place is new_is none text =
     let ready = text.ready in
     let f : Forest Item = r.tree in
     let frames : List Frame = ready.frames in
     let os : List ℕ = map (λ (i : TreeIndex). i.0) f.spine in
     let lines : List Place = lines_from d.text (line_end p) in
     let left : List Place = lines_from d.text next in
+    let block : LeafBlock = block_at Paragraph p items false in
     let here : IsTextAt d (containers_of frames) at (Some marker) items next =
     subst (λ path. IsTextAt d path at (Some marker) items next) (open_path d.options f.nodes f.spine frames ready.are_open) is in
     let opens = opens_text d (containers_of frames) p at next (Some marker) items at_is place here in
-    let k = completes-text d defined frames f.nodes os marker p lines left (block_at Paragraph p items false) text.plain opens ready.completes in
-    let q = with_block d defined f frames items false left ready.are_open ready.completes.below
-    (subst (λ z. CompletesAt d z false frames (f.nodes ++ at_depth (suc (length os)) items) os Line left) (told_none defined) k) in
+    let l : Level = lvl frames (tail (closed_in f) false) in
+    let first : IsFirst d l (At p (TextOf marker)) lines (OpensLeaf (Block block) Line left) =
+    record { place = p; behind = lines; begins = refl; opens = opens } in
+    let read : IsRead d defined f block left = record {
+      frames = frames;
+      are_open = ready.are_open;
+      plain = text.plain;
+      silent = ready.silent;
+      shows = opened_silent d l (At p (TextOf marker)) lines block Line left (task_shows marker.body mark) first;
+      below = ready.completes.below;
+      completes = completes-text d defined (closed_in f) frames f.nodes os marker p lines left block text.plain (mark_plain marker.body mark) opens
+          ready.completes;
+    } in
+    let now : ReadyAt d (told defined []) (added f items) false Line left = block_ready d defined f block left refl read in
     ready_plain d defined (remembered new r.empty_item r.blank) left none
-    (subst (λ t. ReadyAt d defined new t Line left) (sym text.blank) (subst (λ z. ReadyAt d defined z false Line left) (sym new_is) q))
+    (subst (λ t. ReadyAt d defined new t Line left) (sym text.blank) (subst (λ z. ReadyAt d defined z false Line left) (sym new_is)
+    (subst (λ z. ReadyAt d z (added f items) false Line left) (told_none defined) now)))
 
 -- a thematic break ends where its line ends
 pub rule_end : (p : Place) (at size : ℕ) → hrule_len (unindented p).rest.left ≡ Some size → at ≡ offset (unindented p) → at + size ≡ line_end p

@@ -3,6 +3,7 @@ use Rattle.std.proofs.Common.{◌≡◌, inl, ℕ, false, None, refl, sym, ap, s
 use Rattle.first_pass_tree.specs.Forest.{IsForest}
 use Rattle.first_pass_lines.specs.Places.{Place, offset, IsPlaceOf}
 use Rattle.first_pass_grammar.specs.Kinds.{Kind, Blank, IsKind}
+use Rattle.first_pass_grammar.specs.Before.{is_run}
 use Rattle.first_pass_grammar.specs.Rows.{is_paragraph}
 use Rattle.first_pass_grammar.specs.Leaves.{document}
 use Rattle.first_pass_grammar.specs.Completion.{lines_from}
@@ -19,13 +20,14 @@ use Rattle.first_pass_blocks.proofs.KindBlocks.{ready_kind}
 use Rattle.first_pass_blocks.proofs.WrittenLemmas.{written_stay}
 use Rattle.first_pass_blocks.proofs.NamedLemmas.{block_added, list_finished_named, kind_named}
 use Rattle.first_pass_blocks.proofs.WholeKept.{list_finished_whole, block_whole, kind_whole}
+use Rattle.first_pass_blocks.proofs.FirstItems.{kind_silent}
 use Rattle.first_pass_blocks.proofs.CountLemmas.{list_finished_count, block_count, leaf_left, left_before}
 
 -- a block that ends what the line's beginning ends
 pub leaf_read : (old new : BlockPass) (p : Place) (kind : Kind) (next : ℕ) → IsPlaceOf (source_text old) p → (reading_of old).empty_item ≡ None
-    → IsForest (tree_of old) → IsKind (source_options old) p.rest kind → (kind ≡ Blank → ⊥) → is_paragraph kind ≡ false
+    → IsForest (tree_of old) → IsKind (source_options old) p.rest kind → (kind ≡ Blank → ⊥) → is_paragraph kind ≡ false → is_run kind ≡ false
     → AddsLeaf (record old { reading = list_finished p.line (reading_of old) }) new p kind next → ReadsLeaf old new p next
-leaf_read old new p kind next i empty forest is some other e =
+leaf_read old new p kind next i empty forest is some other no_run e =
     let text = source_text old in
     let r : Reading = reading_of old in
     let none = e.empty_item in
@@ -42,7 +44,7 @@ leaf_read old new p kind next i empty forest is some other e =
       ready = λ more extends ready.
           subst (λ z. Ready (document text (source_options old) more) z (reading_of new) (lines_from text next)) (sym (ap told_by e.more.entries))
           (ready_kind text (source_options old) (tables (allocs_of old)) (names_of (allocs_of new)) more r (tree_of new) p kind
-          (reading_of new).blank next forest is other extends e.block empty ready (reading_of new).empty_item (reading_of new).blank none refl);
+          (reading_of new).blank next forest is other no_run extends e.block empty ready (reading_of new).empty_item (reading_of new).blank none refl);
       named = λ h.
           block_added (names_of (allocs_of new)) (names_of (allocs_of old)) (list_finished p.line r).tree (tree_of new) e.block.items e.more.names
           e.block.tree_is
@@ -56,6 +58,8 @@ leaf_read old new p kind next i empty forest is some other e =
           e.block.tree_is
           (kind_whole text (source_options old) (names_of (allocs_of new)) p kind (reading_of new).blank (list_finished p.line r).tree
           (tree_of new) next i e.block)
+          (kind_silent text (source_options old) (names_of (allocs_of new)) p kind (reading_of new).blank (list_finished p.line r).tree
+          (tree_of new) next e.block)
           (list_finished_named (names_of (allocs_of old)) p.line r h) (list_finished_whole (names_of (allocs_of old)) p.line r k);
       few = omega arith;
     }

@@ -3,9 +3,10 @@ use Rattle.std.proofs.Common.{◌≡◌, ℕ, ◌+◌, ◌<◌, ◌≤◌, Bool,
 use Rattle.std.proofs.Common.{IsCharBoundary, refl, sym, ap, subst, ◌∙◌, if◌then◌else◌}
 use Rattle.first_pass_items.specs.declared.item.Item.{Item}
 use Rattle.first_pass_items.specs.declared.item.ItemBody.{ItemBody}
-use Rattle.first_pass_items.specs.declared.item.ItemBody.TheVariants.{List as ListBody, ListItem as ListItemBody}
+use Rattle.first_pass_items.specs.declared.item.ItemBody.TheVariants.{List as ListBody, ListItem as ListItemBody, Paragraph as ParagraphBody}
+use Rattle.first_pass_items.specs.declared.item.ItemBody.TheVariants.{DefinitionList, DefinitionListDefinition}
 use Rattle.first_pass_tree.specs.declared.tree_index.TreeIndex.{TreeIndex}
-use Rattle.first_pass_tree.specs.Forest.{Forest, body_at}
+use Rattle.first_pass_tree.specs.Forest.{Forest, with_body_at, body_at}
 use Rattle.first_pass_lines.specs.Lines.{blank_len, line_len}
 use Rattle.first_pass_lines.specs.Rest.{Rest}
 use Rattle.first_pass_lines.specs.Places.{Place, line_rest, line_place, place_at, line_end, start_of, IsPlaceOf}
@@ -17,6 +18,7 @@ use Rattle.first_pass_grammar.specs.Skeleton.{Inside}
 use Rattle.first_pass_grammar.specs.Derivation.{Tables, list_flags}
 use Rattle.first_pass_open.specs.OpenBlock.{closed_by}
 use Rattle.first_pass_grammar.specs.Completion.{lines_from}
+use Rattle.first_pass_lists.specs.Closing.{top_end, possible_title, current_moved, definitions_closed, with_tree, popped_after}
 use Rattle.first_pass_lists.specs.Closing.{top_body, is_list, is_list_of, popped_by, popped_at, popped, item_finished_by, item_finished, list_left, gap_tree}
 use Rattle.first_pass_lists.specs.Closing.{list_finished, loosened_top, list_kept, begun, list_continued, blank_read, is_footnote, footnote_left}
 use Rattle.first_pass_lists.specs.Closing.{footnote_begun}
@@ -121,16 +123,30 @@ line_kept options text start kept f r utf8 boundary taken =
 popped_by_none : (r : Reading) (f : Forest Item) (ix : TreeIndex) (b : Option ItemBody) → r.empty_item ≡ None → (popped_by r f ix b).empty_item ≡ None
 popped_by_none r f ix None none = none
 popped_by_none r f ix (Some (ListBody flags list number)) none = none
+popped_by_none r f ix (Some (DefinitionList flags)) none = none
 popped_by_none r f ix (Some (ListItemBody columns)) none = refl
+popped_by_none r f ix (Some (DefinitionListDefinition columns)) none = refl
 popped_by_none r f ix (Some b) none = none
 
 popped_at_none : (e : ℕ) (r : Reading) (s : List TreeIndex) → r.empty_item ≡ None → (popped_at e r s).empty_item ≡ None
 popped_at_none e r [] none = none
 popped_at_none e r (ix ∷ rest) none = popped_by_none r (closed_by r.tree e (ix ∷ rest)) ix (body_at (closed_by r.tree e (ix ∷ rest)).nodes ix.0) none
 
+moved_none : (r : Reading) (c : Option TreeIndex) → r.empty_item ≡ None → (current_moved r c).empty_item ≡ None
+moved_none r None none = none
+moved_none r (Some c) none = none
+
+closed_none : (e : ℕ) (r : Reading) → r.empty_item ≡ None → (definitions_closed e r).empty_item ≡ None
+unfolding definitions_closed
+closed_none e r none = moved_none (popped_at e r r.tree.spine) r.tree.current (popped_at_none e r r.tree.spine none)
+
+after_none : (e : ℕ) (r : Reading) (title : Option TreeIndex) → r.empty_item ≡ None → (popped_after e r title).empty_item ≡ None
+after_none e r None none = popped_at_none e r r.tree.spine none
+after_none e r (Some title) none = closed_none (top_end r.tree) (with_tree r (with_body_at r.tree title ParagraphBody)) none
+
 popped_none : (e : ℕ) (r : Reading) → r.empty_item ≡ None → (popped e r).empty_item ≡ None
 unfolding popped
-popped_none e r none = popped_at_none e r r.tree.spine none
+popped_none e r none = after_none e r (possible_title r.tree) none
 
 left_none : (t : Bool) (e : ℕ) (r : Reading) → r.empty_item ≡ None → (if t then popped e r else r).empty_item ≡ None
 left_none true e r none = popped_none e r none

@@ -1,15 +1,18 @@
 -- Each index that nodes keep names an entry: what closes nodes and notes blank lines changes no index, and what opens a container adds none.
-use Rattle.std.proofs.Common.{◌≡◌, ℕ, zero, suc, ◌+◌, ◌<◌, ◌==◌, ◌&&◌, Bool, true, false, if◌then◌else◌, List, [], ◌∷◌, length, nat_lt, slice_index, Option}
-use Rattle.std.proofs.Common.{Some}
+use Rattle.std.proofs.Common.{◌≡◌, ℕ, zero, suc, ◌+◌, ◌<◌, ◌==◌, ◌&&◌, Bool, true, false, if◌then◌else◌, List, [], ◌∷◌, ◌++◌, length, nat_lt, slice_index}
+use Rattle.std.proofs.Common.{slice_get}
+use Rattle.std.proofs.Common.{Option, Some, map, take, drop}
 use Rattle.std.proofs.Common.{None, is_some, refl, sym, subst}
 use Rattle.std.specs.Int.RustNames.{bit_and}
 use Rattle.std.proofs.lemmas.Bool.{cond_both}
 use Rattle.first_pass_items.specs.declared.item.Item.{Item}
 use Rattle.first_pass_items.specs.declared.item.ItemBody.{ItemBody}
 use Rattle.first_pass_items.specs.declared.item.ItemBody.TheVariants.{BlockQuote as BlockQuoteBody, List as ListBody, ListItem as ListItemBody, Paragraph}
-use Rattle.first_pass_items.specs.declared.item.ItemBody.TheVariants.{TaskListMarker}
+use Rattle.first_pass_items.specs.declared.item.ItemBody.TheVariants.{TaskListMarker, DefinitionList, DefinitionListTitle, DefinitionListDefinition}
+use Rattle.first_pass_items.specs.declared.item.ItemBody.TheVariants.{MaybeDefinitionListTitle}
 use Rattle.first_pass_tree.specs.declared.tree_index.TreeIndex.{TreeIndex}
-use Rattle.first_pass_tree.specs.Forest.{Forest, empty_forest, with_end_at, depths, body_at, is_text, added, at_depth}
+use Rattle.first_pass_tree.specs.Forest.{Forest, empty_forest, with_end_at, with_end, with_body_at, depths, body_at, item_at, is_text, added, at_depth}
+use Rattle.first_pass_tree.specs.Forest.{map_from, deeper, shallower}
 use Rattle.first_pass_tree.specs.Tight.{tight_body, tightened, tight_run, tight_at, tight_items}
 use Rattle.first_pass_grammar.specs.Names.{Names, Extends, index_of, NamesEntry, AreNamed}
 use Rattle.first_pass_grammar.specs.Derivation.{list_flags}
@@ -27,7 +30,9 @@ use Rattle.first_pass_blocks.specs.Adding.{AddsKind}
 use Rattle.first_pass_open.specs.OpenBlock.{closed_by, with_child}
 use Rattle.first_pass_lists.specs.Closing.{loosened_by, top_body, is_list, is_list_of, is_item, popped_by, popped_at, popped, item_finished_by, item_finished}
 use Rattle.first_pass_lists.specs.Closing.{list_left, gap_tree, gap_noted, list_finished, loosened_top, list_kept, begun, list_continued, emptied}
-use Rattle.first_pass_lists.specs.Closing.{blank_read_by, blank_read, is_footnote, footnote_left, footnote_begun}
+use Rattle.first_pass_lists.specs.Closing.{blank_read_by, blank_read, is_footnote, footnote_left, footnote_begun, with_tree, current_moved}
+use Rattle.first_pass_lists.specs.Closing.{definitions_closed, top_end, possible_title, popped_after, definitions_left, with_current, title_kept}
+use Rattle.first_pass_lists.specs.Closing.{definitions_by, definitions_at, definitions_opened, definition_begun, emptied_definition}
 use Rattle.first_pass_items.specs.declared.item.CowIndex.{CowIndex}
 use Rattle.first_pass_items.specs.declared.item.ItemBody.TheVariants.{FootnoteDefinition as FootnoteDefinitionBody}
 use Rattle.first_pass_lists.specs.declared.reading.Reading.{Reading}
@@ -81,7 +86,9 @@ module _ (names : Names) where
   closed_named : (r : Reading) (f : Forest Item) (ix : TreeIndex) (b : Option ItemBody) → AreNamed names f.nodes → AreReadNamed (popped_by r f ix b)
   closed_named r f ix None h = h
   closed_named r f ix (Some (ListBody flags byte number)) h = items_by (bit_and flags.0 1 == 1) f ix h
+  closed_named r f ix (Some (DefinitionList flags)) h = items_by (bit_and flags.0 1 == 1) f ix h
   closed_named r f ix (Some (ListItemBody columns)) h = h
+  closed_named r f ix (Some (DefinitionListDefinition columns)) h = h
   closed_named r f ix (Some b) h = h
 
   popped_at_named : (e : ℕ) (r : Reading) (s : List TreeIndex) → AreReadNamed r → AreReadNamed (popped_at e r s)
@@ -90,9 +97,39 @@ module _ (names : Names) where
       closed_named r (closed_by r.tree e (ix ∷ rest)) ix (body_at (closed_by r.tree e (ix ∷ rest)).nodes ix.0)
       (named_modified names r.tree.nodes ix.0 (λ x. record x { «end» = e }) (λ x k. k) h)
 
+  -- nodes moved out of the one that is closed
+  shallower_named : (nodes : List (ℕ × Item)) → AreNamed names nodes → AreNamed names (map shallower nodes)
+  unfolding AreNamed
+  shallower_named [] h = tt
+  shallower_named (n ∷ nodes) h = (h.0, shallower_named nodes h.1)
+
+  moved_from_named : (place : ℕ) (nodes : List (ℕ × Item)) → AreNamed names nodes → AreNamed names (map_from shallower place nodes)
+  unfolding AreNamed
+  moved_from_named zero nodes h = shallower_named nodes h
+  moved_from_named (suc place) [] h = tt
+  moved_from_named (suc place) (n ∷ nodes) h = (h.0, moved_from_named place nodes h.1)
+
+  moved_named : (r : Reading) (o : Option TreeIndex) → AreReadNamed r → AreReadNamed (current_moved r o)
+  moved_named r None h = h
+  moved_named r (Some c) h = moved_from_named c.0 r.tree.nodes h
+
+  definitions_closed_named : (e : ℕ) (r : Reading) → AreReadNamed r → AreReadNamed (definitions_closed e r)
+  unfolding definitions_closed
+  definitions_closed_named e r h = moved_named (popped_at e r r.tree.spine) r.tree.current (popped_at_named e r r.tree.spine h)
+
+  -- another body that keeps no index
+  body_named : (f : Forest Item) (c : TreeIndex) (b : ItemBody) → NamesEntry names (index_of b) → AreNamed names f.nodes
+      → AreNamed names (with_body_at f c b).nodes
+  body_named f c b none h = named_modified names f.nodes c.0 (λ x. record x { body = b }) (λ x k. none) h
+
+  popped_after_named : (e : ℕ) (r : Reading) (o : Option TreeIndex) → AreReadNamed r → AreReadNamed (popped_after e r o)
+  popped_after_named e r None h = popped_at_named e r r.tree.spine h
+  popped_after_named e r (Some title) h =
+      definitions_closed_named (top_end r.tree) (with_tree r (with_body_at r.tree title Paragraph)) (body_named r.tree title Paragraph tt h)
+
   pub popped_named : (e : ℕ) (r : Reading) → AreReadNamed r → AreReadNamed (popped e r)
   unfolding popped
-  popped_named e r h = popped_at_named e r r.tree.spine h
+  popped_named e r h = popped_after_named e r (possible_title r.tree) h
 
   -- what finishes an empty item
   finished_by_named : (r : Reading) (o : Option ℕ) → AreReadNamed r → AreReadNamed (item_finished_by r o)
@@ -109,6 +146,7 @@ module _ (names : Names) where
   loosened_named f ix None h = h
   loosened_named f ix (Some (ListBody flags byte number)) h =
       named_modified names f.nodes ix.0 (λ x. record x { body = ListBody (list_flags false) byte number }) (λ x k. tt) h
+  loosened_named f ix (Some (DefinitionList flags)) h = body_named f ix (DefinitionList (list_flags false)) tt h
   loosened_named f ix (Some b) h = h
 
   gap_tree_named : (f : Forest Item) (s : List TreeIndex) → AreNamed names f.nodes → AreNamed names (gap_tree f s).nodes
@@ -119,6 +157,24 @@ module _ (names : Names) where
   gap_named : (r : Reading) → AreReadNamed r → AreReadNamed (gap_noted r)
   gap_named r h = cond_both r.blank (record r { tree = gap_tree r.tree r.tree.spine; blank = false }) r (λ (q : Reading). AreReadNamed q)
       (λ b. gap_tree_named r.tree r.tree.spine h) (λ b. h)
+
+  -- what ends a definition list before a heading or a table, or keeps a possible title
+  pub definitions_left_named : (e : ℕ) (r : Reading) → AreReadNamed r → AreReadNamed (definitions_left e r)
+  unfolding definitions_left
+  definitions_left_named e r h = gap_named (definitions_closed e r) (definitions_closed_named e r h)
+
+  end_named : (f : Forest Item) (e : ℕ) (o : Option TreeIndex) → AreNamed names f.nodes → AreNamed names (with_end f e o).nodes
+  end_named f e None h = h
+  end_named f e (Some c) h = named_modified names f.nodes c.0 (λ x. record x { «end» = e }) (λ x k. k) h
+
+  title_named : (f : Forest Item) (o : Option TreeIndex) → AreNamed names f.nodes → AreNamed names (with_current f MaybeDefinitionListTitle o).nodes
+  title_named f None h = h
+  title_named f (Some c) h = body_named f c MaybeDefinitionListTitle tt h
+
+  pub title_kept_named : (e : ℕ) (r : Reading) → AreReadNamed r → AreReadNamed (title_kept e r)
+  unfolding title_kept
+  title_kept_named e r h =
+      end_named (with_current r.tree MaybeDefinitionListTitle r.tree.current) e (slice_get r.tree.spine 0) (title_named r.tree r.tree.current h)
 
   -- what finishes a list
   left_named : (e : ℕ) (r : Reading) → AreReadNamed r → AreReadNamed (list_left e r)
@@ -141,12 +197,19 @@ module _ (names : Names) where
   emptied_named f [] h = h
   emptied_named f (ix ∷ rest) h = named_modified names f.nodes ix.0 (λ x. record x { body = ListItemBody 0 }) (λ x k. tt) h
 
+  emptied_definition_named : (f : Forest Item) (s : List TreeIndex) → AreNamed names f.nodes → AreNamed names (emptied_definition f s).nodes
+  emptied_definition_named f [] h = h
+  emptied_definition_named f (ix ∷ rest) h = body_named f ix (DefinitionListDefinition 0) tt h
+
   blank_by_named : (r : Reading) (b : Option ItemBody) → AreReadNamed r → AreReadNamed (blank_read_by r b)
   blank_by_named r None h = h
   blank_by_named r (Some (BlockQuoteBody kind)) h = h
   blank_by_named r (Some (ListItemBody columns)) h =
       cond_both (is_some r.empty_item) (emptied r.tree r.tree.spine) r.tree (λ (f : Forest Item). AreNamed names f.nodes)
       (λ b. emptied_named r.tree r.tree.spine h) (λ b. h)
+  blank_by_named r (Some (DefinitionListDefinition columns)) h =
+      cond_both (is_some r.empty_item) (emptied_definition r.tree r.tree.spine) r.tree (λ (f : Forest Item). AreNamed names f.nodes)
+      (λ b. emptied_definition_named r.tree r.tree.spine h) (λ b. h)
   blank_by_named r (Some b) h = h
 
   pub blank_named : (r : Reading) → AreReadNamed r → AreReadNamed (blank_read r)
@@ -170,6 +233,40 @@ module _ (names : Names) where
   pub item_named : (start byte number columns : ℕ) (r : Reading) → AreReadNamed r → AreReadNamed (item_opened start byte number columns r)
   item_named start byte number columns r h =
       begun_named start (ListItemBody columns) (list_continued start byte number r) tt (continued_named start byte number r h)
+
+  -- a definition, in the list that is open or in a new one
+  deeper_named : (nodes : List (ℕ × Item)) → AreNamed names nodes → AreNamed names (map deeper nodes)
+  unfolding AreNamed
+  deeper_named [] h = tt
+  deeper_named (n ∷ nodes) h = (h.0, deeper_named nodes h.1)
+
+  wrapped_named : (nodes : List (ℕ × Item)) (j : ℕ) (t : ℕ × Item) → IsNamed names t.1 → AreNamed names nodes
+      → AreNamed names (take j nodes ++ t ∷ map deeper (drop j nodes))
+  unfolding AreNamed
+  wrapped_named nodes zero t own h = (own, deeper_named nodes h)
+  wrapped_named [] (suc j) t own h = (own, tt)
+  wrapped_named (n ∷ nodes) (suc j) t own h = (h.0, wrapped_named nodes j t own h.1)
+
+  opened_by_named : (f : Forest Item) (c : TreeIndex) (start e : ℕ) (b : ItemBody) → AreNamed names f.nodes
+      → AreNamed names (definitions_by f c start e b).nodes
+  opened_by_named f c start e MaybeDefinitionListTitle h = body_named f c DefinitionListTitle tt h
+  opened_by_named f c start e Paragraph h =
+      wrapped_named (with_body_at f c (DefinitionList (list_flags true))).nodes (c.0 + 1) _ tt (body_named f c (DefinitionList (list_flags true)) tt h)
+  opened_by_named f c start e b h = h
+
+  opened_at_named : (f : Forest Item) (c : TreeIndex) (o : Option Item) → AreNamed names f.nodes → AreNamed names (definitions_at f c o).nodes
+  opened_at_named f c None h = h
+  opened_at_named f c (Some x) h = opened_by_named f c x.start x.«end» x.body h
+
+  opened_named : (f : Forest Item) (o : Option TreeIndex) → AreNamed names f.nodes → AreNamed names (definitions_opened f o).nodes
+  opened_named f None h = h
+  opened_named f (Some c) h = opened_at_named f c (item_at f c) h
+
+  pub definition_named : (start columns : ℕ) (r : Reading) → AreReadNamed r → AreReadNamed (definition_begun start columns r)
+  unfolding definition_begun
+  definition_named start columns r h =
+      let q : Reading = with_tree r (definitions_opened r.tree r.tree.current) in
+      begun_named start (DefinitionListDefinition columns) (list_kept q) tt (kept_named q (opened_named r.tree r.tree.current h))
 
   pub quote_named : (line start : ℕ) (body : ItemBody) (r : Reading)
       → NamesEntry names (index_of body) → AreReadNamed r → AreReadNamed (begun start body (list_finished line r))

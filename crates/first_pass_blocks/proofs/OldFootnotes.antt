@@ -1,5 +1,5 @@
 -- A footnote definition in the old form ended at a line, after a blank line that counts.
-use Rattle.std.proofs.Common.{◌≡◌, ◌⊎◌, inl, inr, ℕ, ◌==◌, Bool, true, false, not, ◌||◌, ◌&&◌, List, [], ◌∷◌, slice_get, Option, Some, None, refl, sym}
+use Rattle.std.proofs.Common.{◌≡◌, ◌⊎◌, inl, inr, ℕ, ◌==◌, Bool, true, false, not, ◌||◌, ◌&&◌, List, [], ◌∷◌, Option, Some, None, refl, sym}
 use Rattle.std.proofs.Common.{ap, subst, ◌∙◌, if◌then◌else◌}
 use Rattle.std.proofs.Math.Dec.{leb-zero}
 use Rattle.std.proofs.lemmas.Bool.{true≢false}
@@ -7,7 +7,7 @@ use Rattle.std.specs.Option.{option_and_then}
 use Rattle.first_pass_items.specs.declared.item.Item.{Item}
 use Rattle.first_pass_items.specs.declared.item.ItemBody.{ItemBody}
 use Rattle.first_pass_items.specs.declared.item.ItemBody.TheVariants.{BlockQuote as BlockQuoteBody, List as ListBody, ListItem as ListItemBody}
-use Rattle.first_pass_items.specs.declared.item.ItemBody.TheVariants.{FootnoteDefinition as FootnoteDefinitionBody}
+use Rattle.first_pass_items.specs.declared.item.ItemBody.TheVariants.{FootnoteDefinition as FootnoteDefinitionBody, DefinitionList, DefinitionListDefinition}
 use Rattle.first_pass_items.specs.declared.item.CowIndex.{CowIndex}
 use Rattle.first_pass_items.specs.declared.option_set.Options.{Options}
 use Rattle.first_pass_items.specs.OptionWords.{gfm_footnotes}
@@ -17,23 +17,26 @@ use Rattle.first_pass_lines.specs.Lines.{at_line_end}
 use Rattle.first_pass_lines.specs.Rest.{Rest, indent}
 use Rattle.first_pass_lines.specs.Places.{Place, line_place}
 use Rattle.first_pass_grammar.specs.declared.kind.Container.{Container}
-use Rattle.first_pass_grammar.specs.declared.kind.Container.TheVariants.{BlockQuote, ListItem, FootnoteDefinition}
-use Rattle.first_pass_grammar.specs.Before.{LastItem, LastOther}
+use Rattle.first_pass_grammar.specs.declared.kind.Container.TheVariants.{BlockQuote, ListItem, FootnoteDefinition, Definition}
+use Rattle.first_pass_grammar.specs.Before.{Before}
 use Rattle.first_pass_grammar.specs.Containers.{footnote_columns, prefix, after, in_footnote, in_old_footnote}
 use Rattle.first_pass_grammar.specs.Leaves.{Document}
 use Rattle.first_pass_grammar.specs.Skeleton.{Line, level, ends_old_footnote}
 use Rattle.first_pass_grammar.specs.Derivation.{Tables, no_tables}
-use Rattle.first_pass_grammar.specs.Completion.{Frame, InContainer, InList, containers_of, last_of}
-use Rattle.first_pass_grammar.proofs.Finishes.{before_of}
+use Rattle.first_pass_grammar.specs.Completion.{Closed, Frame, InContainer, InList, InDefinitions, containers_of, last_plain, StandsIn}
+use Rattle.first_pass_grammar.proofs.Extending.{tail, lvl}
 use Rattle.first_pass_grammar.proofs.Goings.{ends_old}
 use Rattle.first_pass_open.specs.OpenBlock.{closed_by}
 use Rattle.first_pass_open.specs.Path.{container_of, with_container, path_in, path_of}
-use Rattle.first_pass_lists.specs.Closing.{top_body, is_footnote, popped_by, popped}
+use Rattle.first_pass_lists.specs.Closing.{top_body, is_footnote, popped}
 use Rattle.first_pass_lists.specs.declared.reading.Reading.{Reading}
-use Rattle.first_pass_blocks.specs.State.{frame_of, AreOpen, ReadyAt, ReadyWith, Ready}
+use Rattle.first_pass_blocks.specs.State.{frame_of, item_columns, closed_in, AreOpen, ReadyAt, ReadyWith, Ready}
 use Rattle.first_pass_blocks.specs.Entering.{footnote_ended}
+use Rattle.first_pass_blocks.proofs.ClosedIn.{items_no_container, definitions_no_container, definitions_at, list_at, top_in, HasDefined, open_defined}
+use Rattle.first_pass_blocks.proofs.ClosedIn.{defined_open, plain_not_open}
+use Rattle.first_pass_blocks.proofs.ItemBodies.{item_container}
 use Rattle.first_pass_blocks.proofs.PopLemmas.{leave_container}
-use Rattle.first_pass_blocks.proofs.StateLemmas.{ready_plain, popped_is, popped_paths, popped_spine}
+use Rattle.first_pass_blocks.proofs.StateLemmas.{ready_plain, popped_as, popped_paths, popped_spine}
 
 and_no : (b : Bool) → (b && false) ≡ false
 and_no true = refl
@@ -46,10 +49,6 @@ ends_here options f run = is_footnote (top_body f) && (run && not (gfm_footnotes
 pub stays_unblank : (options : Options) (f : Forest Item) → ends_here options f false ≡ false
 stays_unblank options f = and_no (is_footnote (top_body f))
 
--- what is innermost of these open nodes
-abbrev top_in : List (ℕ × Item) → List TreeIndex → Option ItemBody
-top_in nodes s = option_and_then (λ (ix : TreeIndex). body_at nodes ix.0) (slice_get s 0)
-
 -- where the frames say that it is no footnote definition
 no_footnote_by : (options : Options) (b : Option ItemBody) (frame : Frame) (frames : List Frame) → option_and_then (frame_of options) b ≡ Some frame
     → in_footnote (containers_of (frame ∷ frames)) ≡ false → is_footnote b ≡ false
@@ -57,7 +56,9 @@ no_footnote_by options None frame frames h out = refl
 no_footnote_by options (Some (FootnoteDefinitionBody label)) (InContainer (FootnoteDefinition n)) frames h out = absurd (true≢false out)
 no_footnote_by options (Some (FootnoteDefinitionBody label)) (InContainer (BlockQuote kind)) frames h out = cc
 no_footnote_by options (Some (FootnoteDefinitionBody label)) (InContainer (ListItem n)) frames h out = cc
+no_footnote_by options (Some (FootnoteDefinitionBody label)) (InContainer (Definition n)) frames h out = cc
 no_footnote_by options (Some (FootnoteDefinitionBody label)) (InList byte loose) frames h out = cc
+no_footnote_by options (Some (FootnoteDefinitionBody label)) (InDefinitions loose) frames h out = cc
 no_footnote_by options (Some b) frame frames h out = refl
 
 no_footnote_in : (options : Options) (nodes : List (ℕ × Item)) (s : List TreeIndex) (frames : List Frame) → AreOpen options nodes s frames
@@ -66,39 +67,32 @@ no_footnote_in options nodes [] frames o out = refl
 no_footnote_in options nodes (ix ∷ s) [] o out = absurd o
 no_footnote_in options nodes (ix ∷ s) (frame ∷ frames) o out = no_footnote_by options (body_at nodes ix.0) frame frames o.0 out
 
-no_item : LastOther ≡ LastItem → ⊥
-no_item h = cc
+-- an item or a definition that is closed leaves a list
+item_in_container : (b : ItemBody) (n : ℕ) (c : Container) (frames : List Frame) → StandsIn (item_container b n) (InContainer c ∷ frames) → ⊥
+item_in_container (DefinitionListDefinition columns) n c frames stands = stands
+item_in_container b n c frames stands = stands
 
-list_no_footnote : (options : Options) (b : Option ItemBody) (byte : ℕ) (loose : Bool) → option_and_then (frame_of options) b ≡ Some (InList byte loose)
-    → is_footnote b ≡ false
-list_no_footnote options None byte loose h = refl
-list_no_footnote options (Some (FootnoteDefinitionBody label)) byte loose h = cc
-list_no_footnote options (Some b) byte loose h = refl
+no_footnote_around : (options : Options) (nodes : List (ℕ × Item)) (s : List TreeIndex) (frames : List Frame) (b : ItemBody) (n : ℕ)
+    → AreOpen options nodes s frames → StandsIn (item_container b n) frames → is_footnote (top_in nodes s) ≡ false
+no_footnote_around options nodes [] frames b n o stands = refl
+no_footnote_around options nodes (ix ∷ s) [] b n o stands = absurd o
+no_footnote_around options nodes (ix ∷ s) (InContainer c ∷ frames) b n o stands = absurd (item_in_container b n c frames stands)
+no_footnote_around options nodes (ix ∷ s) (InList byte loose ∷ frames) b n o stands =
+    let l = list_at options (body_at nodes ix.0) byte loose o.0 in ap is_footnote l.3
+no_footnote_around options nodes (ix ∷ s) (InDefinitions loose ∷ frames) b n o stands =
+    let l = definitions_at options (body_at nodes ix.0) loose o.0 in ap is_footnote l.1
 
-list_in : (options : Options) (nodes : List (ℕ × Item)) (s : List TreeIndex) (frames : List Frame) → AreOpen options nodes s frames
-    → last_of frames ≡ LastItem → is_footnote (top_in nodes s) ≡ false
-list_in options nodes [] frames o last = refl
-list_in options nodes (ix ∷ s) [] o last = absurd o
-list_in options nodes (ix ∷ s) (InContainer c ∷ frames) o last = absurd (no_item last)
-list_in options nodes (ix ∷ s) (InList byte loose ∷ frames) o last = list_no_footnote options (body_at nodes ix.0) byte loose o.0
-
--- an item that is closed leaves a list
 pub stays_in_list : (d : Document) (defined : Tables) (f : Forest Item) (run : Bool) (lines : List Place) (ready : ReadyAt d defined f run Line lines)
-    → LastItem ≡ last_of ready.frames → ends_here d.options f run ≡ false
-stays_in_list d defined f run lines ready last =
-    ap (λ (t : Bool). t && (run && not (gfm_footnotes d.options))) (list_in d.options f.nodes f.spine ready.frames ready.are_open (sym last))
+    (b : ItemBody) (n : ℕ) → StandsIn (item_container b n) ready.frames → ends_here d.options f run ≡ false
+stays_in_list d defined f run lines ready b n stands =
+    ap (λ (t : Bool). t && (run && not (gfm_footnotes d.options)))
+    (no_footnote_around d.options f.nodes f.spine ready.frames b n ready.are_open stands)
 
 -- Where what is innermost doesn't end here, neither does it in the grammar.
 columns_by : (options : Options) (g run : Bool) → gfm_footnotes options ≡ g → (run && not g) ≡ false
     → ((footnote_columns options == 0) && (run && true)) ≡ false
 columns_by options true run is h = ap (λ (t : Bool). ((if t then 4 else 0) == 0) && (run && true)) is
 columns_by options false run is h = ap (λ (t : Bool). ((if t then 4 else 0) == 0) && (run && true)) is ∙ h
-
-list_no_container : (a b : Bool) (list : ℕ) (c : Container)
-    → (if a then Some (InList list false) else (if b then Some (InList list true) else None)) ≡ Some (InContainer c) → ⊥
-list_no_container true b list c h = cc
-list_no_container false true list c h = cc
-list_no_container false false list c h = cc
 
 old_by : (options : Options) (b : Option ItemBody) (n : ℕ) (run : Bool) → option_and_then (frame_of options) b ≡ Some (InContainer (FootnoteDefinition n))
     → (is_footnote b && (run && not (gfm_footnotes options))) ≡ false → ((n == 0) && (run && true)) ≡ false
@@ -109,26 +103,33 @@ old_by options (Some (FootnoteDefinitionBody label)) n run is h =
     let frame : Some (InContainer (FootnoteDefinition (footnote_columns options))) ≡ Some (InContainer (FootnoteDefinition n)) = is in
     let same : footnote_columns options ≡ n = cc in
     ap (λ (k : ℕ). (k == 0) && (run && true)) (sym same) ∙ columns_by options (gfm_footnotes options) run refl h
-old_by options (Some (ListBody flags byte number)) n run is h = absurd (list_no_container (flags.0 == 1) (flags.0 == 0) byte (FootnoteDefinition n) is)
+old_by options (Some (ListBody flags byte number)) n run is h = absurd (items_no_container (flags.0 == 1) (flags.0 == 0) byte (FootnoteDefinition n) is)
+old_by options (Some (DefinitionList flags)) n run is h = absurd (definitions_no_container (flags.0 == 1) (flags.0 == 0) (FootnoteDefinition n) is)
 old_by options (Some b) n run is h = cc
 
 list_stays : (a run : Bool) → (a && (run && false)) ≡ false
 list_stays a run = ap (λ (t : Bool). a && t) (and_no run) ∙ and_no a
 
-goes_on_in : (options : Options) (nodes : List (ℕ × Item)) (s : List TreeIndex) (frames : List Frame) (run : Bool) → AreOpen options nodes s frames
+goes_on_in : (options : Options) (nodes : List (ℕ × Item)) (s : List TreeIndex) (frames : List Frame) (closed : Closed) (run : Bool)
+    → AreOpen options nodes s frames → HasDefined frames closed
     → (is_footnote (top_in nodes s) && (run && not (gfm_footnotes options))) ≡ false
-    → ends_old_footnote (level (containers_of frames) (before_of frames run)) ≡ false
-goes_on_in options nodes [] [] run o h = refl
-goes_on_in options nodes [] (frame ∷ frames) run o h = absurd o
-goes_on_in options nodes (ix ∷ s) [] run o h = absurd o
-goes_on_in options nodes (ix ∷ s) (InContainer (BlockQuote kind) ∷ frames) run o h = refl
-goes_on_in options nodes (ix ∷ s) (InContainer (ListItem n) ∷ frames) run o h = refl
-goes_on_in options nodes (ix ∷ s) (InContainer (FootnoteDefinition n) ∷ frames) run o h = old_by options (body_at nodes ix.0) n run o.0 h
-goes_on_in options nodes (ix ∷ s) (InList byte loose ∷ frames) run o h = list_stays (in_old_footnote (containers_of frames)) run
+    → ends_old_footnote (lvl frames (tail closed run)) ≡ false
+goes_on_in options nodes [] [] closed run o has h = refl
+goes_on_in options nodes [] (frame ∷ frames) closed run o has h = absurd o
+goes_on_in options nodes (ix ∷ s) [] closed run o has h = absurd o
+goes_on_in options nodes (ix ∷ s) (InContainer (BlockQuote kind) ∷ frames) closed run o has h = refl
+goes_on_in options nodes (ix ∷ s) (InContainer (ListItem n) ∷ frames) closed run o has h = refl
+goes_on_in options nodes (ix ∷ s) (InContainer (Definition n) ∷ frames) closed run o has h = refl
+goes_on_in options nodes (ix ∷ s) (InContainer (FootnoteDefinition n) ∷ frames) closed run o has h =
+    ap (λ (t : Bool). (n == 0) && (run && not t)) (plain_not_open closed) ∙ old_by options (body_at nodes ix.0) n run o.0 h
+goes_on_in options nodes (ix ∷ s) (InList byte loose ∷ frames) closed run o has h = list_stays (in_old_footnote (containers_of frames)) run
+goes_on_in options nodes (ix ∷ s) (InDefinitions loose ∷ frames) closed run o has h =
+    ap (λ (t : Bool). in_old_footnote (containers_of frames) && (run && not t)) (defined_open closed has)
+    ∙ list_stays (in_old_footnote (containers_of frames)) run
 
 pub goes_on_at : (options : Options) (f : Forest Item) (frames : List Frame) (run : Bool) → AreOpen options f.nodes f.spine frames
-    → ends_here options f run ≡ false → ends_old_footnote (level (containers_of frames) (before_of frames run)) ≡ false
-goes_on_at options f frames run o h = goes_on_in options f.nodes f.spine frames run o h
+    → ends_here options f run ≡ false → ends_old_footnote (lvl frames (tail (closed_in f) run)) ≡ false
+goes_on_at options f frames run o h = goes_on_in options f.nodes f.spine frames (closed_in f) run o (open_defined options f frames o) h
 
 -- what is made of what is innermost at a line
 ended_by : (options : Options) (e : ℕ) (r : Reading) (g b t : Bool) → gfm_footnotes options ≡ g → r.blank ≡ b → is_footnote (top_body r.tree) ≡ t
@@ -216,20 +217,22 @@ module _ (d : Document) (defined : Tables) (r : Reading) (line : Place) (lines :
   left_with (Some x) some e_is empty =
       let same : empty.place ∷ empty.outer ≡ ix ∷ rest = sym empty.spine ∙ spine in
       let at : empty.place ≡ ix = cc in
-      let item : body_at r.tree.nodes ix.0 ≡ Some (ListItemBody empty.columns) =
-      subst (λ (i : TreeIndex). body_at r.tree.nodes i.0 ≡ Some (ListItemBody empty.columns)) at empty.item in
-      let both : Some (FootnoteDefinitionBody label) ≡ Some (ListItemBody empty.columns) = sym body ∙ item in
+      let item : option_and_then item_columns (body_at r.tree.nodes ix.0) ≡ Some empty.columns =
+      subst (λ (i : TreeIndex). option_and_then item_columns (body_at r.tree.nodes i.0) ≡ Some empty.columns) at empty.item in
+      let both : None ≡ Some empty.columns = ap (option_and_then item_columns) (sym body) ∙ item in
       cc
   left_with None none e_is ready =
       let path : List Container = path_in d.options r.tree.nodes rest in
       let columns : ℕ = footnote_columns d.options in
       let g : Forest Item = closed_by r.tree e (ix ∷ rest) in
-      let ends : ends_old_footnote (level (FootnoteDefinition columns ∷ path) (record { last = LastOther; counted = r.blank })) ≡ true =
-      ap (λ (n : ℕ). (n == 0) && (r.blank && true)) (columns_none d.options false old refl) ∙ ap (λ (b : Bool). b && true) blank in
+      let before : Before = record { last = last_plain (closed_in r.tree); counted = r.blank } in
+      let ends : ends_old_footnote (level (FootnoteDefinition columns ∷ path) before) ≡ true =
+      ap (λ (t : Bool). (columns == 0) && (r.blank && not t)) (plain_not_open (closed_in r.tree))
+      ∙ ap (λ (n : ℕ). (n == 0) && (r.blank && true)) (columns_none d.options false old refl) ∙ ap (λ (b : Bool). b && true) blank in
       let left = leave_container d defined r.tree r.blank Line (line ∷ lines) e ix rest (FootnoteDefinition columns) spine
       (ap (option_and_then (frame_of d.options)) body)
-      (ends_old d.options (level (FootnoteDefinition columns ∷ path) (record { last = LastOther; counted = r.blank })) (line ∷ lines) ends) (sym e_is) ready in
-      let now : popped e r ≡ record r { tree = g } = popped_is e r ix rest spine ∙ ap (popped_by r g ix) body in
+      (ends_old d.options (level (FootnoteDefinition columns ∷ path) before) (line ∷ lines) ends) (sym e_is) ready in
+      let now : popped e r ≡ record r { tree = g } = popped_as e r ix rest (FootnoteDefinitionBody label) spine body refl in
       let out : in_footnote (containers_of left.ready.frames) ≡ false = left.apart in (
         subst (λ (q : Reading). Ready d defined q (line ∷ lines)) (sym now) (ready_plain d defined (record r { tree = g }) (line ∷ lines) none left.ready),
         subst (λ (q : Reading). ends_here d.options q.tree q.blank ≡ false) (sym now)

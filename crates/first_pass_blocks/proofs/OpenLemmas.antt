@@ -5,12 +5,12 @@ use Rattle.std.specs.Option.{option_map, option_and_then}
 use Rattle.first_pass_items.specs.declared.item.Item.{Item}
 use Rattle.first_pass_items.specs.declared.item.ItemBody.{ItemBody}
 use Rattle.first_pass_items.specs.declared.item.ItemBody.TheVariants.{BlockQuote as BlockQuoteBody, List as ListBody, ListItem as ListItemBody}
-use Rattle.first_pass_items.specs.declared.item.ItemBody.TheVariants.{FootnoteDefinition as FootnoteDefinitionBody}
+use Rattle.first_pass_items.specs.declared.item.ItemBody.TheVariants.{FootnoteDefinition as FootnoteDefinitionBody, DefinitionList, DefinitionListDefinition}
 use Rattle.first_pass_tree.specs.declared.tree_index.TreeIndex.{TreeIndex}
 use Rattle.first_pass_tree.specs.Forest.{map_from, body_at}
 use Rattle.first_pass_tree.specs.Tight.{tightened}
 use Rattle.first_pass_grammar.specs.declared.kind.Container.{Container}
-use Rattle.first_pass_grammar.specs.Completion.{ended, list_closed, Frame, InContainer, InList, containers_of, AreBelow}
+use Rattle.first_pass_grammar.specs.Completion.{ended, list_closed, Frame, InContainer, InList, InDefinitions, containers_of, AreBelow}
 use Rattle.first_pass_open.specs.Path.{container_of, with_container, path_in}
 use Rattle.first_pass_blocks.specs.State.{frame_of, frame_at, AreOpen}
 use Rattle.first_pass_open.proofs.PathLemmas.{get_front}
@@ -22,16 +22,24 @@ abbrev framed : Option Frame → Option Container
 framed None = None
 framed (Some (InContainer c)) = Some c
 framed (Some (InList byte loose)) = None
+framed (Some (InDefinitions loose)) = None
 
 framed_list : (a b : Bool) (byte : ℕ) → framed (if a then Some (InList byte false) else (if b then Some (InList byte true) else None)) ≡ None
 framed_list true b byte = refl
 framed_list false true byte = refl
 framed_list false false byte = refl
 
+framed_definitions : (a b : Bool) → framed (if a then Some (InDefinitions false) else (if b then Some (InDefinitions true) else None)) ≡ None
+framed_definitions true b = refl
+framed_definitions false true = refl
+framed_definitions false false = refl
+
 container_framed : (options : Options) (b : ItemBody) (frame : Frame) → frame_of options b ≡ Some frame → container_of options b ≡ framed (Some frame)
 container_framed options (BlockQuoteBody kind) frame is = ap framed is
 container_framed options (ListItemBody columns) frame is = ap framed is
 container_framed options (FootnoteDefinitionBody label) frame is = ap framed is
+container_framed options (DefinitionListDefinition columns) frame is = ap framed is
+container_framed options (DefinitionList flags) frame is = sym (framed_definitions (flags.0 == 1) (flags.0 == 0)) ∙ ap framed is
 container_framed options (ListBody flags byte number) frame is = sym (framed_list (flags.0 == 1) (flags.0 == 0) byte) ∙ ap framed is
 container_framed options b frame is = cc
 
@@ -43,6 +51,7 @@ container_framed_at options (Some b) frame is = container_framed options b frame
 with_frame : (frame : Frame) (frames : List Frame) → with_container (framed (Some frame)) (containers_of frames) ≡ containers_of (frame ∷ frames)
 with_frame (InContainer c) frames = refl
 with_frame (InList byte loose) frames = refl
+with_frame (InDefinitions loose) frames = refl
 
 -- the containers of the frames are those of the path
 pub open_path : (options : Options) (nodes : List (ℕ × Item)) (spine : List TreeIndex) (frames : List Frame)

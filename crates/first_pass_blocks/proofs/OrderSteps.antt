@@ -6,9 +6,11 @@ use Rattle.first_pass_items.specs.declared.item.Item.{Item}
 use Rattle.first_pass_items.specs.declared.item.BlockQuoteKind.{BlockQuoteKind}
 use Rattle.first_pass_items.specs.declared.item.ItemBody.{ItemBody}
 use Rattle.first_pass_items.specs.declared.item.ItemBody.TheVariants.{BlockQuote as BlockQuoteBody, ListItem as ListItemBody, TaskListMarker}
+use Rattle.first_pass_items.specs.declared.item.ItemBody.TheVariants.{DefinitionListDefinition}
+use Rattle.first_pass_items.specs.declared.item.CowIndex.{CowIndex}
 use Rattle.first_pass_items.specs.declared.option_set.Options.{Options}
 use Rattle.first_pass_items.specs.OptionWords.{has}
-use Rattle.first_pass_tree.specs.Forest.{Forest}
+use Rattle.first_pass_tree.specs.Forest.{Forest, IsForest, added}
 use Rattle.first_pass_scan.specs.Markers.{task_of}
 use Rattle.first_pass_lines.specs.Rest.{Rest, indent, after_columns, past_quote}
 use Rattle.first_pass_lines.specs.Lines.{line_len}
@@ -22,12 +24,13 @@ use Rattle.first_pass_grammar.specs.Openers.{task_by, task_behind}
 use Rattle.first_pass_grammar.specs.Derivation.{node_of}
 use Rattle.first_pass_grammar.specs.OpenOrder.{IsOrderedTo}
 use Rattle.first_pass_open.specs.OpenBlock.{with_child}
-use Rattle.first_pass_lists.specs.Closing.{remembered, top_body, is_list, is_item, item_finished_by, item_finished, list_finished, begun, list_continued}
+use Rattle.first_pass_lists.specs.Closing.{remembered, top_body, is_list, is_item, takes_definition, item_finished_by, item_finished, list_finished, begun}
+use Rattle.first_pass_lists.specs.Closing.{list_continued, definition_begun, footnote_begun}
 use Rattle.first_pass_lists.specs.declared.reading.Reading.{Reading}
 use Rattle.first_pass_grammar.specs.Openers.{after_task}
-use Rattle.first_pass_blocks.specs.Positions.{line_or, OrderedOn}
+use Rattle.first_pass_blocks.specs.Positions.{line_or, OrderedUpTo, OrderedIn, OrderedText, OrderedOn}
 use Rattle.first_pass_blocks.specs.Starts.{after_told, after_at}
-use Rattle.first_pass_blocks.specs.Ordered.{reached, IsOrderedAt}
+use Rattle.first_pass_blocks.specs.Ordered.{reached, AreNested, CanClose, IsOrderedAt, IsReadTo}
 use Rattle.first_pass_open.specs.Between.{AddsBetween, StandsBefore}
 use Rattle.first_pass_open.proofs.PathLemmas.{get_front}
 use Rattle.first_pass_blocks.proofs.OpenLemmas.{get_end}
@@ -35,7 +38,10 @@ use Rattle.first_pass_open.proofs.PlaceLemmas.{all_keep, task_keeps, option_on, 
 use Rattle.first_pass_blocks.proofs.LineLemmas.{list_finished_none, list_continued_none}
 use Rattle.first_pass_blocks.proofs.OpenerLemmas.{item_opened}
 use Rattle.first_pass_blocks.proofs.OrderLemmas.{ordered_later, ordered_appended, ordered_added, ordered_begun, ordered_none, ordered_list_finished}
-use Rattle.first_pass_blocks.proofs.OrderLemmas.{ordered_list_continued}
+use Rattle.first_pass_blocks.proofs.OrderLemmas.{ordered_list_continued, ordered_note, untitled_later}
+use Rattle.first_pass_blocks.proofs.Nests.{list_continued_nested, list_finished_outside, footnote_begun_settled, begun_settled, begun_outside, child_outside}
+use Rattle.first_pass_blocks.proofs.Nests.{added_outside, settled_closes, outside_closes, tree_closes}
+use Rattle.first_pass_blocks.proofs.DefinitionBegun.{ordered_definition}
 
 -- the less is left, the later is the place
 pub offset_later : (text : List ℕ) (line : ℕ) (r s : Rest)
@@ -45,22 +51,27 @@ offset_later text line r s i j less =
     let b = place_length text (place_at line s) j in
     omega arith
 
+-- what is in order and can be closed so up to an offset is so up to a later one
+pub upto_later : (text : List ℕ) (f : Forest Item) (a b : ℕ) → a ≤ b → b ≤ length text → OrderedUpTo text f a → OrderedUpTo text f b
+upto_later text f a b low high (o, c) =
+    (ordered_later text f a b low high o, record { nested = c.nested; last = c.last; untitled = untitled_later text f a b low high c.untitled })
+
 by_list : (t : Bool) (text : List ℕ) (f : Forest Item) (line at : ℕ)
-    → line ≤ at → at ≤ length text → IsOrderedTo text f line → IsOrderedTo text f (if t then line else at)
+    → line ≤ at → at ≤ length text → OrderedUpTo text f line → OrderedUpTo text f (if t then line else at)
 by_list true text f line at low high o = o
-by_list false text f line at low high o = ordered_later text f line at low high o
+by_list false text f line at low high o = upto_later text f line at low high o
 
 -- in order up to where a line begins, and so up to a place in it
 pub ordered_in_line : (text : List ℕ) (f : Forest Item) (line at : ℕ)
-    → line ≤ at → at ≤ length text → IsOrderedTo text f line → IsOrderedTo text f (line_or f line at)
+    → line ≤ at → at ≤ length text → OrderedUpTo text f line → OrderedUpTo text f (line_or f line at)
 ordered_in_line text f line at low high o = by_list (is_list (top_body f)) text f line at low high o
 
 -- the same at a place in the line, which begins between characters
 pub ordered_at_place : (text : List ℕ) (f : Forest Item) (start : ℕ) (p : Place) → p.line ≡ start → IsCharBoundary text start → IsPlaceOf text p
-    → IsOrderedTo text f start → IsCharBoundary text p.line × IsOrderedTo text f (line_or f p.line (offset p))
+    → OrderedUpTo text f start → OrderedIn text f p
 ordered_at_place text f start p line boundary i o =
     let within = i.within in
-    (subst (IsCharBoundary text) (sym line) boundary, ordered_in_line text f p.line (offset p) (omega arith) within (subst (IsOrderedTo text f) (sym line) o))
+    (subst (IsCharBoundary text) (sym line) boundary, ordered_in_line text f p.line (offset p) (omega arith) within (subst (OrderedUpTo text f) (sym line) o))
 
 -- an offset after a line that begins before the text's end
 pub line_later : (text : List ℕ) (start far next : ℕ)
@@ -84,9 +95,9 @@ line_or-list f line at h = (let e : line_or f line at ≡ line = rw h refl in om
 
 -- in order further on where no list is innermost
 pub ordered_on : (text : List ℕ) (f : Forest Item) (line a at : ℕ)
-    → is_list (top_body f) ≡ false → a ≤ at → at ≤ length text → IsOrderedTo text f a → IsOrderedTo text f (line_or f line at)
+    → is_list (top_body f) ≡ false → a ≤ at → at ≤ length text → OrderedUpTo text f a → OrderedUpTo text f (line_or f line at)
 ordered_on text f line a at none low high o =
-    subst (IsOrderedTo text f) (let e : at ≡ line_or f line at = rw none refl in e) (ordered_later text f a at low high o)
+    subst (OrderedUpTo text f) (let e : at ≡ line_or f line at = rw none refl in e) (upto_later text f a at low high o)
 
 none_reached : (o : Option ℕ) (at : ℕ) → o ≡ None → reached o at ≡ at
 none_reached o at none = ap (λ z. reached z at) none
@@ -111,21 +122,33 @@ top_marked start body r (Some x) =
 -- an item opened at a place in a line
 pub ordered_item : (text : List ℕ) (r : Reading) (line start byte number columns : ℕ)
     → line ≤ start → start ≤ length text → IsCharBoundary text start → r.empty_item ≡ None
-    → IsOrderedTo text r.tree (line_or r.tree line start) → IsOrderedTo text (item_opened start byte number columns r).tree start
-ordered_item text r line start byte number columns low high boundary none o =
+    → OrderedUpTo text r.tree (line_or r.tree line start) → OrderedUpTo text (item_opened start byte number columns r).tree start
+ordered_item text r line start byte number columns low high boundary none (o, c) =
     let at : ℕ = line_or r.tree line start in
     let below : at ≤ start = line_or-below r.tree line start low in
     let before = ordered_none text r at none (omega arith) o in
-    let on = ordered_list_continued text r at start byte number below high boundary before in
-    ordered_begun text (list_continued start byte number r) start start (ListItemBody columns) (omega arith) high boundary
-    (ordered_tree text (list_continued start byte number r) start (list_continued_none start byte number r) on)
+    let list : Reading = list_continued start byte number r in
+    let on = ordered_list_continued text r at start byte number c.untitled below high boundary before in (
+      ordered_begun text list start start (ListItemBody columns) (omega arith) high boundary
+          (ordered_tree text list start (list_continued_none start byte number r) on),
+      settled_closes text (begun start (ListItemBody columns) list) start
+          (begun_settled start (ListItemBody columns) list refl (λ list. refl) (list_continued_nested start byte number r c.nested)),
+    )
+
+-- a definition opened at a place in a line
+pub ordered_definition_in : (text : List ℕ) (r : Reading) (line start columns : ℕ) → IsForest r.tree → takes_definition r.tree ≡ true
+    → line ≤ start → start ≤ length text → IsCharBoundary text start
+    → OrderedUpTo text r.tree (line_or r.tree line start) → OrderedUpTo text (definition_begun start columns r).tree start
+ordered_definition_in text r line start columns forest takes low high boundary (o, c) =
+    let d = ordered_definition text r (line_or r.tree line start) start columns forest takes (line_or-below r.tree line start low) high boundary o c.nested in
+    (d.0, settled_closes text (definition_begun start columns r) start d.1)
 
 -- where a new block begins, after what it ends: a list that is innermost, at the line's beginning or at the block's first byte
 pub ordered_finished : (text : List ℕ) (r : Reading) (line at e start : ℕ)
     → line ≤ at → at ≤ start → (e ≡ line) × IsCharBoundary text line ⊎ (e ≡ start) → start ≤ length text → IsCharBoundary text start → r.empty_item ≡ None
-    → IsOrderedTo text r.tree (line_or r.tree line at) → IsOrderedTo text (list_finished e r).tree start
+    → OrderedUpTo text r.tree (line_or r.tree line at) → IsReadTo text (list_finished e r) start
 unfolding item_finished
-ordered_finished text r line at e start low mid which high boundary none o =
+ordered_finished text r line at e start low mid which high boundary none (o, c) =
     let a : ℕ = line_or r.tree line at in
     let below : a ≤ at = line_or-below r.tree line at low in
     let before = ordered_none text r a none (omega arith) o in
@@ -133,20 +156,33 @@ ordered_finished text r line at e start low mid which high boundary none o =
     let on : IsOrderedAt text (list_finished e r) start = elim which [
       | inl (is, first) ↦
           subst (λ z. IsOrderedAt text (list_finished z r) start) (sym is)
-          (ordered_list_finished text r a line start (omega arith) (omega arith) high first
+          (ordered_list_finished text r a line start c.untitled (omega arith) (omega arith) high first
           (λ h. line_or-list r.tree line at (sym (ap (λ (q : Reading). is_list (top_body q.tree)) same) ∙ h)) before)
       | inr is ↦ subst (λ z. IsOrderedAt text (list_finished z r) start) (sym is)
-          (ordered_list_finished text r a start start (omega arith) (omega arith) high boundary (λ h. omega arith) before)
+          (ordered_list_finished text r a start start c.untitled (omega arith) (omega arith) high boundary (λ h. omega arith) before)
     ] in
-    ordered_tree text (list_finished e r) start (list_finished_none e r) on
+    (on, outside_closes text (list_finished e r) start (list_finished_outside e r c.nested))
 
 -- a block quote opened at a place in a line
 pub ordered_quote : (text : List ℕ) (r : Reading) (line at start : ℕ) (kind : Option BlockQuoteKind)
     → line ≤ at → at ≤ start → start ≤ length text → IsCharBoundary text line → IsCharBoundary text start → r.empty_item ≡ None
-    → IsOrderedTo text r.tree (line_or r.tree line at) → IsOrderedTo text (begun start (BlockQuoteBody kind) (list_finished line r)).tree start
+    → OrderedUpTo text r.tree (line_or r.tree line at) → OrderedUpTo text (begun start (BlockQuoteBody kind) (list_finished line r)).tree start
 ordered_quote text r line at start kind low mid high first boundary none o =
-    ordered_begun text (list_finished line r) start start (BlockQuoteBody kind) (omega arith) high boundary
-    (ordered_finished text r line at line start low mid (inl (refl, first)) high boundary none o)
+    let q : Reading = list_finished line r in (
+      ordered_begun text q start start (BlockQuoteBody kind) (omega arith) high boundary
+          (ordered_tree text q start (list_finished_none line r)
+          (ordered_finished text r line at line start low mid (inl (refl, first)) high boundary none o).0),
+      settled_closes text (begun start (BlockQuoteBody kind) q) start
+          (begun_outside start (BlockQuoteBody kind) q refl (list_finished_outside line r o.1.nested)),
+    )
+
+-- a footnote definition opened at a place in a line
+pub ordered_note_in : (text : List ℕ) (r : Reading) (at start : ℕ) (index : CowIndex) → at ≤ start → start ≤ length text
+    → IsCharBoundary text start → r.empty_item ≡ None → OrderedUpTo text r.tree at → OrderedUpTo text (footnote_begun start index r).tree start
+ordered_note_in text r at start index low high boundary none (o, c) = (
+  ordered_note text r at start index c.untitled low high boundary (ordered_none text r at none (omega arith) o),
+  settled_closes text (footnote_begun start index r) start (footnote_begun_settled start index r c.nested),
+)
 
 -- a task list item marker stands after an item's own
 mark_by : (text : List ℕ) (line : ℕ) (r : Rest) (o : Option (Bool × Rest)) (from : ℕ) (x : Item)
@@ -170,11 +206,12 @@ mark_stands text options line r s from marker x u i low is rest some =
 
 -- an item with something after its markers
 pub ordered_container : (options : Options) (text : List ℕ) (q : Reading) (start e : ℕ) (p : Place) (marker : Option Item)
-    → is_list (top_body q.tree) ≡ false → start ≤ offset p → offset p ≤ length text → IsCharBoundary text p.line → IsOrderedTo text q.tree start
+    → is_list (top_body q.tree) ≡ false → start ≤ offset p → offset p ≤ length text → IsCharBoundary text p.line → OrderedUpTo text q.tree start
     → ((x : Item) → marker ≡ Some x → StandsBefore text start (offset p) (Some x)) → OrderedOn options text q (after_at p e (after_told (after_task marker)))
 ordered_container options text q start e p None none low high boundary o stands =
     (boundary, ordered_on text q.tree p.line start (offset p) none low high o)
-ordered_container options text q start e p (Some x) none low high boundary o stands = record { from = start; ordered = o; stands = stands x refl }
+ordered_container options text q start e p (Some x) none low high boundary (o, c) stands =
+    record { from = start; ordered = o; nested = c.nested; plain = none; stands = stands x refl }
 
 marked_by : (text : List ℕ) (f : Forest Item) (start at next : ℕ) (marker : Option Item) → start ≤ next → at ≤ next → next ≤ length text
     → IsOrderedTo text f start → ((x : Item) → marker ≡ Some x → StandsBefore text start at (Some x)) → IsOrderedTo text (with_child f marker) next
@@ -184,23 +221,49 @@ marked_by text f start at next (Some x) low mid high o stands =
     let e = b.before in
     ordered_appended text f start next x (record { behind = b.behind; order = b.order; before = omega arith; starts = b.starts; ends = b.ends }) high o
 
--- one with nothing after them
-pub ordered_empty_item : (text : List ℕ) (start at next columns : ℕ) (r : Reading) (marker : Option Item) (blank : Bool)
-    → start ≤ next → at ≤ next → next ≤ length text → IsCharBoundary text next
-    → IsOrderedTo text (begun start (ListItemBody columns) r).tree start → ((x : Item) → marker ≡ Some x → StandsBefore text start at (Some x))
-    → IsOrderedAt text (remembered (with_child (begun start (ListItemBody columns) r).tree marker) (Some next) blank) next
-ordered_empty_item text start at next columns r marker blank low mid high boundary o stands = record {
-  ordered = marked_by text (begun start (ListItemBody columns) r).tree start at next marker low mid high o stands;
-  later = omega arith;
-  within = high;
-  innermost = λ e is. (ap is_item (top_marked start (ListItemBody columns) r marker), let same : next ≡ e = cc in subst (IsCharBoundary text) same boundary);
-}
+item_no_list : (body : ItemBody) → is_item (Some body) ≡ true → is_list (Some body) ≡ false
+item_no_list (ListItemBody columns) item = refl
+item_no_list (DefinitionListDefinition columns) item = refl
+item_no_list body item = cc
+
+-- an item or a definition with nothing after them
+pub ordered_empty_item : (text : List ℕ) (start at next : ℕ) (body : ItemBody) (r : Reading) (marker : Option Item) (blank : Bool)
+    → is_item (Some body) ≡ true → start ≤ next → at ≤ next → next ≤ length text → IsCharBoundary text next
+    → OrderedUpTo text (begun start body r).tree start → ((x : Item) → marker ≡ Some x → StandsBefore text start at (Some x))
+    → IsReadTo text (remembered (with_child (begun start body r).tree marker) (Some next) blank) next
+ordered_empty_item text start at next body r marker blank item low mid high boundary (o, c) stands =
+    let f : Forest Item = (begun start body r).tree in
+    let outside = child_outside f marker c.nested (ap is_list (top_begun start body r) ∙ item_no_list body item) in (
+      record {
+        ordered = marked_by text f start at next marker low mid high o stands;
+        later = omega arith;
+        within = high;
+        innermost = λ e is. (ap is_item (top_marked start body r marker) ∙ item, let same : next ≡ e = cc in subst (IsCharBoundary text) same boundary);
+      },
+      tree_closes text (with_child f marker) next outside.0 outside.1,
+    )
 
 -- a block added
 pub ordered_block : (text : List ℕ) (old : Forest Item) (r : Reading) (from next : ℕ)
     → AddsBetween text from next old r.tree → next ≤ length text → r.empty_item ≡ None → IsOrderedTo text old from → IsOrderedAt text r next
 ordered_block text old r from next a high none o =
     ordered_none text r next none high (subst (λ f. IsOrderedTo text f next) (sym a.tree_is) (ordered_added text old from next a.items a.fits high o))
+
+-- the same where what is innermost is no list
+pub read_block : (text : List ℕ) (old : Forest Item) (r : Reading) (from next : ℕ) → AreNested old.nodes old.spine → is_list (top_body old) ≡ false
+    → AddsBetween text from next old r.tree → next ≤ length text → r.empty_item ≡ None → IsOrderedTo text old from → IsReadTo text r next
+read_block text old r from next nested plain a high none o =
+    let outside = added_outside old a.items nested plain in (
+      ordered_block text old r from next a high none o,
+      subst (λ f. CanClose text f next) (sym a.tree_is) (tree_closes text (added old a.items) next outside.0 outside.1),
+    )
+
+-- what stands for the text of a task
+pub ordered_text : (text : List ℕ) (f : Forest Item) (new : Reading) (marker : Item) (at next : ℕ)
+    → ((from : ℕ) → StandsBefore text from at (Some marker) → AddsBetween text from next f new.tree) → next ≤ length text → new.empty_item ≡ None
+    → OrderedText text f marker at → IsReadTo text new next
+ordered_text text f new marker at next fits within none o =
+    read_block text f new o.from next o.nested o.plain (fits o.from o.stands) within none o.ordered
 
 -- a block added where something is in order: an item that it is added to is empty no more
 pub block_ordered : (text : List ℕ) (old new : Reading) (at start next : ℕ) → IsOrderedAt text old at → at ≤ start
@@ -248,10 +311,13 @@ place_before_end p = omega arith
 -- a leaf block added at its place
 pub ordered_leaf : (text : List ℕ) (r new : Reading) (line at e start next : ℕ)
     → line ≤ at → at ≤ start → (e ≡ line) × IsCharBoundary text line ⊎ (e ≡ start) → start ≤ length text → IsCharBoundary text start → r.empty_item ≡ None
-    → IsOrderedTo text r.tree (line_or r.tree line at) → AddsBetween text start next (list_finished e r).tree new.tree → next ≤ length text
-    → new.empty_item ≡ None → IsOrderedAt text new next
+    → OrderedUpTo text r.tree (line_or r.tree line at) → AddsBetween text start next (list_finished e r).tree new.tree → next ≤ length text
+    → new.empty_item ≡ None → IsReadTo text new next
 ordered_leaf text r new line at e start next low mid which high boundary none o adds fits none' =
-    ordered_block text (list_finished e r).tree new start next adds fits none' (ordered_finished text r line at e start low mid which high boundary none o)
+    let q : Reading = list_finished e r in
+    let outside = list_finished_outside e r o.1.nested in
+    read_block text q.tree new start next outside.0 outside.1 adds fits none'
+    (ordered_tree text q start (list_finished_none e r) (ordered_finished text r line at e start low mid which high boundary none o).0)
 
 -- the place after the columns of another
 pub unindented_later : (text : List ℕ) (line : ℕ) (r : Rest)

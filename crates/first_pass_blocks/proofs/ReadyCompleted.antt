@@ -1,10 +1,9 @@
 -- What is ready can be completed.
-use Rattle.std.proofs.Common.{◌≡◌, ℕ, Bool, true, false, List, [], ◌∷◌, length, map, Option, Some, None, refl, sym, ap, ◌∙◌, subst, arith}
+use Rattle.std.proofs.Common.{◌≡◌, ℕ, Bool, true, false, List, [], ◌∷◌, length, map, slice_get, Option, Some, None, refl, sym, ap, ◌∙◌, subst, arith}
 use Rattle.std.specs.Option.{option_and_then}
 use Rattle.std.proofs.lemmas.Option.{same_Some}
 use Rattle.first_pass_items.specs.declared.item.Item.{Item}
 use Rattle.first_pass_items.specs.declared.item.ItemBody.{ItemBody}
-use Rattle.first_pass_items.specs.declared.item.ItemBody.TheVariants.{ListItem as ListItemBody}
 use Rattle.first_pass_tree.specs.declared.tree_index.TreeIndex.{TreeIndex}
 use Rattle.first_pass_tree.specs.Forest.{Forest, body_at, with_body_at}
 use Rattle.first_pass_lines.specs.Places.{Place}
@@ -16,11 +15,13 @@ use Rattle.first_pass_grammar.specs.Completion.{NoList, Standing, Frame, last_of
 use Rattle.first_pass_grammar.proofs.MoreNames.{extends_none}
 use Rattle.first_pass_grammar.proofs.Completed.{line_goes_on, completion_derives}
 use Rattle.first_pass_open.specs.Path.{container_of, with_container, path_in, path_of}
-use Rattle.first_pass_lists.specs.Closing.{emptied}
 use Rattle.first_pass_lists.specs.declared.reading.Reading.{Reading}
 use Rattle.first_pass_blocks.specs.State.{AreOpen, ReadyAt, ReadyBeforeLine, ReadyInItem, ReadyEmpty, ReadyWith, Ready}
+use Rattle.first_pass_blocks.specs.State.{closed_in, emptied_as, emptied_top}
 use Rattle.first_pass_blocks.specs.Completed.{CompletedAt, CompletedBeforeLine, CompletedInItem, CompletedWith, IsCompleted}
 use Rattle.first_pass_tree.proofs.BodyLemmas.{body-changed}
+use Rattle.first_pass_grammar.specs.declared.kind.Container.{Container}
+use Rattle.first_pass_blocks.proofs.ItemBodies.{item_body, columns_are, item_is, item_path, emptied_is}
 use Rattle.first_pass_blocks.proofs.OpenLemmas.{open_path}
 use Rattle.first_pass_items.specs.declared.option_set.Options.{Options}
 
@@ -45,8 +46,13 @@ open_once options nodes (ix ∷ spine) (frame ∷ frames) (other ∷ others) o p
     let rest = open_once options nodes spine frames others o.1 p.1 in
     cc
 
-standing_of : Tables → Forest Item → List Frame → Bool → Standing
-standing_of defined tree frames run = record { nodes = tree.nodes; list = NoList; before = record { last = last_of frames; counted = run }; defined = defined }
+abbrev pub standing_of : Tables → Forest Item → List Frame → Bool → Standing
+standing_of defined tree frames run = record {
+  nodes = tree.nodes;
+  list = NoList (closed_in tree);
+  before = record { last = last_of frames (closed_in tree); counted = run };
+  defined = defined;
+}
 
 -- what is ready at a place, with all names
 abbrev AlwaysReady : Document → Tables → Forest Item → Bool → From → List Place → Type 0
@@ -54,7 +60,6 @@ AlwaysReady d defined tree run from lines = (more : Names) → Extends more d.na
 
 completed_at : (d : Document) (defined : Tables) (tree : Forest Item) (run : Bool) (from : From) (lines : List Place) → CanGoOn (path_of d.options tree) from
     → AlwaysReady d defined tree run from lines → CompletedAt d defined tree run from lines
-unfolding standing_of
 completed_at d defined tree run from lines can ready =
     let now = ready d.names (extends_none d.names) in
     let places : List ℕ = map (λ (ix : TreeIndex). ix.0) tree.spine in
@@ -69,35 +74,45 @@ completed_at d defined tree run from lines can ready =
     let done = completion_derives d now.frames places (standing_of defined tree now.frames run) from lines size inside always in
     record { frames = now.frames; are_open = now.are_open; completion = done.0; derives = done.1 }
 
--- an empty item is a container
-item_goes_on : (options : Options) (f : Forest Item) (ix : TreeIndex) (rest : List TreeIndex) (columns : ℕ) (from : From) → f.spine ≡ ix ∷ rest
-    → body_at f.nodes ix.0 ≡ Some (ListItemBody columns) → CanGoOn (path_of options f) from
-item_goes_on options f ix rest columns from spine item =
+-- an empty item or definition is a container
+item_goes_on : (options : Options) (f : Forest Item) (ix : TreeIndex) (rest : List TreeIndex) (b : ItemBody) (n : ℕ) (from : From) → f.spine ≡ ix ∷ rest
+    → body_at f.nodes ix.0 ≡ Some (item_body b n) → CanGoOn (path_of options f) from
+item_goes_on options f ix rest b n from spine item =
+    let path : List Container = path_in options f.nodes rest in
     subst (λ (s : List TreeIndex). CanGoOn (path_in options f.nodes s) from) (sym spine)
-    (subst (λ (o : Option ItemBody). CanGoOn (with_container (option_and_then (container_of options) o) (path_in options f.nodes rest)) from) (sym item) tt)
+    (subst (λ (o : Option Container). CanGoOn (with_container o path) from)
+    (sym (ap (option_and_then (container_of options)) item ∙ item_path options b n)) tt)
 
 module _ (d : Document) (defined : Tables) (r : Reading) (lines : List Place) (e : ℕ) (empty : ReadyEmpty d defined r e lines) where
-  zero_is : emptied r.tree r.tree.spine ≡ with_body_at r.tree empty.place (ListItemBody 0)
-  zero_is = ap (emptied r.tree) empty.spine
+  pub top_is : (b : ItemBody) × (body_at r.tree.nodes empty.place.0 ≡ Some (item_body b empty.columns))
+  top_is =
+      let c = columns_are (body_at r.tree.nodes empty.place.0) empty.columns empty.item in (c.0, c.1 ∙ ap (λ z. Some z) (sym (item_is c.0 empty.columns c.2)))
 
-  zero_goes_on : CanGoOn (path_of d.options (emptied r.tree r.tree.spine)) (Blanks e)
+  goes_on : (from : From) → CanGoOn (path_of d.options r.tree) from
+  goes_on from = item_goes_on d.options r.tree empty.place empty.outer top_is.0 empty.columns from empty.spine top_is.1
+
+  pub zero_is : emptied_top r.tree ≡ with_body_at r.tree empty.place (item_body top_is.0 0)
+  zero_is =
+      ap (λ (s : List TreeIndex). emptied_as r.tree (option_and_then (λ (ix : TreeIndex). body_at r.tree.nodes ix.0) (slice_get s 0))) empty.spine
+      ∙ ap (emptied_as r.tree) top_is.1 ∙ emptied_is r.tree empty.place empty.outer top_is.0 empty.columns empty.spine
+
+  zero_goes_on : CanGoOn (path_of d.options (emptied_top r.tree)) (Blanks e)
   zero_goes_on =
-      let change : Item → Item = λ x. record { start = x.start; «end» = x.«end»; body = ListItemBody 0 } in
-      let body = body-changed r.tree.nodes empty.place.0 change (ListItemBody empty.columns) (ListItemBody 0) empty.item (λ x h. refl) in
+      let now : ItemBody = item_body top_is.0 0 in
+      let body = body-changed r.tree.nodes empty.place.0 (λ x. record { start = x.start; «end» = x.«end»; body = now }) (item_body top_is.0 empty.columns) now
+      top_is.1 (λ x h. refl) in
       subst (λ f. CanGoOn (path_of d.options f) (Blanks e)) (sym zero_is)
-      (item_goes_on d.options (with_body_at r.tree empty.place (ListItemBody 0)) empty.place empty.outer 0 (Blanks e) empty.spine body)
+      (item_goes_on d.options (with_body_at r.tree empty.place now) empty.place empty.outer top_is.0 0 (Blanks e) empty.spine body)
 
   before_line : (t : Bool) → ((more : Names) → Extends more d.names → ReadyBeforeLine (document d.text d.options more) defined r.tree e lines t)
       → CompletedBeforeLine d defined r.tree e lines t
-  before_line true ready = completed_at d defined (emptied r.tree r.tree.spine) false (Blanks e) lines zero_goes_on ready
+  before_line true ready = completed_at d defined (emptied_top r.tree) false (Blanks e) lines zero_goes_on ready
   before_line false ready = completed_at d defined r.tree false Line lines (line_goes_on (path_of d.options r.tree)) ready
 
   in_item : (blank : Bool)
       → ((more : Names) → Extends more d.names → ReadyInItem (document d.text d.options more) defined r.tree e lines blank)
       → CompletedInItem d defined r.tree e lines blank
-  in_item true ready =
-      completed_at d defined r.tree true (Blanks e) lines
-      (item_goes_on d.options r.tree empty.place empty.outer empty.columns (Blanks e) empty.spine empty.item) ready
+  in_item true ready = completed_at d defined r.tree true (Blanks e) lines (goes_on (Blanks e)) ready
   in_item false ready = before_line (next_is_blank (path_of d.options r.tree) lines) ready
 
 ready_with : (d : Document) (defined : Tables) (r : Reading) (lines : List Place) (o : Option ℕ)

@@ -5,7 +5,7 @@ use Rattle.std.proofs.lemmas.Option.{none-some}
 use Rattle.first_pass_items.specs.declared.item.Item.{Item}
 use Rattle.first_pass_items.specs.declared.item.ItemBody.{ItemBody}
 use Rattle.first_pass_items.specs.declared.item.ItemBody.TheVariants.{BlockQuote as BlockQuoteBody, List as ListBody, ListItem as ListItemBody}
-use Rattle.first_pass_items.specs.declared.item.ItemBody.TheVariants.{FootnoteDefinition as FootnoteDefinitionBody}
+use Rattle.first_pass_items.specs.declared.item.ItemBody.TheVariants.{FootnoteDefinition as FootnoteDefinitionBody, DefinitionList, DefinitionListDefinition}
 use Rattle.first_pass_items.specs.declared.option_set.Options.{Options}
 use Rattle.first_pass_tree.specs.declared.tree_index.TreeIndex.{TreeIndex}
 use Rattle.first_pass_tree.specs.Forest.{Forest}
@@ -14,29 +14,31 @@ use Rattle.first_pass_grammar.specs.Names.{Names, Extends, AreNamed}
 use Rattle.first_pass_grammar.specs.Leaves.{Document}
 use Rattle.first_pass_grammar.specs.Derivation.{Tables}
 use Rattle.first_pass_grammar.specs.Skeleton.{From, Line, Blanks, next_is_blank}
-use Rattle.first_pass_grammar.specs.Completion.{lines_from, NoList, Frame, last_of}
-use Rattle.first_pass_grammar.specs.WholeTables.{marks, AreWholeTables}
+use Rattle.first_pass_grammar.specs.Completion.{lines_from, Frame, InContainer}
+use Rattle.first_pass_grammar.specs.WholeTables.{marks, ShowsNothing, SilentClosed, AreWholeTables}
 use Rattle.first_pass_grammar.proofs.LinesLeft.{lines_from_at}
 use Rattle.first_pass_grammar.proofs.MoreNames.{extends_none}
 use Rattle.first_pass_grammar.proofs.PlacesKept.{AreAt}
 use Rattle.first_pass_grammar.proofs.SilentNodes.{IsSilent, AreSilent, marks_modified}
-use Rattle.first_pass_grammar.proofs.TableMarks.{ShowsNothing}
 use Rattle.first_pass_grammar.proofs.WholeBefore.{completed_whole, whole_already}
 use Rattle.first_pass_grammar.proofs.WholeBlocks.{PlainFrom}
 use Rattle.first_pass_grammar.proofs.WholeForests.{whole_same}
-use Rattle.first_pass_lists.specs.Closing.{emptied}
 use Rattle.first_pass_lists.specs.declared.reading.Reading.{Reading}
 use Rattle.first_pass_open.specs.Path.{path_of}
-use Rattle.first_pass_blocks.specs.State.{frame_of, frame_at, AreOpen, ReadyEmpty, ReadyWith, Ready, StaysReady}
+use Rattle.first_pass_blocks.specs.State.{frame_of, frame_at, AreOpen, ReadyBeforeLine, ReadyInItem, ReadyEmpty, ReadyWith, Ready, StaysReady, closed_in}
+use Rattle.first_pass_blocks.specs.State.{emptied_top}
 use Rattle.first_pass_blocks.specs.Completed.{CompletedAt, CompletedBeforeLine, CompletedInItem, CompletedWith, IsCompleted}
-use Rattle.first_pass_blocks.proofs.ReadyCompleted.{ready_completed}
+use Rattle.first_pass_blocks.proofs.ItemBodies.{item_body, item_container, item_frame}
+use Rattle.first_pass_blocks.proofs.ReadyCompleted.{standing_of, top_is, zero_is, ready_completed}
 
 -- an open node is a container or a list, and shows nothing
 frame_silent : (options : Options) (b : ItemBody) (frame : Frame) → frame_of options b ≡ Some frame → ShowsNothing b
 frame_silent options (BlockQuoteBody kind) frame h = λ names depth start end. refl
 frame_silent options (ListItemBody columns) frame h = λ names depth start end. refl
 frame_silent options (FootnoteDefinitionBody label) frame h = λ names depth start end. refl
+frame_silent options (DefinitionListDefinition columns) frame h = λ names depth start end. refl
 frame_silent options (ListBody flags byte number) frame h = λ names depth start end. refl
+frame_silent options (DefinitionList flags) frame h = λ names depth start end. refl
 frame_silent options b frame h = absurd (none-some frame h)
 
 open_silent : (options : Options) (nodes : List (ℕ × Item)) (i : ℕ) (frame : Frame) → frame_at options nodes i ≡ Some frame → IsSilent nodes i
@@ -56,40 +58,45 @@ abbrev IsWholeOnce : Names → List (ℕ × Item) → Type 0
 IsWholeOnce names nodes = (more : Names) × Extends more names × AreWholeTables more nodes
 
 module _ (d : Document) (defined : Tables) (lines : List Place) (at : AreAt d.text lines) where
-  whole_at : (tree : Forest Item) (run : Bool) (from : From) → PlainFrom d.text from → CompletedAt d defined tree run from lines
-      → IsWholeOnce d.names tree.nodes
-  whole_at tree run from plain c = (
+  whole_at : (tree : Forest Item) (run : Bool) (from : From) → PlainFrom d.text from → SilentClosed tree.nodes (closed_in tree)
+      → CompletedAt d defined tree run from lines → IsWholeOnce d.names tree.nodes
+  whole_at tree run from plain silent c = (
     c.completion.names,
     c.completion.extends,
-    completed_whole d c.frames (map (λ (ix : TreeIndex). ix.0) tree.spine)
-        (record { nodes = tree.nodes; list = NoList; before = record { last = last_of c.frames; counted = run }; defined = defined }) from lines plain at
-        (all_silent d.options tree.nodes tree.spine c.frames c.are_open) tt c.completion c.derives,
+    completed_whole d c.frames (map (λ (ix : TreeIndex). ix.0) tree.spine) (standing_of defined tree c.frames run) from lines plain at
+        (all_silent d.options tree.nodes tree.spine c.frames c.are_open) silent c.completion c.derives,
   )
 
   -- an item that takes blank lines alone shows nothing either
-  emptied_shows : (r : Reading) (e : ℕ) → ReadyEmpty d defined r e lines → (names : Names)
-      → marks names (emptied r.tree r.tree.spine).nodes ≡ marks names r.tree.nodes
+  item_shows : (b : ItemBody) (n : ℕ) → ShowsNothing (item_body b n)
+  item_shows (DefinitionListDefinition columns) n = λ names depth start end. refl
+  item_shows b n = λ names depth start end. refl
+
+  emptied_shows : (r : Reading) (e : ℕ) (empty : ReadyEmpty d defined r e lines) (names : Names)
+      → marks names (emptied_top r.tree).nodes ≡ marks names r.tree.nodes
   emptied_shows r e empty names =
-      ap (λ s. marks names (emptied r.tree s).nodes) empty.spine
-      ∙ marks_modified names r.tree.nodes empty.place.0 (λ x. record { start = x.start; «end» = x.«end»; body = ListItemBody 0 })
-      (λ x k names depth start end. refl)
-      (open_silent d.options r.tree.nodes empty.place.0 _ (ap (option_and_then (frame_of d.options)) empty.item))
+      let top = top_is d defined r lines e empty in
+      ap (λ (f : Forest Item). marks names f.nodes) (zero_is d defined r lines e empty)
+      ∙ marks_modified names r.tree.nodes empty.place.0 (λ x. record { start = x.start; «end» = x.«end»; body = item_body top.0 0 })
+      (λ x k. item_shows top.0 0)
+      (open_silent d.options r.tree.nodes empty.place.0 (InContainer (item_container top.0 empty.columns))
+      (ap (option_and_then (frame_of d.options)) top.1 ∙ item_frame d.options top.0 empty.columns))
 
-  whole_before_line : (r : Reading) (e : ℕ) → ReadyEmpty d defined r e lines → (t : Bool) → CompletedBeforeLine d defined r.tree e lines t
-      → IsWholeOnce d.names r.tree.nodes
-  whole_before_line r e empty true c =
-      let (more, extends, whole) = whole_at (emptied r.tree r.tree.spine) false (Blanks e) tt c in
-      (more, extends, whole_same more (emptied r.tree r.tree.spine).nodes r.tree.nodes (sym (emptied_shows r e empty more)) whole)
-  whole_before_line r e empty false c = whole_at r.tree false Line tt c
+  whole_before_line : (r : Reading) (e : ℕ) → ReadyEmpty d defined r e lines → (t : Bool) → ReadyBeforeLine d defined r.tree e lines t
+      → CompletedBeforeLine d defined r.tree e lines t → IsWholeOnce d.names r.tree.nodes
+  whole_before_line r e empty true ready c =
+      let (more, extends, whole) = whole_at (emptied_top r.tree) false (Blanks e) tt ready.silent c in
+      (more, extends, whole_same more (emptied_top r.tree).nodes r.tree.nodes (sym (emptied_shows r e empty more)) whole)
+  whole_before_line r e empty false ready c = whole_at r.tree false Line tt ready.silent c
 
-  whole_in_item : (r : Reading) (e : ℕ) → ReadyEmpty d defined r e lines → (blank : Bool) → CompletedInItem d defined r.tree e lines blank
-      → IsWholeOnce d.names r.tree.nodes
-  whole_in_item r e empty true c = whole_at r.tree true (Blanks e) tt c
-  whole_in_item r e empty false c = whole_before_line r e empty (next_is_blank (path_of d.options r.tree) lines) c
+  whole_in_item : (r : Reading) (e : ℕ) → ReadyEmpty d defined r e lines → (blank : Bool) → ReadyInItem d defined r.tree e lines blank
+      → CompletedInItem d defined r.tree e lines blank → IsWholeOnce d.names r.tree.nodes
+  whole_in_item r e empty true ready c = whole_at r.tree true (Blanks e) tt ready.silent c
+  whole_in_item r e empty false ready c = whole_before_line r e empty (next_is_blank (path_of d.options r.tree) lines) ready c
 
   whole_with : (r : Reading) (o : Option ℕ) → ReadyWith d defined r lines o → CompletedWith d defined r lines o → IsWholeOnce d.names r.tree.nodes
-  whole_with r None ready c = whole_at r.tree r.blank Line tt c
-  whole_with r (Some e) empty c = whole_in_item r e empty r.blank c
+  whole_with r None ready c = whole_at r.tree r.blank Line tt ready.silent c
+  whole_with r (Some e) empty c = whole_in_item r e empty r.blank empty.ready c
 
 pub ready_whole : (d : Document) (defined : Tables) (r : Reading) (start : ℕ)
     → StaysReady d defined r (lines_from d.text start) → AreNamed d.names r.tree.nodes → AreWholeTables d.names r.tree.nodes

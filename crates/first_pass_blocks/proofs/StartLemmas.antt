@@ -1,67 +1,90 @@
 -- A container that begins at a place is opened: what that keeps.
-use Rattle.std.proofs.Common.{◌≡◌, inl, ℕ, ◌<◌, ◌≤◌, length, Bool, true, false, List, Option}
+use Rattle.std.proofs.Common.{◌≡◌, inl, ℕ, ◌<◌, ◌≤◌, length, Bool, true, false, ◌&&◌, List, Option}
 use Rattle.std.proofs.Common.{Some, None, refl, sym, ap, subst, ◌∙◌, arith, IsUtf8, IsCharBoundary, if◌then◌else◌}
+use Rattle.std.proofs.lemmas.Bool.{and_parts}
 use Rattle.first_pass_items.specs.declared.item.Item.{Item}
 use Rattle.first_pass_items.specs.declared.item.BlockQuoteKind.{BlockQuoteKind}
-use Rattle.first_pass_items.specs.declared.item.ItemBody.TheVariants.{BlockQuote as BlockQuoteBody, ListItem as ListItemBody}
+use Rattle.first_pass_items.specs.declared.item.ItemBody.{ItemBody}
+use Rattle.first_pass_items.specs.declared.item.ItemBody.TheVariants.{BlockQuote as BlockQuoteBody, ListItem as ListItemBody, Paragraph as ParagraphBody}
+use Rattle.first_pass_items.specs.declared.item.ItemBody.TheVariants.{DefinitionListDefinition}
+use Rattle.first_pass_grammar.specs.Before.{is_paragraph_body}
 use Rattle.first_pass_tree.specs.Forest.{IsForest, in_table}
 use Rattle.first_pass_grammar.specs.Footnotes.{footnote_head_at}
 use Rattle.first_pass_grammar.specs.Derivation.{Tables}
 use Rattle.first_pass_open.specs.Path.{path_of, context_of}
-use Rattle.first_pass_blocks.proofs.TextLemmas.{no_table}
+use Rattle.first_pass_blocks.proofs.BegunLemmas.{no_table}
 use Rattle.first_pass_lines.specs.Rest.{Rest}
 use Rattle.first_pass_lines.specs.Places.{Place, place_at, offset, line_end, IsPlaceOf}
 use Rattle.first_pass_lines.proofs.PlaceFacts.{start_of-lines}
 use Rattle.first_pass_grammar.specs.declared.kind.Container.TheVariants.{BlockQuote}
 use Rattle.first_pass_grammar.specs.Containers.{prefix, at_rest}
-use Rattle.first_pass_grammar.specs.Kinds.{item_at, is_blank_rest, quote_start}
+use Rattle.first_pass_grammar.specs.Kinds.{item_at, definition_marker_at, is_blank_rest, quote_start}
 use Rattle.first_pass_grammar.specs.Leaves.{Document, document, around}
-use Rattle.first_pass_grammar.specs.Openers.{LineEnds, Start, item_head, task_behind, after_task, tag_behind, quote_begun, start_at}
+use Rattle.first_pass_items.specs.OptionWords.{has, definition_list}
+use Rattle.first_pass_grammar.specs.Openers.{OnLine, LineEnds, Start, item_start, item_head, task_behind, after_task, tag_behind, quote_begun, definition_head}
+use Rattle.first_pass_grammar.specs.Openers.{definition_start, start_at}
 use Rattle.first_pass_grammar.specs.Completion.{lines_from}
 use Rattle.first_pass_grammar.specs.Names.{Names}
 use Rattle.first_pass_grammar.specs.Order.{is_task_marker}
 use Rattle.first_pass_grammar.specs.OpenOrder.{item_on_top}
 use Rattle.first_pass_grammar.proofs.OpenerFacts.{start_cases}
 use Rattle.first_pass_open.specs.declared.source.Source.{Source}
-use Rattle.first_pass_open.proofs.PlaceLemmas.{item_keeps, item_shorter, markers_keep, mark_is_task, behind_keeps, prefix_keeps, quote_prefix_shorter}
+use Rattle.first_pass_open.proofs.PlaceLemmas.{item_keeps, item_shorter, definition_keeps, definition_shorter, markers_keep, mark_is_task, behind_keeps}
+use Rattle.first_pass_open.proofs.PlaceLemmas.{prefix_keeps, quote_prefix_shorter}
 use Rattle.first_pass_open.proofs.PlaceLemmas.{place_end}
-use Rattle.first_pass_lists.specs.Closing.{is_list, begun, list_finished, list_continued}
+use Rattle.first_pass_lists.specs.Closing.{top_body, takes_definition, with_tree, is_list, list_kept, loosened_top, begun, list_finished, list_continued}
+use Rattle.first_pass_lists.specs.Closing.{definitions_opened}
+use Rattle.first_pass_lists.specs.Closing.{definition_begun}
 use Rattle.first_pass_lists.specs.declared.reading.Reading.{Reading}
-use Rattle.first_pass_blocks.specs.Positions.{Position, InLine, LeafAt, IsInLine, ReadsTo}
+use Rattle.first_pass_blocks.specs.Positions.{Position, InLine, LeafAt, IsInLine, OrderedUpTo, ReadsTo, may_define}
+use Rattle.first_pass_blocks.specs.Ordered.{IsReadTo}
 use Rattle.first_pass_blocks.specs.Starts.{after_told, start_told, start_opened, after_at, IsAfter}
 use Rattle.first_pass_blocks.specs.State.{ReadyAt}
 use Rattle.first_pass_blocks.proofs.LineLemmas.{list_finished_none, list_continued_none}
-use Rattle.first_pass_blocks.proofs.OrderLemmas.{ordered_later}
-use Rattle.first_pass_blocks.proofs.NamedLemmas.{item_named, quote_named, child_named}
+use Rattle.first_pass_blocks.proofs.NamedLemmas.{item_named, definition_named, quote_named, child_named}
 use Rattle.first_pass_blocks.proofs.WholeKept.{item_whole, quote_whole, child_whole}
-use Rattle.first_pass_blocks.proofs.CountLemmas.{item_count, quote_count, child_count, left_before, offset_before, mark_shorter, container_count}
-use Rattle.first_pass_blocks.proofs.OrderSteps.{offset_later, ordered_on, top_begun, ordered_item, ordered_quote, mark_stands, ordered_container}
+use Rattle.first_pass_blocks.proofs.DefinitionsWhole.{definition_whole}
+use Rattle.first_pass_blocks.proofs.CountLemmas.{item_count, definition_count, quote_count, child_count, left_before, offset_before, mark_shorter}
+use Rattle.first_pass_blocks.proofs.CountLemmas.{container_count}
+use Rattle.first_pass_blocks.proofs.OrderSteps.{offset_later, upto_later, ordered_on, top_begun, ordered_item, ordered_definition_in, ordered_quote}
+use Rattle.first_pass_blocks.proofs.OrderSteps.{mark_stands}
+use Rattle.first_pass_blocks.proofs.OrderSteps.{ordered_container}
 use Rattle.first_pass_blocks.proofs.OrderSteps.{ordered_empty_item, quote_stands, place_before_end}
-use Rattle.first_pass_blocks.proofs.OpenerLemmas.{item_opened, ready_item, ready_empty_item, ready_quote, ready_tagged, after_opened, ready_after}
+use Rattle.first_pass_blocks.proofs.ClosedIn.{takes_same}
+use Rattle.first_pass_blocks.proofs.OpenerLemmas.{begins_at, item_opened, ready_item, ready_definition, ready_quote, ready_tagged, after_opened, ready_after}
+use Rattle.first_pass_blocks.proofs.EmptyItems.{IsNoParagraph, empty_item_read, ready_empty_item, ready_empty_definition}
+use Rattle.first_pass_blocks.proofs.StartFound.{may_if}
 use Rattle.first_pass_grammar.specs.Skeleton.{Inside}
-use Rattle.std.specs.Option.{option_map, option_or}
-use Rattle.first_pass_grammar.specs.Openers.{item_start}
-use Rattle.first_pass_items.specs.declared.option_set.Options.{Options}
-use Rattle.std.proofs.Common.{MatchOption}
-use Rattle.first_pass_lists.specs.declared.list.ListMarker.{ListMarker}
-use Rattle.first_pass_blocks.specs.Starts.{marker_of}
-use Rattle.first_pass_lines.specs.Rest.{after_columns}
-use Rattle.first_pass_open.proofs.PlaceLemmas.{quote_taken}
-use Rattle.first_pass_blocks.proofs.OpenerLemmas.{item_absent}
 use Rattle.first_pass_blocks.specs.declared.openers.Start.{Start as ToldStart}
 
-absent_by : {T S : Type 0} (f : T → Start) (g : S → Start) (i : Option T) (q : Option S)
-    → option_or (option_map f i) (option_map g q) ≡ None → (i ≡ None) × (q ≡ None)
-absent_by f g (Some item) q h = cc
-absent_by f g None (Some r) h = cc
-absent_by f g None None h = (refl, refl)
+-- the marker of a task is no paragraph
+mark_by : (b : ItemBody) → is_task_marker b ≡ true → is_paragraph_body b ≡ false
+mark_by ParagraphBody h = cc
+mark_by b h = refl
 
--- where no container begins there is no item's marker, and no block quote's
-start_absent : (options : Options) (p : Place) → start_at options p ≡ None → (item_at p.rest ≡ None) × (prefix (BlockQuote None) p.rest ≡ None)
-unfolding start_at
-start_absent options p h =
-    absent_by (λ (item : (ℕ × ℕ × ℕ) × Rest). item_start p item.0 (task_behind options p.line item.1))
-    (λ (r : Rest). quote_begun p (tag_behind options r) r) (item_at p.rest) (prefix (BlockQuote None) p.rest) h
+no_paragraph : (marker : Option Item) → ((x : Item) → marker ≡ Some x → is_task_marker x.body ≡ true) → IsNoParagraph marker
+no_paragraph marker task x some = mark_by x.body (task x some)
+
+-- no item is empty once a definition is open
+kept_none : (t : Bool) (q : Reading) → q.empty_item ≡ None
+    → (if t then record q { tree = loosened_top q.tree q.tree.spine; blank = false } else q).empty_item ≡ None
+kept_none true q none = none
+kept_none false q none = none
+
+definition_none : (start columns : ℕ) (r : Reading) → r.empty_item ≡ None → (definition_begun start columns r).empty_item ≡ None
+unfolding definition_begun
+definition_none start columns r none = kept_none r.blank (with_tree r (definitions_opened r.tree r.tree.current)) none
+
+definition_top : (start columns : ℕ) (r : Reading) → top_body (definition_begun start columns r).tree ≡ Some (DefinitionListDefinition columns)
+unfolding definition_begun
+definition_top start columns r = top_begun start (DefinitionListDefinition columns) (list_kept (with_tree r (definitions_opened r.tree r.tree.current)))
+
+ordered_empty_definition : (text : List ℕ) (start e columns : ℕ) (r : Reading) → start ≤ e → e ≤ length text → IsCharBoundary text e
+    → OrderedUpTo text (definition_begun start columns r).tree start → IsReadTo text (empty_item_read (definition_begun start columns r) None e) e
+unfolding definition_begun
+ordered_empty_definition text start e columns r low high boundary o =
+    let list : Reading = list_kept (with_tree r (definitions_opened r.tree r.tree.current)) in
+    ordered_empty_item text start start e (DefinitionListDefinition columns) list None list.blank refl low low high boundary o (λ x is_mark. cc)
 
 -- What is remembered once a container that begins at a place is open, and where reading has come to: of the line less is left.
 abbrev IsOpened : Source → ℕ → Reading → Place → Start → Type 0
@@ -87,8 +110,16 @@ module _ (source : Source) (r : Reading) (p : Place) (utf8 : IsUtf8 source.text.
   ends : IsCharBoundary text (line_end p)
   ends = place_end text p utf8 at
 
+  abbrev may : Bool
+  may = may_define source.options r.tree
+
+  -- what begins where one may, as the grammar says it
+  begins_as : (names : Names) (s : Start) → start_at source.options may p ≡ Some s → begins_at (doc names) r p ≡ Some s
+  begins_as names s is = ap (λ (t : Bool). start_at source.options (has source.options definition_list && t) p) (takes_same r.tree) ∙ is
+
   -- a list item
-  module _ (byte number columns : ℕ) (behind : Rest) (is : item_at p.rest ≡ Some ((byte, number, columns), behind)) where
+  module _ (byte number columns : ℕ) (behind : Rest) (is : item_at p.rest ≡ Some ((byte, number, columns), behind))
+      (begins : start_at source.options may p ≡ Some (item_start p (byte, number, columns) (task_behind source.options p.line behind))) where
     abbrev rest : Rest
     rest = (task_behind source.options p.line behind).1
 
@@ -97,6 +128,12 @@ module _ (source : Source) (r : Reading) (p : Place) (utf8 : IsUtf8 source.text.
 
     task : (marker : Option Item) → marker ≡ (task_behind source.options p.line behind).0 → task_behind source.options p.line behind ≡ (marker, rest)
     task marker same = ap (λ (o : Option Item). (o, rest)) (sym same)
+
+    begins_with : (names : Names) (marker : Option Item) → marker ≡ (task_behind source.options p.line behind).0
+        → begins_at (doc names) r p ≡ Some (item_start p (byte, number, columns) (marker, rest))
+    begins_with names marker same =
+        begins_as names (item_start p (byte, number, columns) (marker, rest))
+        (begins ∙ ap (λ t. Some (item_start p (byte, number, columns) t)) (task marker same))
 
     is_task : (marker : Option Item) → marker ≡ (task_behind source.options p.line behind).0 → (x : Item) → marker ≡ Some x → is_task_marker x.body ≡ true
     is_task marker same x some = mark_is_task source.options p.line behind x (sym same ∙ some)
@@ -123,9 +160,8 @@ module _ (source : Source) (r : Reading) (p : Place) (utf8 : IsUtf8 source.text.
           record {
             ready = λ names defined ready.
                 ready_after (doc names) defined opened_item (at_rest p rest) (line_end p) marker j.1
-                (ready_item (doc names) defined r p (lines_from text (line_end p)) ((byte, number, columns), behind) marker rest forest
-                (no_head names defined ready) is
-                (task marker same) some none ready);
+                (ready_item (doc names) defined r p (lines_from text (line_end p)) byte number columns marker rest forest
+                (no_head names defined ready) (begins_with names marker same) some none ready);
             order = λ ordered.
                 ordered_container source.options text opened_item (offset p) (line_end p) (at_rest p rest) marker (ap is_list top) low j.0.within ordered.0
                 (ordered_item text r p.line (offset p) byte number columns (omega arith) at.within at.boundary none ordered.1)
@@ -161,12 +197,12 @@ module _ (source : Source) (r : Reading) (p : Place) (utf8 : IsUtf8 source.text.
           (j.0, refl, j.1),
           record {
             ready = λ names defined ready.
-                ready_empty_item (doc names) defined r p (lines_from text e) ((byte, number, columns), behind) marker rest e forest
-                (no_head names defined ready) is (task marker same) over
+                ready_empty_item (doc names) defined r p (lines_from text e) byte number columns marker rest e forest
+                (no_head names defined ready) (begins_with names marker same) (no_paragraph marker (is_task marker same)) over
                 (start_of-lines text e ends.0) none ready;
             order = λ ordered.
-                inl (ordered_empty_item text (offset p) (offset (at_rest p rest)) e columns (list_continued (offset p) byte number r) marker opened_item.blank
-                here (omega (arith, there, j.1)) ends.0 ends
+                inl (ordered_empty_item text (offset p) (offset (at_rest p rest)) e (ListItemBody columns) (list_continued (offset p) byte number r) marker
+                opened_item.blank refl here (omega (arith, there, j.1)) ends.0 ends
                 (ordered_item text r p.line (offset p) byte number columns (omega arith) at.within at.boundary none ordered.1)
                 (λ x is_mark. mark_stands text source.options p.line behind rest (offset p) marker x utf8 k.0 mark same refl is_mark));
             few = λ first grows.
@@ -193,9 +229,14 @@ module _ (source : Source) (r : Reading) (p : Place) (utf8 : IsUtf8 source.text.
     item_by false some = item_on (task_behind source.options p.line behind).0 refl some
 
   -- a block quote
-  module _ (inside : Rest) (no_item : item_at p.rest ≡ None) (is : prefix (BlockQuote None) p.rest ≡ Some inside) where
+  module _ (inside : Rest) (is : prefix (BlockQuote None) p.rest ≡ Some inside)
+      (begins : start_at source.options may p ≡ Some (quote_begun p (tag_behind source.options inside) inside)) where
     abbrev opened_quote : Option BlockQuoteKind → Reading
     opened_quote kind = begun (quote_start p) (BlockQuoteBody kind) (list_finished p.line r)
+
+    begins_kind : (names : Names) (kind : Option BlockQuoteKind) → tag_behind source.options inside ≡ kind
+        → begins_at (doc names) r p ≡ Some (quote_begun p kind inside)
+    begins_kind names kind tag = begins_as names (quote_begun p kind inside) (begins ∙ ap (λ k. Some (quote_begun p k inside)) tag)
 
     quote_by : (kind : Option BlockQuoteKind) → tag_behind source.options inside ≡ kind → IsOpened source line r p (quote_begun p kind inside)
     quote_by None tag =
@@ -211,8 +252,8 @@ module _ (source : Source) (r : Reading) (p : Place) (utf8 : IsUtf8 source.text.
             ready = λ names defined ready.
                 subst (λ (n : ℕ). ReadyAt (doc names) defined (opened_quote None).tree
                 (opened_quote None).blank (Inside (at_rest p inside)) (lines_from text n))
-                (sym j.1) (ready_quote (doc names) defined r p (lines_from text (line_end p)) inside forest (no_head names defined ready) no_item is tag
-                none ready);
+                (sym j.1) (ready_quote (doc names) defined r p (lines_from text (line_end p)) inside forest (no_head names defined ready)
+                (begins_kind names None tag) none ready);
             order = λ ordered. (
               ordered.0,
               ordered_on text (opened_quote None).tree p.line (quote_start p) (offset (at_rest p inside))
@@ -238,9 +279,10 @@ module _ (source : Source) (r : Reading) (p : Place) (utf8 : IsUtf8 source.text.
           (j.0, refl, j.1),
           record {
             ready = λ names defined ready.
-                ready_tagged (doc names) defined r p (lines_from text e) inside kind forest (no_head names defined ready) no_item is tag none ready;
+                ready_tagged (doc names) defined r p (lines_from text e) inside kind forest (no_head names defined ready)
+                (begins_kind names (Some kind) tag) none ready;
             order = λ ordered.
-                ordered_later text (opened_quote (Some kind)).tree (quote_start p) e (omega (arith, s.1, there, j.1)) ends.0
+                upto_later text (opened_quote (Some kind)).tree (quote_start p) e (omega (arith, s.1, there, j.1)) ends.0
                 (ordered_quote text r p.line (offset p) (quote_start p) (Some kind) (omega arith) s.0 s.2.0 ordered.0 s.2 none ordered.1);
             few = λ first grows. omega arith;
             named = λ names h. quote_named names p.line (quote_start p) (BlockQuoteBody (Some kind)) r tt h;
@@ -248,25 +290,98 @@ module _ (source : Source) (r : Reading) (p : Place) (utf8 : IsUtf8 source.text.
           },
         )
 
-  pub start_opens : (s : Start) → start_at source.options p ≡ Some s → IsOpened source line r p s
-  start_opens =
-      start_cases source.options p (IsOpened source line r p)
-      (λ item is. item_by item.0.0 item.0.1 item.0.2 item.1 is (is_blank_rest (task_behind source.options p.line item.1).1) refl)
-      (λ inside no_item is. quote_by inside no_item is (tag_behind source.options inside) refl)
+  -- a definition
+  module _ (columns : ℕ) (rest : Rest) (is : definition_marker_at p.rest ≡ Some (columns, rest)) (takes : takes_definition r.tree ≡ true)
+      (begins : start_at source.options may p ≡ Some (definition_start p (columns, rest))) where
+    abbrev opened_definition : Reading
+    opened_definition = definition_begun (offset p) columns r
+
+    definition_line : is_blank_rest rest ≡ false
+        → IsOpened source line r p (record { head = definition_head p columns; after = OnLine; rest = rest })
+    definition_line some =
+        let under = below in
+        let j = definition_keeps text p.line p.rest (columns, rest) utf8 is at in
+        let shorter = definition_shorter p.rest (columns, rest) is in
+        let later = offset_before text p.line p.rest rest at j.0 shorter in
+        let two = definition_count (offset p) columns r in (
+          definition_none (offset p) columns r none,
+          shorter,
+          (j.0, refl, j.1),
+          record {
+            ready = λ names defined ready.
+                subst (λ (n : ℕ). ReadyAt (doc names) defined opened_definition.tree opened_definition.blank (Inside (at_rest p rest)) (lines_from text n))
+                (sym j.1) (ready_definition (doc names) defined r p (lines_from text (line_end p)) columns rest forest (no_head names defined ready) takes
+                (begins_as names (definition_start p (columns, rest)) begins) some none ready);
+            order = λ ordered.
+                ordered_container source.options text opened_definition (offset p) (line_end p) (at_rest p rest) None
+                (ap is_list (definition_top (offset p) columns r)) (omega arith) j.0.within ordered.0
+                (ordered_definition_in text r p.line (offset p) columns forest takes (omega arith) at.within at.boundary ordered.1) (λ x is_mark. cc);
+            few = λ first grows. omega arith;
+            named = λ names h. definition_named names (offset p) columns r h;
+            whole = λ names h. definition_whole names (offset p) columns r forest h;
+          },
+        )
+
+    definition_over : is_blank_rest rest ≡ true
+        → IsOpened source line r p (record { head = definition_head p columns; after = LineEnds None; rest = rest })
+    definition_over over =
+        let e : ℕ = line_end p in
+        let under = below in
+        let j = definition_keeps text p.line p.rest (columns, rest) utf8 is at in
+        let shorter = definition_shorter p.rest (columns, rest) is in
+        let some = left_before p (omega arith) in
+        let two = definition_count (offset p) columns r in (
+          tt,
+          shorter,
+          (j.0, refl, j.1),
+          record {
+            ready = λ names defined ready.
+                ready_empty_definition (doc names) defined r p (lines_from text e) columns rest e forest (no_head names defined ready) takes
+                (begins_as names (definition_start p (columns, rest)) begins) over (start_of-lines text e ends.0) none ready;
+            order = λ ordered. inl (ordered_empty_definition text (offset p) e columns r (place_before_end p) ends.0 ends
+                (ordered_definition_in text r p.line (offset p) columns forest takes (omega arith) at.within at.boundary ordered.1));
+            few = λ first grows. omega arith;
+            named = λ names h. definition_named names (offset p) columns r h;
+            whole = λ names h. definition_whole names (offset p) columns r forest h;
+          },
+        )
+
+    definition_by : (t : Bool) → is_blank_rest rest ≡ t
+        → IsOpened source line r p (record { head = definition_head p columns; after = if t then LineEnds None else OnLine; rest = rest })
+    definition_by true over = definition_over over
+    definition_by false some = definition_line some
+
+  -- what holds of a start that is found there
+  abbrev OpensIt : Start → Type 0
+  OpensIt s = start_at source.options may p ≡ Some s → IsOpened source line r p s
+
+  definition_may : (marker : ℕ × Rest) → item_at p.rest ≡ None → start_at source.options may p ≡ Some (definition_start p marker)
+      → takes_definition r.tree ≡ true
+  definition_may marker no_item begins =
+      (and_parts (has source.options definition_list) (takes_definition r.tree) (may_if source.options may p marker no_item begins)).1
+
+  pub start_opens : (s : Start) → start_at source.options may p ≡ Some s → IsOpened source line r p s
+  start_opens s begins_it =
+      start_cases source.options may p OpensIt
+      (λ item is begins.
+      item_by item.0.0 item.0.1 item.0.2 item.1 is begins (is_blank_rest (task_behind source.options p.line item.1).1) refl)
+      (λ marker no_item is begins.
+      definition_by marker.0 marker.1 is (definition_may marker no_item begins) begins (is_blank_rest marker.1) refl)
+      (λ inside no_item is begins. quote_by inside is begins (tag_behind source.options inside) refl) s begins_it begins_it
 
   -- no container begins there
-  pub no_start : start_at source.options p ≡ None → ReadsTo source line r r (InLine p) (LeafAt p)
-  no_start is =
-      let absent = start_absent source.options p is in record {
-        ready = λ names defined ready. inl (no_head names defined ready, absent.0, absent.1, ready);
-        order = λ ordered. ordered;
-        few = λ first grows. grows;
-        named = λ names h. h;
-        whole = λ names h. h;
-      }
+  pub no_start : start_at source.options may p ≡ None → ReadsTo source line r r (InLine p) (LeafAt p)
+  no_start is = record {
+    ready = λ names defined ready. inl (no_head names defined ready, is, ready);
+    order = λ ordered. ordered;
+    few = λ first grows. grows;
+    named = λ names h. h;
+    whole = λ names h. h;
+  }
 
   -- the same in the words of the calls that open it
-  pub opened_start : (s : Start) (new : Place) (t : ToldStart) (q : Reading) → start_at source.options p ≡ Some s → t ≡ start_told s
+  pub opened_start : (s : Start) (new : Place) (t : ToldStart) (q : Reading) → start_at source.options may p ≡ Some s
+      → t ≡ start_told s
       → new ≡ at_rest p s.rest → q ≡ start_opened new.line t (line_end new) r
       → IsAfter t.after q × (length new.rest.left < length p.rest.left) × IsInLine text p.line (line_end p) new
       × ReadsTo source line r q (InLine p) (after_at new (line_end p) t.after)
@@ -277,34 +392,6 @@ module _ (source : Source) (r : Reading) (p : Place) (utf8 : IsUtf8 source.text.
       × IsInLine text p.line (line_end p) (at_rest p s.rest)
       × ReadsTo source line r (start_opened p.line (start_told s) n r) (InLine p) (after_at (at_rest p s.rest) (line_end p) (after_told s.after)) in
       rw (q_is, new_is, told) (subst here (sym opens.2.2) opens)
-
--- what the call says that tells which container begins at a place
-pub start_found : (o : Option Start) (found : Option ToldStart) (t : ToldStart) (old new : Place) → found ≡ Some t
-    → MatchOption o ((found ≡ None) × (new ≡ old)) (λ s. (found ≡ Some (start_told s)) × (new ≡ at_rest old s.rest))
-    → (s : Start) × (o ≡ Some s) × (t ≡ start_told s) × (new ≡ at_rest old s.rest)
-start_found None found t old new e h = (let z : None ≡ Some t = sym h.0 ∙ e in cc)
-start_found (Some s) found t old new e h = (let z : Some t ≡ Some (start_told s) = sym e ∙ h.0 in let same : t ≡ start_told s = cc in (s, refl, same, h.1))
-
-pub start_missing : (o : Option Start) (found : Option ToldStart) (old new : Place) → found ≡ None
-    → MatchOption o ((found ≡ None) × (new ≡ old)) (λ s. (found ≡ Some (start_told s)) × (new ≡ at_rest old s.rest)) → (o ≡ None) × (new ≡ old)
-start_missing None found old new e h = (refl, h.1)
-start_missing (Some s) found old new e h = (let z : None ≡ Some (start_told s) = sym e ∙ h.0 in cc)
-
-pub matches : {A : Type 0} (N : Type 0) (P : A → Type 0) (o : Option A) (s : A) → o ≡ Some s → P s → MatchOption o N P
-matches N P o s is h = subst (λ x. MatchOption x N P) (sym is) h
-
-pub matches_none : {A : Type 0} (N : Type 0) (P : A → Type 0) (o : Option A) → o ≡ None → N → MatchOption o N P
-matches_none N P o is h = subst (λ x. MatchOption x N P) (sym is) h
-
--- no item, but a block quote
-pub quote_here : (old mid new : Rest) (found : Option ListMarker) (width : Option ℕ) (at : ℕ)
-    → found ≡ None → MatchOption (item_at old) ((found ≡ None) × (mid ≡ old)) (λ item. (found ≡ Some (marker_of item.0)) × (mid ≡ item.1)) → width ≡ Some at
-    → MatchOption (prefix (BlockQuote None) mid) ((width ≡ None) × (new ≡ mid)) (λ next. (width ≡ Some (after_columns 3 mid).taken) × (new ≡ next))
-    → (item_at old ≡ None) × (prefix (BlockQuote None) old ≡ Some new) × (at ≡ (after_columns 3 old).taken)
-quote_here old mid new found width at absent a taken b =
-    let i = item_absent (item_at old) found old mid absent a in
-    let t = quote_taken (prefix (BlockQuote None) mid) width _ at mid new taken b in
-    (i.0, ap (prefix (BlockQuote None)) (sym i.1) ∙ t.0, t.1 ∙ ap (λ (r : Rest). (after_columns 3 r).taken) i.1)
 
 -- one step after another
 pub reads_both : (source : Source) (line : ℕ) (a b c : Reading) (p q t : Position) → ReadsTo source line a b p q → ReadsTo source line b c q t

@@ -1,5 +1,5 @@
 -- A block quote with a tag: what it ends and counts, and the line after it.
-use Rattle.std.proofs.Common.{◌≡◌, inl, inr, ℕ, ◌+◌, nat_lt, ◌&&◌, Bool, true, false, List, [], ◌∷◌, length, drop, slice_get, Option, Some, None, is_some, refl}
+use Rattle.std.proofs.Common.{◌≡◌, inl, inr, ℕ, ◌+◌, nat_lt, ◌&&◌, Bool, true, false, List, [], ◌∷◌, length, drop, slice_get, Option, Some, None, refl}
 use Rattle.std.proofs.Common.{sym, ap, subst, ◌∙◌, if◌then◌else◌}
 use Rattle.std.proofs.lemmas.Bool.{cases_lt}
 use Rattle.std.specs.Option.{option_and_then}
@@ -16,12 +16,13 @@ use Rattle.first_pass_lines.proofs.LineFacts.{lines_at-line, lines_at-end}
 use Rattle.first_pass_grammar.specs.Derivation.{Tables}
 use Rattle.first_pass_grammar.specs.Containers.{Context}
 use Rattle.first_pass_grammar.specs.declared.kind.Container.TheVariants.{BlockQuote}
-use Rattle.first_pass_grammar.specs.Containers.{Context, at_rest, after, front}
-use Rattle.first_pass_grammar.specs.Kinds.{unindented, interrupts, ends_tag}
+use Rattle.first_pass_grammar.specs.Containers.{at_rest, front}
+use Rattle.first_pass_grammar.specs.Kinds.{Continued, continued, unindented, interrupts, ends_tag}
 use Rattle.first_pass_grammar.specs.Leaves.{Document}
 use Rattle.first_pass_grammar.specs.Skeleton.{From, Line, At, ALeafAlone, behind_tag}
-use Rattle.first_pass_grammar.specs.Completion.{lines_from, Frame, InContainer}
-use Rattle.first_pass_grammar.proofs.Completions.{counts_in}
+use Rattle.first_pass_grammar.specs.Completion.{lines_from, Closed, OtherClosed, ParagraphAt, DefinitionClosed, TitleAt, Frame, InContainer}
+use Rattle.first_pass_grammar.proofs.Extending.{tail}
+use Rattle.first_pass_grammar.proofs.Completions.{counted_after}
 use Rattle.first_pass_lists.specs.Closing.{top_body, is_list, popped, item_finished_by, item_finished, list_left, gap_tree, gap_noted, list_finished}
 use Rattle.first_pass_lists.specs.declared.reading.Reading.{Reading}
 use Rattle.first_pass_open.specs.Path.{path_of, context_of}
@@ -47,25 +48,32 @@ finishes_nothing at r kind quote blank none =
     ap (λ q. gap_noted (list_left at q)) item ∙ ap gap_noted left ∙ noted_none r (gap_tree r.tree r.tree.spine) r.blank blank
 
 -- a blank line doesn't count directly in it
-pub quote_counts : (options : Options) (nodes : List (ℕ × Item)) (s : List TreeIndex) (frames : List Frame) (kind : Option BlockQuoteKind)
+counts_quoted : (kind : Option BlockQuoteKind) (frames : List Frame) (closed : Closed)
+    → counted_after (InContainer (BlockQuote kind) ∷ frames) (tail closed false) ≡ false
+counts_quoted kind frames OtherClosed = refl
+counts_quoted kind frames (ParagraphAt place) = refl
+counts_quoted kind frames (DefinitionClosed e blanks) = refl
+counts_quoted kind frames (TitleAt e place) = refl
+
+pub quote_counts : (options : Options) (nodes : List (ℕ × Item)) (s : List TreeIndex) (frames : List Frame) (kind : Option BlockQuoteKind) (closed : Closed)
     → option_and_then (λ (ix : TreeIndex). body_at nodes ix.0) (slice_get s 0) ≡ Some (BlockQuoteBody kind) → AreOpen options nodes s frames
-    → counts_in frames false ≡ false
-quote_counts options nodes [] frames kind quote o = cc
-quote_counts options nodes (ix ∷ s) [] kind quote o = absurd o
-quote_counts options nodes (ix ∷ s) (frame ∷ frames) kind quote o =
+    → counted_after frames (tail closed false) ≡ false
+quote_counts options nodes [] frames kind closed quote o = cc
+quote_counts options nodes (ix ∷ s) [] kind closed quote o = absurd o
+quote_counts options nodes (ix ∷ s) (frame ∷ frames) kind closed quote o =
     let is : Some (InContainer (BlockQuote kind)) ≡ Some frame = sym (ap (option_and_then (frame_of options)) quote) ∙ o.0 in
     let same : InContainer (BlockQuote kind) ≡ frame = cc in
-    ap (λ f. counts_in (f ∷ frames) false) (sym same)
+    ap (λ f. counted_after (f ∷ frames) (tail closed false)) (sym same) ∙ counts_quoted kind frames closed
 
 -- At the text's end no line belongs to it.
-end_by : (around : Context) (whole : Bool) → (nat_lt (indent (line_rest [])) 4 && interrupts around whole (line_rest [])) ≡ true
+end_by : (around : Context) (c : Continued) → (nat_lt (indent (line_rest [])) 4 && interrupts around c (line_rest [])) ≡ true
 unfolding interrupts
-end_by around whole = refl
+end_by around c = refl
 
 pub tag_end : (around : Context) → ends_tag around (line_rest []) ≡ true
 tag_end around =
-    ap (λ r. nat_lt (indent r) 4 && interrupts around (is_some (after around.path (line_rest []))) r) (front-end around.path)
-    ∙ end_by around (is_some (after around.path (line_rest [])))
+    ap (λ r. nat_lt (indent r) 4 && interrupts around (continued around.path (line_rest [])) r) (front-end around.path)
+    ∙ end_by around (continued around.path (line_rest []))
 
 tag_by : (around : Context) (line : Place) (lines : List Place) (t : Bool) → ends_tag around line.rest ≡ t
     → behind_tag around (line ∷ lines) ≡ (if t then (Line, line ∷ lines) else (At (unindented (at_rest line (front around.path line.rest))) ALeafAlone, lines))

@@ -1,77 +1,68 @@
 -- A pass read the link definitions at a place, and the text that they flow into or the one that begins there.
-use Rattle.std.proofs.Common.{◌≡◌, inl, inr, ℕ, ◌+◌, ◌≤◌, Bool, true, false, List, [], ◌∷◌, Option, Some, None, IsUtf8, IsCharBoundary, refl, sym, ap, subst}
-use Rattle.std.proofs.Common.{◌∙◌, arith, if◌then◌else◌}
-use Rattle.std.specs.Option.{option_and_then}
+use Rattle.std.proofs.Common.{◌≡◌, inl, inr, ℕ, ◌+◌, ◌≤◌, ◌<◌, Bool, true, false, List, [], ◌∷◌, length, Option, Some, None, IsUtf8, IsCharBoundary, refl}
+use Rattle.std.proofs.Common.{sym, ap, subst, ◌∙◌, arith, if◌then◌else◌}
+use Rattle.std.specs.Option.{option_map_or}
 use Rattle.first_pass_items.specs.declared.item.Item.{Item}
 use Rattle.first_pass_items.specs.declared.item.ItemBody.{ItemBody}
-use Rattle.first_pass_items.specs.declared.item.ItemBody.TheVariants.{BlockQuote as BlockQuoteBody, List as ListBody, ListItem as ListItemBody}
-use Rattle.first_pass_items.specs.declared.item.ItemBody.TheVariants.{FootnoteDefinition as FootnoteDefinitionBody}
-use Rattle.first_pass_items.specs.declared.option_set.Options.{Options}
-use Rattle.first_pass_tree.specs.declared.tree_index.TreeIndex.{TreeIndex}
-use Rattle.first_pass_tree.specs.Forest.{Forest, IsForest, body_at, in_table, in_table_by}
+use Rattle.first_pass_items.specs.declared.item.ItemBody.TheVariants.{Paragraph as ParagraphBody}
+use Rattle.first_pass_tree.specs.Forest.{Forest, IsForest, added, at_depth, body_at, in_table}
 use Rattle.first_pass_lines.specs.Lines.{line_len}
 use Rattle.first_pass_lines.specs.Rest.{indent}
 use Rattle.first_pass_lines.specs.Places.{Place, offset, line_end, IsPlaceOf}
 use Rattle.first_pass_lines.proofs.PlaceFacts.{columns_line_end}
+use Rattle.first_pass_grammar.specs.Before.{is_paragraph_body, begins_paragraph}
+use Rattle.first_pass_grammar.specs.Blocks.{Block, flowing_block}
 use Rattle.first_pass_grammar.specs.Containers.{Context}
 use Rattle.first_pass_grammar.specs.Kinds.{Paragraph, unindented, IsKind}
 use Rattle.first_pass_grammar.specs.Leaves.{Document, document}
 use Rattle.first_pass_grammar.specs.Derivation.{Tables, told}
 use Rattle.first_pass_grammar.specs.LinkTables.{LinkEntry}
-use Rattle.first_pass_grammar.specs.LinkRuns.{Ended, FlowsOn, IsRun}
-use Rattle.first_pass_grammar.specs.Completion.{Frame, lines_from}
-use Rattle.first_pass_grammar.specs.OpenOrder.{IsOrderedTo}
+use Rattle.first_pass_grammar.specs.LinkRuns.{Beyond, Ended, FlowsOn, IsRun}
+use Rattle.first_pass_grammar.specs.Completion.{lines_from}
+use Rattle.first_pass_grammar.specs.Skeleton.{Line, OpensLeaf}
+use Rattle.first_pass_grammar.specs.Names.{Names, Extends, AreNamed}
+use Rattle.first_pass_grammar.specs.Order.{GrowsBy}
+use Rattle.first_pass_grammar.specs.WholeTables.{HasWholeTables}
+use Rattle.first_pass_grammar.proofs.TextsNamed.{text_named}
 use Rattle.first_pass_names.specs.TableEntries.{tables, told_by, names_of, NamesMore}
+use Rattle.first_pass_names.proofs.NameLemmas.{extends_equal, extends_none}
 use Rattle.first_pass_blocks.specs.Written.{TablesAreWritten}
-use Rattle.first_pass_lists.specs.Closing.{list_finished}
+use Rattle.first_pass_lists.specs.Closing.{with_tree, current_body, is_list, top_body, is_after_definition, list_finished, title_kept, definitions_left}
 use Rattle.first_pass_lists.specs.declared.reading.Reading.{Reading}
-use Rattle.first_pass_open.specs.Between.{AddsBetween}
+use Rattle.first_pass_open.specs.Between.{line_end_at, AddsBetween}
+use Rattle.first_pass_open.specs.Path.{path_of}
+use Rattle.first_pass_open.specs.declared.source.Source.{Source}
 use Rattle.first_pass_blocks.specs.declared.state.BlockPass.{BlockPass}
 use Rattle.first_pass_blocks.specs.declared.definition.RunEnd.TheVariants.{NextLine, Paragraph as TextBehind}
 use Rattle.first_pass_blocks.specs.Views.{allocs_of, context_in, reading_of, source_of, source_options, source_text, tree_of}
-use Rattle.first_pass_blocks.specs.State.{frame_of, AreOpen, Ready}
-use Rattle.first_pass_blocks.specs.Positions.{ReadyLeaf, line_or}
-use Rattle.first_pass_blocks.specs.Runs.{IsLater, ReadsRun}
-use Rattle.first_pass_lists.specs.Closing.{is_list, top_body}
-use Rattle.first_pass_grammar.specs.LinkRuns.{Beyond}
-use Rattle.first_pass_grammar.specs.Names.{Extends, AreNamed}
-use Rattle.first_pass_grammar.proofs.TextsNamed.{text_named}
-use Rattle.first_pass_names.proofs.NameLemmas.{extends_equal, extends_none}
-use Rattle.first_pass_open.specs.Between.{line_end_at}
-use Rattle.first_pass_blocks.specs.TextsAdded.{AddsText}
-use Rattle.first_pass_blocks.specs.Ordered.{IsOrderedAt}
-use Rattle.first_pass_blocks.proofs.OrderLemmas.{ordered_later, ordered_none}
-use Rattle.first_pass_blocks.proofs.OrderSteps.{line_or-below, ordered_finished, ordered_leaf, place_before_end, unindented_later}
-use Rattle.first_pass_blocks.proofs.LineLemmas.{list_finished_none}
-use Rattle.first_pass_blocks.proofs.NamedLemmas.{block_added, list_finished_named}
-use Rattle.first_pass_blocks.proofs.WholeKept.{IsReadWhole, list_finished_whole, block_whole, added_text_whole}
-use Rattle.first_pass_blocks.proofs.CountLemmas.{count, list_finished_count, block_count, leaf_left, left_before}
-use Rattle.first_pass_blocks.proofs.LeafLemmas.{ready_ended, ready_flows}
+use Rattle.first_pass_blocks.specs.State.{closed_in, Ready}
+use Rattle.first_pass_blocks.specs.Ordered.{IsReadTo}
+use Rattle.first_pass_blocks.specs.Positions.{ReadyLeaf, OrderedUpTo, line_or}
 use Rattle.first_pass_blocks.specs.Progress.{ReadsLeaf}
+use Rattle.first_pass_blocks.specs.Runs.{IsLater, ReadsRun}
+use Rattle.first_pass_blocks.specs.TextsAdded.{AddsText, IsTextAt}
+use Rattle.first_pass_blocks.specs.Titles.{current_end, is_paragraph_last, title_read, ReadsTitle}
+use Rattle.first_pass_blocks.proofs.AddedLemmas.{body_behind}
+use Rattle.first_pass_blocks.proofs.BegunLemmas.{no_table}
+use Rattle.first_pass_blocks.proofs.CountLemmas.{count, list_finished_count, title_kept_count, definitions_left_count, block_count, leaf_left, left_before}
+use Rattle.first_pass_blocks.proofs.DefinitionOrder.{read_definitions_left, read_title_kept}
+use Rattle.first_pass_blocks.proofs.FinishLemmas.{EndsListAt, path_finished}
+use Rattle.first_pass_blocks.proofs.FirstItems.{text_silent_first}
+use Rattle.first_pass_blocks.proofs.HandedOn.{list_finished_blank}
+use Rattle.first_pass_blocks.proofs.LeafLemmas.{ready_ended, ready_flows, text_away}
+use Rattle.first_pass_blocks.proofs.LeftBlocks.{left_is}
+use Rattle.first_pass_blocks.proofs.LineLemmas.{list_finished_none}
+use Rattle.first_pass_blocks.proofs.NamedLemmas.{block_added, list_finished_named, title_kept_named}
+use Rattle.first_pass_blocks.proofs.OrderSteps.{line_or-below, ordered_finished, ordered_leaf, upto_later, place_before_end, unindented_later}
+use Rattle.first_pass_blocks.proofs.TextsFlat.{text_flat}
+use Rattle.first_pass_blocks.proofs.TitleLemmas.{ready_kept, away_left}
+use Rattle.first_pass_blocks.proofs.DefinitionsWhole.{list_finished_read, title_kept_whole}
+use Rattle.first_pass_blocks.proofs.WholeKept.{IsReadWhole, list_finished_whole, kept_of, block_whole, added_text_whole}
 use Rattle.first_pass_blocks.proofs.WrittenLemmas.{written_stay}
-
--- Where containers and lists alone are open no table is.
-no_table_by : (options : Options) (b : ItemBody) (frame : Frame) (outer : Bool) → frame_of options b ≡ Some frame → in_table_by outer (Some b) ≡ false
-no_table_by options (BlockQuoteBody kind) frame outer is = refl
-no_table_by options (ListItemBody columns) frame outer is = refl
-no_table_by options (FootnoteDefinitionBody label) frame outer is = refl
-no_table_by options (ListBody flags byte number) frame outer is = refl
-no_table_by options b frame outer is = cc
-
-no_table_at : (options : Options) (o : Option ItemBody) (frame : Frame) (outer : Bool) → option_and_then (frame_of options) o ≡ Some frame
-    → in_table_by outer o ≡ false
-no_table_at options None frame outer is = refl
-no_table_at options (Some b) frame outer is = no_table_by options b frame outer is
-
-pub no_table : (options : Options) (nodes : List (ℕ × Item)) (spine : List TreeIndex) (frames : List Frame) → AreOpen options nodes spine frames
-    → in_table nodes spine ≡ false
-no_table options nodes [] frames o = refl
-no_table options nodes (ix ∷ spine) [] o = absurd o
-no_table options nodes (ix ∷ spine) (frame ∷ frames) o = no_table_at options (body_at nodes ix.0) frame (in_table nodes spine) o.0
 
 pub leaf_plain : (d : Document) (defined : Tables) (r : Reading) (p : Place) (lines : List Place)
     → ReadyLeaf d defined r p lines → in_table r.tree.nodes r.tree.spine ≡ false
-leaf_plain d defined r p lines (inl (bare, no_item, no_quote, ready)) = no_table d.options r.tree.nodes r.tree.spine ready.frames ready.are_open
+leaf_plain d defined r p lines (inl (bare, no_start, ready)) = no_table d.options r.tree.nodes r.tree.spine ready.frames ready.are_open
 leaf_plain d defined r p lines (inr lazy) = no_table d.options r.tree.nodes r.tree.spine lazy.ready.frames lazy.ready.are_open
 
 -- What is in order up to a place, or up to the beginning of its line where a list is innermost, is in order so at a later place.
@@ -93,12 +84,12 @@ later_below text f p q mid (inr (low, begins)) =
     or_high (is_list (top_body f)) p.line (offset p) q.line (offset q) (omega arith) (omega arith) (omega arith)
 
 later_ordered : (text : List ℕ) (f : Forest Item) (p q : Place) → offset p ≤ offset (unindented p) → IsLater text (unindented p) q → IsPlaceOf text q
-    → IsOrderedTo text f (line_or f p.line (offset p)) → IsOrderedTo text f (line_or f q.line (offset q))
+    → OrderedUpTo text f (line_or f p.line (offset p)) → OrderedUpTo text f (line_or f q.line (offset q))
 later_ordered text f p q mid later i o =
     let below = later_below text f p q mid later in
     let here : line_or f q.line (offset q) ≤ offset q = line_or-below f q.line (offset q) (omega arith) in
     let within = i.within in
-    ordered_later text f (line_or f p.line (offset p)) (line_or f q.line (offset q)) below (omega arith) o
+    upto_later text f (line_or f p.line (offset p)) (line_or f q.line (offset q)) below (omega arith) o
 
 later_line : (text : List ℕ) (p q : Place) → IsCharBoundary text p.line → IsLater text (unindented p) q → IsCharBoundary text q.line
 later_line text p q begins (inl (same, low)) = subst (IsCharBoundary text) (sym same) begins
@@ -150,26 +141,39 @@ run_line old mid new p nested line next u i empty forest kind nest source names 
       named = λ h. subst (λ (z : Reading). AreNamed (names_of (allocs_of new)) z.tree.nodes) (sym behind)
           (subst (λ z. AreNamed z (list_finished q.line r).tree.nodes) (sym named) (list_finished_named (names_of (allocs_of old)) q.line r h));
       written = λ h. subst (λ z. TablesAreWritten text z) (sym allocs) (written h);
-      order = λ o. inl (subst (λ z. IsOrderedAt text z next) (sym behind)
-          (ordered_none text (list_finished q.line r) next (list_finished_none q.line r) high
+      order = λ o. inl (subst (λ z. IsReadTo text z next) (sym behind)
           (ordered_finished text r q.line (offset q) q.line next (omega arith) (omega arith) (inl (refl, later_line text p q o.0 w.later)) high last empty
-          (later_ordered text r.tree p q further w.later w.stands o.1))));
+          (later_ordered text r.tree p q further w.later w.stands o.1)));
       whole = λ h k. subst (IsReadWhole (names_of (allocs_of new))) (sym behind)
-          (subst (λ z. IsReadWhole z (list_finished q.line r)) (sym named) (list_finished_whole (names_of (allocs_of old)) q.line r k));
+          (subst (λ z. IsReadWhole z (list_finished q.line r)) (sym named) (list_finished_read (names_of (allocs_of old)) q.line r forest empty k));
       few = omega arith;
     }
 
+-- what a pass reads for a text that begins at an offset, whose place is found once the link definitions at another place are read
+pub record ReadsText (old new : BlockPass) (p : Place) (at next : ℕ) : Type 0 where
+  pub ready : (more : Names) → Extends more (names_of (allocs_of new)) → (q : Place) (xs : List LinkEntry) (defined : Tables)
+      → IsPlaceOf (source_text old) q → at ≡ offset q
+      → IsRun (context_in old) (unindented p) (lines_from (source_text old) (line_end p)) xs (FlowsOn q (lines_from (source_text old) (line_end q)))
+      → ReadyLeaf (document (source_text old) (source_options old) more) defined (reading_of old) p (lines_from (source_text old) (line_end p))
+      → Ready (document (source_text old) (source_options old) more) (told defined xs) (reading_of new) (lines_from (source_text old) next)
+  pub order : (q : Place) → IsPlaceOf (source_text old) q → at ≡ offset q
+      → OrderedUpTo (source_text old) (tree_of old) (line_or (tree_of old) q.line (offset q)) → IsReadTo (source_text old) (reading_of new) next
+  pub few : (from : ℕ) → from ≤ at → from < next → GrowsBy from next (tree_of old).nodes (tree_of new).nodes
+  pub named : (q : Place) → IsPlaceOf (source_text old) q → at ≡ offset q → Extends (names_of (allocs_of new)) (names_of (allocs_of old))
+      → AreNamed (names_of (allocs_of old)) (tree_of old).nodes → AreNamed (names_of (allocs_of new)) (tree_of new).nodes
+  pub whole : (q : Place) → IsPlaceOf (source_text old) q → at ≡ offset q → Extends (names_of (allocs_of new)) (names_of (allocs_of old))
+      → AreNamed (names_of (allocs_of old)) (tree_of old).nodes → HasWholeTables (names_of (allocs_of old)) (tree_of old)
+      → HasWholeTables (names_of (allocs_of new)) (tree_of new)
+
 -- the paragraph that they flow into, or that stands alone
 pub run_text : (old mid new : BlockPass) (p : Place) (nested : Bool) (at next : ℕ) → IsUtf8 (source_text old) → IsPlaceOf (source_text old) p
-    → (reading_of old).empty_item ≡ None → IsForest (tree_of old) → IsKind (source_options old) p.rest Paragraph
+    → IsKind (source_options old) p.rest Paragraph
     → nested ≡ in_table (tree_of old).nodes (tree_of old).spine → source_of mid ≡ source_of old → names_of (allocs_of mid) ≡ names_of (allocs_of old)
     → (TablesAreWritten (source_text old) (allocs_of old) → TablesAreWritten (source_text old) (allocs_of mid))
     → ReadsRun (source_text old) (context_in old) nested (unindented p) (tables (allocs_of old)) (tables (allocs_of mid)) (TextBehind at)
-    → source_of new ≡ source_of mid → NamesMore (allocs_of mid) (allocs_of new)
-    → (reading_of new).empty_item ≡ None → (reading_of new).blank ≡ false
-    → AddsText (document (source_text old) (source_options old) (names_of (allocs_of new))) at None (list_finished at (reading_of old)).tree (tree_of new) next
-    → ((from : ℕ) → from ≤ at → AddsBetween (source_text old) from next (list_finished at (reading_of old)).tree (tree_of new)) → ReadsLeaf old new p next
-run_text old mid new p nested at next u i empty forest kind nest source names written w source' adds none blank block fits =
+    → source_of new ≡ source_of mid → NamesMore (allocs_of mid) (allocs_of new) → line_end_at (source_text old) at ≤ next
+    → IsCharBoundary (source_text old) next → ReadsText old new p at next → ReadsLeaf old new p next
+run_text old mid new p nested at next u i kind nest source names written w source' adds later boundary t =
     let text = source_text old in
     let options = source_options old in
     let r : Reading = reading_of old in
@@ -179,38 +183,202 @@ run_text old mid new p nested at next u i empty forest kind nest source names wr
     let further = unindented_later text p.line p.rest u i in
     let on = later_than text p q further w.later in
     let at_is : at ≡ offset q = w.says in
-    let begins = w.stands.boundary in
     let more_named = subst (Extends (names_of (allocs_of new))) names adds.names in
     let here : line_end_at text at ≡ line_end q = ap (line_end_at text) at_is ∙ ap (λ bs. offset q + line_len bs) (sym w.stands.left) in
-    let later = block.later in
     let some = left_before p (leaf_left options p.rest Paragraph kind (λ b. cc)) in
-    let grows = block_count text (offset p) next (list_finished at r).tree (tree_of new) (fits (offset p) (omega arith)) (omega arith) in
-    let same = list_finished_count at r in
     record {
       source = source' ∙ source;
       names = more_named;
       later = omega arith;
-      boundary = block.boundary;
+      boundary = boundary;
       ready = λ more extends ready.
           let d = document text options more in
           let plain = nest ∙ leaf_plain d (tables (allocs_of old)) r p (lines_from text (line_end p)) ready in
           let run = run_from text (context_in old) p w.definitions (FlowsOn q (lines_from text (line_end q))) (w.run plain) in
           subst (λ z. Ready d z (reading_of new) (lines_from text next)) (sym (ap told_by adds.entries ∙ w.defined plain))
-          (ready_flows d (tables (allocs_of old)) r (tree_of new) p q at next w.definitions block.items forest kind w.stands at_is run
-          (block.is_text more extends) block.tree_is empty ready (reading_of new).empty_item (reading_of new).blank none blank);
-      named =
-          λ h. block_added (names_of (allocs_of new)) (names_of (allocs_of old)) (list_finished at r).tree (tree_of new) block.items more_named block.tree_is
-          (text_named (document text options (names_of (allocs_of new))) _ q None _ _ tt
-          (block.is_text (names_of (allocs_of new)) (extends_none (names_of (allocs_of new))) q w.stands (sym at_is)))
-          (list_finished_named (names_of (allocs_of old)) at r h);
+          (t.ready more extends q w.definitions (tables (allocs_of old)) w.stands at_is run ready);
+      named = λ h. t.named q w.stands at_is more_named h;
       written = λ h. written_stay text (allocs_of mid) (allocs_of new) adds.entries (written h);
-      order = λ o. inl (ordered_leaf text r (reading_of new) q.line (offset q) at at next (omega arith) (omega arith) (inr refl)
-          (let high = begins.0 in omega arith) (subst (IsCharBoundary text) (sym at_is) begins) empty
-          (later_ordered text r.tree p q further w.later w.stands o.1) (fits at (omega arith)) block.boundary.0 none);
-      whole = λ h k.
-          block_whole (names_of (allocs_of new)) (names_of (allocs_of old)) (list_finished at r).tree (tree_of new) block.items more_named block.tree_is
-          (added_text_whole (document text options (names_of (allocs_of new))) _ q None _ _ w.stands tt
-          (block.is_text (names_of (allocs_of new)) (extends_none (names_of (allocs_of new))) q w.stands (sym at_is)))
-          (list_finished_named (names_of (allocs_of old)) at r h) (list_finished_whole (names_of (allocs_of old)) at r k);
-      few = omega arith;
+      order = λ o. inl (t.order q w.stands at_is (later_ordered text r.tree p q further w.later w.stands o.1));
+      whole = λ h k. t.whole q w.stands at_is more_named h k;
+      few = t.few (offset p) (omega arith) (omega arith);
     }
+
+-- a text that is added once a new block has ended any list, at an offset
+module _ (old new : BlockPass) (p : Place) (ends at next : ℕ) (empty : (reading_of old).empty_item ≡ None) (forest : IsForest (tree_of old))
+    (kind : IsKind (source_options old) p.rest Paragraph) (none : (reading_of new).empty_item ≡ None) (blank : (reading_of new).blank ≡ false)
+    (block : AddsText (document (source_text old) (source_options old) (names_of (allocs_of new))) at None (list_finished ends (reading_of old)).tree
+    (tree_of new) next)
+    (away : (q : Place) (xs : List LinkEntry) → at ≡ offset q → EndsListAt ends (top_body (tree_of old)) (closed_in (tree_of old))
+    (OpensLeaf (Block (flowing_block q xs block.items)) Line (lines_from (source_text old) next)))
+    (order : (q : Place) → IsPlaceOf (source_text old) q → at ≡ offset q
+    → OrderedUpTo (source_text old) (tree_of old) (line_or (tree_of old) q.line (offset q)) → IsReadTo (source_text old) (reading_of new) next)
+    (few : (from : ℕ) → from ≤ at → from < next → GrowsBy from next (tree_of old).nodes (tree_of new).nodes) where
+  added_text : ReadsText old new p at next
+  added_text =
+      let text = source_text old in
+      let options = source_options old in
+      let r : Reading = reading_of old in
+      let own = names_of (allocs_of new) in
+      let f : Forest Item = (list_finished ends r).tree in
+      record {
+        ready = λ more extends q xs defined stands at_is run ready.
+            let d = document text options more in
+            let is : IsTextAt d (path_of options r.tree) at None block.items next =
+            subst (λ path. IsTextAt d path at None block.items next) (path_finished options ends r empty) (block.is_text more extends) in
+            ready_flows d defined r (tree_of new) p q ends at next xs block.items forest kind stands at_is run is (away q xs at_is) block.tree_is empty ready
+            (reading_of new).empty_item (reading_of new).blank none blank;
+        order = order;
+        few = few;
+        named = λ q stands at_is more h.
+            block_added own (names_of (allocs_of old)) f (tree_of new) block.items more block.tree_is
+            (text_named (document text options own) _ q None _ _ tt (block.is_text own (extends_none own) q stands (sym at_is)))
+            (list_finished_named (names_of (allocs_of old)) ends r h);
+        whole = λ q stands at_is more h k.
+            let is = block.is_text own (extends_none own) q stands (sym at_is) in
+            block_whole own (names_of (allocs_of old)) f (tree_of new) block.items more block.tree_is
+            (added_text_whole (document text options own) _ q None _ _ stands tt is) (text_silent_first (document text options own) _ q None _ _ tt is)
+            (list_finished_named (names_of (allocs_of old)) ends r h) (list_finished_whole (names_of (allocs_of old)) ends r k);
+      }
+
+-- a text that is not right after a definition
+pub plain_text : (old new : BlockPass) (p : Place) (at next : ℕ) → (reading_of old).empty_item ≡ None → IsForest (tree_of old)
+    → IsKind (source_options old) p.rest Paragraph → is_after_definition (tree_of old) ≡ false
+    → (reading_of new).empty_item ≡ None → (reading_of new).blank ≡ false
+    → AddsText (document (source_text old) (source_options old) (names_of (allocs_of new))) at None (list_finished at (reading_of old)).tree (tree_of new) next
+    → ((from : ℕ) → from ≤ at → AddsBetween (source_text old) from next (list_finished at (reading_of old)).tree (tree_of new))
+    → ReadsText old new p at next
+plain_text old new p at next empty forest kind after none blank block fits =
+    let text = source_text old in
+    let r : Reading = reading_of old in
+    added_text old new p at at next empty forest kind none blank block
+    (λ q xs at_is. text_away r.tree at (flowing_block q xs block.items) (lines_from text next) after (sym at_is))
+    (λ q stands at_is o. let begins = stands.boundary in
+    ordered_leaf text r (reading_of new) q.line (offset q) at at next (omega arith) (omega arith) (inr refl) (let high = begins.0 in omega arith)
+    (subst (IsCharBoundary text) (sym at_is) begins) empty o (fits at (omega arith)) block.boundary.0 none)
+    (λ from low apart. let grows = block_count text from next (list_finished at r).tree (tree_of new) (fits from low) apart in
+    let same = list_finished_count at r in omega arith)
+
+-- whether what was read is a paragraph
+first_begins : (k : ℕ) (items : List (ℕ × Item)) → option_map_or is_paragraph_body (body_at (at_depth k items) 0) false ≡ begins_paragraph items
+first_begins k [] = refl
+first_begins k (x ∷ items) = refl
+
+last_begins : (f : Forest Item) (items : List (ℕ × Item)) → is_paragraph_last (added f items) ≡ begins_paragraph items
+last_begins f items =
+    ap (λ o. option_map_or is_paragraph_body o false) (body_behind f.nodes (at_depth (length f.spine + 1) items)) ∙ first_begins (length f.spine + 1) items
+
+is_paragraph_by : (o : Option ItemBody) → option_map_or is_paragraph_body o false ≡ true → o ≡ Some ParagraphBody
+is_paragraph_by None h = cc
+is_paragraph_by (Some ParagraphBody) h = refl
+is_paragraph_by (Some b) h = cc
+
+-- a text right after a definition
+module _ (old new : BlockPass) (p : Place) (at next : ℕ) (empty : (reading_of old).empty_item ≡ None) (forest : IsForest (tree_of old))
+    (kind : IsKind (source_options old) p.rest Paragraph) (after : is_after_definition (tree_of old) ≡ true) (read : Forest Item) (is_forest : IsForest read)
+    (block : AddsText (document (source_text old) (source_options old) (names_of (allocs_of new))) at None (tree_of old) read next)
+    (fits : (from : ℕ) → from ≤ at → AddsBetween (source_text old) from next (tree_of old) read) where
+  abbrev text : List ℕ
+  text = source_text old
+
+  abbrev r : Reading
+  r = reading_of old
+
+  abbrev last : ℕ
+  last = current_end (tree_of old)
+
+  abbrev own : Names
+  own = names_of (allocs_of new)
+
+  in_order : (q : Place) → at ≡ offset q → line_or r.tree q.line (offset q) ≤ at
+  in_order q at_is = let low = line_or-below r.tree q.line (offset q) (omega arith) in omega arith
+
+  grown : (from : ℕ) → from ≤ at → from < next → GrowsBy from next r.tree.nodes read.nodes
+  grown from low apart = block_count text from next r.tree read (fits from low) apart
+
+  -- a paragraph
+  kept_text : is_paragraph_last read ≡ true → reading_of new ≡ title_kept last (with_tree r read) → ReadsText old new p at next
+  kept_text para is =
+      let q' : Reading = with_tree r read in
+      let current : current_body read ≡ Some ParagraphBody = is_paragraph_by (current_body read) para in
+      let begins : begins_paragraph block.items ≡ true =
+      sym (last_begins r.tree block.items) ∙ ap is_paragraph_last (sym block.tree_is) ∙ para in
+      record {
+        ready = λ more extends q xs defined stands at_is run ready.
+            let d = document text (source_options old) more in
+            subst (λ z. Ready d (told defined xs) z (lines_from text next)) (sym is)
+            (subst (λ (f : Forest Item). Ready d (told defined xs) (title_kept last (with_tree r f)) (lines_from text next)) (sym block.tree_is)
+            (ready_kept d defined r p q at next xs block.items forest kind stands at_is run (block.is_text more extends) after empty begins ready));
+        order = λ q stands at_is o. subst (λ z. IsReadTo text z next) (sym is)
+            (read_title_kept text r read (line_or r.tree q.line (offset q)) at next forest after empty o.0 o.1 (in_order q at_is) fits block.boundary.0
+            last refl current);
+        few = λ from low apart. let g = grown from low apart in
+            let same = ap count is ∙ title_kept_count last q' current in
+            omega arith;
+        named = λ q stands at_is more h. subst (λ (z : Reading). AreNamed own z.tree.nodes) (sym is)
+            (title_kept_named own last q' (block_added own (names_of (allocs_of old)) r.tree read block.items more block.tree_is
+            (text_named (document text (source_options old) own) _ q None _ _ tt (block.is_text own (extends_none own) q stands (sym at_is))) h));
+        whole = λ q stands at_is more h k.
+            let t = block.is_text own (extends_none own) q stands (sym at_is) in
+            let d = document text (source_options old) own in
+            subst (IsReadWhole own) (sym is)
+            (title_kept_whole own last q' current (block_whole own (names_of (allocs_of old)) r.tree read block.items more block.tree_is
+            (added_text_whole d _ q None _ _ stands tt t) (text_silent_first d _ q None _ _ tt t) h (kept_of (names_of (allocs_of old)) r.tree k)));
+      }
+
+  -- a heading or a table
+  left_text : (q : Place) → IsPlaceOf text q → at ≡ offset q → is_paragraph_last read ≡ false → reading_of new ≡ definitions_left last (with_tree r read)
+      → ReadsText old new p at next
+  left_text q stands at_is para is =
+      let done : Reading = list_finished last r in
+      let other : begins_paragraph block.items ≡ false = sym (last_begins r.tree block.items) ∙ ap is_paragraph_last (sym block.tree_is) ∙ para in
+      let flat = text_flat (document text (source_options old) own) _ q _ _ (block.is_text own (extends_none own) q stands (sym at_is)) in
+      let now : reading_of new ≡ with_tree done (added done.tree block.items) =
+      is ∙ ap (λ f. definitions_left last (with_tree r f)) block.tree_is
+      ∙ left_is r block.items last forest (subst IsForest block.tree_is is_forest) after empty (flat.flat other) in
+      let over : AddsText (document text (source_options old) own) at None done.tree (tree_of new) next = record {
+        items = block.items;
+        is_text = λ more extends. subst (λ path. IsTextAt (document text (source_options old) more) path at None block.items next)
+            (sym (path_finished (source_options old) last r empty)) (block.is_text more extends);
+        tree_is = ap (λ (z : Reading). z.tree) now;
+        later = block.later;
+        boundary = block.boundary;
+      } in
+      added_text old new p last at next empty forest kind (ap (λ (z : Reading). z.empty_item) now ∙ list_finished_none last r)
+      (ap (λ (z : Reading). z.blank) now ∙ list_finished_blank last r) over
+      (λ q xs at_is. away_left r q xs block.items (lines_from text next) after other)
+      (λ q stands at_is o. subst (λ z. IsReadTo text z next) (sym is)
+      (read_definitions_left text r read (line_or r.tree q.line (offset q)) at next forest after empty o.0 o.1 (in_order q at_is) fits block.boundary.0
+      last refl))
+      (λ from low apart. let g = grown from low apart in
+      let same = ap count is ∙ definitions_left_count last (with_tree r read) in
+      omega arith)
+
+  title_by : (q : Place) → IsPlaceOf text q → at ≡ offset q → (t : Bool) → is_paragraph_last read ≡ t
+      → reading_of new ≡ (if t then title_kept last (with_tree r read) else definitions_left last (with_tree r read)) → ReadsText old new p at next
+  title_by q stands at_is true para is = kept_text para is
+  title_by q stands at_is false para is = left_text q stands at_is para is
+
+  -- either
+  pub title_text : (q : Place) → IsPlaceOf text q → at ≡ offset q → reading_of new ≡ title_read last (with_tree r read) → ReadsText old new p at next
+  title_text q stands at_is is = title_by q stands at_is (is_paragraph_last read) refl is
+
+-- the text right after a definition that they flow into, or that stands alone
+pub run_title : (old mid new : BlockPass) (p : Place) (nested : Bool) (at next : ℕ) → IsUtf8 (source_text old) → IsPlaceOf (source_text old) p
+    → (reading_of old).empty_item ≡ None → IsForest (tree_of old) → IsKind (source_options old) p.rest Paragraph
+    → nested ≡ in_table (tree_of old).nodes (tree_of old).spine → source_of mid ≡ source_of old → reading_of mid ≡ reading_of old
+    → names_of (allocs_of mid) ≡ names_of (allocs_of old)
+    → (TablesAreWritten (source_text old) (allocs_of old) → TablesAreWritten (source_text old) (allocs_of mid))
+    → ReadsRun (source_text old) (context_in old) nested (unindented p) (tables (allocs_of old)) (tables (allocs_of mid)) (TextBehind at)
+    → is_after_definition (tree_of mid) ≡ true → ReadsTitle mid new at next → ReadsLeaf old new p next
+run_title old mid new p nested at next u i empty forest kind nest source reading names written w after t =
+    let own = names_of (allocs_of new) in
+    let block : AddsText (document (source_text old) (source_options old) own) at None (tree_of old) t.read next =
+    subst (λ (z : Reading). AddsText (document (source_text old) (source_options old) own) at None z.tree t.read next) reading
+    (subst (λ (z : Source). AddsText (document z.text.now z.options own) at None (tree_of mid) t.read next) source t.text) in
+    let fits : (from : ℕ) → from ≤ at → AddsBetween (source_text old) from next (tree_of old) t.read =
+    λ from low. subst (λ (z : Reading). AddsBetween (source_text old) from next z.tree t.read) reading
+    (subst (λ (z : Source). AddsBetween z.text.now from next (tree_of mid) t.read) source (t.fits from low)) in
+    run_text old mid new p nested at next u i kind nest source names written w t.source t.more block.later block.boundary
+    (title_text old new p at next empty forest kind (ap (λ (z : Reading). is_after_definition z.tree) (sym reading) ∙ after) t.read t.forest block fits
+    w.place w.stands w.says (t.reading_is ∙ ap (λ (z : Reading). title_read (current_end z.tree) (with_tree z t.read)) reading))

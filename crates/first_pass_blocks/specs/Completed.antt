@@ -7,22 +7,26 @@ use Rattle.first_pass_grammar.specs.Leaves.{Document, document}
 use Rattle.first_pass_grammar.specs.Skeleton.{From, Line, Blanks, next_is_blank}
 use Rattle.first_pass_grammar.specs.Derivation.{Tables, Derives}
 use Rattle.first_pass_grammar.specs.Completion.{NoList, Frame, last_of, Completion}
-use Rattle.first_pass_lists.specs.Closing.{emptied}
 use Rattle.first_pass_lists.specs.declared.reading.Reading.{Reading}
 use Rattle.first_pass_open.specs.Path.{path_of}
-use Rattle.first_pass_blocks.specs.State.{AreOpen}
+use Rattle.first_pass_blocks.specs.State.{closed_in, emptied_top, AreOpen}
 
 -- Something completes the open nodes of a tree from a place or from these lines on, and the text derives the forest that they become.
 pub record CompletedAt (d : Document) (defined : Tables) (tree : Forest Item) (run : Bool) (from : From) (lines : List Place) : Type 0 where
   pub frames : List Frame
   pub are_open : AreOpen d.options tree.nodes tree.spine frames
   pub completion : Completion d frames (map (λ ix. ix.0) tree.spine)
-      (record { nodes = tree.nodes; list = NoList; before = record { last = last_of frames; counted = run }; defined = defined }) from lines
+      (record {
+        nodes = tree.nodes;
+        list = NoList (closed_in tree);
+        before = record { last = last_of frames (closed_in tree); counted = run };
+        defined = defined;
+      }) from lines
   pub derives : Derives (document d.text d.options completion.names) completion.forest completion.tables
 
--- the same with an empty item innermost, whose marker's line ends at an offset: whether it takes blank lines alone is seen at the next line
+-- the same with an empty item or definition innermost, whose marker's line ends at an offset: whether it takes blank lines alone is seen at the next line
 abbrev pub CompletedBeforeLine : Document → Tables → Forest Item → ℕ → List Place → Bool → Type 0
-CompletedBeforeLine d defined tree e lines true = CompletedAt d defined (emptied tree tree.spine) false (Blanks e) lines
+CompletedBeforeLine d defined tree e lines true = CompletedAt d defined (emptied_top tree) false (Blanks e) lines
 CompletedBeforeLine d defined tree e lines false = CompletedAt d defined tree false Line lines
 
 abbrev pub CompletedInItem : Document → Tables → Forest Item → ℕ → List Place → Bool → Type 0

@@ -15,7 +15,7 @@ use Rattle.first_pass_open.specs.declared.source.Source.{Source}
 use Rattle.first_pass_lists.specs.Closing.{old_footnote_finished}
 use Rattle.first_pass_lists.specs.declared.reading.Reading.{Reading}
 use Rattle.first_pass_blocks.specs.State.{NoMore, Ready}
-use Rattle.first_pass_blocks.specs.Ordered.{IsOrderedAt}
+use Rattle.first_pass_blocks.specs.Ordered.{IsReadTo}
 use Rattle.first_pass_blocks.specs.Positions.{LineAt, InLine, IsInLine, ReadsTo}
 
 -- A footnote definition in the old form that is innermost is closed at an offset where a line begins, after a blank line that counts (this project).
@@ -29,7 +29,7 @@ pub record ClosesAt (old new : Reading) (kept ix : ℕ) : Type 0 where
   pub paths : (options : Options) (s : List TreeIndex) → path_in options new.tree.nodes s ≡ path_in options old.tree.nodes s
   pub ready : (d : Document) (defined : Tables) (lines : List Place) → start_of (length d.text) lines ≡ ix → NoMore d.options old.tree kept lines
       → Ready d defined old lines → Ready d defined new lines
-  pub order : (text : List ℕ) → ix ≤ length text → IsCharBoundary text ix → IsOrderedAt text old ix → IsOrderedAt text new ix
+  pub order : (text : List ℕ) → ix ≤ length text → IsCharBoundary text ix → IsReadTo text old ix → IsReadTo text new ix
   pub count : own_nodes new.tree.nodes ≡ own_nodes old.tree.nodes
   pub named : (names : Names) → AreNamed names old.tree.nodes → AreNamed names new.tree.nodes
   pub whole : (names : Names) → HasWholeTables names old.tree → HasWholeTables names new.tree

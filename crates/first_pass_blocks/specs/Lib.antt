@@ -6,8 +6,10 @@ pub mod Ordered
 pub mod Positions
 pub mod Progress
 pub mod Runs
+pub mod Settled
 pub mod Starts
 pub mod State
 pub mod TextsAdded
+pub mod Titles
 pub mod Views
 pub mod Written

@@ -1,15 +1,14 @@
 -- Where a reading of lines has come to, and what holds there (of public calls `parse_block` alone cites this, before a line).
-use Rattle.std.specs.Prelude.{◌≡◌, ◌⊎◌, ℕ, ◌<◌, ◌≤◌, false, List, Option, Some, None, if◌then◌else◌, IsCharBoundary}
+use Rattle.std.specs.Prelude.{◌≡◌, ◌⊎◌, ℕ, ◌<◌, ◌≤◌, Bool, false, ◌&&◌, List, Option, Some, None, if◌then◌else◌, IsCharBoundary}
 use Rattle.first_pass_items.specs.declared.item.Item.{Item}
 use Rattle.first_pass_items.specs.declared.item.BlockQuoteKind.{BlockQuoteKind}
 use Rattle.first_pass_items.specs.declared.item.ItemBody.TheVariants.{BlockQuote as BlockQuoteBody}
 use Rattle.first_pass_items.specs.declared.option_set.Options.{Options}
 use Rattle.first_pass_tree.specs.Forest.{Forest}
 use Rattle.first_pass_lines.specs.Places.{Place, offset, line_end, IsPlaceOf}
-use Rattle.first_pass_grammar.specs.declared.kind.Container.TheVariants.{BlockQuote}
-use Rattle.first_pass_grammar.specs.Containers.{prefix}
+use Rattle.first_pass_items.specs.OptionWords.{has, definition_list}
 use Rattle.first_pass_grammar.specs.Footnotes.{footnote_head_at}
-use Rattle.first_pass_grammar.specs.Kinds.{item_at}
+use Rattle.first_pass_grammar.specs.Openers.{start_at}
 use Rattle.first_pass_grammar.specs.Leaves.{Document, document}
 use Rattle.first_pass_grammar.specs.Derivation.{Tables}
 use Rattle.first_pass_grammar.specs.Names.{Names, AreNamed}
@@ -21,10 +20,10 @@ use Rattle.first_pass_grammar.specs.Completion.{lines_from, IsPlain}
 use Rattle.first_pass_open.specs.Path.{context_of}
 use Rattle.first_pass_open.specs.declared.source.Source.{Source}
 use Rattle.first_pass_open.specs.Between.{StandsBefore}
-use Rattle.first_pass_lists.specs.Closing.{top_body, is_list}
+use Rattle.first_pass_lists.specs.Closing.{top_body, is_list, takes_definition}
 use Rattle.first_pass_lists.specs.declared.reading.Reading.{Reading}
 use Rattle.first_pass_blocks.specs.State.{Ready, ReadyAt}
-use Rattle.first_pass_blocks.specs.Ordered.{IsOrderedFrom}
+use Rattle.first_pass_blocks.specs.Ordered.{AreNested, CanClose, IsReadFrom}
 
 -- before the line that begins at an offset; in a line, where a container may begin, or where none does or the tag of a block quote stands before; before
 -- the text of a task, after its marker; or before the line after a tag
@@ -56,10 +55,14 @@ ReadyTagged d defined r lines = ReadyInQuote d defined r (behind_tag (context_of
 abbrev pub ReadyLazy : Document → Tables → Reading → Place → List Place → Type 0
 ReadyLazy d defined r p lines = ReadyInQuote d defined r (At p ALeafAlone) lines
 
+-- under these options a `:` may begin a definition here (this project)
+abbrev pub may_define : Options → Forest Item → Bool
+may_define options f = has options definition_list && takes_definition f
+
 -- a leaf is at a place in a line, where no container begins or after the tag of a block quote
 abbrev pub ReadyLeaf : Document → Tables → Reading → Place → List Place → Type 0
 ReadyLeaf d defined r p lines =
-    ((footnote_head_at (context_of d.options r.tree) p ≡ None) × (item_at p.rest ≡ None) × (prefix (BlockQuote None) p.rest ≡ None)
+    ((footnote_head_at (context_of d.options r.tree) p ≡ None) × (start_at d.options (may_define d.options r.tree) p ≡ None)
     × ReadyAt d defined r.tree r.blank (Inside p) lines) ⊎ ReadyLazy d defined r p lines
 
 -- what is remembered begins a derivation of the text that continues at a position
@@ -74,23 +77,29 @@ ReadyOn d defined r (TaggedAt n) = ReadyTagged d defined r (lines_from d.text n)
 abbrev pub line_or : Forest Item → ℕ → ℕ → ℕ
 line_or f line at = if is_list (top_body f) then line else at
 
+-- the tree is in order up to an offset, and what is open can be closed so
+abbrev pub OrderedUpTo : List ℕ → Forest Item → ℕ → Type 0
+OrderedUpTo text f at = IsOrderedTo text f at × CanClose text f at
+
 -- a line begins between characters, and what is open is in order up to a place in it
 abbrev pub OrderedIn : List ℕ → Forest Item → Place → Type 0
-OrderedIn text f p = IsCharBoundary text p.line × IsOrderedTo text f (line_or f p.line (offset p))
+OrderedIn text f p = IsCharBoundary text p.line × OrderedUpTo text f (line_or f p.line (offset p))
 
--- a task list item marker stands in what is innermost before an offset, and nothing else is after it
+-- a task list item marker stands in what is innermost, which is no list, before an offset, and nothing else is after it
 pub record OrderedText (text : List ℕ) (f : Forest Item) (marker : Item) (at : ℕ) : Type 0 where
   pub from : ℕ
   pub ordered : IsOrderedTo text f from
+  pub nested : AreNested f.nodes f.spine
+  pub plain : is_list (top_body f) ≡ false
   pub stands : StandsBefore text from at (Some marker)
 
 -- what is remembered is in order up to a position
 abbrev pub OrderedOn : Options → List ℕ → Reading → Position → Type 0
-OrderedOn options text r (LineAt n) = IsOrderedFrom options text r n
+OrderedOn options text r (LineAt n) = IsReadFrom options text r n
 OrderedOn options text r (InLine p) = OrderedIn text r.tree p
 OrderedOn options text r (LeafAt p) = OrderedIn text r.tree p
 OrderedOn options text r (TaskAt p marker) = OrderedText text r.tree marker (offset p)
-OrderedOn options text r (TaggedAt n) = IsOrderedTo text r.tree n
+OrderedOn options text r (TaggedAt n) = OrderedUpTo text r.tree n
 
 -- Nodes became others, at most four more of their own for each byte of a line up to where a task list item marker may stand, which is before an offset.
 pub record GrowsText (text : List ℕ) (line : ℕ) (old new : List (ℕ × Item)) (marker : Item) (at : ℕ) : Type 0 where

@@ -12,7 +12,7 @@ use Rattle.first_pass_open.specs.declared.source.Source.{Source}
 use Rattle.first_pass_blocks.specs.declared.state.BlockPass.{BlockPass}
 use Rattle.first_pass_blocks.specs.Views.{allocs_of, reading_of, source_of, tree_of}
 use Rattle.first_pass_blocks.specs.State.{Ready}
-use Rattle.first_pass_blocks.specs.Ordered.{IsOrderedFrom}
+use Rattle.first_pass_blocks.specs.Ordered.{IsReadFrom}
 use Rattle.first_pass_blocks.specs.Positions.{Position, LeafAt, ReadyOn, OrderedOn, GrowsTo, GrowsFrom}
 
 -- A pass over a source came from a position to another, in a line that begins at an offset or after that line: it reads the same text, and what was named
@@ -44,7 +44,7 @@ pub record ReadsBlockOf (over : Source) (old new : BlockPass) (far : ℕ) (from 
   pub ready : (more : Names) → Extends more (names_of (allocs_of new))
       → ReadyOn (document over.text.now over.options more) (tables (allocs_of old)) (reading_of old) from
       → Ready (document over.text.now over.options more) (tables (allocs_of new)) (reading_of new) (lines_from over.text.now next)
-  pub order : OrderedOn over.options over.text.now (reading_of old) from → IsOrderedFrom over.options over.text.now (reading_of new) next
+  pub order : OrderedOn over.options over.text.now (reading_of old) from → IsReadFrom over.options over.text.now (reading_of new) next
   pub few : GrowsFrom over.text.now from next (tree_of old).nodes (tree_of new).nodes
   pub named : AreNamed (names_of (allocs_of old)) (tree_of old).nodes → AreNamed (names_of (allocs_of new)) (tree_of new).nodes
   pub written : TablesAreWritten over.text.now (allocs_of old) → TablesAreWritten over.text.now (allocs_of new)

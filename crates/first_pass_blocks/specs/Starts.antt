@@ -3,19 +3,19 @@ use Rattle.std.specs.Prelude.{◌≡◌, ℕ, Bool, true, Option, Some, None, if
 use Rattle.first_pass_items.specs.declared.item.Item.{Item}
 use Rattle.first_pass_items.specs.declared.item.BlockQuoteKind.{BlockQuoteKind}
 use Rattle.first_pass_items.specs.declared.item.ItemBody.TheVariants.{BlockQuote as BlockQuoteBody, ListItem as ListItemBody}
-use Rattle.first_pass_grammar.specs.Blocks.{Opener as ContainerOpener, QuoteMarker, ItemMarker, FootnoteMarker}
+use Rattle.first_pass_grammar.specs.Blocks.{Opener as ContainerOpener, QuoteMarker, ItemMarker, FootnoteMarker, DefinitionMarker}
 use Rattle.first_pass_grammar.specs.Openers.{AfterMarker as After, OnLine as AfterOnLine, TaskText as AfterTaskText, LineEnds as AfterLineEnds}
 use Rattle.first_pass_grammar.specs.Openers.{TagAlone as AfterTagAlone, Start as ContainerStart, after_task, after_quote}
 use Rattle.first_pass_lines.specs.Places.{Place}
 use Rattle.first_pass_grammar.specs.Order.{is_task_marker}
 use Rattle.first_pass_grammar.specs.OpenOrder.{is_in_item}
-use Rattle.first_pass_lists.specs.Closing.{begun, list_finished, list_continued}
+use Rattle.first_pass_lists.specs.Closing.{begun, list_finished, list_continued, definition_begun}
 use Rattle.first_pass_lists.specs.declared.list.ListMarker.{ListMarker}
 use Rattle.first_pass_lists.specs.declared.reading.Reading.{Reading}
 use Rattle.first_pass_open.specs.OpenBlock.{with_child}
 use Rattle.first_pass_blocks.specs.Positions.{Position, LineAt, InLine, LeafAt, TaskAt, TaggedAt}
 use Rattle.first_pass_blocks.specs.declared.openers.Opener.{Opener}
-use Rattle.first_pass_blocks.specs.declared.openers.Opener.TheVariants.{Quote, Item as ItemOpener}
+use Rattle.first_pass_blocks.specs.declared.openers.Opener.TheVariants.{Quote, Item as ItemOpener, Definition as DefinitionOpener}
 use Rattle.first_pass_blocks.specs.declared.openers.AfterMarker.{AfterMarker}
 use Rattle.first_pass_blocks.specs.declared.openers.AfterMarker.TheVariants.{OnLine, TaskText, LineEnds, TagAlone}
 use Rattle.first_pass_blocks.specs.declared.openers.Start.{Start}
@@ -29,6 +29,7 @@ abbrev pub opener_told : ContainerOpener → Opener
 opener_told (QuoteMarker kind) = Quote kind
 opener_told (ItemMarker byte number columns) = ItemOpener (marker_of (byte, number, columns))
 opener_told (FootnoteMarker columns index label) = Quote None
+opener_told (DefinitionMarker columns) = DefinitionOpener columns
 
 abbrev pub after_told : After → AfterMarker
 after_told AfterOnLine = OnLine
@@ -49,6 +50,7 @@ quote_after kind = after_told (after_quote kind)
 abbrev pub container_opened : ℕ → ℕ → Opener → Reading → Reading
 container_opened line start (Quote kind) r = begun start (BlockQuoteBody kind) (list_finished line r)
 container_opened line start (ItemOpener m) r = begun start (ListItemBody m.indent) (list_continued start m.byte m.number r)
+container_opened line start (DefinitionOpener columns) r = definition_begun start columns r
 
 -- what stands alone after its marker is read, in the line that ends at an offset
 abbrev pub after_read : AfterMarker → ℕ → Reading → Reading

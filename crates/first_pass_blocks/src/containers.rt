@@ -4,13 +4,15 @@ ghost use Rattle.std.specs.Prelude.{◌≡◌, ◌<◌, ◌≤◌, length, None,
 ghost use Rattle.first_pass_lines.specs.Places.{line_end, IsPlaceOf};
 ghost use Rattle.first_pass_open.specs.Path.{outer};
 ghost use Rattle.first_pass_blocks.specs.Entering.{ClosesAt, EntersLine, footnote_ended};
-ghost use Rattle.first_pass_blocks.specs.Positions.{InLine, IsFrom};
+ghost use Rattle.first_pass_blocks.specs.Positions.{InLine, IsFrom, may_define};
 ghost use Rattle.first_pass_blocks.specs.Progress.{PassesTo};
 ghost use Rattle.first_pass_blocks.specs.Starts.{start_opened, last_at, IsAfter};
 ghost use Rattle.first_pass_blocks.specs.Views.{reading_of, source_of, source_text};
 
 use crate::openers::{AfterMarker, Opener, Start, start_at};
 use crate::state::BlockPass;
+use bitflags::Flags;
+use first_pass_items::option_set::Options;
 use first_pass_lines::lines::scan_blank_line;
 use first_pass_lines::places::next_line;
 use first_pass_lists::reading::Reading;
@@ -90,7 +92,8 @@ impl<'a> BlockPass<'a> {
                 continue;
             }
             self.reading.tree.is_forest();
-            let Some(start) = start_at(&self.source, place) else {
+            let may_define = may_define(&self.source, &self.reading);
+            let Some(start) = start_at(&self.source, place, may_define) else {
                 return Ok(AfterMarker::OnLine);
             };
             open_start(&mut self.reading, &self.source, place, start)?;
@@ -100,6 +103,13 @@ impl<'a> BlockPass<'a> {
             }
         }
     }
+}
+
+// Whether a `:` may begin a definition after what is last.
+fn may_define(source: &Source<'_>, reading: &Reading) -> bool
+    ensures { result ≡ may_define source.now.options reading.now.tree }
+{
+    source.options.contains(Options::ENABLE_DEFINITION_LIST) && reading.takes_definition()
 }
 
 // Opens a container that begins in the line of a place, the one after its marker: with the list that it needs, and
@@ -117,6 +127,7 @@ fn open_start<'a>(
     match start.opener {
         Opener::Item(marker) => reading.open_item(start.start, marker)?,
         Opener::Quote(kind) => reading.open_quote(place.line, start.start, kind)?,
+        Opener::Definition(indent) => reading.open_definition(start.start, indent)?,
     }
     if let AfterMarker::LineEnds(marker) = start.after {
         append_item(&mut reading.tree, marker)?;

@@ -10,3 +10,4 @@ mod openers;
 pub mod pass;
 pub mod state;
 pub mod text;
+mod title;

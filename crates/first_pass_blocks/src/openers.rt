@@ -1,9 +1,9 @@
-//! Which list item or block quote begins at a place (CommonMark 5.1, 5.2).
+//! Which list item, definition or block quote begins at a place (CommonMark 5.1, 5.2, and this project).
 
 ghost use Rattle.std.specs.Prelude.{◌≡◌, Some, None, MatchOption, IsUtf8};
 ghost use Rattle.first_pass_lines.specs.Places.{IsPlaceOf};
 ghost use Rattle.first_pass_grammar.specs.Containers.{at_rest};
-ghost use Rattle.first_pass_grammar.specs.Kinds.{item_at};
+ghost use Rattle.first_pass_grammar.specs.Kinds.{item_at, definition_marker_at};
 ghost use Rattle.first_pass_grammar.specs.Openers.{task_behind, tag_behind, start_at};
 ghost use Rattle.first_pass_blocks.specs.Starts.{marker_of, start_told, item_after, quote_after};
 
@@ -18,13 +18,15 @@ use first_pass_open::place::Place;
 use first_pass_open::source::Source;
 use first_pass_scan::line_start::LineStart;
 
-/// What opens a list item or a block quote; a footnote definition is opened apart.
+/// What opens a list item, a definition or a block quote; a footnote definition is opened apart.
 #[derive(Clone, Copy, Drop)]
 pub(crate) enum Opener {
     /// A block quote's `>`, with the kind that a tag after it gives the quote.
     Quote(Option<BlockQuoteKind>),
     /// A list item's marker.
     Item(ListMarker),
+    /// A definition's `:`, with the definition's indent.
+    Definition(usize),
 }
 
 /// What stands after a container's marker on its line.
@@ -40,7 +42,7 @@ pub(crate) enum AfterMarker {
     TagAlone,
 }
 
-/// A list item or a block quote that begins at a place.
+/// A list item, a definition or a block quote that begins at a place.
 #[derive(Clone, Copy, Drop)]
 pub(crate) struct Start {
     pub(crate) opener: Opener,
@@ -49,13 +51,18 @@ pub(crate) struct Start {
     pub(crate) after: AfterMarker,
 }
 
-/// What begins at a place: a list item where one does, else a block quote where one does. Its marker is taken, and that
-/// of a task; `None` where neither begins there, and then nothing is taken.
+/// What begins at a place: a list item where one does, else a definition where one may and does, else a block quote
+/// where one does. Its marker is taken, and that of a task; `None` where none begins there, and then nothing is taken.
 #[inline(always)]
-pub(crate) fn start_at<'a>(source: &Source<'a>, place: &mut Place<'a>) -> Option<Start>
+pub(crate) fn start_at<'a>(
+    source: &Source<'a>,
+    place: &mut Place<'a>,
+    may_define: bool,
+) -> Option<Start>
     requires utf8 { IsUtf8 source.now.text.now }
     requires place { IsPlaceOf source.now.text.now place.old }
-    ensures { MatchOption (start_at source.now.options place.old) ((result ≡ None) × (place.new ≡ place.old))
+    ensures { MatchOption (start_at source.now.options may_define place.old)
+        ((result ≡ None) × (place.new ≡ place.old))
         (λ s. (result ≡ Some (start_told s)) × (place.new ≡ at_rest place.old s.rest)) }
 {
     source.is_short();
@@ -68,6 +75,16 @@ pub(crate) fn start_at<'a>(source: &Source<'a>, place: &mut Place<'a>) -> Option
             start: before,
             after: item_after(task, is_over),
         });
+    }
+    if may_define {
+        if let Some(indent) = scan_definition(&mut place.rest) {
+            let is_over = scan_blank_line(place.left()).is_some();
+            return Some(Start {
+                opener: Opener::Definition(indent),
+                start: before,
+                after: item_after(None, is_over),
+            });
+        }
     }
     let quote = scan_quote(&mut place.rest)?;
     let tag = scan_tag(source.options, &place.rest);
@@ -156,4 +173,21 @@ fn scan_item<'a>(line_start: &mut LineStart<'a>) -> Option<ListMarker>
         number,
         indent,
     })
+}
+
+// Takes the `:` of a definition here and the columns before it, where one begins at under four columns, and returns the
+// definition's indent; takes nothing where none does.
+#[tactic(auto, unfolding(first_pass_grammar::specs::Kinds::definition_marker_at))]
+fn scan_definition<'a>(line_start: &mut LineStart<'a>) -> Option<usize>
+    ensures { MatchOption (definition_marker_at line_start.old) ((result ≡ None) × (line_start.new ≡ line_start.old))
+        (λ definition. (result ≡ Some definition.0) × (line_start.new ≡ definition.1)) }
+{
+    let mut next = line_start.copy();
+    let columns = scan_indentation(&mut next);
+    if columns >= 4 {
+        return None;
+    }
+    let indent = next.scan_definition_list_definition_marker_with_indent(columns)?;
+    *line_start = next;
+    Some(indent)
 }

@@ -15,9 +15,10 @@ ghost use Rattle.first_pass_definitions.specs.Found.{AreWritten};
 ghost use Rattle.first_pass_kinds.specs.Found.{IsFoundAt};
 ghost use Rattle.first_pass_blocks.specs.declared.openers.AfterMarker.TheVariants.{TaskText};
 ghost use Rattle.first_pass_blocks.specs.State.{Ready};
-ghost use Rattle.first_pass_blocks.specs.Ordered.{IsOrderedAt};
+ghost use Rattle.first_pass_blocks.specs.Ordered.{IsReadTo};
 ghost use Rattle.first_pass_blocks.specs.Positions.{LineAt, TaskAt, TaggedAt};
 ghost use Rattle.first_pass_blocks.specs.Progress.{ReadsBlock, ReadsLeaf};
+ghost use Rattle.first_pass_blocks.specs.Settled.{AreSettled};
 ghost use Rattle.first_pass_blocks.specs.Starts.{IsAfter};
 ghost use Rattle.first_pass_blocks.specs.Written.{AreFootnotesWritten};
 ghost use Rattle.first_pass_blocks.specs.Views.{allocs_of, reading_of, source_options, source_text, tree_of};
@@ -51,7 +52,7 @@ impl<'a> BlockPass<'a> {
         ensures tables { IfOk result (λ pass. tables (allocs_of pass) ≡ no_tables) }
         ensures ready { IfOk result (λ pass. (names : Names)
             → Ready (document text.now options names) no_tables (reading_of pass) (lines_from text.now 0)) }
-        ensures order { IfOk result (λ pass. IsOrderedAt text.now (reading_of pass) 0) }
+        ensures order { IfOk result (λ pass. IsReadTo text.now (reading_of pass) 0) }
         ensures root { IfOk result (λ pass. length (tree_of pass).nodes ≡ 1) }
         ensures named { IfOk result (λ pass. AreNamed (names_of (allocs_of pass)) (tree_of pass).nodes) }
         ensures whole { IfOk result (λ pass. HasWholeTables (names_of (allocs_of pass)) (tree_of pass)) }
@@ -230,6 +231,10 @@ impl<'a> BlockPass<'a> {
                 Ok(next)
             }
             RunEnd::Paragraph(text) => {
+                if self.reading.is_after_definition() {
+                    let next = self.parse_possible_title(text)?;
+                    return Ok(next);
+                }
                 self.reading.finish_list(text);
                 let next = parse_paragraph(
                     &self.source,
@@ -245,11 +250,12 @@ impl<'a> BlockPass<'a> {
 }
 
 /// Reads the blocks of a text: the finished tree that the block grammar derives from the text's lines
-/// under these options, and the tables of what the text defines. The tree has at most four nodes for each
-/// byte, besides its root and cells that rows of tables are filled with; each row has as many cells as its table has
-/// columns, and at most 262,144 cells are filled into a table. Each link definition in the tables is what stands at
-/// its range; its label, its destination and a title of one line, and the label of each footnote, are borrowed from the
-/// text where nothing in them changes. No use of a footnote is counted. The one error is that a request for memory was refused.
+/// under these options, and the tables of what the text defines. Nothing is open in the tree, and no paragraph in it
+/// may still become a title. It has at most four nodes for each byte, besides its root and cells that rows of tables
+/// are filled with; each row has as many cells as its table has columns, and at most 262,144 cells are filled into a
+/// table. Each link definition in the tables is what stands at its range; its label, its destination and a title of one
+/// line, and the label of each footnote, are borrowed from the text where nothing in them changes. No use of a footnote
+/// is counted. The one error is that a request for memory was refused.
 pub fn run_first_pass<'a>(
     alloc: Global,
     text: &'a str,
@@ -258,6 +264,7 @@ pub fn run_first_pass<'a>(
     ensures derived { IfOk result (λ answer. Derives (document text.now options (names_of answer.1)) answer.0.nodes
         (tables answer.1)) }
     ensures finished { IfOk result (λ answer. answer.0.spine ≡ []) }
+    ensures settled { IfOk result (λ answer. AreSettled answer.0.nodes) }
     ensures order { IfOk result (λ answer. IsOrdered text.now answer.0.nodes) }
     ensures few { IfOk result (λ answer. own_nodes answer.0.nodes ≤ 1 + 4 * length text.now) }
     ensures named { IfOk result (λ answer. AreNamed (names_of answer.1) answer.0.nodes) }

@@ -20,7 +20,7 @@ use Rattle.first_pass_grammar.specs.Names.{Names, NamesText, NamesAlignments, Na
 use Rattle.first_pass_grammar.specs.Names.{OfHeading, index_of, kind_alone, named, read, read_nodes}
 use Rattle.first_pass_grammar.specs.Leaves.{Document, document, block_with}
 use Rattle.first_pass_grammar.specs.RawLines.{AreColumns, Ranges, range_text, range_html, raw_items, AreRawLines, spaces}
-use Rattle.first_pass_grammar.specs.Blocks.{LeafBlock, Leaf, BlankLine, Block, Opener, QuoteMarker, ItemMarker, FootnoteMarker, label_of, Head, opened}
+use Rattle.first_pass_grammar.specs.Blocks.{LeafBlock, Leaf, BlankLine, Block, Opener, QuoteMarker, ItemMarker, FootnoteMarker, DefinitionMarker, label_of, Head, opened}
 use Rattle.first_pass_grammar.specs.Blocks.{Skeleton, Nil, Then, Node}
 use Rattle.first_pass_grammar.specs.Skeleton.{From, Line, Blanks, At, Anything, ALeafAlone, TextOf, MarkAlone, Opening, OpensLeaf, OpensNode}
 use Rattle.first_pass_grammar.specs.Kinds.{Kind}
@@ -64,6 +64,7 @@ abbrev pub opener_alone : Opener → Opener
 opener_alone (QuoteMarker kind) = QuoteMarker kind
 opener_alone (ItemMarker byte number columns) = ItemMarker byte number columns
 opener_alone (FootnoteMarker columns index label) = FootnoteMarker columns (record { 0 = 0 }) label
+opener_alone (DefinitionMarker columns) = DefinitionMarker columns
 
 abbrev pub head_alone : Head → Head
 head_alone head = record { opener = opener_alone head.opener; line = head.line; start = head.start }
@@ -73,6 +74,7 @@ abbrev pub label_node : Opener → List (ℕ × Item)
 label_node (QuoteMarker kind) = []
 label_node (ItemMarker byte number columns) = []
 label_node (FootnoteMarker columns index label) = (0, node_of 0 0 (FootnoteDefinition index)) ∷ []
+label_node (DefinitionMarker columns) = []
 
 -- containers that begin alike: their labels, if they have any, are named by their indices
 abbrev pub AlikeHead : Names → Names → Head → Head → Type 0
@@ -82,6 +84,7 @@ opened_alone : (o : Opener) → opened (opener_alone o) ≡ opened o
 opened_alone (QuoteMarker kind) = refl
 opened_alone (ItemMarker byte number columns) = refl
 opened_alone (FootnoteMarker columns index label) = refl
+opened_alone (DefinitionMarker columns) = refl
 
 pub opened_alike : (head head' : Head) → head_alone head ≡ head_alone head' → opened head.opener ≡ opened head'.opener
 opened_alike head head' is = sym (opened_alone head.opener) ∙ ap (λ (h : Head). opened h.opener) is ∙ opened_alone head'.opener
@@ -90,6 +93,7 @@ label_alone : (o : Opener) → label_of (opener_alone o) ≡ label_of o
 label_alone (QuoteMarker kind) = refl
 label_alone (ItemMarker byte number columns) = refl
 label_alone (FootnoteMarker columns index label) = refl
+label_alone (DefinitionMarker columns) = refl
 
 pub label_alike : (head head' : Head) → head_alone head ≡ head_alone head' → label_of head.opener ≡ label_of head'.opener
 label_alike head head' is = sym (label_alone head.opener) ∙ ap (λ (h : Head). label_of h.opener) is ∙ label_alone head'.opener

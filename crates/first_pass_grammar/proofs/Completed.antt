@@ -9,9 +9,9 @@ use Rattle.first_pass_grammar.specs.Containers.{is_quote}
 use Rattle.first_pass_grammar.specs.Leaves.{Document, document}
 use Rattle.first_pass_grammar.specs.Skeleton.{From, Line, level, Left, Lines, InLine, onward, end_before, IsSequence}
 use Rattle.first_pass_grammar.specs.Before.{Before, nothing, after_container, before_end}
-use Rattle.first_pass_grammar.specs.Rows.{Rows, any_gap, rows_of}
+use Rattle.first_pass_grammar.specs.Rows.{ItemsOf, Rows, any_gap, rows_of}
 use Rattle.first_pass_grammar.specs.Derivation.{Tables, Derives, no_tables, told_by, root_of, items_of}
-use Rattle.first_pass_grammar.specs.Completion.{OneList, Standing, Further, AreFurther, rows_on, rows_beyond, rendered, Frame, InContainer, InList}
+use Rattle.first_pass_grammar.specs.Completion.{OneList, Standing, Further, AreFurther, rows_on, rows_beyond, rendered, Frame, InContainer, InList, InDefinitions, definitions_open}
 use Rattle.first_pass_grammar.specs.Completion.{containers_of, loosened, container_closed, Becomes, Completes, CanGoOn, Completion}
 use Rattle.first_pass_grammar.proofs.Found.{Found}
 use Rattle.first_pass_grammar.proofs.MoreNames.{extends_none, extends_both}
@@ -56,6 +56,7 @@ length-loosened : (gap : Bool) (frames : List Frame) → length (loosened gap fr
 length-loosened gap [] = refl
 length-loosened gap (InContainer c ∷ frames) = refl
 length-loosened gap (InList byte loose ∷ frames) = refl
+length-loosened gap (InDefinitions loose ∷ frames) = refl
 
 becomes_some : (d : Document) (frames : List Frame) (places : List ℕ) (w : Standing) (further : List Further) (from : From) (lines : List Place)
     → length frames ≡ length places → AreFurther d (containers_of frames) w.before from lines further
@@ -68,7 +69,10 @@ becomes_some d [] [] w (f ∷ g ∷ more) from lines size are = absurd are
 becomes_some d [] (place ∷ places) w further from lines size are = absurd (omega arith)
 becomes_some d (frame ∷ frames) [] w further from lines size are = absurd (omega arith)
 becomes_some d (InList byte loose ∷ frames) (place ∷ places) w further from lines size are =
-    let inside : Standing = record { nodes = w.nodes; list = OneList place byte loose; before = w.before; defined = w.defined } in
+    let inside : Standing = record { nodes = w.nodes; list = OneList place (ItemsOf byte) loose; before = w.before; defined = w.defined } in
+    becomes_some d frames places inside further from lines (omega arith) are
+becomes_some d (InDefinitions loose ∷ frames) (place ∷ places) w further from lines size are =
+    let inside : Standing = record { nodes = w.nodes; list = definitions_open place loose w.list; before = w.before; defined = w.defined } in
     becomes_some d frames places inside further from lines (omega arith) are
 becomes_some d (InContainer c ∷ frames) (place ∷ places) w [] from lines size are = absurd are
 becomes_some d (InContainer c ∷ frames) (place ∷ places) w (f ∷ further) from lines size (left, sequence, ends, are) =

@@ -7,10 +7,10 @@ use Rattle.first_pass_grammar.specs.Leaves.{Document}
 use Rattle.first_pass_grammar.specs.Blocks.{Skeleton}
 use Rattle.first_pass_grammar.specs.Before.{Before, after_container, before_end}
 use Rattle.first_pass_grammar.specs.Skeleton.{From, level, Left, Lines, onward, end_before, IsSequence}
-use Rattle.first_pass_grammar.specs.Rows.{Rows, any_gap, rows_of}
+use Rattle.first_pass_grammar.specs.Rows.{ItemsOf, Rows, any_gap, rows_of}
 use Rattle.first_pass_grammar.specs.Derivation.{Tables, Derives, told_by}
 use Rattle.first_pass_grammar.specs.Completion.{ended, Pending, NoList, OneList, Standing, Further, AreFurther, rows_beyond, rendered, Frame, InContainer}
-use Rattle.first_pass_grammar.specs.Completion.{InList, containers_of, loosened, last_of, Becomes, Completes}
+use Rattle.first_pass_grammar.specs.Completion.{Closed, InDefinitions, closed_as, definitions_open, InList, containers_of, loosened, last_of, Becomes, Completes}
 use Rattle.first_pass_grammar.specs.Containers.{is_quote}
 
 -- some sequence that the innermost container takes, and so on outwards
@@ -21,12 +21,14 @@ Finish d defined list before [] nodes [] from lines forest tables =
 Finish d defined list before [] nodes (place ∷ places) from lines forest tables = ⊥
 Finish d defined list before (frame ∷ frames) nodes [] from lines forest tables = ⊥
 Finish d defined list before (InList byte loose ∷ frames) nodes (place ∷ places) from lines forest tables =
-    Finish d defined (OneList place byte loose) before frames nodes places from lines forest tables
+    Finish d defined (OneList place (ItemsOf byte) loose) before frames nodes places from lines forest tables
+Finish d defined list before (InDefinitions loose ∷ frames) nodes (place ∷ places) from lines forest tables =
+    Finish d defined (definitions_open place loose list) before frames nodes places from lines forest tables
 Finish d defined list before (InContainer c ∷ frames) nodes (place ∷ places) from lines forest tables =
     (s : Skeleton) × (mid : Left) × IsSequence d s (level (c ∷ containers_of frames) before) from lines mid
     × (let last : ℕ = end_before (length d.text) (containers_of frames) from mid in
     let rows : Rows = rows_of (is_quote c) before last s in
-    Finish d (told_by defined s) NoList (after_container c (before_end (is_quote c) before s))
+    Finish d (told_by defined s) (NoList (closed_as c last)) (after_container c (before_end (is_quote c) before s))
     (loosened (any_gap (rows_beyond list rows)) frames) (ended (rendered (suc (length (place ∷ places))) last nodes list rows) place last)
     places (onward mid).0 (onward mid).1 forest tables)
 
@@ -34,6 +36,7 @@ pub containers-loosened : (gap : Bool) (frames : List Frame) → containers_of (
 containers-loosened gap [] = refl
 containers-loosened gap (InContainer c ∷ frames) = refl
 containers-loosened gap (InList byte loose ∷ frames) = refl
+containers-loosened gap (InDefinitions loose ∷ frames) = refl
 
 -- what stands, by its parts
 abbrev pub standing : Tables → List (ℕ × Item) → Pending → Before → Standing
@@ -61,8 +64,11 @@ finish_of d defined [] (f ∷ g ∷ more) list before [] nodes from lines forest
 finish_of d defined (o ∷ os) further list before [] nodes from lines forest tables are becomes = becomes
 finish_of d defined [] further list before (InContainer c ∷ frames) nodes from lines forest tables are becomes = becomes
 finish_of d defined [] further list before (InList byte loose ∷ frames) nodes from lines forest tables are becomes = becomes
+finish_of d defined [] further list before (InDefinitions loose ∷ frames) nodes from lines forest tables are becomes = becomes
+finish_of d defined (o ∷ os) further list before (InDefinitions loose ∷ frames) nodes from lines forest tables are becomes =
+    finish_of d defined os further (definitions_open o loose list) before frames nodes from lines forest tables are becomes
 finish_of d defined (o ∷ os) further list before (InList byte loose ∷ frames) nodes from lines forest tables are becomes =
-    finish_of d defined os further (OneList o byte loose) before frames nodes from lines forest tables are becomes
+    finish_of d defined os further (OneList o (ItemsOf byte) loose) before frames nodes from lines forest tables are becomes
 finish_of d defined (o ∷ os) [] list before (InContainer c ∷ frames) nodes from lines forest tables are becomes = absurd are
 finish_of d defined (o ∷ os) (f ∷ further) list before (InContainer c ∷ frames) nodes from lines forest tables (mid, seq, is, are) becomes =
     let e : ℕ = end_before (length d.text) (containers_of frames) from mid in
@@ -71,7 +77,7 @@ finish_of d defined (o ∷ os) (f ∷ further) list before (InContainer c ∷ fr
       f.blocks,
       mid,
       seq,
-      finish_of d (told_by defined f.blocks) os further NoList _ _ _ (onward mid).0 (onward mid).1 forest tables
+      finish_of d (told_by defined f.blocks) os further (NoList (closed_as c e)) _ _ _ (onward mid).0 (onward mid).1 forest tables
           (subst (λ p. AreFurther d p now (onward mid).0 (onward mid).1 further) (sym (containers-loosened (any_gap (rows_beyond list rows)) frames)) are)
           (becomes_at defined frames c o os nodes list before f.blocks f.«end» e further forest tables is becomes),
     )
@@ -87,42 +93,50 @@ of_finish d defined [] list before [] nodes from lines forest tables (s, seq, is
 of_finish d defined (o ∷ os) list before [] nodes from lines forest tables fin = absurd fin
 of_finish d defined [] list before (InContainer c ∷ frames) nodes from lines forest tables fin = absurd fin
 of_finish d defined [] list before (InList byte loose ∷ frames) nodes from lines forest tables fin = absurd fin
+of_finish d defined [] list before (InDefinitions loose ∷ frames) nodes from lines forest tables fin = absurd fin
+of_finish d defined (o ∷ os) list before (InDefinitions loose ∷ frames) nodes from lines forest tables fin =
+    of_finish d defined os (definitions_open o loose list) before frames nodes from lines forest tables fin
 of_finish d defined (o ∷ os) list before (InList byte loose ∷ frames) nodes from lines forest tables fin =
-    of_finish d defined os (OneList o byte loose) before frames nodes from lines forest tables fin
+    of_finish d defined os (OneList o (ItemsOf byte) loose) before frames nodes from lines forest tables fin
 of_finish d defined (o ∷ os) list before (InContainer c ∷ frames) nodes from lines forest tables (s, mid, seq, fin) =
     let e : ℕ = end_before (length d.text) (containers_of frames) from mid in
     let rows : Rows = rows_of (is_quote c) before e s in
     let now : Before = after_container c (before_end (is_quote c) before s) in
-    let r = of_finish d (told_by defined s) os NoList _ _ _ (onward mid).0 (onward mid).1 forest tables fin in
+    let r = of_finish d (told_by defined s) os (NoList (closed_as c e)) _ _ _ (onward mid).0 (onward mid).1 forest tables fin in
     let path : containers_of (loosened (any_gap (rows_beyond list rows)) frames) ≡ containers_of frames =
     containers-loosened (any_gap (rows_beyond list rows)) frames in
     (further_to s e ∷ r.0, (mid, seq, refl, subst (λ p. AreFurther d p now (onward mid).0 (onward mid).1 r.0) path r.1), r.2)
 
--- what stands before the next block in open nodes, where the run of blank lines directly before it holds one that counts, or doesn't
-abbrev pub before_of : List Frame → Bool → Before
-before_of frames run = record { last = last_of frames; counted = run }
+-- how open nodes end: with what is last in the innermost, and a run of blank lines that holds one that counts, or doesn't
+pub record Tail : Type 0 where
+  pub closed : Closed
+  pub run : Bool
+
+-- what stands before the next block in open nodes that end so
+abbrev pub before_of : List Frame → Tail → Before
+before_of frames t = record { last = last_of frames t.closed; counted = t.run }
 
 -- nodes, open at these places as the frames say, after which a run of blank lines holds one that counts, or doesn't: whatever completes them, the text derives
-abbrev pub CompletesAt : Document → Tables → Bool → List Frame → List (ℕ × Item) → List ℕ → From → List Place → Type 0
-CompletesAt d defined run frames nodes os from lines = Completes d frames os (standing defined nodes NoList (before_of frames run)) from lines
+abbrev pub CompletesAt : Document → Tables → Tail → List Frame → List (ℕ × Item) → List ℕ → From → List Place → Type 0
+CompletesAt d defined t frames nodes os from lines = Completes d frames os (standing defined nodes (NoList t.closed) (before_of frames t)) from lines
 
 -- such nodes are finished as this forest, with these tables
-abbrev pub FinishesAt : Document → Tables → Bool → List Frame → List (ℕ × Item) → List ℕ → From → List Place → List (ℕ × Item) → Tables → Type 0
-FinishesAt d defined run frames nodes os from lines forest tables =
-    Finish d defined NoList (before_of frames run) frames nodes os from lines forest tables
+abbrev pub FinishesAt : Document → Tables → Tail → List Frame → List (ℕ × Item) → List ℕ → From → List Place → List (ℕ × Item) → Tables → Type 0
+FinishesAt d defined t frames nodes os from lines forest tables =
+    Finish d defined (NoList t.closed) (before_of frames t) frames nodes os from lines forest tables
 
-pub finish_derives : (d : Document) (defined : Tables) (run : Bool) (frames : List Frame) (nodes : List (ℕ × Item)) (os : List ℕ) (from : From)
+pub finish_derives : (d : Document) (defined : Tables) (t : Tail) (frames : List Frame) (nodes : List (ℕ × Item)) (os : List ℕ) (from : From)
     (lines : List Place)
-    → CompletesAt d defined run frames nodes os from lines
-    → (forest : List (ℕ × Item)) (tables : Tables) → FinishesAt d defined run frames nodes os from lines forest tables → Derives d forest tables
-finish_derives d defined run frames nodes os from lines c forest tables fin =
-    let r = of_finish d defined os NoList (before_of frames run) frames nodes from lines forest tables fin in c.whole r.0 forest tables r.1 r.2
+    → CompletesAt d defined t frames nodes os from lines
+    → (forest : List (ℕ × Item)) (tables : Tables) → FinishesAt d defined t frames nodes os from lines forest tables → Derives d forest tables
+finish_derives d defined t frames nodes os from lines c forest tables fin =
+    let r = of_finish d defined os (NoList t.closed) (before_of frames t) frames nodes from lines forest tables fin in c.whole r.0 forest tables r.1 r.2
 
-pub whole_by : (d : Document) (defined : Tables) (run : Bool) (frames : List Frame) (nodes : List (ℕ × Item)) (os : List ℕ) (from : From) (lines : List Place)
-    → ((forest : List (ℕ × Item)) (tables : Tables) → FinishesAt d defined run frames nodes os from lines forest tables → Derives d forest tables)
+pub whole_by : (d : Document) (defined : Tables) (t : Tail) (frames : List Frame) (nodes : List (ℕ × Item)) (os : List ℕ) (from : From) (lines : List Place)
+    → ((forest : List (ℕ × Item)) (tables : Tables) → FinishesAt d defined t frames nodes os from lines forest tables → Derives d forest tables)
     → (further : List Further) (forest : List (ℕ × Item)) (tables : Tables)
-    → AreFurther d (containers_of frames) (before_of frames run) from lines further
-    → Becomes frames os (standing defined nodes NoList (before_of frames run)) further forest tables
+    → AreFurther d (containers_of frames) (before_of frames t) from lines further
+    → Becomes frames os (standing defined nodes (NoList t.closed) (before_of frames t)) further forest tables
     → Derives d forest tables
-whole_by d defined run frames nodes os from lines whole further forest tables are becomes =
-    whole forest tables (finish_of d defined os further NoList (before_of frames run) frames nodes from lines forest tables are becomes)
+whole_by d defined t frames nodes os from lines whole further forest tables are becomes =
+    whole forest tables (finish_of d defined os further (NoList t.closed) (before_of frames t) frames nodes from lines forest tables are becomes)

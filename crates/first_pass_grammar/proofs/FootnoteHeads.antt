@@ -1,7 +1,8 @@
 -- A footnote definition takes nothing from the labels of others: the head of one is the same in a footnote definition as around that.
-use Rattle.std.proofs.Common.{◌≡◌, ℕ, ◌&&◌, ◌||◌, not, Bool, true, false, nat_lt, List, [], ◌∷◌, drop, Option, Some, None, refl, ap, ◌∙◌, if◌then◌else◌}
+use Rattle.std.proofs.Common.{◌≡◌, ℕ, ◌&&◌, ◌||◌, not, Bool, true, false, nat_lt, List, [], ◌∷◌, drop, Option, Some, None, refl, ap, sym, ◌∙◌, if◌then◌else◌}
 use Rattle.std.specs.Option.{option_map, option_and_then, is_some}
 use Rattle.std.proofs.Math.Dec.{leb-zero}
+use Rattle.std.proofs.Math.Bool.{and-false}
 use Rattle.first_pass_items.specs.declared.item.Alignment.{Alignment}
 use Rattle.first_pass_items.specs.declared.option_set.Options.{Options}
 use Rattle.first_pass_items.specs.Bytes.{pipe}
@@ -13,8 +14,8 @@ use Rattle.first_pass_links.specs.Footnotes.{footnote_head}
 use Rattle.first_pass_table_scan.specs.TableHead.{head_columns, delimiter_row_of}
 use Rattle.first_pass_grammar.specs.declared.kind.Container.{Container}
 use Rattle.first_pass_grammar.specs.declared.kind.Container.TheVariants.{FootnoteDefinition}
-use Rattle.first_pass_grammar.specs.Containers.{context, footnote_columns, prefix, after, or_shorter, front}
-use Rattle.first_pass_grammar.specs.Kinds.{all_taken, unindented, interrupts_with, footnote_interrupts, interrupts, ends_paragraph}
+use Rattle.first_pass_grammar.specs.Containers.{context, footnote_columns, prefix, after, or_shorter, front, is_definition, at_definition}
+use Rattle.first_pass_grammar.specs.Kinds.{all_taken, unindented, interrupts_with, footnote_interrupts, definition_interrupts, Continued, continued, interrupts, ends_paragraph}
 use Rattle.first_pass_grammar.specs.TableHeads.{if_as_many, table_at}
 use Rattle.first_pass_grammar.specs.Definitions.{is_underline, crossed}
 use Rattle.first_pass_grammar.specs.Footnotes.{footnote_prefix, footnote_head_at}
@@ -53,23 +54,54 @@ table_same path bs =
     ap (λ (o : Option Rest). option_and_then (if_as_many (head_columns bs)) (option_and_then delimiter_row_of o))
     (after_same path (line_rest (drop (line_len bs) bs)))
 
-interrupts_same : (options : Options) (path : List Container) (whole : Bool) (r : Rest)
-    → interrupts (context options (with_old path)) whole r ≡ interrupts (context options path) whole r
+-- nor which container stops a line
+stopped_none : (c : Container) (o : Option Rest) → is_some o ≡ false → is_some (option_and_then (prefix c) o) ≡ true → ⊥
+stopped_none c None e h = cc
+stopped_none c (Some r) e h = cc
+
+whole_by : (c : Container) (path : List Container) (r : Rest) (t : Bool) → is_some (after path r) ≡ t → is_some (option_and_then (prefix c) (after path r)) ≡ true
+    → (if t then is_definition c && not (is_some (option_and_then (prefix c) (after path r))) else at_definition path r) ≡ false
+whole_by c path r true e h = ap (λ b. is_definition c && not b) h ∙ and-false (is_definition c)
+whole_by c path r false e h = absurd (stopped_none c (after path r) e h)
+
+-- no container stops a line that continues all
+pub whole_none : (path : List Container) (r : Rest) → is_some (after path r) ≡ true → at_definition path r ≡ false
+unfolding at_definition after
+whole_none [] r h = refl
+whole_none (c ∷ path) r h = whole_by c path r (is_some (after path r)) refl h
+
+stop_by : (path : List Container) (r : Rest) (t : Bool) → is_some (after path r) ≡ t → (if t then false else at_definition path r) ≡ at_definition path r
+stop_by path r true e = sym (whole_none path r e)
+stop_by path r false e = refl
+
+stop_same : (path : List Container) (r : Rest) → at_definition (with_old path) r ≡ at_definition path r
+unfolding at_definition
+stop_same path r = stop_by path r (is_some (after path r)) refl
+
+continued_same : (path : List Container) (r : Rest) → continued (with_old path) r ≡ continued path r
+continued_same path r =
+    ap (λ (o : Option Rest). record { whole = is_some o; at_definition = at_definition (with_old path) r }) (after_same path r)
+    ∙ ap (λ (b : Bool). record { whole = is_some (after path r); at_definition = b }) (stop_same path r)
+
+interrupts_same : (options : Options) (path : List Container) (c : Continued) (r : Rest)
+    → interrupts (context options (with_old path)) c r ≡ interrupts (context options path) c r
 unfolding interrupts
-interrupts_same options path whole r =
+interrupts_same options path c r =
     let bs : List ℕ = (all_taken r).left in
     ap (λ (o : Option (List Alignment)).
     if nat_lt (indent r) 4
-    then interrupts_with whole bs || (footnote_interrupts options false bs || (has options tables && (begins pipe bs && is_some o)))
+    then interrupts_with c.whole bs
+    || (footnote_interrupts options false bs
+    || (definition_interrupts options c.at_definition bs || (has options tables && (begins pipe bs && is_some o))))
     else at_line_end bs)
     (table_same path bs)
 
 paragraph_same : (options : Options) (path : List Container) (r : Rest)
     → ends_paragraph (context options (with_old path)) r ≡ ends_paragraph (context options path) r
 paragraph_same options path r =
-    ap (λ (o : Option Rest). interrupts (context options (with_old path)) (is_some o) (front (with_old path) r)) (after_same path r)
-    ∙ ap (interrupts (context options (with_old path)) (is_some (after path r))) (front_same path r)
-    ∙ interrupts_same options path (is_some (after path r)) (front path r)
+    ap (λ (c : Continued). interrupts (context options (with_old path)) c (front (with_old path) r)) (continued_same path r)
+    ∙ ap (interrupts (context options (with_old path)) (continued path r)) (front_same path r)
+    ∙ interrupts_same options path (continued path r) (front path r)
 
 crossed_same : (options : Options) (path : List Container) (in_label : Bool) (r : Rest)
     → crossed in_label (context options (with_old path)) r ≡ crossed in_label (context options path) r

@@ -13,7 +13,7 @@ use Rattle.first_pass_lines.specs.Places.{Place, line_rest, offset, IsPlaceOf}
 use Rattle.first_pass_lines.proofs.PlaceFacts.{columns_shorter, quote_shorter}
 use Rattle.first_pass_table_scan.specs.TableHead.{head_columns, stripped, delimiter_row, delimiter_row_of}
 use Rattle.first_pass_grammar.specs.declared.kind.Container.{Container}
-use Rattle.first_pass_grammar.specs.declared.kind.Container.TheVariants.{BlockQuote, ListItem, FootnoteDefinition}
+use Rattle.first_pass_grammar.specs.declared.kind.Container.TheVariants.{BlockQuote, ListItem, FootnoteDefinition, Definition}
 use Rattle.first_pass_grammar.specs.Containers.{Context, has_columns, prefix, after}
 use Rattle.first_pass_grammar.specs.TableHeads.{if_as_many, table_at, ends_in_backslash, headed_table}
 
@@ -53,6 +53,10 @@ prefix_less (ListItem n) r s e =
     let columns = columns_shorter n r in
     omega arith
 prefix_less (FootnoteDefinition n) r s e =
+    let left = ap (λ (z : Rest). length z.left) (cond_some (has_columns n r) (after_columns n r) s e).1 in
+    let columns = columns_shorter n r in
+    omega arith
+prefix_less (Definition n) r s e =
     let left = ap (λ (z : Rest). length z.left) (cond_some (has_columns n r) (after_columns n r) s e).1 in
     let columns = columns_shorter n r in
     omega arith

@@ -1,53 +1,79 @@
--- What begins a container is the marker of an item, or of a block quote.
-use Rattle.std.proofs.Common.{◌≡◌, ℕ, Option, Some, None, refl, ap, subst, ◌∙◌}
+-- What begins a container is the marker of an item, of a definition, or of a block quote.
+use Rattle.std.proofs.Common.{◌≡◌, ℕ, Bool, true, false, Option, Some, None, refl, ap, subst, ◌∙◌, if◌then◌else◌}
 use Rattle.std.specs.Option.{option_map, option_or}
 use Rattle.first_pass_items.specs.declared.option_set.Options.{Options}
 use Rattle.first_pass_lines.specs.Rest.{Rest}
 use Rattle.first_pass_lines.specs.Places.{Place}
 use Rattle.first_pass_grammar.specs.declared.kind.Container.TheVariants.{BlockQuote}
 use Rattle.first_pass_grammar.specs.Containers.{prefix}
-use Rattle.first_pass_grammar.specs.Kinds.{item_at}
-use Rattle.first_pass_grammar.specs.Openers.{Start, item_start, task_behind, quote_begun, tag_behind, start_at}
+use Rattle.first_pass_grammar.specs.Kinds.{item_at, definition_marker_at}
+use Rattle.first_pass_grammar.specs.Openers.{Start, item_start, task_behind, quote_begun, tag_behind, definition_start, start_at}
 
-abbrev item_as : Options → Place → (ℕ × ℕ × ℕ) × Rest → Start
+abbrev pub item_as : Options → Place → (ℕ × ℕ × ℕ) × Rest → Start
 item_as options p item = item_start p item.0 (task_behind options p.line item.1)
 
-abbrev quote_as : Options → Place → Rest → Start
+abbrev pub quote_as : Options → Place → Rest → Start
 quote_as options p r = quote_begun p (tag_behind options r) r
 
 some_same : {T : Type 0} (x y : T) → Some x ≡ Some y → x ≡ y
 some_same x y h = cc
 
-start_by : (options : Options) (p : Place) (P : Start → Type 0) (i : Option ((ℕ × ℕ × ℕ) × Rest)) (q : Option Rest)
-    → ((item : (ℕ × ℕ × ℕ) × Rest) → i ≡ Some item → P (item_as options p item)) → ((r : Rest) → i ≡ None → q ≡ Some r → P (quote_as options p r))
-    → (s : Start) → option_or (option_map (item_as options p) i) (option_map (quote_as options p) q) ≡ Some s → P s
-start_by options p P (Some item) q f g s h = subst P (some_same (item_as options p item) s h) (f item refl)
-start_by options p P None (Some r) f g s h = subst P (some_same (quote_as options p r) s h) (g r refl refl)
-start_by options p P None None f g s h = cc
+-- the marker of a definition, where one may begin
+abbrev pub marker_where : Bool → Place → Option (ℕ × Rest)
+marker_where may p = if may then definition_marker_at p.rest else None
 
--- what holds of an item's and of a block quote's marker holds of whatever begins a container
-pub start_cases : (options : Options) (p : Place) (P : Start → Type 0)
+marker_by : (may : Bool) (p : Place) (marker : ℕ × Rest) → marker_where may p ≡ Some marker → definition_marker_at p.rest ≡ Some marker
+marker_by true p marker h = h
+marker_by false p marker h = cc
+
+abbrev start_of_three : Options → Place → Option ((ℕ × ℕ × ℕ) × Rest) → Option (ℕ × Rest) → Option Rest → Option Start
+start_of_three options p i m q = option_or (option_map (item_as options p) i) (option_or (option_map (definition_start p) m) (option_map (quote_as options p) q))
+
+start_by : (options : Options) (p : Place) (P : Start → Type 0) (i : Option ((ℕ × ℕ × ℕ) × Rest)) (m : Option (ℕ × Rest)) (q : Option Rest)
+    → ((item : (ℕ × ℕ × ℕ) × Rest) → i ≡ Some item → P (item_as options p item))
+    → ((marker : ℕ × Rest) → i ≡ None → m ≡ Some marker → P (definition_start p marker))
+    → ((r : Rest) → i ≡ None → q ≡ Some r → P (quote_as options p r))
+    → (s : Start) → start_of_three options p i m q ≡ Some s → P s
+start_by options p P (Some item) m q f d g s h = subst P (some_same (item_as options p item) s h) (f item refl)
+start_by options p P None (Some marker) q f d g s h = subst P (some_same (definition_start p marker) s h) (d marker refl refl)
+start_by options p P None None (Some r) f d g s h = subst P (some_same (quote_as options p r) s h) (g r refl refl)
+start_by options p P None None None f d g s h = cc
+
+-- what holds of an item's, of a definition's and of a block quote's marker holds of whatever begins a container
+pub start_cases : (options : Options) (may : Bool) (p : Place) (P : Start → Type 0)
     → ((item : (ℕ × ℕ × ℕ) × Rest) → item_at p.rest ≡ Some item → P (item_start p item.0 (task_behind options p.line item.1)))
+    → ((marker : ℕ × Rest) → item_at p.rest ≡ None → definition_marker_at p.rest ≡ Some marker → P (definition_start p marker))
     → ((r : Rest) → item_at p.rest ≡ None → prefix (BlockQuote None) p.rest ≡ Some r → P (quote_begun p (tag_behind options r) r))
-    → (s : Start) → start_at options p ≡ Some s → P s
+    → (s : Start) → start_at options may p ≡ Some s → P s
 unfolding start_at
-start_cases options p P f g s h = start_by options p P (item_at p.rest) (prefix (BlockQuote None) p.rest) f g s h
+start_cases options may p P f d g s h =
+    start_by options p P (item_at p.rest) (marker_where may p) (prefix (BlockQuote None) p.rest) f
+    (λ marker none is. d marker none (marker_by may p marker is)) g s h
 
-pub start_item : (options : Options) (p : Place) (item : (ℕ × ℕ × ℕ) × Rest) → item_at p.rest ≡ Some item
-    → start_at options p ≡ Some (item_start p item.0 (task_behind options p.line item.1))
+pub start_item : (options : Options) (may : Bool) (p : Place) (item : (ℕ × ℕ × ℕ) × Rest) → item_at p.rest ≡ Some item
+    → start_at options may p ≡ Some (item_start p item.0 (task_behind options p.line item.1))
 unfolding start_at
-start_item options p item is =
-    ap (λ i. option_or (option_map (item_as options p) i) (option_map (quote_as options p) (prefix (BlockQuote None) p.rest))) is
+start_item options may p item is = ap (λ i. start_of_three options p i (marker_where may p) (prefix (BlockQuote None) p.rest)) is
 
-pub start_quote : (options : Options) (p : Place) (r : Rest) → item_at p.rest ≡ None → prefix (BlockQuote None) p.rest ≡ Some r
-    → start_at options p ≡ Some (quote_begun p (tag_behind options r) r)
+pub start_definition : (options : Options) (may : Bool) (p : Place) (marker : ℕ × Rest) → item_at p.rest ≡ None → marker_where may p ≡ Some marker
+    → start_at options may p ≡ Some (definition_start p marker)
 unfolding start_at
-start_quote options p r none is =
-    ap (λ i. option_or (option_map (item_as options p) i) (option_map (quote_as options p) (prefix (BlockQuote None) p.rest))) none
+start_definition options may p marker none is =
+    ap (λ i. start_of_three options p i (marker_where may p) (prefix (BlockQuote None) p.rest)) none
+    ∙ ap (λ m. start_of_three options p None m (prefix (BlockQuote None) p.rest)) is
+
+pub start_quote : (options : Options) (may : Bool) (p : Place) (r : Rest) → item_at p.rest ≡ None → marker_where may p ≡ None
+    → prefix (BlockQuote None) p.rest ≡ Some r → start_at options may p ≡ Some (quote_begun p (tag_behind options r) r)
+unfolding start_at
+start_quote options may p r none no_marker is =
+    ap (λ i. start_of_three options p i (marker_where may p) (prefix (BlockQuote None) p.rest)) none
+    ∙ ap (λ m. start_of_three options p None m (prefix (BlockQuote None) p.rest)) no_marker
     ∙ ap (option_map (quote_as options p)) is
 
-pub start_none : (options : Options) (p : Place) → item_at p.rest ≡ None → prefix (BlockQuote None) p.rest ≡ None → start_at options p ≡ None
+pub start_none : (options : Options) (may : Bool) (p : Place) → item_at p.rest ≡ None → marker_where may p ≡ None → prefix (BlockQuote None) p.rest ≡ None
+    → start_at options may p ≡ None
 unfolding start_at
-start_none options p none is =
-    ap (λ i. option_or (option_map (item_as options p) i) (option_map (quote_as options p) (prefix (BlockQuote None) p.rest))) none
+start_none options may p none no_marker is =
+    ap (λ i. start_of_three options p i (marker_where may p) (prefix (BlockQuote None) p.rest)) none
+    ∙ ap (λ m. start_of_three options p None m (prefix (BlockQuote None) p.rest)) no_marker
     ∙ ap (option_map (quote_as options p)) is

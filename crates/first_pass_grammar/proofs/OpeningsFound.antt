@@ -20,19 +20,19 @@ use Rattle.first_pass_lines.specs.Lines.{is_content, begins, is_white}
 use Rattle.first_pass_lines.specs.Rest.{Rest, indent, after_columns, past_bytes, past_quote}
 use Rattle.first_pass_lines.specs.Places.{Place, offset, start_of}
 use Rattle.first_pass_lines.proofs.PlaceFacts.{columns_shorter, quote_shorter}
-use Rattle.first_pass_scan.specs.Markers.{item_of, task_of}
-use Rattle.first_pass_scan.proofs.MarkerPlaces.{IsMarked, item-marked, task-marked}
+use Rattle.first_pass_scan.specs.Markers.{item_of, task_of, definition_of}
+use Rattle.first_pass_scan.proofs.MarkerPlaces.{IsMarked, item-marked, task-marked, definition-marked}
 use Rattle.first_pass_grammar.specs.declared.kind.Container.{Container}
 use Rattle.first_pass_grammar.specs.declared.kind.Container.TheVariants.{BlockQuote}
 use Rattle.first_pass_grammar.specs.Names.{Names}
 use Rattle.first_pass_grammar.specs.Containers.{Context, context, at_rest, prefix, front, footnote_columns}
-use Rattle.first_pass_grammar.specs.Kinds.{Paragraph, all_taken, unindented, is_blank_rest, item_at, ends_tag}
+use Rattle.first_pass_grammar.specs.Kinds.{Paragraph, all_taken, unindented, is_blank_rest, item_at, ends_tag, definition_marker_at}
 use Rattle.first_pass_grammar.specs.Leaves.{Document, document}
 use Rattle.first_pass_grammar.specs.Blocks.{leaf_block, FootnoteMarker, Head}
 use Rattle.first_pass_grammar.specs.Skeleton.{From, Line, At, May, Anything, ALeafAlone, TextOf, MarkAlone, Inside, behind_marker, Opening, OpensNode}
 use Rattle.first_pass_grammar.specs.Skeleton.{next_is_blank, task_alone}
 use Rattle.first_pass_grammar.specs.Openers.{task_by, task_behind}
-use Rattle.first_pass_grammar.specs.Skeleton.{behind_tag, Opens, OpensIf}
+use Rattle.first_pass_grammar.specs.Skeleton.{behind_tag, Opens, OpensIf, Level, may_define}
 use Rattle.first_pass_grammar.proofs.KindsFound.{IsShorter, leads_alone, leads_leaf, reach, Shrinks, Leads, leads_text, leads_block}
 use Rattle.first_pass_grammar.specs.Openers.{AfterMarker, OnLine, TaskText, LineEnds, TagAlone, Start, start_at}
 use Rattle.first_pass_grammar.specs.Skeleton.{OpensBy, OpensFootnote, footnote_opening, opening_by, opening_of, without_indent}
@@ -69,6 +69,18 @@ item_shorter : (r : Rest) (item : (ℕ × ℕ × ℕ) × Rest) → item_at r ≡
 unfolding item_at
 item_shorter r item h = item_shorter_by (nat_lt (indent r) 4) r item h
 
+marker_shorter_by : (t : Bool) (r : Rest) (marker : ℕ × Rest) → (if t then definition_of (indent r) (all_taken r) else None) ≡ Some marker
+    → length marker.1.left < length r.left
+marker_shorter_by true r marker h =
+    let marked = marked_shorter (all_taken r) marker.1 (definition-marked (indent r) (all_taken r) marker h) in
+    let all = columns_shorter (indent r) r in
+    omega arith
+marker_shorter_by false r marker h = absurd (none-some marker h)
+
+marker_shorter : (r : Rest) (marker : ℕ × Rest) → definition_marker_at r ≡ Some marker → length marker.1.left < length r.left
+unfolding definition_marker_at
+marker_shorter r marker h = marker_shorter_by (nat_lt (indent r) 4) r marker h
+
 task_shorter_by : (line : ℕ) (r : Rest) (o : Option (Bool × Rest)) → ((task : Bool × Rest) → o ≡ Some task → length task.1.left ≤ length r.left)
     → length (task_by line r o).1.left ≤ length r.left
 task_shorter_by line r None f = omega arith
@@ -95,10 +107,11 @@ quote_shorter_by r inside h =
     omega arith
 
 -- what is left after a container's marker is shorter
-start_shorter : (options : Options) (p : Place) (s : Start) → start_at options p ≡ Some s → length s.rest.left < length p.rest.left
-start_shorter options p =
-    start_cases options p (λ s. length s.rest.left < length p.rest.left)
+start_shorter : (options : Options) (may : Bool) (p : Place) (s : Start) → start_at options may p ≡ Some s → length s.rest.left < length p.rest.left
+start_shorter options may p =
+    start_cases options may p (λ s. length s.rest.left < length p.rest.left)
     (λ item is. let less = item_shorter p.rest item is in let task = task_shorter options p.line item.1 in omega arith)
+    (λ marker none is. marker_shorter p.rest marker is)
     (λ r none is. quote_shorter_by p.rest r is)
 
 -- after a container's marker
@@ -223,22 +236,25 @@ leads_footnote text options names most p lines (size, label) less =
       shrinks = behind_shorter most (gfm_footnotes options) q (lines_beyond (offset q) lines) lines (omega arith) (beyond_shorter (offset q) lines);
     }
 
-leads_head : (text : List ℕ) (options : Options) (names : Names) (path : List Container) (p : Place) (lines : List Place) (o : Option (ℕ × List ℕ))
+leads_head : (text : List ℕ) (options : Options) (names : Names) (l : Level) (p : Place) (lines : List Place) (o : Option (ℕ × List ℕ))
     → ((head : ℕ × List ℕ) → o ≡ Some head → length (drop head.0 (unindented p).rest.left) < length p.rest.left)
-    → Leads names (length p.rest.left) lines (λ later x. MatchOption o (OpensBy (document text options later) path p lines (start_at options p) x)
+    → Leads names (length p.rest.left) lines (λ later x. MatchOption o
+    (OpensBy (document text options later) l.path p lines (start_at options (may_define (document text options later) l) p) x)
     (λ head. OpensFootnote (document text options later) p lines head x))
-leads_head text options names path p lines None less = leads_by text options names path p lines (start_at options p) (start_shorter options p)
-leads_head text options names path p lines (Some head) less = leads_footnote text options names (length p.rest.left) p lines head (less head refl)
+leads_head text options names l p lines None less =
+    let may : Bool = may_define (document text options names) l in
+    leads_by text options names l.path p lines (start_at options may p) (start_shorter options may p)
+leads_head text options names l p lines (Some head) less = leads_footnote text options names (length p.rest.left) p lines head (less head refl)
 
-pub leads_any : (text : List ℕ) (options : Options) (names : Names) (path : List Container) (p : Place) (lines : List Place)
-    → Leads names (length p.rest.left) lines (λ later x. Opens (document text options later) path p lines x)
-leads_any text options names path p lines =
-    leads_head text options names path p lines (footnote_head_at (context options path) p) (head_shorter (context options path) p)
+pub leads_any : (text : List ℕ) (options : Options) (names : Names) (l : Level) (p : Place) (lines : List Place)
+    → Leads names (length p.rest.left) lines (λ later x. Opens (document text options later) l p lines x)
+leads_any text options names l p lines =
+    leads_head text options names l p lines (footnote_head_at (context options l.path) p) (head_shorter (context options l.path) p)
 
-pub leads_if : (text : List ℕ) (options : Options) (names : Names) (path : List Container) (may : May) (p : Place) (lines : List Place)
-    → Leads names (length p.rest.left) lines (λ later x. OpensIf (document text options later) path may p lines x)
-leads_if text options names path Anything p lines = leads_any text options names path p lines
-leads_if text options names path ALeafAlone p lines = leads_block text options names (length p.rest.left) path p lines
-leads_if text options names path (TextOf marker) p lines = leads_text text options names (length p.rest.left) path p lines (Some marker)
-leads_if text options names path (MarkAlone marker blanks) p lines =
+pub leads_if : (text : List ℕ) (options : Options) (names : Names) (l : Level) (may : May) (p : Place) (lines : List Place)
+    → Leads names (length p.rest.left) lines (λ later x. OpensIf (document text options later) l may p lines x)
+leads_if text options names l Anything p lines = leads_any text options names l p lines
+leads_if text options names l ALeafAlone p lines = leads_block text options names (length p.rest.left) l.path p lines
+leads_if text options names l (TextOf marker) p lines = leads_text text options names (length p.rest.left) l.path p lines (Some marker)
+leads_if text options names l (MarkAlone marker blanks) p lines =
     leads_leaf (leaf_block Paragraph p ((0, marker) ∷ []) false) lines (λ later. refl) (omega arith)

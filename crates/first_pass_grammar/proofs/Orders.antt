@@ -1,5 +1,5 @@
 -- Rows of nodes and where they fit, as nodes are added, opened and closed.
-use Rattle.std.proofs.Common.{◌≡◌, inl, inr, ℕ, zero, suc, ◌+◌, ◌-◌, ◌*◌, ◌<◌, ◌≤◌, ◌==◌, ◌&&◌, Bool, true, false, if◌then◌else◌, List, [], ◌∷◌, ◌++◌, length}
+use Rattle.std.proofs.Common.{◌≡◌, inl, inr, ℕ, zero, suc, ◌+◌, ◌-◌, ◌*◌, ◌<◌, ◌≤◌, ◌==◌, Bool, true, false, if◌then◌else◌, List, [], ◌∷◌, ◌++◌, length}
 use Rattle.std.proofs.Common.{Some, None, IsCharBoundary, refl, sym, ap, subst, ◌∙◌, arith, append_assoc}
 use Rattle.std.proofs.lemmas.List.{append-nil, map-append, length-map}
 use Rattle.first_pass_items.specs.declared.item.Item.{Item}
@@ -13,8 +13,8 @@ use Rattle.first_pass_tokens.specs.Order.{AreInOrder}
 use Rattle.first_pass_tokens.specs.TreeTokens.{leaves}
 use Rattle.first_pass_tokens.proofs.OrderLemmas.{order_bound}
 use Rattle.first_pass_grammar.specs.Order.{Extent, is_text_block, is_task_marker, is_list_item, extent_of, extents, Row, Empty, Node, laid, IsBetween, Within}
-use Rattle.first_pass_grammar.specs.Order.{Elsewhere, InItem, InText, in_item, below, beyond, IsLead, Fits, FitsBetween}
-use Rattle.first_pass_grammar.specs.OpenOrder.{laid_open, AreAt, open_item, FitsOpen}
+use Rattle.first_pass_grammar.specs.Order.{Elsewhere, InItem, InText, InFirst, is_definition_list, below, beyond, IsLead, Fits, FitsBetween}
+use Rattle.first_pass_grammar.specs.OpenOrder.{laid_open, AreAt, open_within, FitsOpen}
 use Rattle.first_pass_grammar.proofs.OwnNodes.{own_at_most}
 
 -- a row, and another after it
@@ -24,7 +24,7 @@ beside (Node x kids next) more = Node x kids (beside next more)
 
 -- a range with another end
 abbrev pub ended_at : Extent → ℕ → Extent
-ended_at x e = record { start = x.start; «end» = e; text_block = x.text_block; marker = x.marker; item = x.item }
+ended_at x e = record { start = x.start; «end» = e; text_block = x.text_block; marker = x.marker; item = x.item; definitions = x.definitions }
 
 -- the extents of more nodes
 pub extents-append : (nodes more : List (ℕ × Item)) → extents (nodes ++ more) ≡ extents nodes ++ extents more
@@ -134,6 +134,15 @@ any_by : (text : List ℕ) (item : Bool) (v : Within) (from to : ℕ) (row : Row
 any_by text true v from to row wider h = h
 any_by text false v from to row wider h = wider h
 
+below_any : (text : List ℕ) (w : Within) (before : ℕ) (x : Extent) (from to : ℕ) (row : Row)
+    → ((v : Within) → Fits text Elsewhere from to row → Fits text v from to row)
+    → Fits text (below Elsewhere before x) from to row → Fits text (below w before x) from to row
+below_any text Elsewhere before x from to row wider h = h
+below_any text InItem before x from to row wider h =
+    any_by text x.item (if x.text_block then InText before else (if x.definitions then InFirst before else Elsewhere)) from to row (wider _) h
+below_any text (InText at) before x from to row wider h = h
+below_any text (InFirst at) before x from to row wider h = any_by text x.item (if x.text_block then InText at else Elsewhere) from to row (wider _) h
+
 -- what fits elsewhere fits anywhere
 pub fits-any : (text : List ℕ) (w : Within) (from to : ℕ) (row : Row) → Fits text Elsewhere from to row → Fits text w from to row
 unfolding Fits
@@ -141,7 +150,7 @@ fits-any text w from to Empty h = h
 fits-any text w from to (Node x kids next) (inl (b, k, n)) =
     inl (
       b,
-      any_by text x.item (if in_item w && x.text_block then InText from else Elsewhere) x.start x.«end» kids (λ e. fits-any text _ x.start x.«end» kids e) k,
+      below_any text w from x x.start x.«end» kids (λ v e. fits-any text v x.start x.«end» kids e) k,
       fits-any text (beyond w) x.«end» to next n,
     )
 fits-any text w from to (Node x kids next) (inr (l, k, n)) = absurd l
@@ -150,17 +159,20 @@ fits-beyond : (text : List ℕ) (w : Within) (from to : ℕ) (row : Row) → Fit
 fits-beyond text Elsewhere from to row h = h
 fits-beyond text InItem from to row h = h
 fits-beyond text (InText before) from to row h = fits-any text (InText before) from to row h
+fits-beyond text (InFirst before) from to row h = fits-any text (InFirst before) from to row h
 
 beyond-again : (text : List ℕ) (w : Within) (from to : ℕ) (row : Row) → Fits text (beyond w) from to row → Fits text (beyond (beyond w)) from to row
 beyond-again text Elsewhere from to row h = h
 beyond-again text InItem from to row h = h
 beyond-again text (InText before) from to row h = h
+beyond-again text (InFirst before) from to row h = h
 
 behind-lead : (text : List ℕ) (w : Within) (at from to : ℕ) (x : Extent) (row : Row)
     → IsLead text w at x → Fits text (beyond w) from to row → Fits text Elsewhere from to row
 behind-lead text Elsewhere at from to x row l h = absurd l
 behind-lead text InItem at from to x row l h = absurd l
 behind-lead text (InText before) at from to x row l h = h
+behind-lead text (InFirst before) at from to x row l h = absurd l
 
 -- a lead may stand from an earlier offset on
 fits-earlier_lead : (text : List ℕ) (a b from to : ℕ) (row : Row) → a ≤ b → Fits text (InText b) from to row → Fits text (InText a) from to row
@@ -169,19 +181,42 @@ fits-earlier_lead text a b from to Empty more h = h
 fits-earlier_lead text a b from to (Node x kids next) more (inl h) = inl h
 fits-earlier_lead text a b from to (Node x kids next) more (inr (l, k, n)) = inr ((l.0, between-earlier text a b from x more l.1), k, n)
 
-below_by : (text : List ℕ) (item lead : Bool) (a b from to : ℕ) (row : Row) → a ≤ b
+lead_by : (text : List ℕ) (item lead : Bool) (a b from to : ℕ) (row : Row) → a ≤ b
     → Fits text (if item then InItem else (if lead then InText b else Elsewhere)) from to row
     → Fits text (if item then InItem else (if lead then InText a else Elsewhere)) from to row
-below_by text true lead a b from to row more h = h
-below_by text false true a b from to row more h = fits-earlier_lead text a b from to row more h
-below_by text false false a b from to row more h = h
+lead_by text true lead a b from to row more h = h
+lead_by text false true a b from to row more h = fits-earlier_lead text a b from to row more h
+lead_by text false false a b from to row more h = h
+
+-- the same in the title that is first in a definition list
+fits-earlier_first : (text : List ℕ) (a b from to : ℕ) (row : Row) → a ≤ b → Fits text (InFirst b) from to row → Fits text (InFirst a) from to row
+unfolding Fits
+fits-earlier_first text a b from to Empty more h = h
+fits-earlier_first text a b from to (Node x kids next) more (inl (h, k, n)) =
+    inl (h, lead_by text x.item x.text_block a b x.start x.«end» kids more k, n)
+fits-earlier_first text a b from to (Node x kids next) more (inr (l, k, n)) = absurd l
+
+item_by : (text : List ℕ) (item lead first : Bool) (a b from to : ℕ) (row : Row) → a ≤ b
+    → Fits text (if item then InItem else (if lead then InText b else (if first then InFirst b else Elsewhere))) from to row
+    → Fits text (if item then InItem else (if lead then InText a else (if first then InFirst a else Elsewhere))) from to row
+item_by text true lead first a b from to row more h = h
+item_by text false true first a b from to row more h = fits-earlier_lead text a b from to row more h
+item_by text false false true a b from to row more h = fits-earlier_first text a b from to row more h
+item_by text false false false a b from to row more h = h
+
+below_earlier : (text : List ℕ) (w : Within) (a b : ℕ) (x : Extent) (from to : ℕ) (row : Row) → a ≤ b
+    → Fits text (below w b x) from to row → Fits text (below w a x) from to row
+below_earlier text Elsewhere a b x from to row more h = h
+below_earlier text InItem a b x from to row more h = item_by text x.item x.text_block x.definitions a b from to row more h
+below_earlier text (InText at) a b x from to row more h = h
+below_earlier text (InFirst at) a b x from to row more h = h
 
 earlier_by : (text : List ℕ) (w : Within) (a b to : ℕ) (row : Row)
     → ((x : Extent) → IsLead text w b x → ⊥) → a ≤ b → Fits text w b to row → Fits text w a to row
 unfolding Fits
 earlier_by text w a b to Empty none more h = let t : b ≤ to = h in omega arith
 earlier_by text w a b to (Node x kids next) none more (inl (h, k, n)) =
-    inl (between-earlier text a b to x more h, below_by text x.item (in_item w && x.text_block) a b x.start x.«end» kids more k, n)
+    inl (between-earlier text a b to x more h, below_earlier text w a b x x.start x.«end» kids more k, n)
 earlier_by text w a b to (Node x kids next) none more (inr (l, k, n)) = absurd (none x l)
 
 -- a row fits from an earlier offset on
@@ -189,6 +224,7 @@ fits-earlier : (text : List ℕ) (w : Within) (a b to : ℕ) (row : Row) → a �
 fits-earlier text Elsewhere a b to row more h = earlier_by text Elsewhere a b to row (λ x l. l) more h
 fits-earlier text InItem a b to row more h = earlier_by text InItem a b to row (λ x l. l) more h
 fits-earlier text (InText before) a b to row more h = earlier_by text Elsewhere a b to row (λ x l. l) more h
+fits-earlier text (InFirst before) a b to row more h = earlier_by text Elsewhere a b to row (λ x l. l) more h
 
 -- a row fits after another
 pub fits-beside : (text : List ℕ) (w : Within) (from mid to : ℕ) (row more : Row)
@@ -214,25 +250,45 @@ pub fits_open-later : (text : List ℕ) (a b : ℕ) (levels : List (Row × Exten
 unfolding FitsOpen
 fits_open-later text a b [] row more h = fits-later text Elsewhere 0 a b row more h
 fits_open-later text a b (level ∷ levels) row more (before, m, h, starts, rest) =
-    (before, m, fits-later text (below (open_item levels) before level.1) level.1.start a b row more h, starts, rest)
+    (before, m, fits-later text (below (open_within levels) before level.1) level.1.start a b row more h, starts, rest)
 
-beyond_by : (text : List ℕ) (item lead : Bool) (before from to : ℕ) (row : Row) → Fits text (if item then InItem else Elsewhere) from to row
-    → Fits text (beyond (if item then InItem else (if lead then InText before else Elsewhere))) from to row
-beyond_by text true lead before from to row h = h
-beyond_by text false true before from to row h = h
-beyond_by text false false before from to row h = h
+beyond_by : (text : List ℕ) (item : Bool) (v : Within) (from to : ℕ) (row : Row) → (Fits text Elsewhere from to row → Fits text (beyond v) from to row)
+    → Fits text (if item then InItem else Elsewhere) from to row → Fits text (beyond (if item then InItem else v)) from to row
+beyond_by text true v from to row wider h = h
+beyond_by text false v from to row wider h = wider h
+
+beyond_text : (text : List ℕ) (lead : Bool) (at : ℕ) (v : Within) (from to : ℕ) (row : Row) → (Fits text Elsewhere from to row → Fits text (beyond v) from to row)
+    → Fits text Elsewhere from to row → Fits text (beyond (if lead then InText at else v)) from to row
+beyond_text text true at v from to row wider h = h
+beyond_text text false at v from to row wider h = wider h
+
+beyond_first : (text : List ℕ) (first : Bool) (at from to : ℕ) (row : Row) → Fits text Elsewhere from to row
+    → Fits text (beyond (if first then InFirst at else Elsewhere)) from to row
+beyond_first text true at from to row h = h
+beyond_first text false at from to row h = h
+
+beyond_below : (text : List ℕ) (w : Within) (before : ℕ) (x : Extent) (from to : ℕ) (row : Row) → Fits text (if x.item then InItem else Elsewhere) from to row
+    → Fits text (beyond (below w before x)) from to row
+beyond_below text Elsewhere before x from to row h = beyond_by text x.item Elsewhere from to row (λ e. e) h
+beyond_below text InItem before x from to row h =
+    beyond_by text x.item (if x.text_block then InText before else (if x.definitions then InFirst before else Elsewhere)) from to row
+    (beyond_text text x.text_block before (if x.definitions then InFirst before else Elsewhere) from to row
+    (beyond_first text x.definitions before from to row)) h
+beyond_below text (InText at) before x from to row h = beyond_by text x.item Elsewhere from to row (λ e. e) h
+beyond_below text (InFirst at) before x from to row h =
+    beyond_by text x.item (if x.text_block then InText at else Elsewhere) from to row (beyond_text text x.text_block at Elsewhere from to row (λ e. e)) h
 
 -- more nodes in the innermost open one fit
 pub fits_open-beside : (text : List ℕ) (mid to : ℕ) (levels : List (Row × Extent)) (row more : Row)
-    → FitsOpen text mid levels row → Fits text (if open_item levels then InItem else Elsewhere) mid to more
+    → FitsOpen text mid levels row → Fits text (open_within levels) mid to more
     → FitsOpen text to levels (beside row more)
 unfolding FitsOpen
 fits_open-beside text mid to [] row more h behind = fits-beside text Elsewhere 0 mid to row more h behind
 fits_open-beside text mid to (level ∷ levels) row more (before, m, h, starts, rest) behind = (
   before,
   m,
-  fits-beside text (below (open_item levels) before level.1) level.1.start mid to row more h
-      (beyond_by text level.1.item (open_item levels && level.1.text_block) before mid to more behind),
+  fits-beside text (below (open_within levels) before level.1) level.1.start mid to row more h
+      (beyond_below text (open_within levels) before level.1 mid to more behind),
   starts,
   rest,
 )
@@ -243,9 +299,12 @@ pub fits_open-pushed : (text : List ℕ) (a : ℕ) (x : Extent) (levels : List (
 unfolding FitsOpen Fits
 fits_open-pushed text a x levels row more starts h = let t : x.start ≤ x.start = omega arith in (a, more, t, starts, h)
 
-inside_by : (t : Bool) → in_item (if t then InItem else Elsewhere) ≡ t
-inside_by true = refl
-inside_by false = refl
+-- another end changes nothing of what may stand below
+pub below_ended : (w : Within) (before : ℕ) (x : Extent) (e : ℕ) → below w before (ended_at x e) ≡ below w before x
+below_ended Elsewhere before x e = refl
+below_ended InItem before x e = refl
+below_ended (InText at) before x e = refl
+below_ended (InFirst at) before x e = refl
 
 -- the innermost open node fits once it is closed
 pub fits_open-popped : (text : List ℕ) (at e : ℕ) (level : Row × Extent) (levels : List (Row × Extent)) (row : Row)
@@ -254,13 +313,14 @@ pub fits_open-popped : (text : List ℕ) (at e : ℕ) (level : Row × Extent) (l
 unfolding FitsOpen Fits
 fits_open-popped text at e level levels row more ends (before, m, h, starts, rest) =
     let x : Extent = level.1 in
-    let inside : Fits text (below (open_item levels) before x) x.start e row = fits-later text (below (open_item levels) before x) x.start at e row more h in
-    let order : x.start ≤ e = fits-order text (below (open_item levels) before x) x.start e row inside in
+    let w : Within = open_within levels in
+    let inside : Fits text (below w before x) x.start e row = fits-later text (below w before x) x.start at e row more h in
+    let order : x.start ≤ e = fits-order text (below w before x) x.start e row inside in
     let last : e ≤ e = omega arith in
     fits_open-beside text before e levels level.0 (Node (ended_at x e) row Empty) rest
     (inl (
       record { behind = m; order = order; before = last; starts = starts; ends = ends },
-      subst (λ t. Fits text (below t before x) x.start e row) (sym (inside_by (open_item levels))) inside,
+      subst (λ v. Fits text v x.start e row) (sym (below_ended w before x e)) inside,
       last,
     ))
 
@@ -301,15 +361,18 @@ item_tight : (b : ItemBody) → is_list_item (tight_body b) ≡ is_list_item b
 item_tight ParagraphBody = refl
 item_tight b = refl
 
+definitions_tight : (b : ItemBody) → is_definition_list (tight_body b) ≡ is_definition_list b
+definitions_tight ParagraphBody = refl
+definitions_tight b = refl
+
 extent_by : (t : Bool) (x : Item) → extent_of (if t then record { start = x.start; «end» = x.«end»; body = tight_body x.body } else x) ≡ extent_of x
 extent_by true x =
-    ap (λ (p : Bool).
-    record { start = x.start; «end» = x.«end»; text_block = p; marker = is_task_marker (tight_body x.body); item = is_list_item (tight_body x.body) })
-    (paragraph_tight x.body)
-    ∙ ap (λ (m : Bool). record { start = x.start; «end» = x.«end»; text_block = is_text_block x.body; marker = m; item = is_list_item (tight_body x.body) })
-    (marker_tight x.body)
-    ∙ ap (λ (i : Bool). record { start = x.start; «end» = x.«end»; text_block = is_text_block x.body; marker = is_task_marker x.body; item = i })
-    (item_tight x.body)
+    let with : Bool → Bool → Bool → Bool → Extent =
+    λ p m i d. record { start = x.start; «end» = x.«end»; text_block = p; marker = m; item = i; definitions = d } in
+    ap (λ p. with p (is_task_marker (tight_body x.body)) (is_list_item (tight_body x.body)) (is_definition_list (tight_body x.body))) (paragraph_tight x.body)
+    ∙ ap (λ m. with (is_text_block x.body) m (is_list_item (tight_body x.body)) (is_definition_list (tight_body x.body))) (marker_tight x.body)
+    ∙ ap (λ i. with (is_text_block x.body) (is_task_marker x.body) i (is_definition_list (tight_body x.body))) (item_tight x.body)
+    ∙ ap (with (is_text_block x.body) (is_task_marker x.body) (is_list_item x.body)) (definitions_tight x.body)
 extent_by false x = refl
 
 -- a paragraph made tight keeps its extent
@@ -326,7 +389,7 @@ fits-whole text root to row whole start_is end_is within h =
     let last : root.«end» ≤ length text = omega arith in
     let inside : Fits text Elsewhere root.start root.«end» row =
     subst (λ (n : ℕ). Fits text Elsewhere n root.«end» row) (sym start_is) (fits-later text Elsewhere 0 to root.«end» row later h) in
-    inl (whole, fits-any text (below false 0 root) root.start root.«end» row inside, last)
+    inl (whole, fits-any text (below Elsewhere 0 root) root.start root.«end» row inside, last)
 
 -- items side by side, nothing below them
 unfoldable pub row_of : List Item → Row
@@ -370,6 +433,6 @@ unfolding laid Fits
 block_fits text w from to x chain between order few = (
   Node (extent_of x) (row_of chain) Empty,
   ap (λ (ns : List (ℕ × Extent)). (0, extent_of x) ∷ ns) (row_of-laid 1 chain ∙ sym (append-nil (laid 1 (row_of chain)))),
-  inl (between, row_of-fits text (below (in_item w) from (extent_of x)) x.start x.«end» chain order, between.before),
+  inl (between, row_of-fits text (below w from (extent_of x)) x.start x.«end» chain order, between.before),
   λ apart. (let some = few apart in let size = length-block x chain in let most = own_at_most None (block_of x (leaves chain)) in omega arith),
 )

@@ -9,12 +9,12 @@ use Rattle.first_pass_items.specs.OptionWords.{has, tasklists}
 use Rattle.first_pass_lines.specs.Rest.{Rest, indent, past_byte, past_bytes, past_quote_byte, past_quote, column_of_byte, column_of, next_column, after_columns}
 use Rattle.first_pass_lines.specs.Places.{Place, place_at, offset}
 use Rattle.first_pass_lines.proofs.Columns.{after-more, after-none}
-use Rattle.first_pass_scan.specs.Markers.{item_of, task_of}
-use Rattle.first_pass_scan.proofs.MarkerPlaces.{IsMarked, item-marked, task-marked}
+use Rattle.first_pass_scan.specs.Markers.{item_of, task_of, definition_of}
+use Rattle.first_pass_scan.proofs.MarkerPlaces.{IsMarked, item-marked, task-marked, definition-marked}
 use Rattle.first_pass_grammar.specs.declared.kind.Container.{Container}
-use Rattle.first_pass_grammar.specs.declared.kind.Container.TheVariants.{BlockQuote, ListItem, FootnoteDefinition}
+use Rattle.first_pass_grammar.specs.declared.kind.Container.TheVariants.{BlockQuote, ListItem, FootnoteDefinition, Definition}
 use Rattle.first_pass_grammar.specs.Containers.{at_rest, has_columns, prefix, after, or_shorter, front, taken}
-use Rattle.first_pass_grammar.specs.Kinds.{all_taken, unindented, item_at}
+use Rattle.first_pass_grammar.specs.Kinds.{all_taken, unindented, item_at, definition_marker_at}
 use Rattle.first_pass_grammar.specs.CodeBlocks.{code_place, code_by, code_lines}
 use Rattle.first_pass_grammar.specs.Extents.{Extent, Verdict, GoesOn, IsLast, Closes, Stops, extent_by, extent}
 use Rattle.first_pass_grammar.specs.Openers.{task_by, task_behind}
@@ -102,6 +102,7 @@ prefix_follows (BlockQuote kind) r s h =
     mapped_by (past_quote three) r s (λ q e. follows_both r three q (columns_follow 3 r) (quote_if (three.owed == 0) three q e)) h
 prefix_follows (ListItem n) r s h = columns_if (has_columns n r) n r s h
 prefix_follows (FootnoteDefinition n) r s h = columns_if (has_columns n r) n r s h
+prefix_follows (Definition n) r s h = columns_if (has_columns n r) n r s h
 
 after_by : (c : Container) (o : Option Rest) (r s : Rest) → ((q : Rest) → o ≡ Some q → Follows r q) → option_and_then (prefix c) o ≡ Some s → Follows r s
 after_by c None r s f h = absurd (none-some s h)
@@ -158,6 +159,20 @@ item_if false r item h = absurd (none-some item h)
 pub item_follows : (r : Rest) (item : (ℕ × ℕ × ℕ) × Rest) → item_at r ≡ Some item → Follows r item.1
 unfolding item_at
 item_follows r item h = item_if (nat_lt (indent r) 4) r item h
+
+marker_if : (t : Bool) (r : Rest) (marker : ℕ × Rest) → (if t then definition_of (indent r) (all_taken r) else None) ≡ Some marker → Follows r marker.1
+marker_if true r marker h =
+    follows_both r (all_taken r) marker.1 (columns_follow (indent r) r)
+    (marked_follows (all_taken r) marker.1 (definition-marked (indent r) (all_taken r) marker h))
+marker_if false r marker h = absurd (none-some marker h)
+
+pub marker_follows : (r : Rest) (marker : ℕ × Rest) → definition_marker_at r ≡ Some marker → Follows r marker.1
+unfolding definition_marker_at
+marker_follows r marker h = marker_if (nat_lt (indent r) 4) r marker h
+
+-- after the marker of a definition
+pub at_marker : (text : List ℕ) (p : Place) (marker : ℕ × Rest) → definition_marker_at p.rest ≡ Some marker → IsAt text p → IsAt text (at_rest p marker.1)
+at_marker text p marker h i = at_behind text p.line p.rest marker.1 (marker_follows p.rest marker h) i
 
 task_follows_by : (line : ℕ) (r : Rest) (o : Option (Bool × Rest)) → ((task : Bool × Rest) → o ≡ Some task → Follows r task.1) → Follows r (task_by line r o).1
 task_follows_by line r None f = follows_none r

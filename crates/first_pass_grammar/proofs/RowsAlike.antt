@@ -1,5 +1,5 @@
 -- Rows of skeletons that are alike: they are alike too, and what stands in them reads alike.
-use Rattle.std.proofs.Common.{◌≡◌, ℕ, suc, ◌||◌, not, Bool, true, false, List, [], ◌∷◌, ◌++◌, map, Option, None, refl, sym, ap, ◌∙◌, subst, if◌then◌else◌}
+use Rattle.std.proofs.Common.{◌≡◌, ℕ, suc, ◌||◌, ◌&&◌, not, Bool, true, false, List, [], ◌∷◌, ◌++◌, map, Option, Some, None, refl, sym, ap, ◌∙◌, subst, if◌then◌else◌}
 use Rattle.first_pass_items.specs.declared.item.Item.{Item}
 use Rattle.first_pass_items.specs.declared.item.ItemBody.TheVariants.{BlockQuote as BlockQuoteBody, List as ListBody, ListItem as ListItemBody}
 use Rattle.first_pass_items.specs.declared.item.ItemBody.TheVariants.{FootnoteDefinition as FootnoteDefinitionBody}
@@ -7,13 +7,22 @@ use Rattle.first_pass_tree.specs.Forest.{at_depth}
 use Rattle.first_pass_grammar.specs.declared.kind.Container.{Container}
 use Rattle.first_pass_grammar.specs.Names.{Names, Named, read_nodes}
 use Rattle.first_pass_grammar.specs.Kinds.{Kind}
-use Rattle.first_pass_grammar.specs.Blocks.{LeafBlock, BlankLine, Block, Head, Opener, QuoteMarker, ItemMarker, FootnoteMarker, opened, label_of, Skeleton, Nil}
+use Rattle.first_pass_grammar.specs.Blocks.{LeafBlock, BlankLine, Block, Head, Opener, QuoteMarker, ItemMarker, FootnoteMarker, DefinitionMarker, opened, label_of, Skeleton, Nil}
 use Rattle.first_pass_grammar.specs.Blocks.{Then, Node}
 use Rattle.first_pass_grammar.specs.LinkTables.{LinkEntry, with_links, with_labels}
 use Rattle.first_pass_grammar.specs.Before.{Before, LastOther, nothing, after_blank, after_block, after_container, before_end}
 use Rattle.first_pass_grammar.specs.Containers.{is_quote}
-use Rattle.first_pass_grammar.specs.Rows.{What, ALeaf, AQuote, AList, AnItem, AFootnote, Row, Rows, End, OneOf, gapped, any_gap, is_loose, closing_place}
-use Rattle.first_pass_grammar.specs.Rows.{is_list_of}
+use Rattle.first_pass_grammar.specs.Rows.{What, ALeaf, AQuote, AList, AnItem, AFootnote, Row, Rows, End, OneOf, gapped, any_gap, is_loose}
+use Rattle.first_pass_grammar.specs.Rows.{Joins, ItemsOf, DefinitionsTo, Untitled, WithTitle, Apart, ADefinitionList, ATitle, ADefinition, is_list_of, ends_at}
+use Rattle.first_pass_grammar.specs.Rows.{Definitions, apart_after, definitions_of_row, is_untitled, is_run_row, definitions_first, titled, leaf_row}
+use Rattle.first_pass_grammar.specs.Rows.{gap_before}
+use Rattle.first_pass_grammar.specs.Before.{LastParagraph, is_paragraph_body, begins_paragraph, is_run, is_after_definition, last_after_run}
+use Rattle.first_pass_grammar.specs.Derivation.{as_title}
+use Rattle.first_pass_grammar.specs.Names.{kind_alone}
+use Rattle.std.specs.Option.{option_map, option_map_or}
+use Rattle.first_pass_items.specs.declared.item.ItemBody.{ItemBody}
+use Rattle.first_pass_items.specs.declared.item.ItemBody.TheVariants.{DefinitionList as DefinitionListBody, DefinitionListDefinition as DefinitionBody}
+use Rattle.first_pass_items.specs.declared.item.ItemBody.TheVariants.{DefinitionListTitle, SynthesizeText, FencedCodeBlock, Table, Heading}
 use Rattle.first_pass_grammar.specs.Rows.{end_of, list_until, items_behind, list_behind, row_of, row_of_leaf, container_row, rows_of}
 use Rattle.first_pass_grammar.specs.Derivation.{Tables, definitions_of, footnotes_of, told_by, node_of, list_flags, row_items, tight_in, items_of}
 use Rattle.first_pass_grammar.proofs.Alike.{AlikeNodes, stands, head_alone, label_node, opened_alike, label_alike, Alike, nodes_append, tight_read, read_tight}
@@ -23,10 +32,12 @@ use Rattle.first_pass_grammar.proofs.Alike.{read_at_depth}
 abbrev bare_what : What → What
 bare_what (ALeaf b) = ALeaf (record { kind = b.kind; line = b.line; start = b.start; items = []; gap = b.gap; definitions = [] })
 bare_what (AFootnote index e) = AFootnote (record { 0 = 0 }) e
+bare_what (ATitle b) = ATitle (record { kind = b.kind; line = b.line; start = b.start; items = []; gap = b.gap; definitions = [] })
 bare_what w = w
 
 abbrev inside : What → List (ℕ × Item)
 inside (ALeaf b) = b.items
+inside (ATitle b) = b.items
 inside (AFootnote index e) = (0, node_of 0 0 (FootnoteDefinitionBody index)) ∷ []
 inside w = []
 
@@ -42,28 +53,39 @@ AlikeRows m n End (OneOf row' inner' next') = ⊥
 AlikeRows m n (OneOf row inner next) End = ⊥
 AlikeRows m n (OneOf row inner next) (OneOf row' inner' next') = AlikeRow m n row row' × AlikeRows m n inner inner' × AlikeRows m n next next'
 
-list_bare : (byte : ℕ) (w : What) → is_list_of byte (bare_what w) ≡ is_list_of byte w
-list_bare byte (ALeaf b) = refl
-list_bare byte (AFootnote index e) = refl
-list_bare byte w = refl
+list_bare : (joins : Joins) (w : What) → is_list_of joins (bare_what w) ≡ is_list_of joins w
+list_bare (ItemsOf byte) (ALeaf b) = refl
+list_bare (ItemsOf byte) (AFootnote index e) = refl
+list_bare (ItemsOf byte) (ATitle b) = refl
+list_bare (ItemsOf byte) w = refl
+list_bare (DefinitionsTo e) (ALeaf b) = refl
+list_bare (DefinitionsTo e) (AFootnote index x) = refl
+list_bare (DefinitionsTo e) (ATitle b) = refl
+list_bare (DefinitionsTo e) w = refl
 
 tight_bare : (tight loose : Bool) (w : What) → tight_in tight loose (bare_what w) ≡ tight_in tight loose w
 tight_bare tight loose (ALeaf b) = refl
 tight_bare tight loose (AFootnote index e) = refl
+tight_bare tight loose (ATitle b) = refl
 tight_bare tight loose w = refl
 
-abbrev until_at : ℕ → ℕ → Row → ℕ
-until_at byte last row = if is_list_of byte row.what then end_of row.what last else closing_place row.what row.line row.start
+abbrev until_at : Joins → ℕ → Row → ℕ
+until_at joins last row = if is_list_of joins row.what then end_of row.what last else ends_at joins row
 
-until_what : (byte last line start : ℕ) (gap : Bool) (w : What)
-    → until_at byte last (record { what = bare_what w; line = line; start = start; gap = gap })
-    ≡ until_at byte last (record { what = w; line = line; start = start; gap = gap })
-until_what byte last line start gap (ALeaf b) = refl
-until_what byte last line start gap (AFootnote index e) = refl
-until_what byte last line start gap w = refl
+until_what : (joins : Joins) (last line start : ℕ) (gap : Bool) (w : What)
+    → until_at joins last (record { what = bare_what w; line = line; start = start; gap = gap })
+    ≡ until_at joins last (record { what = w; line = line; start = start; gap = gap })
+until_what (ItemsOf byte) last line start gap (ALeaf b) = refl
+until_what (ItemsOf byte) last line start gap (AFootnote index e) = refl
+until_what (ItemsOf byte) last line start gap (ATitle b) = refl
+until_what (ItemsOf byte) last line start gap w = refl
+until_what (DefinitionsTo e) last line start gap (ALeaf b) = refl
+until_what (DefinitionsTo e) last line start gap (AFootnote index x) = refl
+until_what (DefinitionsTo e) last line start gap (ATitle b) = refl
+until_what (DefinitionsTo e) last line start gap w = refl
 
-same_list : (m n : Names) (byte : ℕ) (row row' : Row) → AlikeRow m n row row' → is_list_of byte row.what ≡ is_list_of byte row'.what
-same_list m n byte row row' a = sym (list_bare byte row.what) ∙ ap (λ (r : Row). is_list_of byte r.what) a.0 ∙ list_bare byte row'.what
+same_list : (m n : Names) (joins : Joins) (row row' : Row) → AlikeRow m n row row' → is_list_of joins row.what ≡ is_list_of joins row'.what
+same_list m n joins row row' a = sym (list_bare joins row.what) ∙ ap (λ (r : Row). is_list_of joins r.what) a.0 ∙ list_bare joins row'.what
 
 gapped_alike : (m n : Names) (gap gap' : Bool) (r r' : Rows) → gap ≡ gap' → AlikeRows m n r r' → AlikeRows m n (gapped gap r) (gapped gap' r')
 gapped_alike m n gap gap' End End is a = tt
@@ -91,33 +113,33 @@ loose_alike m n (OneOf row inner next) (OneOf row' inner' next') a =
     ∙ ap (λ z. row'.gap || (z || is_loose next)) (any_alike m n inner inner' a.1)
     ∙ ap (λ z. row'.gap || (any_gap inner' || z)) (loose_alike m n next next' a.2)
 
-until_alike : (m n : Names) (byte last : ℕ) (r r' : Rows) → AlikeRows m n r r' → list_until byte last r ≡ list_until byte last r'
-until_alike m n byte last End End a = refl
-until_alike m n byte last End (OneOf row' inner' next') a = absurd a
-until_alike m n byte last (OneOf row inner next) End a = absurd a
-until_alike m n byte last (OneOf row inner next) (OneOf row' inner' next') a =
-    sym (until_what byte last row.line row.start row.gap row.what) ∙ ap (until_at byte last) a.0.0
-    ∙ until_what byte last row'.line row'.start row'.gap row'.what
+until_alike : (m n : Names) (joins : Joins) (last : ℕ) (r r' : Rows) → AlikeRows m n r r' → list_until joins last r ≡ list_until joins last r'
+until_alike m n joins last End End a = refl
+until_alike m n joins last End (OneOf row' inner' next') a = absurd a
+until_alike m n joins last (OneOf row inner next) End a = absurd a
+until_alike m n joins last (OneOf row inner next) (OneOf row' inner' next') a =
+    sym (until_what joins last row.line row.start row.gap row.what) ∙ ap (until_at joins last) a.0.0
+    ∙ until_what joins last row'.line row'.start row'.gap row'.what
 
 chosen : (m n : Names) (t t' : Bool) (x x' y y' : Rows) → t ≡ t' → AlikeRows m n x x' → AlikeRows m n y y'
     → AlikeRows m n (if t then x else y) (if t' then x' else y')
 chosen m n t true x x' y y' is a b = rw is a
 chosen m n t false x x' y y' is a b = rw is b
 
-items_alike : (m n : Names) (byte : ℕ) (r r' : Rows) → AlikeRows m n r r' → AlikeRows m n (items_behind byte r) (items_behind byte r')
-items_alike m n byte End End a = tt
-items_alike m n byte End (OneOf row' inner' next') a = absurd a
-items_alike m n byte (OneOf row inner next) End a = absurd a
-items_alike m n byte (OneOf row inner next) (OneOf row' inner' next') a =
-    chosen m n _ _ (gapped row.gap inner) (gapped row'.gap inner') End End (same_list m n byte row row' a.0)
+items_alike : (m n : Names) (joins : Joins) (r r' : Rows) → AlikeRows m n r r' → AlikeRows m n (items_behind joins r) (items_behind joins r')
+items_alike m n joins End End a = tt
+items_alike m n joins End (OneOf row' inner' next') a = absurd a
+items_alike m n joins (OneOf row inner next) End a = absurd a
+items_alike m n joins (OneOf row inner next) (OneOf row' inner' next') a =
+    chosen m n _ _ (gapped row.gap inner) (gapped row'.gap inner') End End (same_list m n joins row row' a.0)
     (gapped_alike m n row.gap row'.gap inner inner' (ap (λ (z : Row). z.gap) a.0.0) a.1) tt
 
-past_alike : (m n : Names) (byte : ℕ) (r r' : Rows) → AlikeRows m n r r' → AlikeRows m n (list_behind byte r) (list_behind byte r')
-past_alike m n byte End End a = a
-past_alike m n byte End (OneOf row' inner' next') a = absurd a
-past_alike m n byte (OneOf row inner next) End a = absurd a
-past_alike m n byte (OneOf row inner next) (OneOf row' inner' next') a =
-    chosen m n _ _ next next' (OneOf row inner next) (OneOf row' inner' next') (same_list m n byte row row' a.0) a.2 a
+past_alike : (m n : Names) (joins : Joins) (r r' : Rows) → AlikeRows m n r r' → AlikeRows m n (list_behind joins r) (list_behind joins r')
+past_alike m n joins End End a = a
+past_alike m n joins End (OneOf row' inner' next') a = absurd a
+past_alike m n joins (OneOf row inner next) End a = absurd a
+past_alike m n joins (OneOf row inner next) (OneOf row' inner' next') a =
+    chosen m n _ _ next next' (OneOf row inner next) (OneOf row' inner' next') (same_list m n joins row row' a.0) a.2 a
 
 abbrev head_of : Opener → ℕ → ℕ → Head
 head_of opener line start = record { opener = opener; line = line; start = start }
@@ -129,8 +151,15 @@ same_container : (m n : Names) (last : ℕ) (opener : Opener) (line start e : �
     → AlikeRows m n (container_row last opener (row opener) inner next) (container_row last opener (row opener) inner' next'))
 same_container m n last (QuoteMarker kind) line start e gap inner inner' next next' a b named = ((refl, refl), a, b)
 same_container m n last (ItemMarker byte number columns) line start e gap inner inner' next next' a b named =
-    let list : ℕ → Row = λ until. record { what = AList byte number until; line = line; start = start; gap = gap } in
-    ((ap list (until_alike m n byte last next next' b), refl), ((refl, refl), a, items_alike m n byte next next' b), past_alike m n byte next next' b)
+    let list : ℕ → Row = λ until. record { what = AList byte number until; line = line; start = start; gap = gap } in (
+      (ap list (until_alike m n (ItemsOf byte) last next next' b), refl),
+      ((refl, refl), a, items_alike m n (ItemsOf byte) next next' b),
+      past_alike m n (ItemsOf byte) next next' b,
+    )
+same_container m n last (DefinitionMarker columns) line start e gap inner inner' next next' a b named =
+    let list : ℕ → Row = λ until. record { what = ADefinitionList Untitled until; line = line; start = start; gap = gap } in
+    let joins : Joins = DefinitionsTo e in
+    ((ap list (until_alike m n joins last next next' b), refl), ((refl, refl), a, items_alike m n joins next next' b), past_alike m n joins next next' b)
 same_container m n last (FootnoteMarker columns index label) line start e gap inner inner' next next' a b named = ((refl, named), a, b)
 
 container_alike : (m n : Names) (last : ℕ) (o o' : Opener) (line line' start start' e : ℕ) (gap : Bool) (inner inner' next next' : Rows)
@@ -148,6 +177,23 @@ container_alike m n last (ItemMarker byte number columns) (ItemMarker byte' numb
     (same_container m n last o line start e gap inner inner' next next' a b refl)
 container_alike m n last (FootnoteMarker columns index label) (FootnoteMarker columns' index' label') line line' start start' e gap inner inner' next next'
     is named a b = ((ap (λ (h : Head). row_of h e gap) is, named), a, b)
+container_alike m n last (DefinitionMarker columns) (DefinitionMarker columns') line line' start start' e gap inner inner' next next' is named a b =
+    let o : Opener = DefinitionMarker columns in
+    subst (λ (h : Head). AlikeRows m n (container_row last o (row_of (head_of o line start) e gap) inner next)
+    (container_row last h.opener (row_of h e gap) inner' next')) is
+    (same_container m n last o line start e gap inner inner' next next' a b refl)
+container_alike m n last (QuoteMarker kind) (DefinitionMarker columns') line line' start start' e gap inner inner' next next' is named a b =
+    let not : QuoteMarker kind ≡ DefinitionMarker columns' = ap (λ (h : Head). h.opener) is in cc
+container_alike m n last (ItemMarker byte number columns) (DefinitionMarker columns') line line' start start' e gap inner inner' next next' is named a b =
+    let not : ItemMarker byte number columns ≡ DefinitionMarker columns' = ap (λ (h : Head). h.opener) is in cc
+container_alike m n last (FootnoteMarker columns index label) (DefinitionMarker columns') line line' start start' e gap inner inner' next next' is named
+    a b = let not : FootnoteMarker columns (record { 0 = 0 }) label ≡ DefinitionMarker columns' = ap (λ (h : Head). h.opener) is in cc
+container_alike m n last (DefinitionMarker columns) (QuoteMarker kind') line line' start start' e gap inner inner' next next' is named a b =
+    let not : DefinitionMarker columns ≡ QuoteMarker kind' = ap (λ (h : Head). h.opener) is in cc
+container_alike m n last (DefinitionMarker columns) (ItemMarker byte' number' columns') line line' start start' e gap inner inner' next next' is named a b =
+    let not : DefinitionMarker columns ≡ ItemMarker byte' number' columns' = ap (λ (h : Head). h.opener) is in cc
+container_alike m n last (DefinitionMarker columns) (FootnoteMarker columns' index' label') line line' start start' e gap inner inner' next next' is named
+    a b = let not : DefinitionMarker columns ≡ FootnoteMarker columns' (record { 0 = 0 }) label' = ap (λ (h : Head). h.opener) is in cc
 container_alike m n last (QuoteMarker kind) (ItemMarker byte' number' columns') line line' start start' e gap inner inner' next next' is named a b =
     let not : QuoteMarker kind ≡ ItemMarker byte' number' columns' = ap (λ (h : Head). h.opener) is in cc
 container_alike m n last (QuoteMarker kind) (FootnoteMarker columns' index' label') line line' start start' e gap inner inner' next next' is named a b =
@@ -161,11 +207,135 @@ container_alike m n last (FootnoteMarker columns index label) (QuoteMarker kind'
 container_alike m n last (FootnoteMarker columns index label) (ItemMarker byte' number' columns') line line' start start' e gap inner inner' next next' is
     named a b = let not : FootnoteMarker columns (record { 0 = 0 }) label ≡ ItemMarker byte' number' columns' = ap (λ (h : Head). h.opener) is in cc
 
-leaf_row : (b b' : LeafBlock) (gap : Bool) → stands b ≡ stands b' → b.gap ≡ b'.gap → bare (row_of_leaf b gap) ≡ bare (row_of_leaf b' gap)
-leaf_row b b' gap is own =
+leaf_bare : (b b' : LeafBlock) (gap gap' : Bool) → stands b ≡ stands b' → b.gap ≡ b'.gap → gap ≡ gap'
+    → bare (row_of_leaf b gap) ≡ bare (row_of_leaf b' gap')
+leaf_bare b b' gap gap' is own same =
     let leaf : Kind × ℕ × ℕ → Bool → LeafBlock =
     λ z g. record { kind = z.0; line = z.1; start = z.2; items = []; gap = g; definitions = [] } in
-    ap (λ z. row_of_leaf (leaf z b.gap) gap) is ∙ ap (λ g. row_of_leaf (leaf (stands b') g) gap) own
+    ap (λ z. row_of_leaf (leaf z b.gap) gap) is ∙ ap (λ g. row_of_leaf (leaf (stands b') g) gap) own ∙ ap (row_of_leaf (leaf (stands b') b'.gap)) same
+
+-- Alike blocks are paragraphs alike.
+paragraph_alone : (b : ItemBody) → is_paragraph_body (kind_alone b) ≡ is_paragraph_body b
+paragraph_alone (SynthesizeText ix) = refl
+paragraph_alone (FencedCodeBlock ix) = refl
+paragraph_alone (FootnoteDefinitionBody ix) = refl
+paragraph_alone (Table ix) = refl
+paragraph_alone (Heading level ix) = refl
+paragraph_alone b = refl
+
+abbrev begins_read : List (ℕ × (Item × Option Named)) → Bool
+begins_read [] = false
+begins_read (x ∷ more) = is_paragraph_body x.1.0.body
+
+begins_is : (m : Names) (items : List (ℕ × Item)) → begins_read (read_nodes m items) ≡ begins_paragraph items
+begins_is m [] = refl
+begins_is m (x ∷ items) = paragraph_alone x.1.body
+
+pub begins_alike : (m n : Names) (items items' : List (ℕ × Item)) → AlikeNodes m n items items' → begins_paragraph items ≡ begins_paragraph items'
+begins_alike m n items items' a = sym (begins_is m items) ∙ ap begins_read a ∙ begins_is n items'
+
+-- alike blocks stand alike before what is after them
+pub after_alike : (m n : Names) (before : Before) (b b' : LeafBlock) → stands b ≡ stands b' → AlikeNodes m n b.items b'.items → b.gap ≡ b'.gap
+    → after_block before b ≡ after_block before b'
+after_alike m n before b b' is items own =
+    let after : Bool → Kind → Bool → Before = λ p k g. record {
+      last = if p then LastParagraph (is_after_definition before.last) else (if is_run k then last_after_run before.last else LastOther);
+      counted = g;
+    } in
+    ap (λ p. after p b.kind b.gap) (begins_alike m n b.items b'.items items)
+    ∙ ap (λ (z : Kind × ℕ × ℕ). after (begins_paragraph b'.items) z.0 b.gap) is
+    ∙ ap (after (begins_paragraph b'.items) b'.kind) own
+
+-- the definitions that are first of alike rows
+abbrev AlikeFirst : Names → Names → Option Definitions → Option Definitions → Type 0
+AlikeFirst m n None None = Unit {0}
+AlikeFirst m n None (Some ds') = ⊥
+AlikeFirst m n (Some ds) None = ⊥
+AlikeFirst m n (Some ds) (Some ds') =
+    (ds.«end» ≡ ds'.«end») × (ds.apart ≡ ds'.apart) × AlikeRows m n ds.items ds'.items × AlikeRows m n ds.beside ds'.beside
+
+untitled_bare : (w : What) → is_untitled (bare_what w) ≡ is_untitled w
+untitled_bare (ALeaf b) = refl
+untitled_bare (AFootnote index e) = refl
+untitled_bare (ATitle b) = refl
+untitled_bare w = refl
+
+run_bare : (w : What) → is_run_row (bare_what w) ≡ is_run_row w
+run_bare (ALeaf b) = refl
+run_bare (AFootnote index e) = refl
+run_bare (ATitle b) = refl
+run_bare w = refl
+
+end_bare : (w : What) → end_of (bare_what w) 0 ≡ end_of w 0
+end_bare (ALeaf b) = refl
+end_bare (AFootnote index e) = refl
+end_bare (ATitle b) = refl
+end_bare w = refl
+
+apart_alike : (m n : Names) (row row' : Row) (inner inner' : Rows) (o o' : Option Definitions) → AlikeRow m n row row' → AlikeRows m n inner inner'
+    → AlikeFirst m n o o' → AlikeFirst m n (option_map (apart_after row inner) o) (option_map (apart_after row' inner') o')
+apart_alike m n row row' inner inner' None None a b f = tt
+apart_alike m n row row' inner inner' None (Some ds') a b f = absurd f
+apart_alike m n row row' inner inner' (Some ds) None a b f = absurd f
+apart_alike m n row row' inner inner' (Some ds) (Some ds') a b f = (f.0, refl, f.2, (a, b, f.3))
+
+at_alike : (m n : Names) (t t' u u' : Bool) (row row' : Row) (inner inner' next next' : Rows) (o o' : Option Definitions) → t ≡ t' → u ≡ u'
+    → AlikeRows m n (OneOf row inner next) (OneOf row' inner' next') → AlikeFirst m n o o'
+    → AlikeFirst m n (if t then definitions_of_row row inner next else (if u then option_map (apart_after row inner) o else None))
+    (if t' then definitions_of_row row' inner' next' else (if u' then option_map (apart_after row' inner') o' else None))
+at_alike m n t true u u' row row' inner inner' next next' o o' is same a f =
+    rw is (
+      sym (end_bare row.what) ∙ ap (λ (r : Row). end_of r.what 0) a.0.0 ∙ end_bare row'.what,
+      refl,
+      gapped_alike m n row.gap row'.gap inner inner' (ap (λ (z : Row). z.gap) a.0.0) a.1,
+      a.2,
+    )
+at_alike m n t false u true row row' inner inner' next next' o o' is same a f = rw (is, same) (apart_alike m n row row' inner inner' o o' a.0 a.1 f)
+at_alike m n t false u false row row' inner inner' next next' o o' is same a f = rw (is, same) tt
+
+first_alike : (m n : Names) (r r' : Rows) → AlikeRows m n r r' → AlikeFirst m n (definitions_first r) (definitions_first r')
+unfolding definitions_first
+first_alike m n End End a = tt
+first_alike m n End (OneOf row' inner' next') a = absurd a
+first_alike m n (OneOf row inner next) End a = absurd a
+first_alike m n (OneOf row inner next) (OneOf row' inner' next') a =
+    at_alike m n _ _ _ _ row row' inner inner' next next' (definitions_first next) (definitions_first next')
+    (sym (untitled_bare row.what) ∙ ap (λ (r : Row). is_untitled r.what) a.0.0 ∙ untitled_bare row'.what)
+    (sym (run_bare row.what) ∙ ap (λ (r : Row). is_run_row r.what) a.0.0 ∙ run_bare row'.what) a (first_alike m n next next' a.2)
+
+if_alike : (m n : Names) (t t' : Bool) (o o' : Option Definitions) → t ≡ t' → AlikeFirst m n o o' → AlikeFirst m n (if t then o else None) (if t' then o' else None)
+if_alike m n t true o o' is f = rw is f
+if_alike m n t false o o' is f = rw is tt
+
+-- the row of alike blocks before alike rows
+titled_alike : (m n : Names) (b b' : LeafBlock) (gap gap' : Bool) (o o' : Option Definitions) (next next' : Rows) → stands b ≡ stands b'
+    → AlikeNodes m n b.items b'.items → b.gap ≡ b'.gap → gap ≡ gap' → AlikeFirst m n o o' → AlikeRows m n next next'
+    → AlikeRows m n (option_map_or (titled b gap) o (OneOf (row_of_leaf b gap) End next))
+    (option_map_or (titled b' gap') o' (OneOf (row_of_leaf b' gap') End next'))
+titled_alike m n b b' gap gap' None None next next' is items own same f a = ((leaf_bare b b' gap gap' is own same, items), tt, a)
+titled_alike m n b b' gap gap' None (Some ds') next next' is items own same f a = absurd f
+titled_alike m n b b' gap gap' (Some ds) None next next' is items own same f a = absurd f
+titled_alike m n b b' gap gap' (Some ds) (Some ds') next next' is items own same f a =
+    let leaf : Kind × ℕ × ℕ → Bool → LeafBlock =
+    λ z g. record { kind = z.0; line = z.1; start = z.2; items = []; gap = g; definitions = [] } in
+    let list : Bool → ℕ → Kind × ℕ × ℕ → Bool → Row =
+    λ t e z g. record { what = ADefinitionList (if t then Apart else WithTitle) e; line = z.1; start = z.2; gap = g } in
+    let title : Kind × ℕ × ℕ → Bool → Row = λ z g. record { what = ATitle (leaf z g); line = z.1; start = z.2; gap = false } in (
+      (
+        ap (λ t. list t ds.«end» (stands b) gap) f.1 ∙ ap (λ e. list ds'.apart e (stands b) gap) f.0
+            ∙ ap (λ z. list ds'.apart ds'.«end» z gap) is ∙ ap (list ds'.apart ds'.«end» (stands b')) same,
+        refl,
+      ),
+      ((ap (λ z. title z b.gap) is ∙ ap (title (stands b')) own, items), tt, f.2),
+      f.3,
+    )
+
+leaf_alike : (m n : Names) (b b' : LeafBlock) (gap gap' : Bool) (next next' : Rows) → stands b ≡ stands b'
+    → AlikeNodes m n b.items b'.items → b.gap ≡ b'.gap → gap ≡ gap' → AlikeRows m n next next'
+    → AlikeRows m n (leaf_row b gap next) (leaf_row b' gap' next')
+leaf_alike m n b b' gap gap' next next' is items own same a =
+    titled_alike m n b b' gap gap' _ _ next next' is items own same
+    (if_alike m n _ _ (definitions_first next) (definitions_first next') (begins_alike m n b.items b'.items items) (first_alike m n next next' a)) a
 
 -- what stands before the end of alike skeletons
 pub end_alike : (m n : Names) (quoted : Bool) (before : Before) (s t : Skeleton) → Alike m n s t → before_end quoted before s ≡ before_end quoted before t
@@ -181,8 +351,8 @@ end_alike m n quoted before (Then BlankLine next) (Then BlankLine next') a = end
 end_alike m n quoted before (Then BlankLine next) (Then (Block b') next') a = absurd a.0
 end_alike m n quoted before (Then (Block b) next) (Then BlankLine next') a = absurd a.0
 end_alike m n quoted before (Then (Block b) next) (Then (Block b') next') a =
-    end_alike m n quoted (after_block b) next next' a.1
-    ∙ ap (λ g. before_end quoted (record { last = LastOther; counted = g }) next') a.0.2
+    end_alike m n quoted (after_block before b) next next' a.1
+    ∙ ap (λ z. before_end quoted z next') (after_alike m n before b b' a.0.0 a.0.1 a.0.2)
 end_alike m n quoted before (Node head e kids next) (Node head' e' kids' next') a =
     let c : Container = opened head.opener in
     end_alike m n quoted (after_container c (before_end (is_quote c) nothing kids)) next next' a.3
@@ -203,12 +373,11 @@ rows_alike m n quoted before last (Node head e kids next) (Then leaf' next') a =
 rows_alike m n quoted before last (Then BlankLine next) (Then BlankLine next') a = rows_alike m n quoted (after_blank quoted before) last next next' a.1
 rows_alike m n quoted before last (Then BlankLine next) (Then (Block b') next') a = absurd a.0
 rows_alike m n quoted before last (Then (Block b) next) (Then BlankLine next') a = absurd a.0
-rows_alike m n quoted before last (Then (Block b) next) (Then (Block b') next') a = (
-  (leaf_row b b' before.counted a.0.0 a.0.2, a.0.1),
-  tt,
-  subst (λ g. AlikeRows m n (rows_of quoted (after_block b) last next) (rows_of quoted (record { last = LastOther; counted = g }) last next')) a.0.2
-      (rows_alike m n quoted (after_block b) last next next' a.1),
-)
+rows_alike m n quoted before last (Then (Block b) next) (Then (Block b') next') a =
+    leaf_alike m n b b' (gap_before before b) (gap_before before b') _ _ a.0.0 a.0.1 a.0.2
+    (ap (λ p. before.counted && not (p && is_after_definition before.last)) (begins_alike m n b.items b'.items a.0.1))
+    (subst (λ z. AlikeRows m n (rows_of quoted (after_block before b) last next) (rows_of quoted z last next')) (after_alike m n before b b' a.0.0 a.0.1 a.0.2)
+    (rows_alike m n quoted (after_block before b) last next next' a.1))
 rows_alike m n quoted before last (Node head e kids next) (Node head' e' kids' next') a =
     let c : Container = opened head.opener in
     let c' : Container = opened head'.opener in
@@ -232,6 +401,15 @@ abbrev footnote_shown : ℕ → ℕ → ℕ → List (ℕ × (Item × Option Nam
 footnote_shown depth start e [] = []
 footnote_shown depth start e (x ∷ more) = (depth, (node_of start e x.1.0.body, x.1.1)) ∷ []
 
+-- a title read
+abbrev title_shown : List (ℕ × (Item × Option Named)) → List (ℕ × (Item × Option Named))
+title_shown [] = []
+title_shown (x ∷ more) = (x.0, (node_of x.1.0.start x.1.0.«end» DefinitionListTitle, None)) ∷ more
+
+title_read : (m : Names) (items : List (ℕ × Item)) → read_nodes m (as_title items) ≡ title_shown (read_nodes m items)
+title_read m [] = refl
+title_read m (x ∷ items) = refl
+
 -- a row read
 abbrev shown : ℕ → Bool → Bool → ℕ → What → List (ℕ × (Item × Option Named)) → List (ℕ × (Item × Option Named))
 shown depth tight loose start (ALeaf b) items = if tight then map (tight_read depth) (at_depth depth items) else at_depth depth items
@@ -239,11 +417,15 @@ shown depth tight loose start (AQuote kind e) items = (depth, (node_of start e (
 shown depth tight loose start (AList byte number e) items = (depth, (node_of start e (ListBody (list_flags (not loose)) byte number), None)) ∷ []
 shown depth tight loose start (AnItem columns e) items = (depth, (node_of start e (ListItemBody columns), None)) ∷ []
 shown depth tight loose start (AFootnote index e) items = footnote_shown depth start e items
+shown depth tight loose start (ADefinitionList t e) items = (depth, (node_of start e (DefinitionListBody (list_flags (not loose))), None)) ∷ []
+shown depth tight loose start (ATitle b) items = at_depth depth (title_shown items)
+shown depth tight loose start (ADefinition columns e) items = (depth, (node_of start e (DefinitionBody columns), None)) ∷ []
 
 shown_is : (m : Names) (depth : ℕ) (tight loose : Bool) (start : ℕ) (w : What)
     → read_nodes m (row_items depth tight loose start w) ≡ shown depth tight loose start (bare_what w) (read_nodes m (inside w))
 shown_is m depth true loose start (ALeaf b) = read_tight m depth (at_depth depth b.items) ∙ ap (map (tight_read depth)) (read_at_depth m depth b.items)
 shown_is m depth false loose start (ALeaf b) = read_at_depth m depth b.items
+shown_is m depth tight loose start (ATitle b) = read_at_depth m depth (as_title b.items) ∙ ap (at_depth depth) (title_read m b.items)
 shown_is m depth tight loose start w = refl
 
 -- the items of alike rows read alike

@@ -160,17 +160,17 @@ module _ (text : List ℕ) (options : Options) where
   opening_first names more l from lines behind p (OpensNode head inside kids) extends begins first shrinks others =
       node_first names more l from inside lines behind kids p head extends begins first shrinks others
 
-  leads_at : (names : Names) (path : List Container) (from : From) (p : Place) (lines : List Place)
-      → Leads names (length p.rest.left) lines (λ later o. OpensAt (document text options later) path from p lines o)
-  leads_at names path Line p lines = leads_any text options names path p lines
-  leads_at names path (Blanks e) p lines = leads_any text options names path p lines
-  leads_at names path (At q may) p lines = leads_if text options names path may p lines
+  leads_at : (names : Names) (l : Level) (from : From) (p : Place) (lines : List Place)
+      → Leads names (length p.rest.left) lines (λ later o. OpensAt (document text options later) l from p lines o)
+  leads_at names l Line p lines = leads_any text options names l p lines
+  leads_at names l (Blanks e) p lines = leads_any text options names l p lines
+  leads_at names l (At q may) p lines = leads_if text options names l may p lines
 
   first_block : (names : Names) (l : Level) (from : From) (lines behind : List Place) (p : Place) → going options l from lines ≡ Begins p behind
       → Others (length p.rest.left) behind → SequenceFrom text options names l from lines
   first_block names l from lines behind p is others =
       let leads : Leads names (length p.rest.left) behind (λ later o. IsFirst (document text options later) l from lines o) =
-      leads_also (leads_at names l.path from p behind) (λ later o opens. record { place = p; behind = behind; begins = is; opens = opens }) in
+      leads_also (leads_at names l from p behind) (λ later o opens. record { place = p; behind = behind; begins = is; opens = opens }) in
       opening_first names leads.more l from lines behind p leads.opening leads.extends (begins_at options l from lines p behind is) leads.opens leads.shrinks
       others
 

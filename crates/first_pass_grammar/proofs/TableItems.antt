@@ -15,11 +15,7 @@ use Rattle.first_pass_grammar.specs.Tables.{TableSoFar, AreRows}
 use Rattle.first_pass_grammar.proofs.CountedRows.{with_row, CountedRows, counted}
 use Rattle.first_pass_grammar.proofs.EachToken.{AreEach, HoldsOfTokens, cell_each}
 use Rattle.first_pass_grammar.proofs.NamedItems.{HasEntry}
-
--- this holds of each of these nodes
-abbrev pub AreEachNode : (ItemBody → Type 0) → List (ℕ × Item) → Type 0
-AreEachNode P [] = Unit {0}
-AreEachNode P (x ∷ nodes) = P x.1.body × AreEachNode P nodes
+use Rattle.first_pass_grammar.specs.WholeTables.{AreEachNode}
 
 -- this holds of each node of these blocks
 abbrev pub AreEachBlock : (ItemBody → Type 0) → List (List (ℕ × Item)) → Type 0
@@ -38,7 +34,7 @@ module _ (P : ItemBody → Type 0) where
   both_nodes [] ys h k = k
   both_nodes (x ∷ xs) ys h k = (h.0, both_nodes xs ys h.1 k)
 
-  deeper_nodes : (depth : ℕ) (nodes : List (ℕ × Item)) → AreEachNode P nodes → AreEachNode P (at_depth depth nodes)
+  pub deeper_nodes : (depth : ℕ) (nodes : List (ℕ × Item)) → AreEachNode P nodes → AreEachNode P (at_depth depth nodes)
   deeper_nodes depth [] h = tt
   deeper_nodes depth (x ∷ nodes) h = (h.0, deeper_nodes depth nodes h.1)
 

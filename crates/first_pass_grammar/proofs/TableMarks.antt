@@ -31,6 +31,7 @@ use Rattle.first_pass_items.specs.declared.cow_str.CowStr.{CowStr}
 use Rattle.first_pass_grammar.proofs.TokensNamed.{NamesWithin}
 use Rattle.first_pass_items.specs.declared.item.ItemBody.TheVariants.{MaybeEmphasis, MaybeMath, MaybeSmartQuote, SynthesizeChar, SynthesizeText, Text}
 use Rattle.first_pass_items.specs.declared.item.ItemBody.TheVariants.{MaybeCode, MaybeHtml, MaybeLinkOpen, MaybeLinkClose, MaybeImage}
+use Rattle.first_pass_grammar.specs.WholeTables.{ShowsNothing}
 
 -- more nodes, and nodes at another depth
 pub marks-append : (names : Names) (nodes more : List (ℕ × Item)) → marks names (nodes ++ more) ≡ marks names nodes ++ marks names more
@@ -103,10 +104,6 @@ whole_deeper names d nodes (tables, is, full) = (
   marks-at_depth names d nodes ∙ ap (map (mark_deeper d)) is ∙ tables_deeper d tables,
   full_deeper d tables full,
 )
-
--- a node that shows nothing, wherever it stands and whatever indices name
-abbrev pub ShowsNothing : ItemBody → Type 0
-ShowsNothing body = (names : Names) (depth start «end» : ℕ) → shown names depth start «end» body ≡ []
 
 markup_shows : (texts : List CowStr) (body : ItemBody) → is_markup body ≡ true → NamesWithin texts body → ShowsNothing body
 markup_shows texts (MaybeEmphasis left opens closes) h k = λ names depth start end. refl

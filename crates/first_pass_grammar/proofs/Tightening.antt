@@ -1,6 +1,7 @@
 -- What closing a list makes of its nodes, against what the grammar says of a tight list.
 use Rattle.std.proofs.Common.{◌≡◌, ℕ, zero, suc, ◌+◌, ◌<◌, ◌≤◌, Bool, true, false, not, eqb, List, [], ◌∷◌, ◌++◌, length, map, Option, refl, ap, ◌∙◌, arith}
-use Rattle.std.proofs.Common.{eq-eqb, if◌then◌else◌}
+use Rattle.std.proofs.Common.{eq-eqb, if◌then◌else◌, Option, Some, None, option_map}
+use Rattle.std.specs.Option.{option_map_or}
 use Rattle.std.proofs.lemmas.List.{map-append, length-map}
 use Rattle.std.proofs.lemmas.Bool.Decides.{nat_tests}
 use Rattle.first_pass_items.specs.declared.item.Item.{Item}
@@ -11,11 +12,16 @@ use Rattle.first_pass_items.specs.declared.item.ItemBody.TheVariants.{FootnoteDe
 use Rattle.first_pass_tree.specs.Forest.{modify, map_from, at_depth}
 use Rattle.first_pass_tree.specs.Tight.{tightened}
 use Rattle.first_pass_grammar.specs.Before.{Before, nothing, after_blank, after_block}
-use Rattle.first_pass_grammar.specs.Blocks.{BlankLine, Block, Opener, QuoteMarker, ItemMarker, Skeleton, Nil, Then, Node, FootnoteMarker}
+use Rattle.first_pass_grammar.specs.Blocks.{LeafBlock, BlankLine, Block, Opener, QuoteMarker, ItemMarker, Skeleton, Nil, Then, Node, FootnoteMarker, DefinitionMarker}
 use Rattle.first_pass_grammar.specs.Rows.{What, ALeaf, AQuote, AList, AnItem, Row, Rows, End, OneOf, is_loose, list_behind, row_of, container_row, rows_of}
 use Rattle.first_pass_grammar.specs.Derivation.{node_of, list_flags, row_items, tight_in, items_of}
 use Rattle.first_pass_grammar.specs.Completion.{flagged, list_closed}
-use Rattle.first_pass_grammar.specs.Rows.{AFootnote}
+use Rattle.first_pass_grammar.specs.Rows.{AFootnote, ADefinitionList, ATitle, ADefinition, Joins, ItemsOf, DefinitionsTo, row_of_leaf}
+use Rattle.first_pass_grammar.specs.Rows.{Definitions, apart_after, definitions_of_row, is_untitled, is_run_row, definitions_first, titled, leaf_row}
+use Rattle.first_pass_grammar.specs.Rows.{gap_before}
+use Rattle.first_pass_grammar.specs.Before.{begins_paragraph}
+use Rattle.first_pass_grammar.specs.Derivation.{as_title}
+use Rattle.first_pass_items.specs.declared.item.ItemBody.TheVariants.{DefinitionList as DefinitionListBody, DefinitionListDefinition as DefinitionBody}
 
 pub eqb-same : (n : ℕ) → eqb n n ≡ true
 eqb-same n = eq-eqb n n refl
@@ -41,6 +47,9 @@ deep_row d e false loose start (ALeaf b) h = deep_at d e b.items h
 deep_row d e tight loose start (AQuote kind x) h = ap (λ z. z ∷ []) (deep_node d e (node_of start x (BlockQuoteBody kind)) h)
 deep_row d e tight loose start (AList byte number x) h = ap (λ z. z ∷ []) (deep_node d e (node_of start x (ListBody (list_flags (not loose)) byte number)) h)
 deep_row d e tight loose start (AnItem columns x) h = ap (λ z. z ∷ []) (deep_node d e (node_of start x (ListItemBody columns)) h)
+deep_row d e tight loose start (ADefinitionList t x) h = ap (λ z. z ∷ []) (deep_node d e (node_of start x (DefinitionListBody (list_flags (not loose)))) h)
+deep_row d e tight loose start (ATitle b) h = deep_at d e (as_title b.items) h
+deep_row d e tight loose start (ADefinition columns x) h = ap (λ z. z ∷ []) (deep_node d e (node_of start x (DefinitionBody columns)) h)
 deep_row d e tight loose start (AFootnote index x) h = ap (λ z. z ∷ []) (deep_node d e (node_of start x (FootnoteDefinitionBody index)) h)
 
 map_parts : (d : ℕ) (x a b x' a' b' : List (ℕ × Item)) → map (tightened d) x ≡ x' → map (tightened d) a ≡ a' → map (tightened d) b ≡ b'
@@ -54,13 +63,16 @@ deep_items d e tight (OneOf row inner next) h =
     map_parts d _ _ _ _ _ _ (deep_row d e tight (is_loose inner) row.start row.what h)
     (deep_items d (suc e) (tight_in tight (is_loose inner) row.what) inner (omega arith)) (deep_items d e tight next h)
 
--- Directly in a container stands no item of a list.
+-- Directly in a container stands no item of a list, and no title and no definition of a definition list.
 abbrev NoItem : What → Type 0
 NoItem (ALeaf b) = Unit {0}
 NoItem (AQuote kind e) = Unit {0}
 NoItem (AList byte number e) = Unit {0}
 NoItem (AnItem columns e) = ⊥
 NoItem (AFootnote index e) = Unit {0}
+NoItem (ADefinitionList t e) = Unit {0}
+NoItem (ATitle b) = ⊥
+NoItem (ADefinition columns e) = ⊥
 
 abbrev AreBlocks : Rows → Type 0
 AreBlocks End = Unit {0}
@@ -70,21 +82,54 @@ blocks_by : (t : Bool) (row : Row) (inner next : Rows) → AreBlocks (OneOf row 
 blocks_by true row inner next h = h.1
 blocks_by false row inner next h = h
 
-blocks_past : (byte : ℕ) (r : Rows) → AreBlocks r → AreBlocks (list_behind byte r)
-blocks_past byte End h = tt
-blocks_past byte (OneOf row inner next) h = blocks_by _ row inner next h
+blocks_past : (joins : Joins) (r : Rows) → AreBlocks r → AreBlocks (list_behind joins r)
+blocks_past joins End h = tt
+blocks_past joins (OneOf row inner next) h = blocks_by _ row inner next h
 
 blocks_container : (last : ℕ) (opener : Opener) (line start e : ℕ) (gap : Bool) (inner next : Rows) → AreBlocks next
     → AreBlocks (container_row last opener (row_of (record { opener = opener; line = line; start = start }) e gap) inner next)
 blocks_container last (QuoteMarker kind) line start e gap inner next h = (tt, h)
-blocks_container last (ItemMarker byte number columns) line start e gap inner next h = (tt, blocks_past byte next h)
+blocks_container last (ItemMarker byte number columns) line start e gap inner next h = (tt, blocks_past (ItemsOf byte) next h)
 blocks_container last (FootnoteMarker columns index label) line start e gap inner next h = (tt, h)
+blocks_container last (DefinitionMarker columns) line start e gap inner next h = (tt, blocks_past (DefinitionsTo e) next h)
+
+abbrev BlocksBeside : Option Definitions → Type 0
+BlocksBeside None = Unit {0}
+BlocksBeside (Some ds) = AreBlocks ds.beside
+
+blocks_apart : (row : Row) (inner : Rows) (o : Option Definitions) → NoItem row.what → BlocksBeside o → BlocksBeside (option_map (apart_after row inner) o)
+blocks_apart row inner None h k = tt
+blocks_apart row inner (Some ds) h k = (h, k)
+
+blocks_at : (t u : Bool) (row : Row) (inner next : Rows) (o : Option Definitions) → NoItem row.what → AreBlocks next → BlocksBeside o
+    → BlocksBeside (if t then definitions_of_row row inner next else (if u then option_map (apart_after row inner) o else None))
+blocks_at true u row inner next o h k l = k
+blocks_at false true row inner next o h k l = blocks_apart row inner o h l
+blocks_at false false row inner next o h k l = tt
+
+blocks_first : (r : Rows) → AreBlocks r → BlocksBeside (definitions_first r)
+unfolding definitions_first
+blocks_first End h = tt
+blocks_first (OneOf row inner next) h = blocks_at (is_untitled row.what) (is_run_row row.what) row inner next _ h.0 h.1 (blocks_first next h.1)
+
+blocks_titled : (block : LeafBlock) (gap : Bool) (o : Option Definitions) (next : Rows) → BlocksBeside o → AreBlocks next
+    → AreBlocks (option_map_or (titled block gap) o (OneOf (row_of_leaf block gap) End next))
+blocks_titled block gap None next h k = (tt, k)
+blocks_titled block gap (Some ds) next h k = (tt, h)
+
+first_if : (t : Bool) (o : Option Definitions) → BlocksBeside o → BlocksBeside (if t then o else None)
+first_if true o h = h
+first_if false o h = tt
+
+blocks_leaf : (block : LeafBlock) (gap : Bool) (next : Rows) → AreBlocks next → AreBlocks (leaf_row block gap next)
+blocks_leaf block gap next h = blocks_titled block gap _ next (first_if (begins_paragraph block.items) (definitions_first next) (blocks_first next h)) h
 
 are_blocks : (quoted : Bool) (before : Before) (last : ℕ) (s : Skeleton) → AreBlocks (rows_of quoted before last s)
 unfolding rows_of
 are_blocks quoted before last Nil = tt
 are_blocks quoted before last (Then BlankLine next) = are_blocks quoted (after_blank quoted before) last next
-are_blocks quoted before last (Then (Block b) next) = (tt, are_blocks quoted (after_block b) last next)
+are_blocks quoted before last (Then (Block b) next) =
+    blocks_leaf b (gap_before before b) _ (are_blocks quoted (after_block before b) last next)
 are_blocks quoted before last (Node head e kids next) =
     blocks_container last head.opener head.line head.start e before.counted _ _ (are_blocks quoted _ last next)
 
@@ -104,12 +149,15 @@ same_list : (d k start «end» byte number : ℕ) (flags : ListFlags)
     → tightened d (k, node_of start «end» (ListBody flags byte number)) ≡ (k, node_of start «end» (ListBody flags byte number))
 same_list d k start end byte number flags = same_at (eqb k d) k (node_of start end (ListBody flags byte number))
 
-tight_row : (d : ℕ) (loose : Bool) (start : ℕ) (w : What) → map (tightened d) (row_items d false loose start w) ≡ row_items d true loose start w
-tight_row d loose start (ALeaf b) = refl
-tight_row d loose start (AQuote kind x) = ap (λ z. z ∷ []) (same_quote d d start x kind)
-tight_row d loose start (AList byte number x) = ap (λ z. z ∷ []) (same_list d d start x byte number (list_flags (not loose)))
-tight_row d loose start (AnItem columns x) = ap (λ z. z ∷ []) (same_at (eqb d d) d (node_of start x (ListItemBody columns)))
-tight_row d loose start (AFootnote index x) = ap (λ z. z ∷ []) (same_at (eqb d d) d (node_of start x (FootnoteDefinitionBody index)))
+tight_row : (d : ℕ) (loose : Bool) (start : ℕ) (w : What) → NoItem w → map (tightened d) (row_items d false loose start w) ≡ row_items d true loose start w
+tight_row d loose start (ALeaf b) h = refl
+tight_row d loose start (AQuote kind x) h = ap (λ z. z ∷ []) (same_quote d d start x kind)
+tight_row d loose start (AList byte number x) h = ap (λ z. z ∷ []) (same_list d d start x byte number (list_flags (not loose)))
+tight_row d loose start (AnItem columns x) h = ap (λ z. z ∷ []) (same_at (eqb d d) d (node_of start x (ListItemBody columns)))
+tight_row d loose start (AFootnote index x) h = ap (λ z. z ∷ []) (same_at (eqb d d) d (node_of start x (FootnoteDefinitionBody index)))
+tight_row d loose start (ADefinitionList t x) h = ap (λ z. z ∷ []) (same_at (eqb d d) d (node_of start x (DefinitionListBody (list_flags (not loose)))))
+tight_row d loose start (ATitle b) h = absurd h
+tight_row d loose start (ADefinition columns x) h = absurd h
 
 block_in : (loose : Bool) (w : What) → NoItem w → tight_in false loose w ≡ tight_in true loose w
 block_in loose (ALeaf b) h = refl
@@ -117,13 +165,16 @@ block_in loose (AQuote kind x) h = refl
 block_in loose (AList byte number x) h = refl
 block_in loose (AnItem columns x) h = absurd h
 block_in loose (AFootnote index x) h = refl
+block_in loose (ADefinitionList t x) h = refl
+block_in loose (ATitle b) h = absurd h
+block_in loose (ADefinition columns x) h = absurd h
 
 -- the items of blocks in a tight list are those of blocks that aren't, with their paragraphs made tight
 tight_items : (d : ℕ) (r : Rows) → AreBlocks r → map (tightened d) (items_of d false r) ≡ items_of d true r
 unfolding items_of
 tight_items d End h = refl
 tight_items d (OneOf row inner next) h =
-    map_parts d _ _ _ _ _ _ (tight_row d (is_loose inner) row.start row.what)
+    map_parts d _ _ _ _ _ _ (tight_row d (is_loose inner) row.start row.what h.0)
     (deep_items d (suc d) (tight_in false (is_loose inner) row.what) inner (omega arith)
     ∙ ap (λ z. items_of (suc d) z inner) (block_in (is_loose inner) row.what h.0))
     (tight_items d next h.1)

@@ -28,13 +28,13 @@ use Rattle.first_pass_grammar.specs.LinkTables.{LinkEntry}
 use Rattle.first_pass_grammar.specs.LinkRuns.{kind_in, lines_beyond, ends_run, Beyond, Ended, FlowsOn, IsRun}
 use Rattle.std.proofs.lemmas.Bool.{true≢false}
 use Rattle.std.proofs.lemmas.Option.{none-some, same_Some}
-use Rattle.first_pass_grammar.specs.Blocks.{leaf_block, Leaf, BlankLine, Block, Opener, QuoteMarker, ItemMarker, FootnoteMarker, Head, opened, Skeleton, Nil}
+use Rattle.first_pass_grammar.specs.Blocks.{leaf_block, Leaf, BlankLine, Block, Opener, QuoteMarker, ItemMarker, FootnoteMarker, DefinitionMarker, Head, opened, Skeleton, Nil}
 use Rattle.first_pass_grammar.specs.Blocks.{Then, Node}
 use Rattle.first_pass_grammar.specs.Skeleton.{OpensBeyond, OpensRun, From, Line, Blanks, At, Anything, ALeafAlone, TextOf, MarkAlone, behind_marker, Opening}
 use Rattle.first_pass_grammar.specs.Skeleton.{OpensLeaf, OpensNode, OpensText, OpensExtent, OpensAs, OpensBlockAt, next_is_blank}
 use Rattle.first_pass_grammar.specs.Skeleton.{task_alone, behind_tag}
 use Rattle.first_pass_grammar.specs.Openers.{task_by, task_behind, tag_behind}
-use Rattle.first_pass_grammar.specs.Skeleton.{Opens, OpensAt, Level, level, level_in, level_after_leaf, level_after, Left, Lines, InLine, Going, Begins, Ends}
+use Rattle.first_pass_grammar.specs.Skeleton.{Opens, OpensAt, may_define, Level, level, level_in, level_after_leaf, level_after, Left, Lines, InLine, Going, Begins, Ends}
 use Rattle.first_pass_grammar.specs.Skeleton.{going, onward, behind_first, end_before, IsFirst, IsSequence}
 use Rattle.first_pass_grammar.specs.Derivation.{Tables, no_tables, node_of, Derives}
 use Rattle.first_pass_grammar.proofs.NoIndex.{HasNoIndex, read_alone}
@@ -44,10 +44,10 @@ use Rattle.first_pass_grammar.proofs.Alike.{text_free, html_free, raw_alike, blo
 use Rattle.first_pass_grammar.proofs.Alike.{fence_alike, heading_alike}
 use Rattle.first_pass_grammar.proofs.LinesAlike.{one_heading}
 use Rattle.first_pass_grammar.proofs.TablesAlike.{one_text}
-use Rattle.first_pass_grammar.specs.Before.{LastOther, Before, nothing, after_container, before_end}
+use Rattle.first_pass_grammar.specs.Before.{Before, nothing, after_container, before_end}
 use Rattle.first_pass_grammar.specs.Containers.{is_quote}
 use Rattle.first_pass_grammar.proofs.Goings.{same_left}
-use Rattle.first_pass_grammar.proofs.RowsAlike.{end_alike, forest_alike, told_alike}
+use Rattle.first_pass_grammar.proofs.RowsAlike.{end_alike, forest_alike, told_alike, after_alike}
 use Rattle.first_pass_grammar.specs.Openers.{AfterMarker, OnLine, TaskText, LineEnds, TagAlone, Start, after_task, after_quote, start_at}
 use Rattle.first_pass_grammar.specs.Skeleton.{OpensBy, OpensFootnote, opening_by, without_indent}
 use Rattle.first_pass_grammar.specs.Footnotes.{footnote_head_at}
@@ -270,20 +270,22 @@ quote_after_free (Some kind) = tt
 abbrev StartFree : Start → Type 0
 StartFree s = AfterFree s.after × (label_node s.head.opener ≡ [])
 
-start_free : (options : Options) (p : Place) (s : Start) → start_at options p ≡ Some s → StartFree s
-start_free options p =
-    start_cases options p StartFree
+start_free : (options : Options) (may : Bool) (p : Place) (s : Start) → start_at options may p ≡ Some s → StartFree s
+start_free options may p =
+    start_cases options may p StartFree
     (λ item is. (
       task_after_free (is_blank_rest (task_behind options p.line item.1).1) (task_behind options p.line item.1).0
           (task_free p.line item.1 (if has options tasklists then task_of item.1 else None)),
       refl,
     ))
+    (λ marker none is. (task_after_free (is_blank_rest marker.1) None tt, refl))
     (λ r none is. (quote_after_free (tag_behind options r), refl))
 
 label_without : (o : Opener) → label_node o ≡ [] → label_node (without_indent o) ≡ []
 label_without (QuoteMarker kind) h = h
 label_without (ItemMarker byte number columns) h = h
 label_without (FootnoteMarker columns index label) h = h
+label_without (DefinitionMarker columns) h = h
 
 opening_free : (d : Document) (path : List Container) (head : Head) (inside : Place) (lines : List Place) (after : AfterMarker) → AfterFree after
     → label_node head.opener ≡ [] → OpensFree (opening_by d path head inside lines after)
@@ -306,28 +308,29 @@ opens_by d n path p lines (Some s) o o' free e f =
 opens_by d n path p lines None o o' free e f = opens_block d n path p lines o o' e f
 
 -- a footnote definition, or what else begins
-by_head : (d : Document) (n : Names) (path : List Container) (p : Place) (lines : List Place) (head : Option (ℕ × List ℕ)) (o o' : Opening)
-    → MatchOption head (OpensBy d path p lines (start_at d.options p) o) (λ h. OpensFootnote d p lines h o)
-    → MatchOption head (OpensBy (with_names d n) path p lines (start_at d.options p) o') (λ h. OpensFootnote (with_names d n) p lines h o')
+by_head : (d : Document) (n : Names) (l : Level) (p : Place) (lines : List Place) (head : Option (ℕ × List ℕ)) (o o' : Opening)
+    → MatchOption head (OpensBy d l.path p lines (start_at d.options (may_define d l) p) o) (λ h. OpensFootnote d p lines h o)
+    → MatchOption head (OpensBy (with_names d n) l.path p lines (start_at d.options (may_define d l) p) o') (λ h. OpensFootnote (with_names d n) p lines h o')
     → AlikeOpening d.names n o o'
 unfolding OpensFootnote
-by_head d n path p lines None o o' e f = opens_by d n path p lines (start_at d.options p) o o' (start_free d.options p) e f
-by_head d n path p lines (Some (size, label)) o o' (i, named, e) (j, named', f) =
+by_head d n l p lines None o o' e f =
+    opens_by d n l.path p lines (start_at d.options (may_define d l) p) o o' (start_free d.options (may_define d l) p) e f
+by_head d n l p lines (Some (size, label)) o o' (i, named, e) (j, named', f) =
     alike_by d.names n o o' _ _ e f ((refl, label_named d.names n (footnote_columns d.options) i j label named named'), refl, tt, refl)
 
 -- a place opens one thing, read alike
-pub one_opening : (d : Document) (n : Names) (path : List Container) (p : Place) (lines : List Place) (o o' : Opening)
-    → Opens d path p lines o → Opens (with_names d n) path p lines o' → AlikeOpening d.names n o o'
-one_opening d n path p lines o o' e f = by_head d n path p lines (footnote_head_at (around d path) p) o o' e f
+pub one_opening : (d : Document) (n : Names) (l : Level) (p : Place) (lines : List Place) (o o' : Opening)
+    → Opens d l p lines o → Opens (with_names d n) l p lines o' → AlikeOpening d.names n o o'
+one_opening d n l p lines o o' e f = by_head d n l p lines (footnote_head_at (around d l.path) p) o o' e f
 
-opens_at : (d : Document) (n : Names) (path : List Container) (from : From) (p : Place) (lines : List Place) (o o' : Opening) → HoldsNoIndex from
-    → OpensAt d path from p lines o → OpensAt (with_names d n) path from p lines o' → AlikeOpening d.names n o o'
-opens_at d n path Line p lines o o' h e f = one_opening d n path p lines o o' e f
-opens_at d n path (At q Anything) p lines o o' h e f = one_opening d n path p lines o o' e f
-opens_at d n path (At q ALeafAlone) p lines o o' h e f = opens_block d n path p lines o o' e f
-opens_at d n path (Blanks x) p lines o o' h e f = one_opening d n path p lines o o' e f
-opens_at d n path (At q (TextOf marker)) p lines o o' h e f = one_text_opening d n path p lines (Some marker) o o' h e f
-opens_at d n path (At q (MarkAlone marker blanks)) p lines o o' h e f =
+opens_at : (d : Document) (n : Names) (l : Level) (from : From) (p : Place) (lines : List Place) (o o' : Opening) → HoldsNoIndex from
+    → OpensAt d l from p lines o → OpensAt (with_names d n) l from p lines o' → AlikeOpening d.names n o o'
+opens_at d n l Line p lines o o' h e f = one_opening d n l p lines o o' e f
+opens_at d n l (At q Anything) p lines o o' h e f = one_opening d n l p lines o o' e f
+opens_at d n l (At q ALeafAlone) p lines o o' h e f = opens_block d n l.path p lines o o' e f
+opens_at d n l (Blanks x) p lines o o' h e f = one_opening d n l p lines o o' e f
+opens_at d n l (At q (TextOf marker)) p lines o o' h e f = one_text_opening d n l.path p lines (Some marker) o o' h e f
+opens_at d n l (At q (MarkAlone marker blanks)) p lines o o' h e f =
     alike_by d.names n o o' _ _ e f (
       (refl, ap (λ (z : List (Item × Option Named)). map (λ (r : Item × Option Named). (0, r)) z) (read_alone d.names n (marker ∷ []) (h, tt)), refl, refl),
       refl,
@@ -347,8 +350,8 @@ first_once : (d : Document) (n : Names) (l : Level) (from : From) (lines : List 
     → IsFirst d l from lines o → IsFirst (with_names d n) l from lines o' → AlikeOpening d.names n o o'
 first_once d n l from lines o o' h f g =
     let w = begins_once f.place g.place f.behind g.behind (going d.options l from lines) f.begins g.begins in
-    opens_at d n l.path from g.place g.behind o o' h
-    (subst (λ z. OpensAt d l.path from g.place z o) w.1 (subst (λ z. OpensAt d l.path from z f.behind o) w.0 f.opens)) g.opens
+    opens_at d n l from g.place g.behind o o' h
+    (subst (λ z. OpensAt d l from g.place z o) w.1 (subst (λ z. OpensAt d l from z f.behind o) w.0 f.opens)) g.opens
 
 first_ends : (d : Document) (l : Level) (from : From) (lines : List Place) (left : Left) (o : Opening) → going d.options l from lines ≡ Ends left
     → IsFirst d l from lines o → ⊥
@@ -384,7 +387,7 @@ leaf_after : (m n : Names) (l : Level) (leaf leaf' : Leaf) → AlikeLeaf m n lea
 leaf_after m n l BlankLine BlankLine a = refl
 leaf_after m n l BlankLine (Block b') a = absurd a
 leaf_after m n l (Block b) BlankLine a = absurd a
-leaf_after m n l (Block b) (Block b') a = ap (λ (g : Bool). level l.path (record { last = LastOther; counted = g })) a.2
+leaf_after m n l (Block b) (Block b') a = ap (level l.path) (after_alike m n l.before b b' a.0 a.1 a.2)
 
 container_after : (m n : Names) (l : Level) (head : Head) (kids kids' : Skeleton) → Alike m n kids kids' → level_after l head kids ≡ level_after l head kids'
 container_after m n l head kids kids' a =

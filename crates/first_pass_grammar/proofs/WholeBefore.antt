@@ -9,10 +9,10 @@ use Rattle.first_pass_grammar.specs.declared.kind.Container.{Container}
 use Rattle.first_pass_grammar.specs.Names.{Names, Extends, index_of, NamesEntry, AreNamed}
 use Rattle.first_pass_grammar.specs.Leaves.{Document, document}
 use Rattle.first_pass_grammar.specs.Skeleton.{From, level, Lines, onward}
-use Rattle.first_pass_grammar.specs.Rows.{Rows, any_gap}
+use Rattle.first_pass_grammar.specs.Rows.{ItemsOf, Rows, any_gap}
 use Rattle.first_pass_grammar.specs.Derivation.{Tables, Derives}
 use Rattle.first_pass_grammar.specs.Completion.{ended, Pending, OneList, Standing, Further, AreFurther, rows_on, rows_beyond, rendered, Frame, InContainer}
-use Rattle.first_pass_grammar.specs.Completion.{InList, containers_of, loosened, container_closed, Becomes, Completion}
+use Rattle.first_pass_grammar.specs.Completion.{InList, InDefinitions, definitions_open, containers_of, loosened, container_closed, Becomes, Completion}
 use Rattle.first_pass_grammar.specs.Containers.{is_quote}
 use Rattle.first_pass_grammar.specs.WholeTables.{Mark, ATable, ARow, ACell, shown, marks, RowCells, row_marks, TableRows, table_marks, AreFull, AreWholeTables}
 use Rattle.first_pass_grammar.proofs.Finishes.{containers-loosened}
@@ -20,22 +20,22 @@ use Rattle.first_pass_grammar.proofs.HeadCells.{heads_are_full}
 use Rattle.first_pass_grammar.proofs.MoreNames.{alignments_kept}
 use Rattle.first_pass_grammar.proofs.PlacesKept.{AreAt}
 use Rattle.first_pass_grammar.proofs.SilentNodes.{IsSilent, AreSilent, SilentList, ShowsMore, more_both, marks_ended, rendered_shows, silent_rendered}
-use Rattle.first_pass_grammar.proofs.SilentNodes.{silent_place}
+use Rattle.first_pass_grammar.proofs.SilentNodes.{silent_place, silent_as, silent_definitions}
 use Rattle.first_pass_grammar.proofs.WholeBlocks.{HeadsAreFull, PlainFrom, sequence_whole}
 use Rattle.first_pass_grammar.proofs.WholeForests.{rows_whole, WholeRows, derived_whole}
 
 -- the nodes still open show nothing where a container is closed
-silent_places : (depth last place e : ℕ) (nodes : List (ℕ × Item)) (list : Pending) (rows : Rows) (places : List ℕ) → AreSilent nodes places
-    → AreSilent (ended (rendered depth last nodes list rows) place e) places
-silent_places depth last place e nodes list rows [] h = tt
-silent_places depth last place e nodes list rows (i ∷ places) h =
-    (silent_place depth last place e nodes list rows i h.0, silent_places depth last place e nodes list rows places h.1)
+silent_places : (depth last place e : ℕ) (nodes : List (ℕ × Item)) (list : Pending) (rows : Rows) (places : List ℕ) → SilentList nodes list
+    → AreSilent nodes places → AreSilent (ended (rendered depth last nodes list rows) place e) places
+silent_places depth last place e nodes list rows [] silent h = tt
+silent_places depth last place e nodes list rows (i ∷ places) silent h =
+    (silent_place depth last place e nodes list rows i silent h.0, silent_places depth last place e nodes list rows places silent h.1)
 
 container_shows : (names : Names) (depth place : ℕ) (w : Standing) (f : Further) (rows : Rows) → SilentList w.nodes w.list → IsSilent w.nodes place
     → WholeRows names rows → ShowsMore names w.nodes (ended (rendered depth f.«end» w.nodes w.list rows) place f.«end»)
 container_shows names depth place w f rows list silent whole =
     let (more, shows) = rendered_shows names depth f.«end» w.nodes w.list rows list whole in
-    let still = silent_rendered depth f.«end» w.nodes w.list rows place silent in
+    let still = silent_rendered depth f.«end» w.nodes w.list rows place list silent in
     (more, marks_ended names (rendered depth f.«end» w.nodes w.list rows) place f.«end» still ∙ shows)
 
 -- What completes nodes shows what they show, and then tables: each of the containers takes blocks that show whole tables, or nothing.
@@ -52,10 +52,15 @@ module _ (d : Document) (full : HeadsAreFull d) where
   becomes_shows [] [] w (f ∷ g ∷ more) from lines forest tables plain at silent list are becomes = absurd are
   becomes_shows [] (place ∷ places) w further from lines forest tables plain at silent list are becomes = absurd becomes
   becomes_shows (InList byte loose ∷ frames) [] w further from lines forest tables plain at silent list are becomes = absurd becomes
+  becomes_shows (InDefinitions loose ∷ frames) [] w further from lines forest tables plain at silent list are becomes = absurd becomes
   becomes_shows (InContainer c ∷ frames) [] w further from lines forest tables plain at silent list are becomes = absurd becomes
   becomes_shows (InList byte loose ∷ frames) (place ∷ places) w further from lines forest tables plain at silent list are becomes =
-      let inside : Standing = record { nodes = w.nodes; list = OneList place byte loose; before = w.before; defined = w.defined } in
+      let inside : Standing = record { nodes = w.nodes; list = OneList place (ItemsOf byte) loose; before = w.before; defined = w.defined } in
       becomes_shows frames places inside further from lines forest tables plain at silent.1 silent.0 are becomes
+  becomes_shows (InDefinitions loose ∷ frames) (place ∷ places) w further from lines forest tables plain at silent list are becomes =
+      let inside : Standing = record { nodes = w.nodes; list = definitions_open place loose w.list; before = w.before; defined = w.defined } in
+      becomes_shows frames places inside further from lines forest tables plain at silent.1
+      (silent_definitions w.nodes place loose w.list silent.0 list) are becomes
   becomes_shows (InContainer c ∷ frames) (place ∷ places) w [] from lines forest tables plain at silent list are becomes = absurd are
   becomes_shows (InContainer c ∷ frames) (place ∷ places) w (f ∷ further) from lines forest tables plain at silent list (left, sequence, ends, are) becomes =
       let rows : Rows = rows_on (is_quote c) w f in
@@ -65,9 +70,10 @@ module _ (d : Document) (full : HeadsAreFull d) where
       let blocks = sequence_whole d full f.blocks (level (c ∷ containers_of frames) w.before) from lines left plain at sequence in
       let whole = rows_whole d.names (is_quote c) w.before f.«end» f.blocks blocks.0 in
       let here = container_shows d.names depth place w f rows list silent.0 whole in
-      let still = silent_places depth f.«end» place f.«end» w.nodes w.list rows places silent.1 in
+      let still = silent_places depth f.«end» place f.«end» w.nodes w.list rows places list silent.1 in
       more_both d.names w.nodes now.nodes forest here
-      (becomes_shows (loosened gap frames) places now further (onward left).0 (onward left).1 forest tables blocks.1.0 blocks.1.1 still tt
+      (becomes_shows (loosened gap frames) places now further (onward left).0 (onward left).1 forest tables blocks.1.0 blocks.1.1 still
+      (silent_as now.nodes c f.«end»)
       (subst (λ (path : List Container). AreFurther d path now.before (onward left).0 (onward left).1 further) (sym (containers-loosened gap frames)) are)
       becomes)
 

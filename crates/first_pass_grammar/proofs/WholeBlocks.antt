@@ -35,23 +35,24 @@ use Rattle.first_pass_grammar.specs.Skeleton.{Opening, OpensLeaf, OpensNode, Ope
 use Rattle.first_pass_grammar.specs.Openers.{task_by, task_behind}
 use Rattle.first_pass_grammar.specs.Skeleton.{task_alone, behind_tag, OpensIf}
 use Rattle.first_pass_grammar.specs.Openers.{tag_behind}
-use Rattle.first_pass_grammar.specs.Skeleton.{OpensAt, Level, Left, Lines, InLine, onward, level_in, level_after_leaf, level_after, behind_first, IsFirst}
+use Rattle.first_pass_grammar.specs.Skeleton.{may_define, OpensAt, Level, Left, Lines, InLine, onward, level_in, level_after_leaf, level_after, behind_first, IsFirst}
 use Rattle.first_pass_grammar.specs.Skeleton.{IsSequence}
 use Rattle.first_pass_grammar.specs.WholeTables.{Mark, marks, table_marks, AreFull, AreWholeTables}
 use Rattle.first_pass_grammar.proofs.EachToken.{AreEach, heading_each, range_text_each, range_html_each, raw_lines_each, lines_each, children_each}
 use Rattle.first_pass_grammar.proofs.EachToken.{heading_children_each}
-use Rattle.first_pass_grammar.proofs.PlacesKept.{IsAt, AreAt, at_unindented, at_front, at_taken, at_quote, at_item, extent_at, tag_left_at, code_at}
+use Rattle.first_pass_grammar.proofs.PlacesKept.{IsAt, AreAt, at_unindented, at_front, at_taken, at_quote, at_item, at_marker, extent_at, tag_left_at, code_at}
 use Rattle.first_pass_grammar.proofs.LinesLeft.{BeyondAt, run_at, text_left, beyond_at, place_behind_at, head_at}
 use Rattle.first_pass_items.specs.OptionWords.{gfm_footnotes}
 use Rattle.first_pass_grammar.specs.Footnotes.{footnote_head_at, place_behind}
 use Rattle.first_pass_grammar.specs.LinkRuns.{lines_beyond}
-use Rattle.first_pass_grammar.proofs.TableMarks.{ShowsNothing, text_shows, tokens_show, raw_shows, block_shows, table_shows}
+use Rattle.first_pass_grammar.proofs.TableMarks.{text_shows, tokens_show, raw_shows, block_shows, table_shows}
 use Rattle.first_pass_items.specs.declared.item.HeadingLevel.{HeadingLevel}
 use Rattle.first_pass_grammar.specs.Openers.{AfterMarker, OnLine, TaskText, LineEnds, TagAlone, Start, after_task, after_quote, start_at}
 use Rattle.first_pass_grammar.specs.Skeleton.{OpensBy, OpensFootnote, Opens, opening_by, without_indent}
 use Rattle.first_pass_grammar.specs.Blocks.{Head}
 use Rattle.first_pass_grammar.proofs.OpenerFacts.{start_cases}
 use Rattle.first_pass_grammar.proofs.Goings.{BeginsAt, LeavesAt, begins_at, leaves_at}
+use Rattle.first_pass_grammar.specs.WholeTables.{ShowsNothing}
 
 -- nodes that show nothing
 pub whole_none : (names : Names) (nodes : List (ℕ × Item)) → marks names nodes ≡ [] → AreWholeTables names nodes
@@ -248,14 +249,15 @@ module _ (d : Document) (full : HeadsAreFull d) where
   abbrev IsPlainStart : Place → Start → Type 0
   IsPlainStart p s = AfterPlain s.after × IsAt d.text (at_rest p s.rest)
 
-  start_plain : (p : Place) → IsAt d.text p → (s : Start) → start_at d.options p ≡ Some s → IsPlainStart p s
-  start_plain p i =
-      start_cases d.options p (IsPlainStart p)
+  start_plain : (may : Bool) (p : Place) → IsAt d.text p → (s : Start) → start_at d.options may p ≡ Some s → IsPlainStart p s
+  start_plain may p i =
+      start_cases d.options may p (IsPlainStart p)
       (λ item is. (
         task_after_plain (is_blank_rest (task_behind d.options p.line item.1).1) (task_behind d.options p.line item.1).0
             (task_plain p.line item.1 (if has d.options tasklists then task_of item.1 else None)),
         at_item d.text d.options p item is i,
       ))
+      (λ marker none is. (task_after_plain (is_blank_rest marker.1) None tt, at_marker d.text p marker is i))
       (λ r none is. (quote_after_plain (tag_behind d.options r), at_quote d.text p r is i))
 
   opening_whole : (path : List Container) (head : Head) (inside : Place) (lines : List Place) (after : AfterMarker) → AfterPlain after
@@ -278,46 +280,46 @@ module _ (d : Document) (full : HeadsAreFull d) where
       subst (WholeOpening d) (sym e) (opening_whole path s.head (at_rest p s.rest) lines s.after now.0 now.1 h)
   opens_by path p lines None o plain i h e = opens_block path p lines o i h e
 
-  opens_head : (path : List Container) (p : Place) (lines : List Place) (head : Option (ℕ × List ℕ)) (o : Opening) → IsAt d.text p → AreAt d.text lines
-      → MatchOption head (OpensBy d path p lines (start_at d.options p) o) (λ h. OpensFootnote d p lines h o) → WholeOpening d o
+  opens_head : (l : Level) (p : Place) (lines : List Place) (head : Option (ℕ × List ℕ)) (o : Opening) → IsAt d.text p → AreAt d.text lines
+      → MatchOption head (OpensBy d l.path p lines (start_at d.options (may_define d l) p) o) (λ h. OpensFootnote d p lines h o) → WholeOpening d o
   unfolding OpensFootnote
-  opens_head path p lines None o i h e = opens_by path p lines (start_at d.options p) o (start_plain p i) i h e
-  opens_head path p lines (Some (size, label)) o i h (index, named, e) =
+  opens_head l p lines None o i h e = opens_by l.path p lines (start_at d.options (may_define d l) p) o (start_plain (may_define d l) p i) i h e
+  opens_head l p lines (Some (size, label)) o i h (index, named, e) =
       let q : Place = place_behind size (unindented p) in
       let at = head_at d.text (gfm_footnotes d.options) q (lines_beyond (offset q) lines)
       (place_behind_at d.text size (unindented p) (at_unindented d.text p i)) (beyond_at d.text (offset q) lines h) in
       subst (WholeOpening d) (sym e) ((at.0, tt), at.1)
 
-  opens_any : (path : List Container) (p : Place) (lines : List Place) (o : Opening) → IsAt d.text p → AreAt d.text lines
-      → Opens d path p lines o → WholeOpening d o
-  opens_any path p lines o i h e = opens_head path p lines (footnote_head_at (around d path) p) o i h e
+  opens_any : (l : Level) (p : Place) (lines : List Place) (o : Opening) → IsAt d.text p → AreAt d.text lines
+      → Opens d l p lines o → WholeOpening d o
+  opens_any l p lines o i h e = opens_head l p lines (footnote_head_at (around d l.path) p) o i h e
 
-  opens_if : (path : List Container) (may : May) (p : Place) (lines : List Place) (o : Opening) → PlainMay may → IsAt d.text p → AreAt d.text lines
-      → OpensIf d path may p lines o → WholeOpening d o
+  opens_if : (l : Level) (may : May) (p : Place) (lines : List Place) (o : Opening) → PlainMay may → IsAt d.text p → AreAt d.text lines
+      → OpensIf d l may p lines o → WholeOpening d o
   unfolding marks
-  opens_if path Anything p lines o plain i h e = opens_any path p lines o i h e
-  opens_if path ALeafAlone p lines o plain i h e = opens_block path p lines o i h e
-  opens_if path (TextOf marker) p lines o plain i h e = opens_text path p lines (Some marker) o i h plain e
-  opens_if path (MarkAlone marker blanks) p lines o plain i h e =
+  opens_if l Anything p lines o plain i h e = opens_any l p lines o i h e
+  opens_if l ALeafAlone p lines o plain i h e = opens_block l.path p lines o i h e
+  opens_if l (TextOf marker) p lines o plain i h e = opens_text l.path p lines (Some marker) o i h plain e
+  opens_if l (MarkAlone marker blanks) p lines o plain i h e =
       subst (WholeOpening d) (sym e)
       (whole_none d.names ((0, marker) ∷ []) (ap (λ (z : List Mark). z ++ []) (plain d.names 0 marker.start marker.«end»)), tt, h)
 
   -- what opens where blocks continue
-  opens_at : (path : List Container) (from : From) (lines : List Place) (p : Place) (behind : List Place) (o : Opening) → PlainFrom d.text from
-      → AreAt d.text lines → BeginsAt path from lines p behind → OpensAt d path from p behind o → WholeOpening d o
-  opens_at path Line [] p behind o plain h begins opens = absurd begins
-  opens_at path Line (line ∷ lines) p behind o plain h (is, same) opens =
-      opens_any path p behind o (at_taken d.text path line p is h.0) (subst (AreAt d.text) (sym same) h.1) opens
-  opens_at path (Blanks e) [] p behind o plain h begins opens = absurd begins
-  opens_at path (Blanks e) (line ∷ lines) p behind o plain h (is, same) opens =
-      opens_any path p behind o (at_taken d.text path line p is h.0) (subst (AreAt d.text) (sym same) h.1) opens
-  opens_at path (At q may) lines p behind o plain h (is, same) opens =
-      opens_if path may p behind o plain.1 (subst (IsAt d.text) (sym is) plain.0) (subst (AreAt d.text) (sym same) h) opens
+  opens_at : (l : Level) (from : From) (lines : List Place) (p : Place) (behind : List Place) (o : Opening) → PlainFrom d.text from
+      → AreAt d.text lines → BeginsAt l.path from lines p behind → OpensAt d l from p behind o → WholeOpening d o
+  opens_at l Line [] p behind o plain h begins opens = absurd begins
+  opens_at l Line (line ∷ lines) p behind o plain h (is, same) opens =
+      opens_any l p behind o (at_taken d.text l.path line p is h.0) (subst (AreAt d.text) (sym same) h.1) opens
+  opens_at l (Blanks e) [] p behind o plain h begins opens = absurd begins
+  opens_at l (Blanks e) (line ∷ lines) p behind o plain h (is, same) opens =
+      opens_any l p behind o (at_taken d.text l.path line p is h.0) (subst (AreAt d.text) (sym same) h.1) opens
+  opens_at l (At q may) lines p behind o plain h (is, same) opens =
+      opens_if l may p behind o plain.1 (subst (IsAt d.text) (sym is) plain.0) (subst (AreAt d.text) (sym same) h) opens
 
   first_whole : (l : Level) (from : From) (lines : List Place) (o : Opening) → PlainFrom d.text from → AreAt d.text lines
       → IsFirst d l from lines o → WholeOpening d o
   first_whole l from lines o plain h f =
-      opens_at l.path from lines f.place f.behind o plain h (begins_at d.options l from lines f.place f.behind f.begins) f.opens
+      opens_at l from lines f.place f.behind o plain h (begins_at d.options l from lines f.place f.behind f.begins) f.opens
 
   begun_at : (path : List Container) (from : From) (lines : List Place) (p : Place) (behind : List Place) → PlainFrom d.text from
       → AreAt d.text lines → BeginsAt path from lines p behind → LeftAt d.text (InLine p behind)

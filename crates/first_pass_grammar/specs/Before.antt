@@ -1,14 +1,21 @@
 -- What stands before a place in a sequence of blocks, as far as any rule asks (this project).
-use Rattle.std.specs.Prelude.{Bool, true, false, not, ◌||◌}
+use Rattle.std.specs.Prelude.{ℕ, ◌==◌, Bool, true, false, not, ◌||◌, List, [], ◌∷◌, if◌then◌else◌}
+use Rattle.first_pass_items.specs.declared.item.Item.{Item}
+use Rattle.first_pass_items.specs.declared.item.ItemBody.{ItemBody}
+use Rattle.first_pass_items.specs.declared.item.ItemBody.TheVariants.{Paragraph as ParagraphBody}
 use Rattle.first_pass_grammar.specs.declared.kind.Container.{Container}
-use Rattle.first_pass_grammar.specs.declared.kind.Container.TheVariants.{BlockQuote, ListItem, FootnoteDefinition}
+use Rattle.first_pass_grammar.specs.declared.kind.Container.TheVariants.{BlockQuote, ListItem, FootnoteDefinition, Definition}
 use Rattle.first_pass_grammar.specs.Blocks.{LeafBlock, Leaf, BlankLine, Block, opened, Skeleton, Nil, Then, Node}
 use Rattle.first_pass_grammar.specs.Containers.{is_quote}
+use Rattle.first_pass_grammar.specs.Kinds.{Kind, LinkDefinitions}
 
--- the last block, blank lines aside: an item, whose list may continue; another block, or none
+-- The last block, blank lines aside: a paragraph, link definitions aside, which is directly after a definition and so may be the next title of its list, or
+-- isn't; an item, whose list may continue; a definition, whose list may continue, which takes blank lines alone or doesn't; another block, or none.
 pub data Last : Type 0 where
   LastOther : Last
+  LastParagraph : Bool → Last
   LastItem : Last
+  LastDefinition : Bool → Last
 
 -- the last block, and whether the run of blank lines directly before a place holds one that counts
 pub record Before : Type 0 where
@@ -19,28 +26,70 @@ pub record Before : Type 0 where
 abbrev pub nothing : Before
 nothing = record { last = LastOther; counted = false }
 
--- a list is open: it may continue
+-- a list is open: it may continue, or what is after it may be its next title
 abbrev pub list_is_open : Last → Bool
 list_is_open LastOther = false
+list_is_open (LastParagraph title) = title
 list_is_open LastItem = true
+list_is_open (LastDefinition blanks) = true
+
+-- a `:` may begin a definition: after a paragraph, or after a definition that doesn't take blank lines alone
+abbrev pub takes_definition : Last → Bool
+takes_definition LastOther = false
+takes_definition (LastParagraph title) = true
+takes_definition LastItem = false
+takes_definition (LastDefinition blanks) = not blanks
+
+-- the last block is a definition
+abbrev pub is_after_definition : Last → Bool
+is_after_definition LastOther = false
+is_after_definition (LastParagraph title) = false
+is_after_definition LastItem = false
+is_after_definition (LastDefinition blanks) = true
 
 -- after a container
 abbrev pub last_container : Container → Last
 last_container (BlockQuote kind) = LastOther
 last_container (ListItem columns) = LastItem
 last_container (FootnoteDefinition columns) = LastOther
+last_container (Definition columns) = LastDefinition (columns == 0)
+
+abbrev pub is_paragraph_body : ItemBody → Bool
+is_paragraph_body ParagraphBody = true
+is_paragraph_body _ = false
+
+-- what was read as a paragraph is one: no heading, no table, and no marker of a task alone
+abbrev pub begins_paragraph : List (ℕ × Item) → Bool
+begins_paragraph [] = false
+begins_paragraph (x ∷ items) = is_paragraph_body x.1.body
+
+abbrev pub is_run : Kind → Bool
+is_run LinkDefinitions = true
+is_run _ = false
+
+-- after link definitions alone a paragraph is still the last block, but no list is open
+abbrev pub last_after_run : Last → Last
+last_after_run LastOther = LastOther
+last_after_run (LastParagraph title) = LastParagraph false
+last_after_run LastItem = LastOther
+last_after_run (LastDefinition blanks) = LastOther
+
+-- after a leaf block
+abbrev pub last_block : LeafBlock → Last → Last
+last_block block last =
+    if begins_paragraph block.items then LastParagraph (is_after_definition last) else (if is_run block.kind then last_after_run last else LastOther)
 
 -- A blank line counts unless a block quote is innermost; where a list is open in it, that is (this project).
 abbrev pub after_blank : Bool → Before → Before
 after_blank quoted before = record { last = before.last; counted = before.counted || (not quoted || list_is_open before.last) }
 
--- after a leaf block, whatever is before it: blank lines at its end count, whatever is innermost
-abbrev pub after_block : LeafBlock → Before
-after_block block = record { last = LastOther; counted = block.gap }
+-- after a leaf block: blank lines at its end count, whatever is innermost
+abbrev pub after_block : Before → LeafBlock → Before
+after_block before block = record { last = last_block block before.last; counted = block.gap }
 
 abbrev pub after_leaf : Bool → Before → Leaf → Before
 after_leaf quoted before BlankLine = after_blank quoted before
-after_leaf quoted before (Block block) = after_block block
+after_leaf quoted before (Block block) = after_block before block
 
 -- after a container, before whose end this stands: a run of blank lines continues out of it
 abbrev pub after_container : Container → Before → Before

@@ -5,7 +5,7 @@ use Rattle.first_pass_items.specs.declared.item.CowIndex.{CowIndex}
 use Rattle.first_pass_items.specs.declared.item.BlockQuoteKind.{BlockQuoteKind}
 use Rattle.first_pass_lines.specs.Places.{Place, offset}
 use Rattle.first_pass_grammar.specs.declared.kind.Container.{Container}
-use Rattle.first_pass_grammar.specs.declared.kind.Container.TheVariants.{BlockQuote, ListItem, FootnoteDefinition}
+use Rattle.first_pass_grammar.specs.declared.kind.Container.TheVariants.{BlockQuote, ListItem, FootnoteDefinition, Definition}
 use Rattle.first_pass_grammar.specs.Kinds.{Kind, LinkDefinitions, Paragraph, unindented}
 use Rattle.first_pass_grammar.specs.LinkTables.{LinkEntry}
 
@@ -31,18 +31,21 @@ block_at kind p items gap = record { kind = kind; line = p.line; start = offset 
 abbrev pub leaf_block : Kind → Place → List (ℕ × Item) → Bool → Leaf
 leaf_block kind p items gap = Block (block_at kind p items gap)
 
--- what opens a container: the marker of a block quote, with its kind; or of a list item, its byte and number, with the item's indent (CommonMark 5.1, 5.2);
--- or the head of a footnote definition, with the columns that a line needs to continue it, the index of its label, and the label as it is read (this project)
+-- what opens a container: the marker of a block quote, with its kind; of a list item, its byte and number, with the item's indent (CommonMark 5.1, 5.2);
+-- the head of a footnote definition, with the columns that a line needs to continue it, the index of its label, and the label as it is read (this project);
+-- or the `:` of a definition, with the definition's indent, which is 0 in one that takes blank lines alone and in no other (this project)
 pub data Opener : Type 0 where
   QuoteMarker : Option BlockQuoteKind → Opener
   ItemMarker : ℕ → ℕ → ℕ → Opener
   FootnoteMarker : ℕ → CowIndex → List ℕ → Opener
+  DefinitionMarker : ℕ → Opener
 
 -- the label that a container defines, if it is a footnote definition (this project)
 abbrev pub label_of : Opener → List (List ℕ)
 label_of (QuoteMarker kind) = []
 label_of (ItemMarker byte number indent) = []
 label_of (FootnoteMarker columns index label) = label ∷ []
+label_of (DefinitionMarker columns) = []
 
 -- how a container begins: what opens it, where its line starts, and where it starts itself
 pub record Head : Type 0 where
@@ -55,6 +58,7 @@ abbrev pub opened : Opener → Container
 opened (QuoteMarker kind) = BlockQuote kind
 opened (ItemMarker byte number indent) = ListItem indent
 opened (FootnoteMarker columns index label) = FootnoteDefinition columns
+opened (DefinitionMarker columns) = Definition columns
 
 -- a run of link reference definitions, the last of which begins at a place, with no text after them
 abbrev pub run_block : Place → List LinkEntry → LeafBlock

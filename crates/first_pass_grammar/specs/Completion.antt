@@ -1,19 +1,20 @@
 -- What nodes that are not yet a whole tree can still become.
-use Rattle.std.specs.Prelude.{◌≡◌, ℕ, suc, ◌<◌, ◌||◌, not, Bool, false, List, [], ◌∷◌, ◌++◌, length, drop, None, if◌then◌else◌}
+use Rattle.std.specs.Prelude.{◌≡◌, ℕ, zero, suc, ◌<◌, ◌==◌, ◌||◌, not, Bool, true, false, List, [], ◌∷◌, ◌++◌, length, map, drop, Option, Some, None, if◌then◌else◌}
 use Rattle.first_pass_items.specs.declared.item.Item.{Item}
 use Rattle.first_pass_items.specs.declared.item.ItemBody.{ItemBody}
-use Rattle.first_pass_items.specs.declared.item.ItemBody.TheVariants.{List as ListBody}
-use Rattle.first_pass_tree.specs.Forest.{modify, map_from}
+use Rattle.first_pass_items.specs.declared.item.ItemBody.TheVariants.{List as ListBody, DefinitionList, DefinitionListTitle, Paragraph as ParagraphBody}
+use Rattle.first_pass_tree.specs.Forest.{modify, map_from, deeper, shallower}
 use Rattle.first_pass_tree.specs.Tight.{tightened}
 use Rattle.first_pass_lines.specs.Places.{Place, lines_at}
 use Rattle.first_pass_grammar.specs.declared.kind.Container.{Container}
+use Rattle.first_pass_grammar.specs.declared.kind.Container.TheVariants.{BlockQuote, ListItem, FootnoteDefinition, Definition}
 use Rattle.first_pass_grammar.specs.Leaves.{Document, document}
 use Rattle.first_pass_grammar.specs.Names.{Names, Extends}
 use Rattle.first_pass_grammar.specs.Blocks.{Skeleton}
 use Rattle.first_pass_grammar.specs.Skeleton.{From, level, Left, Lines, onward, blanks_alone, end_before, IsSequence}
-use Rattle.first_pass_grammar.specs.Before.{Before, Last, LastOther, LastItem, last_container, after_container, before_end}
+use Rattle.first_pass_grammar.specs.Before.{Before, Last, LastOther, LastItem, LastDefinition, LastParagraph, after_container, before_end}
 use Rattle.first_pass_grammar.specs.Containers.{is_quote}
-use Rattle.first_pass_grammar.specs.Rows.{Rows, any_gap, is_loose, list_until, items_behind, list_behind, rows_of}
+use Rattle.first_pass_grammar.specs.Rows.{Joins, ItemsOf, DefinitionsTo, Definitions, definitions_first, Rows, any_gap, is_loose, list_until, items_behind, list_behind, rows_of}
 use Rattle.first_pass_grammar.specs.Derivation.{Tables, Derives, told_by, list_flags, items_of}
 
 -- the lines of a text from an offset on, which is a line's start
@@ -27,7 +28,21 @@ ended nodes place e = modify nodes place (λ x. record x { «end» = e })
 -- a list that is loose or isn't
 abbrev pub flagged : Bool → ItemBody → ItemBody
 flagged loose (ListBody flags byte number) = ListBody (list_flags (not loose)) byte number
+flagged loose (DefinitionList flags) = DefinitionList (list_flags (not loose))
 flagged loose body = body
+
+-- The nodes once the paragraph at a place is the title of a definition list: the list has its place, and what was below the paragraph is below the title.
+unfoldable pub with_title : List (ℕ × Item) → ℕ → List (ℕ × Item)
+with_title [] place = []
+with_title (n ∷ nodes) zero = (n.0, record n.1 { body = DefinitionList (list_flags true) }) ∷ (suc n.0, record n.1 { body = DefinitionListTitle }) ∷ map deeper nodes
+with_title (n ∷ nodes) (suc place) = n ∷ with_title nodes place
+
+-- the nodes once a possible title at a place, which is last in a definition list, is a title; or a paragraph after that list
+unfoldable pub title_taken : List (ℕ × Item) → ℕ → List (ℕ × Item)
+title_taken nodes place = modify nodes place (λ x. record x { body = DefinitionListTitle })
+
+unfoldable pub title_left : List (ℕ × Item) → ℕ → List (ℕ × Item)
+title_left nodes place = map_from shallower place (modify nodes place (λ x. record x { body = ParagraphBody }))
 
 -- The nodes once the list at a place is closed, in whose items blocks have this depth: it has its end, is loose or isn't, and where it isn't its
 -- paragraphs are tight.
@@ -35,10 +50,20 @@ unfoldable pub list_closed : List (ℕ × Item) → ℕ → ℕ → Bool → ℕ
 list_closed nodes place depth loose e =
     modify (if loose then nodes else map_from (tightened depth) place nodes) place (λ x. record { start = x.start; «end» = e; body = flagged loose x.body })
 
--- a list that the next item may continue, the place of its node, its byte, and whether it is loose so far; or none
+-- the last child of what is innermost, as far as any rule asks: a paragraph at a place; a definition that ends at an offset, which takes blank lines alone or
+-- doesn't; a possible title at a place, after a definition that ends at an offset; another, or none
+pub data Closed : Type 0 where
+  OtherClosed : Closed
+  ParagraphAt : ℕ → Closed
+  DefinitionClosed : ℕ → Bool → Closed
+  TitleAt : ℕ → ℕ → Closed
+
+-- a list that may continue: the place of its node, what it continues with, and whether it is loose so far; a definition list with a possible title after its
+-- last definition: its node's place and the title's, where that definition ends, and whether it is loose so far; or none, with what is last
 pub data Pending : Type 0 where
-  NoList : Pending
-  OneList : ℕ → ℕ → Bool → Pending
+  NoList : Closed → Pending
+  OneList : ℕ → Joins → Bool → Pending
+  OneTitle : ℕ → ℕ → ℕ → Bool → Pending
 
 -- what stands so far: nodes, a list that may continue, what stands before the next block, and what is defined
 pub record Standing : Type 0 where
@@ -65,42 +90,104 @@ AreFurther d _ before from lines _ = ⊥
 abbrev pub rows_on : Bool → Standing → Further → Rows
 rows_on quoted w f = rows_of quoted w.before f.«end» f.blocks
 
+-- the definitions among rows that what is last takes in as its own: those that are first, after a paragraph
+abbrev pub taken_in : Closed → Rows → Option Definitions
+taken_in OtherClosed rows = None
+taken_in (ParagraphAt place) rows = definitions_first rows
+taken_in (DefinitionClosed e blanks) rows = None
+taken_in (TitleAt e place) rows = None
+
+-- definitions that stand directly after their title, and no link definitions between
+abbrev pub not_apart : Option Definitions → Option Definitions
+not_apart None = None
+not_apart (Some ds) = if ds.apart then None else Some ds
+
+-- the rows beside definitions that are taken in; or all
+abbrev pub beside_or : Option Definitions → Rows → Rows
+beside_or None rows = rows
+beside_or (Some ds) rows = ds.beside
+
 -- of such rows those that are not the list's that may continue
 abbrev pub rows_beyond : Pending → Rows → Rows
-rows_beyond NoList rows = rows
-rows_beyond (OneList place byte loose) rows = list_behind byte rows
+rows_beyond (NoList closed) rows = beside_or (taken_in closed rows) rows
+rows_beyond (OneList place joins loose) rows = list_behind joins rows
+rows_beyond (OneTitle place title e loose) rows = beside_or (definitions_first rows) rows
 
--- The nodes, and after them these rows, whose blocks have this depth, in a container that ends at an offset. A list that may continue takes the items among
--- them that continue it, and is loose where it was or where they make it so; what is after it stands beside it (CommonMark 5.3).
+-- the nodes, a list among them at a place closed with these rows as its further children and these beside it, where blocks have this depth
+abbrev pub closed_with : ℕ → List (ℕ × Item) → ℕ → Bool → Definitions → List (ℕ × Item)
+closed_with depth nodes place loose ds =
+    list_closed nodes place (suc (suc depth)) loose ds.«end» ++ (items_of (suc depth) (not loose) ds.items ++ items_of depth false ds.beside)
+
+-- the nodes, and these rows after them, of which the definitions that are first are the paragraph's at a place, if there are any
+abbrev pub after_paragraph : ℕ → List (ℕ × Item) → ℕ → Option Definitions → Rows → List (ℕ × Item)
+after_paragraph depth nodes place None rows = nodes ++ items_of depth false rows
+after_paragraph depth nodes place (Some ds) rows = closed_with depth (with_title nodes place) place (is_loose ds.items) ds
+
+abbrev pub after_closed : ℕ → List (ℕ × Item) → Closed → Rows → List (ℕ × Item)
+after_closed depth nodes OtherClosed rows = nodes ++ items_of depth false rows
+after_closed depth nodes (ParagraphAt place) rows = after_paragraph depth nodes place (definitions_first rows) rows
+after_closed depth nodes (DefinitionClosed e blanks) rows = nodes ++ items_of depth false rows
+after_closed depth nodes (TitleAt e place) rows = nodes ++ items_of depth false rows
+
+-- The same where the node at a second place is a possible title of the definition list at the first: it is the title of the definitions that are first,
+-- unless link definitions stand between; or a paragraph after that list, which ends with its last definition (this project).
+abbrev pub after_title : ℕ → List (ℕ × Item) → ℕ × ℕ × ℕ → Bool → Option Definitions → Rows → List (ℕ × Item)
+after_title depth nodes (place, title, e) loose (Some ds) rows = closed_with depth (title_taken nodes title) place (loose || is_loose ds.items) ds
+after_title depth nodes (place, title, e) loose None rows =
+    after_paragraph depth (title_left (list_closed nodes place (suc (suc depth)) loose e) title) title (definitions_first rows) rows
+
+-- The nodes, and after them these rows, whose blocks have this depth, in a container that ends at an offset. A list that may continue takes those among
+-- them that continue it, and is loose where it was or where they make it so; what is after it stands beside it (CommonMark 5.3, and this project).
 unfoldable pub rendered : ℕ → ℕ → List (ℕ × Item) → Pending → Rows → List (ℕ × Item)
-rendered depth last nodes NoList rows = nodes ++ items_of depth false rows
-rendered depth last nodes (OneList place byte loose) rows =
-    let now : Bool = loose || is_loose (items_behind byte rows) in
-    list_closed nodes place (suc (suc depth)) now (list_until byte last rows)
-    ++ (items_of (suc depth) (not now) (items_behind byte rows) ++ items_of depth false (list_behind byte rows))
+rendered depth last nodes (NoList closed) rows = after_closed depth nodes closed rows
+rendered depth last nodes (OneList place joins loose) rows =
+    let now : Bool = loose || is_loose (items_behind joins rows) in
+    list_closed nodes place (suc (suc depth)) now (list_until joins last rows)
+    ++ (items_of (suc depth) (not now) (items_behind joins rows) ++ items_of depth false (list_behind joins rows))
+rendered depth last nodes (OneTitle place title e loose) rows =
+    after_title depth nodes (place, title, e) loose (not_apart (definitions_first rows)) rows
 
--- an open node: a container, or a list with its byte and whether it is loose so far
+-- an open node: a container; a list with its byte and whether it is loose so far; or a definition list that is loose so far or isn't
 pub data Frame : Type 0 where
   InContainer : Container → Frame
   InList : ℕ → Bool → Frame
+  InDefinitions : Bool → Frame
 
 -- the containers alone, of open nodes from the innermost on
 abbrev pub containers_of : List Frame → List Container
 containers_of [] = []
 containers_of (InContainer c ∷ frames) = c ∷ containers_of frames
 containers_of (InList byte loose ∷ frames) = containers_of frames
+containers_of (InDefinitions loose ∷ frames) = containers_of frames
 
 -- A block with a blank line before it makes the list loose in whose item it stands.
 abbrev pub loosened : Bool → List Frame → List Frame
 loosened gap [] = []
 loosened gap (InContainer c ∷ frames) = InContainer c ∷ frames
 loosened gap (InList byte loose ∷ frames) = InList byte (loose || gap) ∷ frames
+loosened gap (InDefinitions loose ∷ frames) = InDefinitions (loose || gap) ∷ frames
+
+-- what is last once a container is closed that ends at an offset
+abbrev pub closed_as : Container → ℕ → Closed
+closed_as (BlockQuote kind) e = OtherClosed
+closed_as (ListItem columns) e = OtherClosed
+closed_as (FootnoteDefinition columns) e = OtherClosed
+closed_as (Definition columns) e = DefinitionClosed e (columns == 0)
+
+-- a definition list, open at a place, with what is last in it
+abbrev pub definitions_open : ℕ → Bool → Pending → Pending
+definitions_open place loose (NoList OtherClosed) = NoList OtherClosed
+definitions_open place loose (NoList (ParagraphAt at)) = NoList OtherClosed
+definitions_open place loose (NoList (DefinitionClosed e blanks)) = OneList place (DefinitionsTo e) loose
+definitions_open place loose (NoList (TitleAt e at)) = OneTitle place at e loose
+definitions_open place loose (OneList at joins l) = NoList OtherClosed
+definitions_open place loose (OneTitle at title e l) = NoList OtherClosed
 
 -- what stands once a container, whose node is at a place, is closed after these rows: those of what it took further
 abbrev pub container_closed : Container → ℕ → ℕ → Standing → Further → Rows → Standing
 container_closed c depth place w f rows = record {
   nodes = ended (rendered depth f.«end» w.nodes w.list rows) place f.«end»;
-  list = NoList;
+  list = NoList (closed_as c f.«end»);
   before = after_container c (before_end (is_quote c) w.before f.blocks);
   defined = told_by w.defined f.blocks;
 }
@@ -110,7 +197,9 @@ container_closed c depth place w f rows = record {
 unfoldable pub Becomes : List Frame → List ℕ → Standing → List Further → List (ℕ × Item) → Tables → Type 0
 Becomes [] [] w (f ∷ []) forest tables = (forest ≡ rendered 1 f.«end» w.nodes w.list (rows_on false w f)) × (tables ≡ told_by w.defined f.blocks)
 Becomes (InList byte loose ∷ frames) (place ∷ places) w further forest tables =
-    Becomes frames places (record { nodes = w.nodes; list = OneList place byte loose; before = w.before; defined = w.defined }) further forest tables
+    Becomes frames places (record { nodes = w.nodes; list = OneList place (ItemsOf byte) loose; before = w.before; defined = w.defined }) further forest tables
+Becomes (InDefinitions loose ∷ frames) (place ∷ places) w further forest tables =
+    Becomes frames places (record { nodes = w.nodes; list = definitions_open place loose w.list; before = w.before; defined = w.defined }) further forest tables
 Becomes (InContainer c ∷ frames) (place ∷ places) w (f ∷ further) forest tables =
     let rows : Rows = rows_on (is_quote c) w f in
     Becomes (loosened (any_gap (rows_beyond w.list rows)) frames) places
@@ -127,18 +216,42 @@ abbrev pub IsPlain : List Frame → Type 0
 IsPlain [] = Unit {0}
 IsPlain (InContainer c ∷ frames) = Unit {0}
 IsPlain (InList byte loose ∷ frames) = ⊥
+IsPlain (InDefinitions loose ∷ frames) = ⊥
 
--- what is last in the innermost of open nodes: in a list an item
-abbrev pub last_of : List Frame → Last
-last_of [] = LastOther
-last_of (InContainer c ∷ frames) = LastOther
-last_of (InList byte loose ∷ frames) = LastItem
+abbrev pub last_plain : Closed → Last
+last_plain OtherClosed = LastOther
+last_plain (ParagraphAt place) = LastParagraph false
+last_plain (DefinitionClosed e blanks) = LastOther
+last_plain (TitleAt e place) = LastOther
 
--- a list stands in a container or at the top, and an item in a list, and nothing else does
+abbrev pub last_defined : Closed → Last
+last_defined OtherClosed = LastOther
+last_defined (ParagraphAt place) = LastOther
+last_defined (DefinitionClosed e blanks) = LastDefinition blanks
+last_defined (TitleAt e place) = LastParagraph true
+
+-- the kind of list that a container stands in, which is the innermost of these
+abbrev pub StandsIn : Container → List Frame → Type 0
+StandsIn (ListItem columns) (InList byte loose ∷ frames) = Unit {0}
+StandsIn (ListItem columns) _ = ⊥
+StandsIn (Definition columns) (InDefinitions loose ∷ frames) = Unit {0}
+StandsIn (Definition columns) _ = ⊥
+StandsIn c frames = IsPlain frames
+
+-- What is last in the innermost of open nodes, as far as the list that is open there and its last child say: in a list an item, in a definition list a
+-- definition or a possible title, elsewhere a paragraph or another block.
+abbrev pub last_of : List Frame → Closed → Last
+last_of [] closed = last_plain closed
+last_of (InContainer c ∷ frames) closed = last_plain closed
+last_of (InList byte loose ∷ frames) closed = LastItem
+last_of (InDefinitions loose ∷ frames) closed = last_defined closed
+
+-- a list stands in a container or at the top, and an item in a list, and a definition in a definition list, and nothing else does
 abbrev pub IsShaped : List Frame → Type 0
 IsShaped [] = Unit {0}
-IsShaped (InContainer c ∷ frames) = (last_container c ≡ last_of frames) × IsShaped frames
+IsShaped (InContainer c ∷ frames) = StandsIn c frames × IsShaped frames
 IsShaped (InList byte loose ∷ frames) = IsPlain frames × IsShaped frames
+IsShaped (InDefinitions loose ∷ frames) = IsPlain frames × IsShaped frames
 
 -- Of what stands the nodes at these places are not closed, and are what the frames say: whatever completes them from here on, the text derives.
 pub record Completes (d : Document) (frames : List Frame) (places : List ℕ) (w : Standing) (from : From) (lines : List Place) : Type 0 where

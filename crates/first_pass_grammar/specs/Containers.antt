@@ -1,5 +1,5 @@
 -- Which lines continue the containers that are open (CommonMark 5).
-use Rattle.std.specs.Prelude.{ℕ, nat_le, ◌==◌, Bool, true, false, ◌||◌, Option, Some, None, List, [], ◌∷◌, is_some, if◌then◌else◌}
+use Rattle.std.specs.Prelude.{ℕ, nat_le, ◌==◌, Bool, true, false, not, ◌||◌, ◌&&◌, Option, Some, None, List, [], ◌∷◌, is_some, if◌then◌else◌}
 use Rattle.std.specs.Option.{option_map, option_and_then}
 use Rattle.first_pass_items.specs.declared.option_set.Options.{Options}
 use Rattle.first_pass_items.specs.OptionWords.{gfm_footnotes}
@@ -7,7 +7,7 @@ use Rattle.first_pass_lines.specs.Lines.{at_line_end}
 use Rattle.first_pass_lines.specs.Rest.{Rest, indent, after_columns, past_quote}
 use Rattle.first_pass_lines.specs.Places.{Place}
 use Rattle.first_pass_grammar.specs.declared.kind.Container.{Container}
-use Rattle.first_pass_grammar.specs.declared.kind.Container.TheVariants.{BlockQuote, ListItem, FootnoteDefinition}
+use Rattle.first_pass_grammar.specs.declared.kind.Container.TheVariants.{BlockQuote, ListItem, FootnoteDefinition, Definition}
 
 -- what a line is read in: the options, and the path of containers that are open, the innermost first
 pub record Context : Type 0 where
@@ -32,11 +32,13 @@ footnote_columns options = if gfm_footnotes options then 4 else 0
 -- What is left of a line after the prefix by which it continues a container, or none where it doesn't:
 -- a block quote has up to three columns, `>` with no column owed before it, and one column if there is one (CommonMark 5.1);
 -- a list item has the columns of its indent, or fewer and then the end of the line (CommonMark 5.2);
--- a footnote definition has four columns so as GitHub has footnotes, and none in their old form (this project).
+-- a footnote definition has four columns where GitHub's form is asked for, and none in the old form (this project);
+-- a definition has the columns of its indent, or fewer and then the end of the line, as a list item has (this project).
 unfoldable pub prefix : Container → Rest → Option Rest
 prefix (BlockQuote kind) r = option_map (after_columns 1) (past_quote (after_columns 3 r))
 prefix (ListItem n) r = if has_columns n r then Some (after_columns n r) else None
 prefix (FootnoteDefinition n) r = if has_columns n r then Some (after_columns n r) else None
+prefix (Definition n) r = if has_columns n r then Some (after_columns n r) else None
 
 -- the same for a path of containers, the innermost first: each takes its prefix in turn
 unfoldable pub after : List Container → Rest → Option Rest
@@ -70,18 +72,33 @@ abbrev pub is_quote : Container → Bool
 is_quote (BlockQuote kind) = true
 is_quote (ListItem columns) = false
 is_quote (FootnoteDefinition columns) = false
+is_quote (Definition columns) = false
 
 -- a container is a footnote definition (this project)
 abbrev pub is_footnote : Container → Bool
 is_footnote (BlockQuote kind) = false
 is_footnote (ListItem columns) = false
 is_footnote (FootnoteDefinition columns) = true
+is_footnote (Definition columns) = false
 
 -- a container is a footnote definition in the old form, which takes no columns of its lines (this project)
 abbrev pub is_old_footnote : Container → Bool
 is_old_footnote (BlockQuote kind) = false
 is_old_footnote (ListItem columns) = false
 is_old_footnote (FootnoteDefinition columns) = columns == 0
+is_old_footnote (Definition columns) = false
+
+-- a container is a definition of a definition list (this project)
+abbrev pub is_definition : Container → Bool
+is_definition (BlockQuote kind) = false
+is_definition (ListItem columns) = false
+is_definition (FootnoteDefinition columns) = false
+is_definition (Definition columns) = true
+
+-- of a path, the outermost first, the first container that the line does not continue of which this is left is a definition (this project)
+unfoldable pub at_definition : List Container → Rest → Bool
+at_definition [] r = false
+at_definition (c ∷ path) r = if is_some (after path r) then is_definition c && not (is_some (after (c ∷ path) r)) else at_definition path r
 
 -- the innermost container of a path is a block quote, a footnote definition, or one in the old form
 abbrev pub in_quote : List Container → Bool

@@ -3,7 +3,8 @@ use Rattle.std.specs.Prelude.{◌≡◌, ℕ, suc, not, Bool, false, List, [], �
 use Rattle.first_pass_items.specs.declared.item.Item.{Item}
 use Rattle.first_pass_items.specs.declared.item.ItemBody.{ItemBody}
 use Rattle.first_pass_items.specs.declared.item.ItemBody.TheVariants.{Root, BlockQuote as BlockQuoteBody, List as ListBody, ListItem as ListItemBody}
-use Rattle.first_pass_items.specs.declared.item.ItemBody.TheVariants.{FootnoteDefinition as FootnoteDefinitionBody}
+use Rattle.first_pass_items.specs.declared.item.ItemBody.TheVariants.{FootnoteDefinition as FootnoteDefinitionBody, DefinitionList, DefinitionListTitle}
+use Rattle.first_pass_items.specs.declared.item.ItemBody.TheVariants.{DefinitionListDefinition}
 use Rattle.first_pass_items.specs.declared.item.ListFlags.{ListFlags}
 use Rattle.first_pass_tree.specs.Forest.{at_depth}
 use Rattle.first_pass_tree.specs.Tight.{tightened}
@@ -13,7 +14,8 @@ use Rattle.first_pass_grammar.specs.LinkTables.{LinkEntry, with_links, with_labe
 use Rattle.first_pass_grammar.specs.Blocks.{BlankLine, Block, LeafBlock, label_of, Skeleton, Nil, Then, Node}
 use Rattle.first_pass_grammar.specs.Skeleton.{Line, level, Lines, IsSequence}
 use Rattle.first_pass_grammar.specs.Before.{nothing}
-use Rattle.first_pass_grammar.specs.Rows.{What, ALeaf, AQuote, AList, AnItem, AFootnote, Rows, End, OneOf, is_loose, rows_of}
+use Rattle.first_pass_grammar.specs.Rows.{What, ALeaf, AQuote, AList, AnItem, AFootnote, ADefinitionList, ATitle, ADefinition, Rows, End, OneOf, is_loose}
+use Rattle.first_pass_grammar.specs.Rows.{rows_of}
 
 abbrev pub node_of : ℕ → ℕ → ItemBody → Item
 node_of start «end» body = record { start = start; «end» = «end»; body = body }
@@ -26,6 +28,11 @@ list_flags tight = record { 0 = if tight then 1 else 0 }
 abbrev pub block_items : ℕ → Bool → LeafBlock → List (ℕ × Item)
 block_items depth tight block = if tight then map (tightened depth) (at_depth depth block.items) else at_depth depth block.items
 
+-- the items of a paragraph that is the title of a definition list (this project)
+abbrev pub as_title : List (ℕ × Item) → List (ℕ × Item)
+as_title [] = []
+as_title (x ∷ items) = (x.0, record x.1 { body = DefinitionListTitle }) ∷ items
+
 -- the items of a row at a depth, directly in an item of a tight list or not: of a list that is loose or not
 abbrev pub row_items : ℕ → Bool → Bool → ℕ → What → List (ℕ × Item)
 row_items depth tight loose start (ALeaf block) = block_items depth tight block
@@ -33,14 +40,20 @@ row_items depth tight loose start (AQuote kind e) = (depth, node_of start e (Blo
 row_items depth tight loose start (AList byte number e) = (depth, node_of start e (ListBody (list_flags (not loose)) byte number)) ∷ []
 row_items depth tight loose start (AnItem columns e) = (depth, node_of start e (ListItemBody columns)) ∷ []
 row_items depth tight loose start (AFootnote index e) = (depth, node_of start e (FootnoteDefinitionBody index)) ∷ []
+row_items depth tight loose start (ADefinitionList t e) = (depth, node_of start e (DefinitionList (list_flags (not loose)))) ∷ []
+row_items depth tight loose start (ATitle block) = at_depth depth (as_title block.items)
+row_items depth tight loose start (ADefinition columns e) = (depth, node_of start e (DefinitionListDefinition columns)) ∷ []
 
--- What stands in a row is directly in an item of a tight list: in an item of such a list, or such a list's items.
+-- What stands in a row is directly in an item or a definition of a tight list: in an item of such a list, or such a list's items.
 abbrev pub tight_in : Bool → Bool → What → Bool
 tight_in tight loose (ALeaf block) = false
 tight_in tight loose (AQuote kind e) = false
 tight_in tight loose (AList byte number e) = not loose
 tight_in tight loose (AnItem columns e) = tight
 tight_in tight loose (AFootnote index e) = false
+tight_in tight loose (ADefinitionList t e) = not loose
+tight_in tight loose (ATitle block) = false
+tight_in tight loose (ADefinition columns e) = tight
 
 -- The items of rows in reading order, each with its depth, of which the rows have this one, directly in an item of a tight list or not (CommonMark 5.3).
 unfoldable pub items_of : ℕ → Bool → Rows → List (ℕ × Item)

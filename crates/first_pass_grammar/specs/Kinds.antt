@@ -2,18 +2,18 @@
 use Rattle.std.specs.Prelude.{◌≡◌, ◌⊎◌, ℕ, ◌==◌, ◌&&◌, ◌||◌, not, Bool, false, List, drop, Option, Some, None, nat_lt, is_some, if◌then◌else◌}
 use Rattle.first_pass_items.specs.declared.item.HeadingLevel.{HeadingLevel}
 use Rattle.first_pass_items.specs.declared.option_set.Options.{Options}
-use Rattle.first_pass_items.specs.OptionWords.{has, footnotes, yaml_style_metadata_blocks, pluses_delimited_metadata_blocks}
+use Rattle.first_pass_items.specs.OptionWords.{has, footnotes, definition_list, yaml_style_metadata_blocks, pluses_delimited_metadata_blocks}
 use Rattle.first_pass_html.specs.Starts.{html_end, begins_block_tag}
 use Rattle.first_pass_html.specs.Tags.{BeginsTagLine}
-use Rattle.first_pass_items.specs.Bytes.{less_than, greater_than}
+use Rattle.first_pass_items.specs.Bytes.{less_than, greater_than, colon}
 use Rattle.first_pass_lines.specs.Lines.{at_line_end, begins, blank_len, atx_level}
 use Rattle.first_pass_scan.specs.LeafLines.{hrule_len, code_fence, setext_underline}
 use Rattle.first_pass_metadata.specs.Metadata.{metadata_byte}
 use Rattle.first_pass_lines.specs.Rest.{Rest, indent, after_columns}
 use Rattle.first_pass_links.specs.Footnotes.{footnote_head}
 use Rattle.first_pass_lines.specs.Places.{Place, offset, moved_columns}
-use Rattle.first_pass_scan.specs.Markers.{is_bullet, listitem, item_of}
-use Rattle.first_pass_grammar.specs.Containers.{Context, at_rest, after, front}
+use Rattle.first_pass_scan.specs.Markers.{is_bullet, listitem, item_of, definition_of}
+use Rattle.first_pass_grammar.specs.Containers.{Context, at_rest, after, front, at_definition}
 use Rattle.first_pass_grammar.specs.TableHeads.{table_interrupts}
 use Rattle.first_pass_grammar.specs.declared.kind.Container.{Container}
 
@@ -115,6 +115,10 @@ quote_start p = offset (moved_columns 3 p)
 unfoldable pub item_at : Rest → Option ((ℕ × ℕ × ℕ) × Rest)
 item_at r = if nat_lt (indent r) 4 then item_of (indent r) (all_taken r) else None
 
+-- the definition that begins here at under four columns: its indent, and what is left of its line (this project)
+unfoldable pub definition_marker_at : Rest → Option (ℕ × Rest)
+definition_marker_at r = if nat_lt (indent r) 4 then definition_of (indent r) (all_taken r) else None
+
 -- A list item interrupts a paragraph where its line doesn't continue all containers, or where its marker is a bullet or has the number 1 and
 -- its rest isn't blank (CommonMark 5.2, 5.3).
 abbrev pub item_interrupts : Bool → List ℕ → Option (ℕ × ℕ × ℕ × ℕ) → Bool
@@ -133,17 +137,31 @@ interrupts_with whole bs =
 abbrev pub footnote_interrupts : Options → Bool → List ℕ → Bool
 footnote_interrupts options in_table bs = has options footnotes && is_some (footnote_head (λ further. None) in_table bs)
 
--- the same, or a footnote definition (this project), or a table (GFM 4.10)
-abbrev pub interrupts_in : Context → Bool → List ℕ → Bool
-interrupts_in around whole bs = interrupts_with whole bs || (footnote_interrupts around.options false bs || table_interrupts around bs)
+-- A `:` ends whatever is read before it, where the first container that its line doesn't continue is a definition (this project).
+abbrev pub definition_interrupts : Options → Bool → List ℕ → Bool
+definition_interrupts options at_definition bs = at_definition && (has options definition_list && begins colon bs)
+
+-- how a line continues the containers of a path: all of them; or not, and whether the first that it doesn't continue is a definition (this project)
+pub record Continued : Type 0 where
+  pub whole : Bool
+  pub at_definition : Bool
+
+abbrev pub continued : List Container → Rest → Continued
+continued path r = record { whole = is_some (after path r); at_definition = at_definition path r }
+
+-- the same, or a footnote definition or a definition (this project), or a table (GFM 4.10)
+abbrev pub interrupts_in : Context → Continued → List ℕ → Bool
+interrupts_in around c bs =
+    interrupts_with c.whole bs
+    || (footnote_interrupts around.options false bs || (definition_interrupts around.options c.at_definition bs || table_interrupts around bs))
 
 -- A line ends a paragraph before it where its text interrupts the paragraph; at four columns or more only where nothing but spaces and tabs is left.
-unfoldable pub interrupts : Context → Bool → Rest → Bool
-interrupts around whole r = if nat_lt (indent r) 4 then interrupts_in around whole (all_taken r).left else at_line_end (all_taken r).left
+unfoldable pub interrupts : Context → Continued → Rest → Bool
+interrupts around c r = if nat_lt (indent r) 4 then interrupts_in around c (all_taken r).left else at_line_end (all_taken r).left
 
 -- the line of which this is left ends a paragraph in the containers of a path (CommonMark 4.8, and 5.1 on lazy continuation lines)
 abbrev pub ends_paragraph : Context → Rest → Bool
-ends_paragraph around r = interrupts around (is_some (after around.path r)) (front around.path r)
+ends_paragraph around r = interrupts around (continued around.path r) (front around.path r)
 
 -- the underline of a setext heading that is left of a line, at under four columns: how many bytes it has, its end too, and the level (CommonMark 4.3)
 abbrev pub underline_left : Rest → Option (ℕ × HeadingLevel)
@@ -153,9 +171,16 @@ underline_left r = if nat_lt (indent r) 4 then setext_underline (all_taken r).le
 unfoldable pub underline_of : List Container → Rest → Option (ℕ × HeadingLevel)
 underline_of path r = if is_some (after path r) then underline_left (front path r) else None
 
--- the line of which this is left ends a text before it: it is an underline, or ends a paragraph (CommonMark 4.3, 4.8)
+-- A `:` at under four columns ends a text in a line that continues all containers: no row of a table, no link definition, no line after a tag (this
+-- project).
+abbrev pub colon_ends : Context → Rest → Bool
+colon_ends around r =
+    has around.options definition_list
+    && (is_some (after around.path r) && (nat_lt (indent (front around.path r)) 4 && begins colon (all_taken (front around.path r)).left))
+
+-- the line of which this is left ends a text before it: it is an underline, or ends a paragraph (CommonMark 4.3, 4.8), or a `:` ends the text (this project)
 abbrev pub ends_text : Context → Rest → Bool
-ends_text around r = is_some (underline_of around.path r) || ends_paragraph around r
+ends_text around r = is_some (underline_of around.path r) || (ends_paragraph around r || colon_ends around r)
 
 -- After the tag of a block quote, the line of which this is left is read as any other where, at under four columns, it would end a paragraph. Else it
 -- belongs to the quote, whatever containers of the path it continues (this project).

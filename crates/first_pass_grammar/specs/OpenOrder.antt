@@ -20,17 +20,17 @@ AreAt root [] (ix ∷ spine) = ⊥
 AreAt root (level ∷ levels) [] = ⊥
 AreAt root (level ∷ levels) (ix ∷ spine) = (ix.0 ≡ length (laid_open root levels level.0)) × AreAt root levels spine
 
--- the innermost open node is a list item
-abbrev pub open_item : List (Row × Extent) → Bool
-open_item [] = false
-open_item (level ∷ levels) = level.1.item
+-- where what is added to the innermost open node stands: in a list item, or elsewhere
+abbrev pub open_within : List (Row × Extent) → Within
+open_within [] = Elsewhere
+open_within (level ∷ levels) = if level.1.item then InItem else Elsewhere
 
 -- in each open node what is below it lies after its start and in order, up to the next open one or to an offset; before an open node stands what is up to
 -- its start
 unfoldable pub FitsOpen : List ℕ → ℕ → List (Row × Extent) → Row → Type 0
 FitsOpen text to [] row = Fits text Elsewhere 0 to row
 FitsOpen text to (level ∷ levels) row =
-    (before : ℕ) × (before ≤ level.1.start) × Fits text (below (open_item levels) before level.1) level.1.start to row × IsCharBoundary text level.1.start
+    (before : ℕ) × (before ≤ level.1.start) × Fits text (below (open_within levels) before level.1) level.1.start to row × IsCharBoundary text level.1.start
     × FitsOpen text before levels level.0
 
 -- where what is added to a tree stands: in a list item, or elsewhere

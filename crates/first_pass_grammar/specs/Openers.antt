@@ -10,9 +10,9 @@ use Rattle.first_pass_lines.specs.Rest.{Rest}
 use Rattle.first_pass_lines.specs.Places.{Place, place_at, offset}
 use Rattle.first_pass_scan.specs.Markers.{task_of, past_tag}
 use Rattle.first_pass_grammar.specs.declared.kind.Container.TheVariants.{BlockQuote}
-use Rattle.first_pass_grammar.specs.Blocks.{QuoteMarker, ItemMarker, Head}
+use Rattle.first_pass_grammar.specs.Blocks.{QuoteMarker, ItemMarker, DefinitionMarker, Head}
 use Rattle.first_pass_grammar.specs.Containers.{prefix}
-use Rattle.first_pass_grammar.specs.Kinds.{is_blank_rest, quote_start, item_at}
+use Rattle.first_pass_grammar.specs.Kinds.{is_blank_rest, quote_start, item_at, definition_marker_at}
 
 -- What stands after a container's marker on its line: blocks; the text of a task, after the task's marker; nothing, or such a marker alone; or the tag of a
 -- block quote (CommonMark 5.2, GFM 5.3, GitHub's alerts).
@@ -70,8 +70,21 @@ after_quote (Some kind) = TagAlone
 abbrev pub quote_begun : Place → Option BlockQuoteKind → Rest → Start
 quote_begun p kind r = record { head = quote_head p kind; after = after_quote kind; rest = r }
 
--- what begins at a place where no footnote definition does: a list item where one does, else a block quote where one does (CommonMark 5.1, 5.2)
-unfoldable pub start_at : Options → Place → Option Start
-start_at options p =
+-- a definition starts where the reading of its line had come before its indentation, as a list item does (this project)
+abbrev pub definition_head : Place → ℕ → Head
+definition_head p columns = record { opener = DefinitionMarker columns; line = p.line; start = offset p }
+
+-- the definition with this indent
+abbrev pub definition_start : Place → ℕ × Rest → Start
+definition_start p (columns, r) = record { head = definition_head p columns; after = after_item None r; rest = r }
+
+-- the definition that begins at a place, where one may (this project)
+abbrev pub definition_at : Bool → Place → Option Start
+definition_at may p = option_map (definition_start p) (if may then definition_marker_at p.rest else None)
+
+-- what begins at a place where no footnote definition does: a list item where one does (CommonMark 5.2), else a definition where one may and does (this
+-- project), else a block quote where one does (CommonMark 5.1)
+unfoldable pub start_at : Options → Bool → Place → Option Start
+start_at options may_define p =
     option_or (option_map (λ item. item_start p item.0 (task_behind options p.line item.1)) (item_at p.rest))
-    (option_map (λ r. quote_begun p (tag_behind options r) r) (prefix (BlockQuote None) p.rest))
+    (option_or (definition_at may_define p) (option_map (λ r. quote_begun p (tag_behind options r) r) (prefix (BlockQuote None) p.rest)))

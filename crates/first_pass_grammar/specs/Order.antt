@@ -1,23 +1,27 @@
 -- Order: which ranges lie in one another, and which after one another (this project).
-use Rattle.std.specs.Prelude.{◌≡◌, ◌⊎◌, ℕ, suc, ◌+◌, ◌-◌, ◌*◌, ◌<◌, ◌≤◌, ◌&&◌, Bool, true, false, List, [], ◌∷◌, ◌++◌, length, map, IsCharBoundary}
+use Rattle.std.specs.Prelude.{◌≡◌, ◌⊎◌, ℕ, suc, ◌+◌, ◌-◌, ◌*◌, ◌<◌, ◌≤◌, Bool, true, false, List, [], ◌∷◌, ◌++◌, length, map, IsCharBoundary}
 use Rattle.std.specs.Prelude.{if◌then◌else◌}
 use Rattle.first_pass_items.specs.declared.item.Item.{Item}
 use Rattle.first_pass_items.specs.declared.item.ItemBody.{ItemBody}
-use Rattle.first_pass_items.specs.declared.item.ItemBody.TheVariants.{Paragraph, TightParagraph, Heading, TaskListMarker, ListItem}
+use Rattle.first_pass_items.specs.declared.item.ItemBody.TheVariants.{Paragraph, TightParagraph, Heading, TaskListMarker, ListItem, DefinitionList, DefinitionListTitle}
+use Rattle.first_pass_items.specs.declared.item.ItemBody.TheVariants.{MaybeDefinitionListTitle}
 use Rattle.first_pass_grammar.specs.Counting.{own_nodes}
 
--- the range of a node, and whether it is a paragraph or a heading, the marker of a task list item, or a list item
+-- the range of a node, and whether it is a paragraph, a heading or a title, the marker of a task list item, a list item, or a definition list
 pub record Extent : Type 0 where
   pub start : ℕ
   pub «end» : ℕ
   pub text_block : Bool
   pub marker : Bool
   pub item : Bool
+  pub definitions : Bool
 
 abbrev pub is_text_block : ItemBody → Bool
 is_text_block Paragraph = true
 is_text_block TightParagraph = true
 is_text_block (Heading level ix) = true
+is_text_block DefinitionListTitle = true
+is_text_block MaybeDefinitionListTitle = true
 is_text_block _ = false
 
 abbrev pub is_task_marker : ItemBody → Bool
@@ -28,8 +32,19 @@ abbrev pub is_list_item : ItemBody → Bool
 is_list_item (ListItem columns) = true
 is_list_item _ = false
 
+abbrev pub is_definition_list : ItemBody → Bool
+is_definition_list (DefinitionList flags) = true
+is_definition_list _ = false
+
 abbrev pub extent_of : Item → Extent
-extent_of x = record { start = x.start; «end» = x.«end»; text_block = is_text_block x.body; marker = is_task_marker x.body; item = is_list_item x.body }
+extent_of x = record {
+  start = x.start;
+  «end» = x.«end»;
+  text_block = is_text_block x.body;
+  marker = is_task_marker x.body;
+  item = is_list_item x.body;
+  definitions = is_definition_list x.body;
+}
 
 -- the extents of nodes, each with its depth
 abbrev pub extents : List (ℕ × Item) → List (ℕ × Extent)
@@ -53,32 +68,33 @@ pub record IsBetween (text : List ℕ) (from to : ℕ) (x : Extent) : Type 0 whe
   pub starts : IsCharBoundary text x.start
   pub ends : IsCharBoundary text x.«end»
 
--- where a row stands: directly in a list item; directly in a paragraph or a heading of one, before whose start the marker of a task may stand, from an offset
--- on; or elsewhere (GFM 5.3, and this project)
+-- where a row stands: directly in a list item; directly in a paragraph or a heading of one, or in the title of a definition list that is first in one, before
+-- whose start the marker of a task may stand, from an offset on; first in such a list; or elsewhere (GFM 5.3, and this project)
 pub data Within : Type 0 where
   Elsewhere : Within
   InItem : Within
   InText : ℕ → Within
+  InFirst : ℕ → Within
 
-abbrev pub in_item : Within → Bool
-in_item Elsewhere = false
-in_item InItem = true
-in_item (InText before) = false
-
--- what is directly in a node, which stands directly in a list item or not, after an offset
-abbrev pub below : Bool → ℕ → Extent → Within
-below inside from x = if x.item then InItem else (if inside && x.text_block then InText from else Elsewhere)
+-- what is directly in a node that stands so, after an offset
+abbrev pub below : Within → ℕ → Extent → Within
+below Elsewhere from x = if x.item then InItem else Elsewhere
+below InItem from x = if x.item then InItem else (if x.text_block then InText from else (if x.definitions then InFirst from else Elsewhere))
+below (InText before) from x = if x.item then InItem else Elsewhere
+below (InFirst before) from x = if x.item then InItem else (if x.text_block then InText before else Elsewhere)
 
 -- what stands in the same node after another
 abbrev pub beyond : Within → Within
 beyond Elsewhere = Elsewhere
 beyond InItem = InItem
 beyond (InText before) = Elsewhere
+beyond (InFirst before) = Elsewhere
 
 -- the marker of a task, first in its paragraph or heading
 abbrev pub IsLead : List ℕ → Within → ℕ → Extent → Type 0
 IsLead text Elsewhere from x = ⊥
 IsLead text InItem from x = ⊥
+IsLead text (InFirst before) from x = ⊥
 IsLead text (InText before) from x = (x.marker ≡ true) × IsBetween text before from x
 
 -- The nodes of a row, which stands so, lie between two offsets, one after the other, and what is below each lies within it. Only the marker of a task that
@@ -87,7 +103,7 @@ IsLead text (InText before) from x = (x.marker ≡ true) × IsBetween text befor
 unfoldable pub Fits : List ℕ → Within → ℕ → ℕ → Row → Type 0
 Fits text within from to Empty = from ≤ to
 Fits text within from to (Node x kids next) =
-    (IsBetween text from to x × Fits text (below (in_item within) from x) x.start x.«end» kids × Fits text (beyond within) x.«end» to next)
+    (IsBetween text from to x × Fits text (below within from x) x.start x.«end» kids × Fits text (beyond within) x.«end» to next)
     ⊎ (IsLead text within from x × Fits text Elsewhere x.start x.«end» kids × Fits text Elsewhere from to next)
 
 -- The items of a block, which stands so, each with its depth below it, lie between two offsets in order. Where these are apart, there are at most four

@@ -1,21 +1,32 @@
 -- Rows: what stands side by side in a container once items that follow each other are lists (CommonMark 5.2, 5.3).
-use Rattle.std.specs.Prelude.{ℕ, ◌==◌, ◌||◌, Bool, true, false, Option, if◌then◌else◌}
+use Rattle.std.specs.Prelude.{ℕ, ◌==◌, ◌&&◌, ◌||◌, not, Bool, true, false, Option, Some, None, if◌then◌else◌}
+use Rattle.std.specs.Option.{option_map, option_map_or}
 use Rattle.first_pass_items.specs.declared.item.CowIndex.{CowIndex}
 use Rattle.first_pass_items.specs.declared.item.BlockQuoteKind.{BlockQuoteKind}
 use Rattle.first_pass_grammar.specs.Kinds.{Kind, Paragraph}
-use Rattle.first_pass_grammar.specs.Blocks.{LeafBlock, BlankLine, Block, Opener, QuoteMarker, ItemMarker, FootnoteMarker, Head, opened, Skeleton, Nil, Then}
-use Rattle.first_pass_grammar.specs.Blocks.{Node}
-use Rattle.first_pass_grammar.specs.Before.{Before, nothing, after_blank, after_block, after_container, before_end}
+use Rattle.first_pass_grammar.specs.Blocks.{LeafBlock, BlankLine, Block, Opener, QuoteMarker, ItemMarker, FootnoteMarker, DefinitionMarker, Head, opened}
+use Rattle.first_pass_grammar.specs.Blocks.{Skeleton, Nil, Then, Node}
+use Rattle.first_pass_grammar.specs.Before.{Before, nothing, is_after_definition, begins_paragraph, is_run, after_blank, after_block, after_container, before_end}
 use Rattle.first_pass_grammar.specs.Containers.{is_quote}
 
--- what a row is: a leaf block; or a block quote of a kind or none, a list with its byte and number, an item of one with its indent, or a footnote definition
--- with the index of its label, each with its end
+-- A definition list that is read without its title so far; with it; or with it, where link definitions stand between the title and the first definition:
+-- such a list begins anew, whatever is before its title (this project).
+pub data Titled : Type 0 where
+  Untitled : Titled
+  WithTitle : Titled
+  Apart : Titled
+
+-- what a row is: a leaf block; a block quote of a kind or none, a list with its byte and number, an item of one with its indent, or a footnote definition
+-- with the index of its label, each with its end; or a definition list with its end, a title in it, or a definition in it, with its indent and its end
 pub data What : Type 0 where
   ALeaf : LeafBlock → What
   AQuote : Option BlockQuoteKind → ℕ → What
   AList : ℕ → ℕ → ℕ → What
   AnItem : ℕ → ℕ → What
   AFootnote : CowIndex → ℕ → What
+  ADefinitionList : Titled → ℕ → What
+  ATitle : LeafBlock → What
+  ADefinition : ℕ → ℕ → What
 
 -- A row: what it is, where its line starts and where it starts itself, and whether it has a gap before it: the run of blank lines directly before it
 -- holds one that counts (CommonMark 5.3).
@@ -51,21 +62,62 @@ is_paragraph Paragraph = true
 is_paragraph _ = false
 
 -- Where a list ends that stands before what starts at an offset, in a line that starts at another: at the first byte of a text, or at the start of an
--- item of another list or of a footnote definition, else at the start of the line (this project).
+-- item of another list, of a footnote definition or of a definition list, else at the start of the line (this project).
 abbrev pub closing_place : What → ℕ → ℕ → ℕ
 closing_place (ALeaf block) line start = if is_paragraph block.kind then start else line
 closing_place (AQuote kind e) line start = line
 closing_place (AList byte number e) line start = start
 closing_place (AnItem columns e) line start = start
 closing_place (AFootnote index e) line start = start
+closing_place (ADefinitionList t e) line start = start
+closing_place (ATitle block) line start = start
+closing_place (ADefinition columns e) line start = start
 
--- a list that an item continues which has this byte (CommonMark 5.3)
-abbrev pub is_list_of : ℕ → What → Bool
-is_list_of byte (ALeaf block) = false
-is_list_of byte (AQuote kind e) = false
-is_list_of byte (AList list number e) = byte == list
-is_list_of byte (AnItem columns e) = false
-is_list_of byte (AFootnote index e) = false
+-- what a list continues with: items with a byte (CommonMark 5.3), or definitions, after one that ends at an offset (this project)
+pub data Joins : Type 0 where
+  ItemsOf : ℕ → Joins
+  DefinitionsTo : ℕ → Joins
+
+abbrev pub is_apart : Titled → Bool
+is_apart Untitled = false
+is_apart WithTitle = false
+is_apart Apart = true
+
+-- a list that continues with these; a definition list whose title stands apart continues none
+abbrev pub is_list_of : Joins → What → Bool
+is_list_of (ItemsOf byte) (ALeaf block) = false
+is_list_of (ItemsOf byte) (AQuote kind e) = false
+is_list_of (ItemsOf byte) (AList list number e) = byte == list
+is_list_of (ItemsOf byte) (AnItem columns e) = false
+is_list_of (ItemsOf byte) (AFootnote index e) = false
+is_list_of (ItemsOf byte) (ADefinitionList t e) = false
+is_list_of (ItemsOf byte) (ATitle block) = false
+is_list_of (ItemsOf byte) (ADefinition columns e) = false
+is_list_of (DefinitionsTo until) (ALeaf block) = false
+is_list_of (DefinitionsTo until) (AQuote kind e) = false
+is_list_of (DefinitionsTo until) (AList list number e) = false
+is_list_of (DefinitionsTo until) (AnItem columns e) = false
+is_list_of (DefinitionsTo until) (AFootnote index e) = false
+is_list_of (DefinitionsTo until) (ADefinitionList t e) = not (is_apart t)
+is_list_of (DefinitionsTo until) (ATitle block) = false
+is_list_of (DefinitionsTo until) (ADefinition columns e) = false
+
+-- What might have been the next title of a definition list before it, since it was read as a paragraph: that list ends with its last definition (this
+-- project).
+abbrev pub was_possible_title : What → Bool
+was_possible_title (ALeaf block) = is_paragraph block.kind
+was_possible_title (AQuote kind e) = false
+was_possible_title (AList byte number e) = false
+was_possible_title (AnItem columns e) = false
+was_possible_title (AFootnote index e) = false
+was_possible_title (ADefinitionList t e) = true
+was_possible_title (ATitle block) = false
+was_possible_title (ADefinition columns e) = false
+
+-- where a list ends before a row that is not its own (this project)
+abbrev pub ends_at : Joins → Row → ℕ
+ends_at (ItemsOf byte) row = closing_place row.what row.line row.start
+ends_at (DefinitionsTo until) row = if was_possible_title row.what then until else closing_place row.what row.line row.start
 
 -- where what has rows in it ends
 abbrev pub end_of : What → ℕ → ℕ
@@ -74,53 +126,109 @@ end_of (AQuote kind e) last = e
 end_of (AList byte number e) last = e
 end_of (AnItem columns e) last = e
 end_of (AFootnote index e) last = e
+end_of (ADefinitionList t e) last = e
+end_of (ATitle block) last = last
+end_of (ADefinition columns e) last = e
 
--- After an item with a byte: where its list ends, in a container that ends at an offset; the items of its list; and the rows after the list.
-abbrev pub list_until : ℕ → ℕ → Rows → ℕ
-list_until byte last End = last
-list_until byte last (OneOf row inner next) = if is_list_of byte row.what then end_of row.what last else closing_place row.what row.line row.start
+-- After a list that continues with these: where it ends, in a container that ends at an offset; what else is in it; and the rows after it.
+abbrev pub list_until : Joins → ℕ → Rows → ℕ
+list_until joins last End = last
+list_until joins last (OneOf row inner next) = if is_list_of joins row.what then end_of row.what last else ends_at joins row
 
-abbrev pub items_behind : ℕ → Rows → Rows
-items_behind byte End = End
-items_behind byte (OneOf row inner next) = if is_list_of byte row.what then gapped row.gap inner else End
+abbrev pub items_behind : Joins → Rows → Rows
+items_behind joins End = End
+items_behind joins (OneOf row inner next) = if is_list_of joins row.what then gapped row.gap inner else End
 
-abbrev pub list_behind : ℕ → Rows → Rows
-list_behind byte End = End
-list_behind byte (OneOf row inner next) = if is_list_of byte row.what then next else OneOf row inner next
+abbrev pub list_behind : Joins → Rows → Rows
+list_behind joins End = End
+list_behind joins (OneOf row inner next) = if is_list_of joins row.what then next else OneOf row inner next
 
--- An item, with these blocks, before rows: the first of its list, which is the first of these rows if that has its byte, or else has no other item
--- (CommonMark 5.3). What stands before the first item stands before the list.
-abbrev pub in_list : ℕ → ℕ → ℕ → Row → Rows → Rows → Rows
-in_list last byte number item blocks next =
-    OneOf (record { what = AList byte number (list_until byte last next); line = item.line; start = item.start; gap = item.gap })
-    (OneOf (record item { gap = false }) blocks (items_behind byte next)) (list_behind byte next)
+-- A container, with these blocks, before rows: the first of its list, which is the first of these rows if that continues with what this does, or else has
+-- no other. What stands before the first stands before the list (CommonMark 5.3).
+abbrev pub in_list : ℕ → (ℕ → What) → Row → Rows → Rows → Joins → Rows
+in_list last listed row blocks next joins =
+    OneOf (record { what = listed (list_until joins last next); line = row.line; start = row.start; gap = row.gap })
+    (OneOf (record row { gap = false }) blocks (items_behind joins next)) (list_behind joins next)
 
 -- a container that ends at an offset
 abbrev pub what_of : Opener → ℕ → What
 what_of (QuoteMarker kind) e = AQuote kind e
 what_of (ItemMarker byte number columns) e = AnItem columns e
 what_of (FootnoteMarker columns index label) e = AFootnote index e
+what_of (DefinitionMarker columns) e = ADefinition columns e
 
 -- the row of a container that ends at an offset, with a gap before it or without one
 abbrev pub row_of : Head → ℕ → Bool → Row
 row_of head e gap = record { what = what_of head.opener e; line = head.line; start = head.start; gap = gap }
 
--- a container, which this opens, before rows
+-- A container, which this opens, before rows. A definition begins a definition list without a title, as an item begins a list; a title takes that in (this
+-- project).
 abbrev pub container_row : ℕ → Opener → Row → Rows → Rows → Rows
 container_row last (QuoteMarker kind) row inner next = OneOf row inner next
-container_row last (ItemMarker byte number columns) row inner next = in_list last byte number row inner next
+container_row last (ItemMarker byte number columns) row inner next = in_list last (AList byte number) row inner next (ItemsOf byte)
 container_row last (FootnoteMarker columns index label) row inner next = OneOf row inner next
+container_row last (DefinitionMarker columns) row inner next =
+    in_list last (ADefinitionList Untitled) row inner next (DefinitionsTo (end_of row.what last))
 
 -- the row of a leaf block, with a gap before it or without one
 abbrev pub row_of_leaf : LeafBlock → Bool → Row
 row_of_leaf block gap = record { what = ALeaf block; line = block.line; start = block.start; gap = gap }
 
--- The rows of blocks, which stand in a block quote or not, after this, in a container that ends at an offset: a block has a gap before it where a blank line
--- that counts is directly before it (CommonMark 5.3).
+-- the definitions without a title that are first of rows, link definitions aside: the end of their list, they themselves, the rows beside them, and whether
+-- link definitions stand before them (this project)
+pub record Definitions : Type 0 where
+  pub «end» : ℕ
+  pub items : Rows
+  pub beside : Rows
+  pub apart : Bool
+
+-- the definitions that a row begins, which is a definition list without a title
+abbrev pub definitions_of_row : Row → Rows → Rows → Option Definitions
+definitions_of_row row inner next = Some (record { «end» = end_of row.what 0; items = gapped row.gap inner; beside = next; apart = false })
+
+-- the same where link definitions stand before them, which are beside them then
+abbrev pub apart_after : Row → Rows → Definitions → Definitions
+apart_after row inner ds = record { «end» = ds.«end»; items = ds.items; beside = OneOf row inner ds.beside; apart = true }
+
+-- a row is a definition list without a title, or link definitions alone
+abbrev pub is_untitled : What → Bool
+is_untitled (ADefinitionList Untitled e) = true
+is_untitled _ = false
+
+abbrev pub is_run_row : What → Bool
+is_run_row (ALeaf block) = is_run block.kind
+is_run_row _ = false
+
+abbrev pub definitions_at : Row → Rows → Rows → Option Definitions → Option Definitions
+definitions_at row inner next further = if is_untitled row.what then definitions_of_row row inner next
+    else (if is_run_row row.what then option_map (apart_after row inner) further else None)
+
+unfoldable pub definitions_first : Rows → Option Definitions
+definitions_first End = None
+definitions_first (OneOf row inner next) = definitions_at row inner next (definitions_first next)
+
+-- a paragraph that is the title of definitions, in the list of both
+abbrev pub titled : LeafBlock → Bool → Definitions → Rows
+titled block gap ds =
+    OneOf (record { what = ADefinitionList (if ds.apart then Apart else WithTitle) ds.«end»; line = block.line; start = block.start; gap = gap })
+    (OneOf (record { what = ATitle block; line = block.line; start = block.start; gap = false }) End ds.items) ds.beside
+
+-- Before rows a paragraph is the title of the definitions that are first of them; the link definitions between stand after the list then. Any other leaf is
+-- a row itself (this project).
+abbrev pub leaf_row : LeafBlock → Bool → Rows → Rows
+leaf_row block gap next =
+    option_map_or (titled block gap) (if begins_paragraph block.items then definitions_first next else None) (OneOf (row_of_leaf block gap) End next)
+
+-- A block has a gap before it where a blank line that counts is directly before it (CommonMark 5.3); a paragraph directly after a definition has none (this
+-- project).
+abbrev pub gap_before : Before → LeafBlock → Bool
+gap_before before block = before.counted && not (begins_paragraph block.items && is_after_definition before.last)
+
+-- The rows of blocks, which stand in a block quote or not, after this, in a container that ends at an offset.
 unfoldable pub rows_of : Bool → Before → ℕ → Skeleton → Rows
 rows_of quoted before last Nil = End
 rows_of quoted before last (Then BlankLine next) = rows_of quoted (after_blank quoted before) last next
-rows_of quoted before last (Then (Block block) next) = OneOf (row_of_leaf block before.counted) End (rows_of quoted (after_block block) last next)
+rows_of quoted before last (Then (Block block) next) = leaf_row block (gap_before before block) (rows_of quoted (after_block before block) last next)
 rows_of quoted before last (Node head e kids next) =
     let quote : Bool = is_quote (opened head.opener) in
     container_row last head.opener (row_of head e before.counted) (rows_of quote nothing e kids)

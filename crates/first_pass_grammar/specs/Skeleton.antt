@@ -4,17 +4,17 @@ use Rattle.first_pass_items.specs.declared.item.Item.{Item}
 use Rattle.first_pass_items.specs.declared.item.HeadingIndex.{HeadingIndex}
 use Rattle.first_pass_items.specs.declared.option_set.Options.{Options}
 use Rattle.first_pass_items.specs.declared.item.CowIndex.{CowIndex}
-use Rattle.first_pass_items.specs.OptionWords.{gfm_footnotes}
+use Rattle.first_pass_items.specs.OptionWords.{has, gfm_footnotes, definition_list}
 use Rattle.first_pass_grammar.specs.Names.{NamesText}
 use Rattle.first_pass_lines.specs.Lines.{level_number}
 use Rattle.first_pass_lines.specs.Rest.{Rest, indent}
 use Rattle.first_pass_lines.specs.Places.{Place, offset, start_of, moved_columns}
 use Rattle.first_pass_grammar.specs.declared.kind.Container.{Container}
-use Rattle.first_pass_grammar.specs.Blocks.{Leaf, BlankLine, Block, leaf_block, Opener, QuoteMarker, ItemMarker, FootnoteMarker, Head, opened, run_block}
+use Rattle.first_pass_grammar.specs.Blocks.{Leaf, BlankLine, Block, leaf_block, Opener, QuoteMarker, ItemMarker, FootnoteMarker, DefinitionMarker, Head, opened, run_block}
 use Rattle.first_pass_grammar.specs.Blocks.{flowing_block}
 use Rattle.first_pass_grammar.specs.Blocks.{Skeleton, Nil, Then, Node}
 use Rattle.first_pass_grammar.specs.Openers.{AfterMarker, OnLine, TaskText, LineEnds, TagAlone, Start, start_at}
-use Rattle.first_pass_grammar.specs.Before.{Before, nothing, list_is_open, after_leaf, after_container, before_end}
+use Rattle.first_pass_grammar.specs.Before.{Before, nothing, list_is_open, takes_definition, after_leaf, after_container, before_end}
 use Rattle.first_pass_grammar.specs.Containers.{Context, context, at_rest, after, front, taken, next_goes_on, is_quote, in_quote, in_old_footnote}
 use Rattle.first_pass_grammar.specs.Containers.{footnote_columns}
 use Rattle.first_pass_grammar.specs.Footnotes.{footnote_head_at, place_behind, behind_head, ends_footnote}
@@ -129,13 +129,15 @@ abbrev pub task_alone : Option Item → Place → Option ℕ → From
 task_alone None p blanks = behind_marker blanks
 task_alone (Some marker) p blanks = At p (MarkAlone marker blanks)
 
--- what opens a container that takes blank lines alone: an item's indent is 0
+-- what opens a container that takes blank lines alone: the indent of an item or a definition is 0
 abbrev pub without_indent : Opener → Opener
 without_indent (QuoteMarker kind) = QuoteMarker kind
 without_indent (ItemMarker byte number columns) = ItemMarker byte number 0
 without_indent (FootnoteMarker columns index label) = FootnoteMarker columns index label
+without_indent (DefinitionMarker columns) = DefinitionMarker 0
 
--- An item may begin with one blank line, that of its marker; where the next is blank too, it takes blank lines alone (CommonMark 5.2).
+-- An item or a definition may begin with one blank line, that of its marker; where the next is blank too, it takes blank lines alone (CommonMark 5.2, and
+-- this project).
 abbrev pub empty_opening : Document → List Container → Head → Place → List Place → Option Item → Opening
 empty_opening d path head inside lines marker =
     if next_is_blank (opened head.opener ∷ path) lines
@@ -177,24 +179,6 @@ unfoldable pub OpensBy : Document → List Container → Place → List Place �
 OpensBy d path p lines (Some s) opening = opening ≡ opening_of d path p lines s
 OpensBy d path p lines None opening = OpensBlockAt d path p lines opening
 
--- What begins at a place: a footnote definition where one does (this project), else another container or a leaf.
-abbrev pub Opens : Document → List Container → Place → List Place → Opening → Type 0
-Opens d path p lines opening =
-    MatchOption (footnote_head_at (around d path) p) (OpensBy d path p lines (start_at d.options p) opening) (λ head. OpensFootnote d p lines head opening)
-
--- What begins where blocks continue: where no container may, what the kind of the place says; after a task list item marker a text; or the marker
--- alone, in the place of a text.
-abbrev pub OpensIf : Document → List Container → May → Place → List Place → Opening → Type 0
-OpensIf d path Anything p lines opening = Opens d path p lines opening
-OpensIf d path ALeafAlone p lines opening = OpensBlockAt d path p lines opening
-OpensIf d path (TextOf marker) p lines opening = OpensText d path p lines (Some marker) opening
-OpensIf d path (MarkAlone marker blanks) p lines opening = opening ≡ OpensLeaf (leaf_block Paragraph p ((0, marker) ∷ []) false) Line lines
-
-abbrev pub OpensAt : Document → List Container → From → Place → List Place → Opening → Type 0
-OpensAt d path Line p lines opening = Opens d path p lines opening
-OpensAt d path (Blanks e) p lines opening = Opens d path p lines opening
-OpensAt d path (At q may) p lines opening = OpensIf d path may p lines opening
-
 -- the containers around a place, the innermost first, and what stands before it in the innermost (this project)
 pub record Level : Type 0 where
   pub path : List Container
@@ -213,6 +197,29 @@ level_after_leaf l leaf = level l.path (after_leaf (in_quote l.path) l.before le
 
 abbrev pub level_after : Level → Head → Skeleton → Level
 level_after l head kids = level l.path (after_container (opened head.opener) (before_end (is_quote (opened head.opener)) nothing kids))
+
+-- a `:` may begin a definition at a level (this project)
+abbrev pub may_define : Document → Level → Bool
+may_define d l = has d.options definition_list && takes_definition l.before.last
+
+-- What begins at a place: a footnote definition where one does (this project), else another container or a leaf.
+abbrev pub Opens : Document → Level → Place → List Place → Opening → Type 0
+Opens d l p lines opening =
+    MatchOption (footnote_head_at (around d l.path) p) (OpensBy d l.path p lines (start_at d.options (may_define d l) p) opening)
+    (λ head. OpensFootnote d p lines head opening)
+
+-- What begins where blocks continue: where no container may, what the kind of the place says; after a task list item marker a text; or the marker
+-- alone, in the place of a text.
+abbrev pub OpensIf : Document → Level → May → Place → List Place → Opening → Type 0
+OpensIf d l Anything p lines opening = Opens d l p lines opening
+OpensIf d l ALeafAlone p lines opening = OpensBlockAt d l.path p lines opening
+OpensIf d l (TextOf marker) p lines opening = OpensText d l.path p lines (Some marker) opening
+OpensIf d l (MarkAlone marker blanks) p lines opening = opening ≡ OpensLeaf (leaf_block Paragraph p ((0, marker) ∷ []) false) Line lines
+
+abbrev pub OpensAt : Document → Level → From → Place → List Place → Opening → Type 0
+OpensAt d l Line p lines opening = Opens d l p lines opening
+OpensAt d l (Blanks e) p lines opening = Opens d l p lines opening
+OpensAt d l (At q may) p lines opening = OpensIf d l may p lines opening
 
 -- What a sequence of blocks leaves: these lines; or, where another footnote definition ends it, what is after a place in a line, and the lines after that
 -- (this project).
@@ -299,7 +306,7 @@ pub record IsFirst (d : Document) (l : Level) (from : From) (lines : List Place)
   pub place : Place
   pub behind : List Place
   pub begins : going d.options l from lines ≡ Begins place behind
-  pub opens : OpensAt d l.path from place behind opening
+  pub opens : OpensAt d l from place behind opening
 
 -- The blocks of a container, at this level, take what is from here on up to what they leave.
 unfoldable pub IsSequence : Document → Skeleton → Level → From → List Place → Left → Type 0

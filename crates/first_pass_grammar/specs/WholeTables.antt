@@ -1,10 +1,13 @@
 -- Tables as their nodes show them: as many cells in each row as columns, and no more of them filled in than may be.
-use Rattle.std.specs.Prelude.{◌≡◌, ℕ, ◌+◌, ◌≤◌, ◌==◌, suc, false, IsSomeAnd, List, [], ◌∷◌, ◌++◌, length, map, if◌then◌else◌}
+use Rattle.std.specs.Prelude.{◌≡◌, ℕ, zero, ◌+◌, ◌≤◌, ◌==◌, ◌||◌, suc, Bool, true, false, Option, Some, None, IsSomeAnd, List, [], ◌∷◌, ◌++◌}
+use Rattle.std.specs.Prelude.{length, map, if◌then◌else◌}
+use Rattle.std.specs.Option.{option_map_or}
 use Rattle.first_pass_items.specs.declared.item.Item.{Item}
 use Rattle.first_pass_items.specs.declared.item.ItemBody.{ItemBody}
-use Rattle.first_pass_items.specs.declared.item.ItemBody.TheVariants.{Table, TableHead, TableRow, TableCell}
+use Rattle.first_pass_items.specs.declared.item.ItemBody.TheVariants.{Table, TableHead, TableRow, TableCell, Paragraph, MaybeDefinitionListTitle}
 use Rattle.first_pass_tree.specs.declared.tree_index.TreeIndex.{TreeIndex}
 use Rattle.first_pass_tree.specs.Forest.{Forest, body_at}
+use Rattle.first_pass_grammar.specs.Completion.{Closed, OtherClosed, ParagraphAt, DefinitionClosed, TitleAt}
 use Rattle.first_pass_grammar.specs.Counting.{is_row}
 use Rattle.first_pass_grammar.specs.Names.{Names, alignments_named}
 use Rattle.first_pass_grammar.specs.Tables.{most_filled}
@@ -76,13 +79,47 @@ AreFull (table ∷ tables) = HaveCells table.columns table.rows × (filled_in ta
 unfoldable pub AreWholeTables : Names → List (ℕ × Item) → Type 0
 AreWholeTables names nodes = (tables : List TableRows) × (marks names nodes ≡ table_marks tables) × AreFull tables
 
--- each of these places has a node, which is no row (this project)
+-- a node that shows nothing, wherever it stands and whatever indices name
+abbrev pub ShowsNothing : ItemBody → Type 0
+ShowsNothing body = (names : Names) (depth start «end» : ℕ) → shown names depth start «end» body ≡ []
+
+-- this holds of each of these nodes
+abbrev pub AreEachNode : (ItemBody → Type 0) → List (ℕ × Item) → Type 0
+AreEachNode P [] = Unit {0}
+AreEachNode P (x ∷ nodes) = P x.1.body × AreEachNode P nodes
+
+-- a node stands at a place, and it and all after it show nothing
+abbrev pub SilentFrom : List (ℕ × Item) → ℕ → Type 0
+SilentFrom [] i = ⊥
+SilentFrom (n ∷ nodes) zero = AreEachNode ShowsNothing (n ∷ nodes)
+SilentFrom (n ∷ nodes) (suc i) = SilentFrom nodes i
+
+-- what is last in what is innermost, where a definition list may take it in: a paragraph or a possible title, with what is below it
+abbrev pub SilentClosed : List (ℕ × Item) → Closed → Type 0
+SilentClosed nodes OtherClosed = Unit {0}
+SilentClosed nodes (ParagraphAt place) = SilentFrom nodes place
+SilentClosed nodes (DefinitionClosed e blanks) = Unit {0}
+SilentClosed nodes (TitleAt e place) = SilentFrom nodes place
+
+-- a paragraph, or what may become a title: a definition list may take it in (this project)
+abbrev pub may_be_title : ItemBody → Bool
+may_be_title Paragraph = true
+may_be_title MaybeDefinitionListTitle = true
+may_be_title _ = false
+
+-- each of these places has a node, which is no row and no such text (this project)
 abbrev pub HaveNoRows : List (ℕ × Item) → List TreeIndex → Type 0
 HaveNoRows nodes [] = Unit {0}
-HaveNoRows nodes (ix ∷ places) = IsSomeAnd (body_at nodes ix.0) (λ b. is_row b ≡ false) × HaveNoRows nodes places
+HaveNoRows nodes (ix ∷ places) = IsSomeAnd (body_at nodes ix.0) (λ b. (is_row b || may_be_title b) ≡ false) × HaveNoRows nodes places
 
--- The tables of a tree are whole, and none of their rows is open: where one is closed it ends elsewhere, and other cells count as filled in (GFM 4.10, and
--- this project).
+-- a text that is last, which a definition list may take in, has no part of a table in it (this project)
+abbrev pub IsSilentLast : List (ℕ × Item) → Option TreeIndex → Type 0
+IsSilentLast nodes None = Unit {0}
+IsSilentLast nodes (Some ix) = option_map_or may_be_title (body_at nodes ix.0) false ≡ true → SilentFrom nodes ix.0
+
+-- The tables of a tree are whole, and none of their rows is open: where one is closed it ends elsewhere, and other cells count as filled in. No text is open
+-- that a definition list may take in, and none that is last has a part of a table in it: its nodes move (GFM 4.10, and this project).
 pub record HasWholeTables (names : Names) (tree : Forest Item) : Type 0 where
   pub whole : AreWholeTables names tree.nodes
   pub none_open : HaveNoRows tree.nodes tree.spine
+  pub last : IsSilentLast tree.nodes tree.current

@@ -12,4 +12,6 @@ pub enum Container {
     /// A footnote definition, with the columns that a line needs to continue it: four as GitHub has footnotes,
     /// none in their old form.
     FootnoteDefinition(usize),
+    /// A definition of a definition list, with the columns that a line needs to continue it (this project).
+    Definition(usize),
 }

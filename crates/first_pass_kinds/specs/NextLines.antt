@@ -1,18 +1,19 @@
 -- What a line is to a text whose lines are before it.
-use Rattle.std.specs.Prelude.{ℕ, Bool, true, false, Option, Some, None}
+use Rattle.std.specs.Prelude.{ℕ, ◌||◌, Bool, true, false, Option, Some, None}
 use Rattle.first_pass_items.specs.declared.item.HeadingLevel.{HeadingLevel}
 use Rattle.first_pass_lines.specs.Rest.{Rest}
 use Rattle.first_pass_lines.specs.Places.{offset, place_at}
 use Rattle.first_pass_grammar.specs.Containers.{Context, front}
-use Rattle.first_pass_grammar.specs.Kinds.{unindented, underline_of, ends_paragraph}
+use Rattle.first_pass_grammar.specs.Kinds.{unindented, underline_of, ends_paragraph, colon_ends}
 use Rattle.first_pass_kinds.specs.declared.interrupt.NextLine.{NextLine}
 use Rattle.first_pass_kinds.specs.declared.interrupt.NextLine.TheVariants.{More, Underline, Other}
 
--- what the line that begins at an offset, and of which this is left, is to a text before it (CommonMark 4.3, 4.8)
+-- what the line that begins at an offset, and of which this is left, is to a text before it (CommonMark 4.3, 4.8, and for a `:` this project)
 abbrev pub next_by : Option (ℕ × HeadingLevel) → Bool → ℕ → NextLine
 next_by (Some underline) ends at = Underline underline.1
 next_by None true at = Other
 next_by None false at = More at
 
 abbrev pub next_line_of : Context → ℕ → Rest → NextLine
-next_line_of around start r = next_by (underline_of around.path r) (ends_paragraph around r) (offset (unindented (place_at start (front around.path r))))
+next_line_of around start r =
+    next_by (underline_of around.path r) (ends_paragraph around r || colon_ends around r) (offset (unindented (place_at start (front around.path r))))

@@ -1,16 +1,18 @@
 //! Which lines end a paragraph before them.
 
 ghost use Rattle.std.specs.Prelude.{◌≡◌, Bool, min, drop, is_some, nat_lt, ◌&&◌, ◌||◌, not, true, IfOk, IfSome, OnErr, OnOk, Some, None, if◌then◌else◌, IsUtf8, IsCharBoundary};
-ghost use Rattle.first_pass_lines.specs.Lines.{at_line_end};
+ghost use Rattle.first_pass_items.specs.Bytes.{colon};
+ghost use Rattle.first_pass_items.specs.OptionWords.{has, definition_list};
+ghost use Rattle.first_pass_lines.specs.Lines.{begins, at_line_end};
 ghost use Rattle.first_pass_lines.specs.Places.{line_rest, place_at, offset, IsPlaceOf};
 ghost use Rattle.first_pass_lines.specs.Rest.{indent};
 ghost use Rattle.first_pass_scan.specs.LeafLines.{setext_underline};
 ghost use Rattle.first_pass_scan.specs.Markers.{is_bullet, listitem};
 ghost use Rattle.first_pass_links.specs.Footnotes.{footnote_head};
 ghost use Rattle.first_pass_grammar.specs.Containers.{after, front};
-ghost use Rattle.first_pass_grammar.specs.Kinds.{all_taken, interrupts_with, interrupts_in, interrupts, item_interrupts, ends_tag, unindented};
+ghost use Rattle.first_pass_grammar.specs.Kinds.{all_taken, interrupts_with, continued, interrupts_in, interrupts, item_interrupts, ends_tag, unindented};
 ghost use Rattle.first_pass_grammar.specs.Definitions.{is_underline, crossed};
-ghost use Rattle.first_pass_open.specs.Path.{path_of, context_of};
+ghost use Rattle.first_pass_open.specs.Path.{path_of, context_of, continued_to};
 ghost use Rattle.first_pass_kinds.specs.NextLines.{next_line_of};
 ghost use Rattle.first_pass_kinds.specs.Memory.{may_head, line_may_head};
 ghost use Rattle.std.specs.Option.{option_map};
@@ -24,8 +26,8 @@ use first_pass_lines::lines::{
     begins, is_plain_front, scan_atx_heading, scan_blank_line, scan_eol,
 };
 use first_pass_lines::places::rest_of;
-use first_pass_links::footnote::is_at_line_head;
-use first_pass_open::front::{Front, front_of, scan_front};
+use first_pass_links::footnote::begins_footnote_in_line;
+use first_pass_open::front::{Front, front_of, is_definition_after, scan_front};
 use first_pass_open::indentation::scan_indentation;
 use first_pass_open::source::Source;
 use first_pass_scan::leaf_scan::{scan_code_fence, scan_hrule, scan_setext_heading};
@@ -88,27 +90,40 @@ pub fn interrupts_as_footnote(bytes: &[u8], has_footnotes: bool) -> bool
     ensures { (in_table : Bool) → result
         ≡ (has_footnotes && is_some (footnote_head (λ further. None) in_table bytes.now)) }
 {
-    has_footnotes && is_at_line_head(bytes)
+    has_footnotes && begins_footnote_in_line(bytes)
+}
+
+// Whether, with definition lists, the `:` of a definition begins `bytes` (this project).
+#[inline(always)]
+fn begins_definition(bytes: &[u8], options: Options) -> bool
+    ensures { result ≡ (has options definition_list && begins colon bytes.now) }
+{
+    begins(b':', bytes) && options.contains(Options::ENABLE_DEFINITION_LIST)
 }
 
 /// Whether `bytes`, what is left of a line after its indentation of under four columns and all that the text has
-/// after it, interrupt a paragraph that is read inside the open containers: as above, in a line that continues all
-/// of them or not, or as a table does that the line heads (CommonMark 4.8, GFM 4.10).
+/// after it, interrupt a paragraph that is read inside the open containers. The line continues the outermost `kept`
+/// open nodes. They interrupt as above; as the head of a footnote definition does; as the `:` of a definition does,
+/// where the first container that the line doesn't continue is a definition; or as a table does that the line heads
+/// (CommonMark 4.8, GFM 4.10).
 #[inline(always)]
 pub fn scan_interruption(
     source: &Source<'_>,
     tree: &Tree<Item>,
     bytes: &[u8],
-    whole: bool,
+    kept: usize,
 ) -> Result<bool, AllocError>
-    ensures value { IfOk result (λ yes. yes
-        ≡ interrupts_in (context_of source.now.options tree.now) whole bytes.now) }
+    ensures value { IfOk result (λ yes. yes ≡ interrupts_in (context_of source.now.options tree.now)
+        (continued_to source.now.options tree.now kept) bytes.now) }
     ensures err { OnErr result (may_head (context_of source.now.options tree.now) bytes.now ≡ true) }
 {
-    if interrupts_without_table(bytes, whole) {
+    if interrupts_without_table(bytes, kept == tree.spine_len()) {
         return Ok(true);
     }
     if interrupts_as_footnote(bytes, source.options.contains(Options::ENABLE_FOOTNOTES)) {
+        return Ok(true);
+    }
+    if begins_definition(bytes, source.options) && is_definition_after(tree, kept) {
         return Ok(true);
     }
     interrupts_as_table(source, tree, bytes)
@@ -142,7 +157,9 @@ fn scan_underline(rest: &LineStart<'_>, whole: bool, columns: usize) -> Option<H
 // The text of a line after its front.
 #[derive(Drop)]
 struct LineText<'a> {
-    // Whether the line continues all open containers.
+    // How many of the open nodes the line continues, the outermost first.
+    kept: usize,
+    // Whether these are all.
     whole: bool,
     // Its columns of indentation, but 4 where there are more.
     columns: usize,
@@ -156,6 +173,8 @@ fn scan_text<'a>(source: &Source<'a>, tree: &Tree<Item>, start: usize) -> LineTe
     requires { IsCharBoundary source.now.text.now start }
     ensures whole { result.whole
         ≡ is_some (after (path_of source.now.options tree.now) (line_rest (drop start source.now.text.now))) }
+    ensures kept { continued_to source.now.options tree.now result.kept
+        ≡ continued (path_of source.now.options tree.now) (line_rest (drop start source.now.text.now)) }
     ensures columns { result.columns
         ≡ min 4 (indent (front (path_of source.now.options tree.now) (line_rest (drop start source.now.text.now)))) }
     ensures rest { result.rest
@@ -169,6 +188,7 @@ fn scan_text<'a>(source: &Source<'a>, tree: &Tree<Item>, start: usize) -> LineTe
     let mut rest = front.rest;
     let columns = scan_indentation(&mut rest);
     LineText {
+        kept: front.kept,
         whole: front.whole,
         columns,
         rest,
@@ -176,8 +196,9 @@ fn scan_text<'a>(source: &Source<'a>, tree: &Tree<Item>, start: usize) -> LineTe
 }
 
 /// What the line that begins at the offset `start` into the text is to a text before it: an underline, where it
-/// continues all open containers; a line that ends a paragraph; or one more line of that text, whatever open
-/// containers it continues (CommonMark 4.3, 4.8, 5.1).
+/// continues all open containers; a line that ends a paragraph, or with definition lists a line that continues all
+/// open containers and begins with a `:`; or one more line of that text, whatever open containers it continues
+/// (CommonMark 4.3, 4.8, 5.1).
 #[tactic(auto, unfolding(first_pass_grammar::specs::Kinds::interrupts, first_pass_grammar::specs::Kinds::underline_of))]
 pub fn scan_next_line(
     source: &Source<'_>,
@@ -200,7 +221,10 @@ pub fn scan_next_line(
     if let Some(level) = scan_underline(&text.rest, text.whole, text.columns) {
         return Ok(NextLine::Underline(level));
     }
-    if scan_paragraph_end(source, tree, &text.rest, text.columns, text.whole)? {
+    if scan_paragraph_end(source, tree, &text.rest, text.columns, text.kept)? {
+        return Ok(NextLine::Other);
+    }
+    if begins_definition(text.rest.left(), source.options) && text.whole && text.columns < 4 {
         return Ok(NextLine::Other);
     }
     Ok(NextLine::More(start + text.rest.bytes_scanned()))
@@ -227,30 +251,31 @@ pub fn scan_line_behind_tag<'b>(
     if scan_indentation(&mut rest) >= 4 {
         return Ok(Some(rest));
     }
-    if scan_interruption(source, tree, rest.left(), front.whole)? {
+    if scan_interruption(source, tree, rest.left(), front.kept)? {
         return Ok(None);
     }
     Ok(Some(rest))
 }
 
 // Whether a line of which this is left after so many columns of indentation, but 4 where there are more, ends a
-// paragraph before it, in a line that continues all containers or not.
+// paragraph before it, where it continues the outermost `kept` open nodes.
 #[inline(always)]
 fn scan_paragraph_end(
     source: &Source<'_>,
     tree: &Tree<Item>,
     rest: &LineStart<'_>,
     columns: usize,
-    whole: bool,
+    kept: usize,
 ) -> Result<bool, AllocError>
     ensures value { IfOk result (λ yes. yes ≡ (if nat_lt columns 4
-        then interrupts_in (context_of source.now.options tree.now) whole rest.now.left
+        then interrupts_in (context_of source.now.options tree.now)
+        (continued_to source.now.options tree.now kept) rest.now.left
         else at_line_end rest.now.left)) }
     ensures err { OnErr result ((nat_lt columns 4
         && may_head (context_of source.now.options tree.now) rest.now.left) ≡ true) }
 {
     if columns < 4 {
-        scan_interruption(source, tree, rest.left(), whole)
+        scan_interruption(source, tree, rest.left(), kept)
     } else {
         Ok(scan_eol(rest.left()).is_some())
     }
@@ -272,14 +297,15 @@ fn scan_definition_end(
     in_label: bool,
 ) -> Result<bool, AllocError>
     ensures value { IfOk result (λ yes. yes
-        ≡ (interrupts (context_of source.now.options tree.now) front.now.whole front.now.rest
+        ≡ (interrupts (context_of source.now.options tree.now)
+        (continued_to source.now.options tree.now front.now.kept) front.now.rest
         || (is_underline front.now.rest && (not in_label || front.now.whole)))) }
     ensures err { OnErr result ((nat_lt (indent front.now.rest) 4
         && may_head (context_of source.now.options tree.now) (all_taken front.now.rest).left) ≡ true) }
 {
     let mut text = front.rest.copy();
     let columns = scan_indentation(&mut text);
-    if scan_paragraph_end(source, tree, &text, columns, front.whole)? {
+    if scan_paragraph_end(source, tree, &text, columns, front.kept)? {
         return Ok(true);
     }
     let is_over = in_label & !front.whole;

@@ -12,7 +12,7 @@ abbrev pub begins_plain : List ℕ → Bool
 begins_plain [] = false
 begins_plain (b ∷ bs) = is_plain b
 
--- a byte that is no space or tab, and with which no container begins: no bullet, digit or `>` (this project)
+-- a byte that is no space or tab, and with which no list item and no block quote begins: no bullet, digit or `>` (this project)
 unfoldable pub is_inert : ℕ → Bool
 is_inert b = not (b == tab || b == space || b == asterisk || b == plus_sign || b == hyphen || b == greater_than || is_ascii_digit b)
 

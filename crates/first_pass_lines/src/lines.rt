@@ -60,7 +60,7 @@ pub fn is_plain_front(bytes: &[u8]) -> bool
     }
 }
 
-/// Whether a byte stands first that is no space or tab, and with which no container begins.
+/// Whether a byte stands first that is no space or tab, and with which no list item and no block quote begins.
 #[inline(always)]
 #[tactic(auto, unfolding(crate::specs::Plain::is_inert))]
 pub fn is_inert_front(bytes: &[u8]) -> bool

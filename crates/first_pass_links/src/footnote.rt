@@ -64,7 +64,7 @@ where
 
 /// Whether the head of a footnote definition begins here whose label holds no line end. A backslash before a pipe,
 /// which is dropped from a label in a table, makes no difference. No memory is asked for.
-pub fn is_at_line_head(bytes: &[u8]) -> bool
+pub fn begins_footnote_in_line(bytes: &[u8]) -> bool
     ensures { (in_table : Bool) → result ≡ is_some (footnote_head (λ further. None) in_table bytes.now) }
 {
     if !begins_footnote(bytes) {

@@ -1,1 +1,2 @@
+pub mod MovedLemmas
 pub mod WithinLemmas

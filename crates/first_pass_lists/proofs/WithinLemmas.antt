@@ -6,7 +6,7 @@ use Rattle.first_pass_items.specs.declared.item.Item.{Item}
 use Rattle.first_pass_tree.specs.declared.tree_index.TreeIndex.{TreeIndex}
 use Rattle.first_pass_tree.specs.Forest.{Forest, IsForest, IsOpenPath, depths, modify, body_at}
 use Rattle.first_pass_open.specs.OpenBlock.{closed_by}
-use Rattle.first_pass_lists.specs.Closing.{top_body, is_item}
+use Rattle.first_pass_lists.specs.Closing.{top_body, is_list, is_item}
 
 top_by : (ds : List ℕ) (spine : List TreeIndex) (ix : TreeIndex) → IsOpenPath ds spine → slice_get spine 0 ≡ Some ix → ix.0 < length ds
 top_by ds [] ix p h = cc
@@ -47,3 +47,12 @@ item_open nodes (ix ∷ spine) h = refl
 
 pub item_is_open : (f : Forest Item) → is_item (top_body f) ≡ true → IsSome (slice_get f.spine 0)
 item_is_open f h = item_open f.nodes f.spine h
+
+-- and where a list is
+list_open : (nodes : List (ℕ × Item)) (spine : List TreeIndex)
+    → is_list (option_and_then (λ (ix : TreeIndex). body_at nodes ix.0) (slice_get spine 0)) ≡ true → IsSome (slice_get spine 0)
+list_open nodes [] h = cc
+list_open nodes (ix ∷ spine) h = refl
+
+pub list_is_open : (f : Forest Item) → is_list (top_body f) ≡ true → IsSome (slice_get f.spine 0)
+list_is_open f h = list_open f.nodes f.spine h

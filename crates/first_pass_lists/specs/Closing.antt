@@ -1,14 +1,17 @@
--- How open items and lists are closed, and what is remembered of them.
-use Rattle.std.specs.Prelude.{ℕ, ◌==◌, ◌&&◌, Bool, true, false, List, [], ◌∷◌, length, Option, Some, None, is_some, slice_get, if◌then◌else◌}
+-- How open items and lists are opened and closed, and what is remembered of them.
+use Rattle.std.specs.Prelude.{ℕ, ◌==◌, ◌&&◌, not, Bool, true, false, List, [], ◌∷◌, length}
+use Rattle.std.specs.Prelude.{Option, Some, None, is_some, slice_get, if◌then◌else◌}
 use Rattle.std.specs.Int.RustNames.{bit_and}
-use Rattle.std.specs.Option.{option_and_then}
+use Rattle.std.specs.Option.{option_and_then, option_map_or}
 use Rattle.first_pass_items.specs.declared.item.Item.{Item}
 use Rattle.first_pass_items.specs.declared.item.ItemBody.{ItemBody}
 use Rattle.first_pass_items.specs.declared.item.ItemBody.TheVariants.{BlockQuote as BlockQuoteBody, List as ListBody, ListItem as ListItemBody}
-use Rattle.first_pass_items.specs.declared.item.ItemBody.TheVariants.{FootnoteDefinition as FootnoteDefinitionBody}
+use Rattle.first_pass_items.specs.declared.item.ItemBody.TheVariants.{FootnoteDefinition as FootnoteDefinitionBody, Paragraph as ParagraphBody}
+use Rattle.first_pass_items.specs.declared.item.ItemBody.TheVariants.{DefinitionList, DefinitionListTitle, MaybeDefinitionListTitle}
+use Rattle.first_pass_items.specs.declared.item.ItemBody.TheVariants.{DefinitionListDefinition}
 use Rattle.first_pass_items.specs.declared.item.CowIndex.{CowIndex}
 use Rattle.first_pass_tree.specs.declared.tree_index.TreeIndex.{TreeIndex}
-use Rattle.first_pass_tree.specs.Forest.{Forest, appended, pushed, with_body_at, body_at}
+use Rattle.first_pass_tree.specs.Forest.{Forest, appended, pushed, wrapped, moved_from, with_body_at, with_end, body_at, item_at}
 use Rattle.first_pass_grammar.specs.Derivation.{list_flags}
 use Rattle.first_pass_tree.specs.Tight.{tight_items}
 use Rattle.first_pass_open.specs.OpenBlock.{closed_by}
@@ -29,6 +32,7 @@ with_block r tree = record r { tree = tree; empty_item = None }
 -- a list is loose; another node stays
 abbrev pub loosened_by : Forest Item → TreeIndex → Option ItemBody → Forest Item
 loosened_by f ix (Some (ListBody flags byte number)) = with_body_at f ix (ListBody (list_flags false) byte number)
+loosened_by f ix (Some (DefinitionList flags)) = with_body_at f ix (DefinitionList (list_flags false))
 loosened_by f ix _ = f
 
 abbrev pub loosened_at : Forest Item → TreeIndex → Forest Item
@@ -38,16 +42,28 @@ loosened_at f ix = loosened_by f ix (body_at f.nodes ix.0)
 abbrev pub top_body : Forest Item → Option ItemBody
 top_body f = option_and_then (λ ix. body_at f.nodes ix.0) (slice_get f.spine 0)
 
+-- what the current node is
+abbrev pub current_body : Forest Item → Option ItemBody
+current_body f = option_and_then (λ ix. body_at f.nodes ix.0) f.current
+
+-- a definition list; a list of either kind
+abbrev pub is_definition_list : Option ItemBody → Bool
+is_definition_list (Some (DefinitionList flags)) = true
+is_definition_list _ = false
+
 abbrev pub is_list : Option ItemBody → Bool
 is_list (Some (ListBody flags byte number)) = true
+is_list (Some (DefinitionList flags)) = true
 is_list _ = false
 
 abbrev pub is_list_of : ℕ → Option ItemBody → Bool
 is_list_of ch (Some (ListBody flags byte number)) = byte == ch
 is_list_of ch _ = false
 
+-- an item of either kind of list; a definition is one
 abbrev pub is_item : Option ItemBody → Bool
 is_item (Some (ListItemBody columns)) = true
+is_item (Some (DefinitionListDefinition columns)) = true
 is_item _ = false
 
 abbrev pub is_footnote : Option ItemBody → Bool
@@ -57,15 +73,48 @@ is_footnote _ = false
 -- the innermost open node is closed: the paragraphs of a tight list become tight, and no item is empty after an item
 abbrev pub popped_by : Reading → Forest Item → TreeIndex → Option ItemBody → Reading
 popped_by r f ix (Some (ListBody flags byte number)) = record r { tree = if bit_and flags.0 1 == 1 then tight_items f ix else f }
+popped_by r f ix (Some (DefinitionList flags)) = record r { tree = if bit_and flags.0 1 == 1 then tight_items f ix else f }
 popped_by r f ix (Some (ListItemBody columns)) = record r { tree = f; empty_item = None }
+popped_by r f ix (Some (DefinitionListDefinition columns)) = record r { tree = f; empty_item = None }
 popped_by r f ix _ = record r { tree = f }
 
 abbrev pub popped_at : ℕ → Reading → List TreeIndex → Reading
 popped_at e r [] = r
 popped_at e r (ix ∷ rest) = popped_by r (closed_by r.tree e (ix ∷ rest)) ix (body_at (closed_by r.tree e (ix ∷ rest)).nodes ix.0)
 
+-- the current node is no part of the list that was just closed: it is moved out of that
+abbrev pub current_moved : Reading → Option TreeIndex → Reading
+current_moved r None = r
+current_moved r (Some ix) = with_tree r (moved_from r.tree ix.0)
+
+-- a definition list, the innermost open node, is closed at an offset, and its last child, which is current, is moved out of it (this project)
+unfoldable pub definitions_closed : ℕ → Reading → Reading
+definitions_closed e r = current_moved (popped_at e r r.tree.spine) r.tree.current
+
+-- where what is innermost ends, as far as its node says; 0 at the top
+abbrev pub top_end : Forest Item → ℕ
+top_end f = option_map_or (λ x. x.«end») (option_and_then (λ ix. item_at f ix) (slice_get f.spine 0)) 0
+
+-- the current node, if it is a possible title in the definition list that is innermost
+abbrev pub title_by : Option ItemBody → TreeIndex → Option ItemBody → Option TreeIndex
+title_by top ix (Some MaybeDefinitionListTitle) = if is_definition_list top then Some ix else None
+title_by top ix _ = None
+
+abbrev pub possible_title : Forest Item → Option TreeIndex
+possible_title f = option_and_then (λ ix. title_by (top_body f) ix (body_at f.nodes ix.0)) f.current
+
+-- A possible title, the current node, is no title: it is a paragraph after the definition list that is innermost. That is closed, at the end that its node
+-- has since the possible title was read: where its last definition ends (this project).
+abbrev pub title_closed : Reading → TreeIndex → Reading
+title_closed r title = definitions_closed (top_end r.tree) (with_tree r (with_body_at r.tree title ParagraphBody))
+
+abbrev pub popped_after : ℕ → Reading → Option TreeIndex → Reading
+popped_after e r None = popped_at e r r.tree.spine
+popped_after e r (Some title) = title_closed r title
+
+-- the innermost open node is closed at an offset; or, where a possible title is last in it, where its last definition ends
 unfoldable pub popped : ℕ → Reading → Reading
-popped e r = popped_at e r r.tree.spine
+popped e r = popped_after e r (possible_title r.tree)
 
 -- an item that began with two blank lines is closed after the line of its marker, and no item is empty
 abbrev pub item_finished_by : Reading → Option ℕ → Reading
@@ -96,6 +145,11 @@ gap_tree f (ix ∷ outer ∷ rest) = loosened_at f outer
 abbrev pub gap_noted : Reading → Reading
 gap_noted r = if r.blank then record r { tree = gap_tree r.tree r.tree.spine; blank = false } else r
 
+-- What was read as a paragraph right after a definition is none, but a heading or a table: it is the current node. The definition list is closed at an
+-- offset and doesn't hold it; a blank line before it makes the list loose in whose item both stand (this project).
+unfoldable pub definitions_left : ℕ → Reading → Reading
+definitions_left e r = gap_noted (definitions_closed e r)
+
 -- before a block that ends a list at an offset
 unfoldable pub list_finished : ℕ → Reading → Reading
 list_finished e r = gap_noted (list_left e (item_finished r))
@@ -113,6 +167,52 @@ abbrev pub begun : ℕ → ItemBody → Reading → Reading
 begun start body r =
     record r { tree = pushed (appended r.tree (record { start = start; «end» = 0; body = body })) (record { 0 = length r.tree.nodes }) }
 
+-- with another body at the current place
+abbrev pub with_current : Forest Item → ItemBody → Option TreeIndex → Forest Item
+with_current f body None = f
+with_current f body (Some c) = with_body_at f c body
+
+-- The current node, a paragraph right after a definition, is a possible title. The node of the definition list that is innermost has the offset as its end
+-- where that definition ends; a blank line before the paragraph doesn't count (this project).
+unfoldable pub title_kept : ℕ → Reading → Reading
+title_kept e r = record r { tree = with_end (with_current r.tree MaybeDefinitionListTitle r.tree.current) e (slice_get r.tree.spine 0); blank = false }
+
+-- A `:` may begin a definition here, in this, after this: after a paragraph, which is directly in a container or at the top; and in a definition list after a
+-- possible title, or after a definition that doesn't take blank lines alone (this project).
+abbrev pub precedes_definition : Option ItemBody → Option ItemBody → Bool
+precedes_definition top (Some ParagraphBody) = not (is_list top)
+precedes_definition top (Some MaybeDefinitionListTitle) = is_definition_list top
+precedes_definition top (Some (DefinitionListDefinition columns)) = is_definition_list top && not (columns == 0)
+precedes_definition top _ = false
+
+abbrev pub takes_definition : Forest Item → Bool
+takes_definition f = precedes_definition (top_body f) (current_body f)
+
+-- a paragraph that begins here may become the next title: the innermost open node is a definition list in which no possible title is last (this project)
+abbrev pub is_after_definition : Forest Item → Bool
+is_after_definition f = is_definition_list (top_body f) && not (is_some (possible_title f))
+
+-- The definition list of a definition that begins, after the current node with these parts, is open: a possible title is its next title; a paragraph is the
+-- title of a new one, which is tight so far; after a definition nothing changes (this project).
+abbrev pub definitions_by : Forest Item → TreeIndex → ℕ → ℕ → ItemBody → Forest Item
+definitions_by f c start e MaybeDefinitionListTitle = with_body_at f c DefinitionListTitle
+definitions_by f c start e ParagraphBody =
+    pushed (wrapped (with_body_at f c (DefinitionList (list_flags true))) c (record { start = start; «end» = e; body = DefinitionListTitle })) c
+definitions_by f c start e _ = f
+
+abbrev pub definitions_at : Forest Item → TreeIndex → Option Item → Forest Item
+definitions_at f c None = f
+definitions_at f c (Some x) = definitions_by f c x.start x.«end» x.body
+
+abbrev pub definitions_opened : Forest Item → Option TreeIndex → Forest Item
+definitions_opened f None = f
+definitions_opened f (Some c) = definitions_at f c (item_at f c)
+
+-- a definition is opened, of an indent, that starts at an offset, in the definition list that is open or in a new one; a blank line before it makes that list
+-- loose (this project)
+unfoldable pub definition_begun : ℕ → ℕ → Reading → Reading
+definition_begun start indent r = begun start (DefinitionListDefinition indent) (list_kept (with_tree r (definitions_opened r.tree r.tree.current)))
+
 -- a footnote definition is opened, with its label, that starts at an offset: what is innermost ends there, a list, and then another footnote definition
 unfoldable pub footnote_begun : ℕ → CowIndex → Reading → Reading
 footnote_begun start label r = begun start (FootnoteDefinitionBody label) (gap_noted (footnote_left start (list_left start (item_finished r))))
@@ -123,15 +223,21 @@ list_continued start byte number r =
     let s = item_finished r in
     if is_list_of byte (top_body s.tree) then list_kept s else begun start (ListBody (list_flags true) byte number) (list_finished start s)
 
--- the innermost open node is an item that takes blank lines alone
+-- the innermost open node is an item or a definition that takes blank lines alone
 abbrev pub emptied : Forest Item → List TreeIndex → Forest Item
 emptied f [] = f
 emptied f (ix ∷ rest) = with_body_at f ix (ListItemBody 0)
 
--- a blank line is read: it doesn't count directly in a block quote, and an item that was empty takes blank lines alone from then on
+abbrev pub emptied_definition : Forest Item → List TreeIndex → Forest Item
+emptied_definition f [] = f
+emptied_definition f (ix ∷ rest) = with_body_at f ix (DefinitionListDefinition 0)
+
+-- a blank line is read: it doesn't count directly in a block quote, and an item or a definition that was empty takes blank lines alone from then on
 abbrev pub blank_read_by : Reading → Option ItemBody → Reading
 blank_read_by r (Some (BlockQuoteBody kind)) = r
 blank_read_by r (Some (ListItemBody columns)) = record r { tree = if is_some r.empty_item then emptied r.tree r.tree.spine else r.tree; blank = true }
+blank_read_by r (Some (DefinitionListDefinition columns)) =
+    record r { tree = if is_some r.empty_item then emptied_definition r.tree r.tree.spine else r.tree; blank = true }
 blank_read_by r _ = record r { blank = true }
 
 unfoldable pub blank_read : Reading → Reading

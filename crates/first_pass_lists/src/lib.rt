@@ -3,3 +3,4 @@
 
 pub mod list;
 pub mod reading;
+pub mod titles;

@@ -1,7 +1,8 @@
-//! Lists and their items: how they continue, become loose and are closed (CommonMark 5.2, 5.3).
+//! Lists and definition lists, and their items: how they continue, become loose and are closed (CommonMark 5.2, 5.3).
 
-ghost use Rattle.std.specs.Prelude.{◌≡◌, ◌==◌, ◌<◌, length, None, IsSome, slice_get, OnOk, bit_and, if◌then◌else◌};
-ghost use Rattle.first_pass_lists.specs.Closing.{loosened_at, top_body, is_item, is_list_of, popped, item_finished, list_left, footnote_left, old_footnote_finished, footnote_begun, with_tree, gap_noted, list_finished, list_kept, list_continued, begun, blank_read};
+ghost use Rattle.std.specs.Prelude.{◌≡◌, ◌==◌, ◌<◌, length, None, IsSome, slice_get, OnOk, IfSome, bit_and, if◌then◌else◌};
+ghost use Rattle.first_pass_lists.specs.Closing.{loosened_at, top_body, is_list, is_item, is_list_of, popped_at, popped, item_finished, list_left, footnote_left, old_footnote_finished, footnote_begun, with_tree, gap_noted, list_finished, list_kept, list_continued, begun, blank_read};
+ghost use Rattle.first_pass_lists.specs.Closing.{is_definition_list, top_end, possible_title, title_closed, title_kept, definitions_closed, definitions_left, definitions_opened, definition_begun, takes_definition, is_after_definition};
 ghost use Rattle.first_pass_tree.specs.Tight.{tight_items};
 ghost use Rattle.first_pass_open.specs.OpenBlock.{closed_by};
 ghost use Rattle.first_pass_items.specs.declared.item.ItemBody.TheVariants.{BlockQuote as BlockQuoteBody, ListItem as ListItemBody};
@@ -26,15 +27,18 @@ pub struct ListMarker {
 }
 
 /// Makes the paragraphs tight that stand directly in the items of a list, the current node, unless it is
-/// loose (CommonMark 5.3), and notes where it ends.
-fn close_list(tree: &mut Tree<Item>, list_ix: TreeIndex, flags: ListFlags)
+/// loose (CommonMark 5.3), and notes where it ends: before its last child, if that is given.
+fn close_list(tree: &mut Tree<Item>, list_ix: TreeIndex, flags: ListFlags, left: Option<TreeIndex>)
     requires { list_ix.0 < length tree.old.nodes }
     ensures { tree.new ≡ (if bit_and flags.0 1 == 1 then tight_items tree.old list_ix else tree.old) }
 {
     if flags.contains(ListFlags::IS_TIGHT) {
         surgerize_tight_list(tree, list_ix);
     }
-    tree.note_end();
+    match left {
+        Some(ix) => tree.note_end_before(ix),
+        None => tree.note_end(),
+    }
 }
 
 /// Makes a list loose; another node stays.
@@ -42,30 +46,53 @@ fn loosen(tree: &mut Tree<Item>, ix: TreeIndex)
     requires { ix.0 < length tree.old.nodes }
     ensures { tree.new ≡ loosened_at tree.old ix }
 {
-    if let ItemBody::List(_, byte, number) = tree[ix].body {
-        tree.set_body(ix, ItemBody::List(ListFlags::empty(), byte, number));
+    match tree[ix].body {
+        ItemBody::List(_, byte, number) => {
+            tree.set_body(ix, ItemBody::List(ListFlags::empty(), byte, number));
+        }
+        ItemBody::DefinitionList(_) => {
+            tree.set_body(ix, ItemBody::DefinitionList(ListFlags::empty()));
+        }
+        _ => {}
     }
 }
 
 impl Reading {
     /// Closes the innermost open node, of which there has to be one, at the offset `ix`. The paragraphs of
-    /// a list become tight, unless it is loose (CommonMark 5.3).
-    #[tactic(auto, using(crate::proofs::WithinLemmas::closed_within), unfolding(crate::specs::Closing::popped))]
+    /// a list become tight, unless it is loose (CommonMark 5.3). A definition list in which a possible title
+    /// is last ends where its last definition does, and the possible title is a paragraph after it (this
+    /// project).
+    #[tactic(auto, unfolding(crate::specs::Closing::popped))]
     pub fn pop(&mut self, ix: usize)
         requires { IsSome (slice_get self.old.tree.spine 0) }
         ensures { self.new ≡ popped ix self.old }
     {
+        match self.possible_title() {
+            Some(title) => self.fixup_end_of_definition_list(title),
+            None => self.close_innermost(ix, None),
+        }
+    }
+
+    // Closes the innermost open node, of which there has to be one, at the offset `ix`. The paragraphs of a list become
+    // tight, unless it is loose. If its last child is given, the list is going to be left by it.
+    #[tactic(auto, using(crate::proofs::WithinLemmas::closed_within))]
+    fn close_innermost(&mut self, ix: usize, left: Option<TreeIndex>)
+        requires { IsSome (slice_get self.old.tree.spine 0) }
+        ensures { self.new ≡ popped_at ix self.old self.old.tree.spine }
+    {
         self.tree.is_forest();
         let cur_ix = self.close_node(ix);
         match self.tree[cur_ix].body {
-            ItemBody::List(flags, _, _) => close_list(&mut self.tree, cur_ix, flags),
-            ItemBody::ListItem(_) => self.empty_item = None,
+            ItemBody::List(flags, _, _) | ItemBody::DefinitionList(flags) => {
+                close_list(&mut self.tree, cur_ix, flags, left);
+            }
+            ItemBody::ListItem(_) | ItemBody::DefinitionListDefinition(_) => self.empty_item = None,
             _ => {}
         }
     }
 
     // Closes the innermost open node, of which there has to be one, at the offset `ix`, and returns its place.
-    pub fn close_node(&mut self, ix: usize) -> TreeIndex
+    fn close_node(&mut self, ix: usize) -> TreeIndex
         requires { IsSome (slice_get self.old.tree.spine 0) }
         ensures node { slice_get self.old.tree.spine 0 ≡ Some result }
         ensures reading { self.new ≡ with_tree self.old (closed_by self.old.tree ix self.old.tree.spine) }
@@ -74,6 +101,185 @@ impl Reading {
         let cur_ix = self.tree.pop().unwrap();
         self.tree.set_end(cur_ix, ix);
         cur_ix
+    }
+
+    // The current node, if it is a possible title in the definition list that is innermost.
+    fn possible_title(&self) -> Option<TreeIndex>
+        ensures value { result ≡ possible_title self.now.tree }
+        ensures within { IfSome result (λ title. title.0 < length self.now.tree.nodes) }
+    {
+        let ix = self.tree.cur()?;
+        self.tree.is_forest();
+        if matches!(self.tree[ix].body, ItemBody::MaybeDefinitionListTitle)
+            && self.is_in_definitions()
+        {
+            return Some(ix);
+        }
+        None
+    }
+
+    // Closes the definition list that is innermost where its last definition ends. The possible title after that, the
+    // current node, is a paragraph after the list then.
+    fn fixup_end_of_definition_list(&mut self, title: TreeIndex)
+        requires open { IsSome (slice_get self.old.tree.spine 0) }
+        requires title { title.0 < length self.old.tree.nodes }
+        ensures { self.new ≡ title_closed self.old title }
+    {
+        let list_end = self.innermost_end();
+        self.tree.set_body(title, ItemBody::Paragraph);
+        self.close_definitions(list_end);
+    }
+
+    // Where the innermost open node ends, as far as it says; 0 where only the root is open.
+    #[tactic(auto, using(crate::proofs::WithinLemmas::top_within))]
+    fn innermost_end(&self) -> usize
+        ensures { result ≡ top_end self.now.tree }
+    {
+        let Some(ix) = self.tree.peek_up() else {
+            return 0;
+        };
+        self.tree.is_forest();
+        self.tree[ix].end
+    }
+
+    // Closes the definition list that is innermost at the offset `end`, and moves its last child out of it, the current
+    // node.
+    #[tactic(auto, unfolding(crate::specs::Closing::definitions_closed))]
+    fn close_definitions(&mut self, end: usize)
+        requires { IsSome (slice_get self.old.tree.spine 0) }
+        ensures { self.new ≡ definitions_closed end self.old }
+    {
+        self.tree.is_forest();
+        let last = self.tree.cur();
+        self.close_innermost(end, last);
+        if let Some(ix) = last {
+            self.tree.move_out(ix);
+        }
+    }
+
+    /// Closes the definition list that is innermost at the offset `end`, where its last definition ends. What
+    /// was read after that as a paragraph, the current node, is a heading or a table, and stands after the list
+    /// then. A blank line before it makes the list loose in whose item both stand (this project).
+    #[tactic(auto, unfolding(crate::specs::Closing::definitions_left))]
+    pub fn leave_definitions(&mut self, end: usize)
+        requires { IsSome (slice_get self.old.tree.spine 0) }
+        ensures { self.new ≡ definitions_left end self.old }
+    {
+        self.close_definitions(end);
+        self.note_gap();
+    }
+
+    /// Makes the current node, a paragraph right after a definition that ends at the offset `end`, a possible
+    /// title: a `:` after it makes it one. A blank line before it doesn't count (this project).
+    #[tactic(auto, using(crate::proofs::WithinLemmas::top_within), unfolding(crate::specs::Closing::title_kept))]
+    pub fn keep_possible_title(&mut self, end: usize)
+        ensures { self.new ≡ title_kept end self.old }
+    {
+        self.tree.is_forest();
+        if let Some(title) = self.tree.cur() {
+            self.tree
+                .set_body(title, ItemBody::MaybeDefinitionListTitle);
+        }
+        self.tree.is_forest();
+        if let Some(list_ix) = self.tree.peek_up() {
+            self.tree.set_end(list_ix, end);
+        }
+        self.blank = false;
+    }
+
+    /// Whether a `:` may begin a definition here: after a paragraph, and in a definition list after a possible
+    /// title, or after a definition that doesn't take blank lines alone (this project).
+    pub fn takes_definition(&self) -> bool
+        ensures { result ≡ takes_definition self.now.tree }
+    {
+        let Some(ix) = self.tree.cur() else {
+            return false;
+        };
+        self.tree.is_forest();
+        match self.tree[ix].body {
+            ItemBody::Paragraph => !self.is_in_list(),
+            ItemBody::MaybeDefinitionListTitle => self.is_in_definitions(),
+            ItemBody::DefinitionListDefinition(columns) => self.is_in_definitions() && columns != 0,
+            _ => false,
+        }
+    }
+
+    /// Whether a paragraph that begins here may become the next title: in a definition list in which no possible
+    /// title is last, so that it is right after a definition (this project).
+    pub fn is_after_definition(&self) -> bool
+        ensures { result ≡ is_after_definition self.now.tree }
+    {
+        self.is_in_definitions() && self.possible_title().is_none()
+    }
+
+    // Whether the innermost open node is a definition list.
+    #[tactic(auto, using(crate::proofs::WithinLemmas::top_within))]
+    fn is_in_definitions(&self) -> bool
+        ensures { result ≡ is_definition_list (top_body self.now.tree) }
+    {
+        let Some(ix) = self.tree.peek_up() else {
+            return false;
+        };
+        self.tree.is_forest();
+        matches!(self.tree[ix].body, ItemBody::DefinitionList(_))
+    }
+
+    // Whether the innermost open node is a list, of items or of definitions.
+    #[tactic(auto, using(crate::proofs::WithinLemmas::top_within))]
+    fn is_in_list(&self) -> bool
+        ensures { result ≡ is_list (top_body self.now.tree) }
+    {
+        let Some(ix) = self.tree.peek_up() else {
+            return false;
+        };
+        self.tree.is_forest();
+        matches!(
+            self.tree[ix].body,
+            ItemBody::List(_, _, _) | ItemBody::DefinitionList(_)
+        )
+    }
+
+    /// Opens a definition of an indent at the offset `start`: in the definition list that is open, or in a new
+    /// one, whose title is the paragraph that is the current node. A blank line before the definition makes
+    /// that list loose (this project).
+    #[tactic(auto, unfolding(crate::specs::Closing::definition_begun))]
+    pub fn open_definition(&mut self, start: usize, indent: usize) -> Result<(), AllocError>
+        ensures { OnOk result (self.new ≡ definition_begun start indent self.old) }
+    {
+        self.open_definition_list()?;
+        self.keep_list();
+        self.open_node(start, ItemBody::DefinitionListDefinition(indent))
+    }
+
+    // Makes the current node the title of a definition, if it is a possible title, or a paragraph: then a definition
+    // list is opened for it.
+    fn open_definition_list(&mut self) -> Result<(), AllocError>
+        ensures { OnOk result (self.new
+            ≡ with_tree self.old (definitions_opened self.old.tree self.old.tree.current)) }
+    {
+        let Some(ix) = self.tree.cur() else {
+            return Ok(());
+        };
+        self.tree.is_forest();
+        let Item { start, end, body } = self.tree[ix];
+        match body {
+            ItemBody::MaybeDefinitionListTitle => {
+                self.tree.set_body(ix, ItemBody::DefinitionListTitle);
+            }
+            ItemBody::Paragraph => {
+                self.tree
+                    .set_body(ix, ItemBody::DefinitionList(ListFlags::IS_TIGHT));
+                self.tree.create_node(Item {
+                    start,
+                    end,
+                    body: ItemBody::DefinitionListTitle,
+                })?;
+                self.tree.push()?;
+                self.tree.remember()?;
+            }
+            _ => {}
+        }
+        Ok(())
     }
 
     /// Closes the innermost open node, if it is an item that began with two blank lines, after the line of
@@ -99,7 +305,10 @@ impl Reading {
             return false;
         };
         self.tree.is_forest();
-        matches!(self.tree[ix].body, ItemBody::ListItem(_))
+        matches!(
+            self.tree[ix].body,
+            ItemBody::ListItem(_) | ItemBody::DefinitionListDefinition(_)
+        )
     }
 
     /// Closes what a new block ends: an empty item, and the list that is then innermost, at the offset
@@ -114,15 +323,12 @@ impl Reading {
     }
 
     // Closes the innermost open node, if it is a list, at the offset `ix`.
-    #[tactic(auto, using(crate::proofs::WithinLemmas::top_within))]
+    #[tactic(auto, using(crate::proofs::WithinLemmas::list_is_open))]
     fn leave_list(&mut self, ix: usize)
         ensures { self.new ≡ list_left ix self.old }
     {
-        self.tree.is_forest();
-        if let Some(list_ix) = self.tree.peek_up() {
-            if matches!(self.tree[list_ix].body, ItemBody::List(_, _, _)) {
-                self.pop(ix);
-            }
+        if self.is_in_list() {
+            self.pop(ix);
         }
     }
 
@@ -175,6 +381,10 @@ impl Reading {
                 ItemBody::BlockQuote(_) => return,
                 ItemBody::ListItem(_) if self.empty_item.is_some() => {
                     self.tree.set_body(ix, ItemBody::ListItem(0));
+                }
+                ItemBody::DefinitionListDefinition(_) if self.empty_item.is_some() => {
+                    self.tree
+                        .set_body(ix, ItemBody::DefinitionListDefinition(0));
                 }
                 _ => {}
             }

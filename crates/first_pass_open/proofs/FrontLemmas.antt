@@ -55,7 +55,7 @@ outer-all spine = let z : length spine - length spine ≡ 0 = omega arith in ap 
 abbrev pub path_to : (options : Options) → List (ℕ × Item) → List TreeIndex → ℕ → List Container
 path_to options ns spine m = path_in options ns (outer m spine)
 
-path_to-more : (options : Options) (ns : List (ℕ × Item)) (spine : List TreeIndex) (i : ℕ) (x : TreeIndex)
+pub path_to-more : (options : Options) (ns : List (ℕ × Item)) (spine : List TreeIndex) (i : ℕ) (x : TreeIndex)
     → i < length spine → path_to options ns spine (i + 1) ≡ with_container (container_at options ns (get_or (reverse spine) i x)) (path_to options ns spine i)
 path_to-more options ns spine i x h = ap (path_in options ns) (outer-more spine i x h)
 

@@ -1,4 +1,5 @@
 pub mod PathLemmas
+pub mod ContinuedLemmas
 pub mod FrontLemmas
 pub mod PlaceLemmas
 pub mod PlainLemmas

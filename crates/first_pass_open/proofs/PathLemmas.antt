@@ -4,6 +4,8 @@ use Rattle.std.proofs.Common.{Some, None, refl, ap, subst, ◌∙◌, arith, len
 use Rattle.std.proofs.lemmas.List.{length-map}
 use Rattle.std.specs.Option.{option_map, option_and_then}
 use Rattle.first_pass_items.specs.declared.item.Item.{Item}
+use Rattle.first_pass_items.specs.declared.item.ItemBody.{ItemBody}
+use Rattle.first_pass_items.specs.declared.item.ItemBody.TheVariants.{ListItem as ListItemBody, DefinitionListDefinition}
 use Rattle.first_pass_tree.specs.declared.tree_index.TreeIndex.{TreeIndex}
 use Rattle.first_pass_tree.specs.Forest.{Forest, IsOpenPath, depths, appended, pushed, at_depth}
 use Rattle.first_pass_lines.specs.Lines.{at_line_end}
@@ -13,9 +15,9 @@ use Rattle.first_pass_lines.specs.Places.{line_rest}
 use Rattle.first_pass_tokens.specs.TreeTokens.{chained, leaves}
 use Rattle.first_pass_tokens.proofs.ChainLemmas.{chained-spine, chained-nodes}
 use Rattle.first_pass_grammar.specs.declared.kind.Container.{Container}
-use Rattle.first_pass_grammar.specs.declared.kind.Container.TheVariants.{BlockQuote, ListItem, FootnoteDefinition}
+use Rattle.first_pass_grammar.specs.declared.kind.Container.TheVariants.{BlockQuote, ListItem, FootnoteDefinition, Definition}
 use Rattle.first_pass_grammar.specs.Containers.{has_columns, prefix, after, or_shorter, front}
-use Rattle.first_pass_open.specs.Path.{container_of, container_at, with_container, path_in, path_of}
+use Rattle.first_pass_open.specs.Path.{container_of, container_at, prefix_of, with_container, path_in, path_of}
 use Rattle.first_pass_items.specs.declared.option_set.Options.{Options}
 
 -- each of these places is one of n
@@ -63,11 +65,21 @@ same_prefix : (n : ℕ) (r : Rest) → prefix (FootnoteDefinition n) r ≡ prefi
 unfolding prefix
 same_prefix n r = refl
 
+definition_prefix : (n : ℕ) (r : Rest) → prefix (Definition n) r ≡ prefix (ListItem n) r
+unfolding prefix
+definition_prefix n r = refl
+
 item-end : (n : ℕ) → prefix (ListItem n) (line_rest []) ≡ Some (line_rest [])
 item-end n =
     let e = columns-end n in
     let h : has_columns n (line_rest []) ≡ true = ap (λ (r : Rest). nat_le n (indent (line_rest [])) || at_line_end r.left) e ∙ or_true (nat_le n 0) in
     item_prefix n (line_rest []) h ∙ ap (λ r. Some r) e
+
+-- a list item or a definition, whose prefix has these columns
+pub columns_prefix : (options : Options) (body : ItemBody) (n : ℕ) (r : Rest) → (body ≡ ListItemBody n) ⊎ (body ≡ DefinitionListDefinition n)
+    → prefix_of (container_of options body) r ≡ prefix (ListItem n) r
+columns_prefix options body n r (inl e) = ap (λ b. prefix_of (container_of options b) r) e
+columns_prefix options body n r (inr e) = ap (λ b. prefix_of (container_of options b) r) e ∙ definition_prefix n r
 
 -- At the end of the text a line continues a path, or doesn't.
 pub after-end : (path : List Container) → (after path (line_rest []) ≡ None) ⊎ (after path (line_rest []) ≡ Some (line_rest []))
@@ -77,6 +89,8 @@ after-end (BlockQuote kind ∷ path) = elim (after-end path) [ inl none ↦ inl 
 after-end (ListItem n ∷ path) = elim (after-end path) [ inl none ↦ inl (rw none refl) | inr some ↦ (let e = item-end n in inr (rw some e)) ]
 after-end (FootnoteDefinition n ∷ path) =
     elim (after-end path) [ inl none ↦ inl (rw none refl) | inr some ↦ (let e = same_prefix n (line_rest []) ∙ item-end n in inr (rw some e)) ]
+after-end (Definition n ∷ path) =
+    elim (after-end path) [ inl none ↦ inl (rw none refl) | inr some ↦ (let e = definition_prefix n (line_rest []) ∙ item-end n in inr (rw some e)) ]
 
 front_by : (o : Option Rest) (r q : Rest) → (o ≡ None) ⊎ (o ≡ Some r) → q ≡ r → or_shorter o q ≡ r
 front_by None r q h e = e

@@ -12,8 +12,8 @@ use Rattle.first_pass_items.specs.declared.option_set.Options.{Options}
 use Rattle.first_pass_items.specs.OptionWords.{has}
 use Rattle.first_pass_grammar.specs.Order.{is_task_marker}
 use Rattle.first_pass_lines.specs.Lines.{is_content, line_len}
-use Rattle.first_pass_scan.specs.Markers.{item_of, task_of}
-use Rattle.first_pass_scan.proofs.MarkerPlaces.{IsMarked, item-marked, task-marked, marked-keeps, marked-line_end}
+use Rattle.first_pass_scan.specs.Markers.{item_of, definition_of, task_of}
+use Rattle.first_pass_scan.proofs.MarkerPlaces.{IsMarked, item-marked, definition-marked, task-marked, marked-keeps, marked-line_end}
 use Rattle.first_pass_lines.specs.Rest.{Rest, next_column, after_columns, indent, past_bytes, past_quote}
 use Rattle.first_pass_lines.specs.Places.{Place, line_rest, place_at, offset, line_end, IsPlaceOf}
 use Rattle.first_pass_lines.proofs.LineFacts.{line_len-none}
@@ -21,9 +21,9 @@ use Rattle.first_pass_lines.proofs.Columns.{after-more, after-none, all-more}
 use Rattle.first_pass_lines.proofs.PlaceFacts.{line_is_place, columns_keep, place_line_end, columns_line_end, columns_shorter, quote_keeps, quote_line_end}
 use Rattle.first_pass_lines.proofs.PlaceFacts.{quote_shorter}
 use Rattle.first_pass_grammar.specs.declared.kind.Container.{Container}
-use Rattle.first_pass_grammar.specs.declared.kind.Container.TheVariants.{BlockQuote, ListItem, FootnoteDefinition}
+use Rattle.first_pass_grammar.specs.declared.kind.Container.TheVariants.{BlockQuote, ListItem, FootnoteDefinition, Definition}
 use Rattle.first_pass_grammar.specs.Containers.{has_columns, prefix, after, or_shorter, front}
-use Rattle.first_pass_grammar.specs.Kinds.{all_taken, unindented, item_at}
+use Rattle.first_pass_grammar.specs.Kinds.{all_taken, unindented, item_at, definition_marker_at}
 use Rattle.first_pass_grammar.specs.Openers.{task_by, task_behind}
 
 all_by : (k : ℕ) (r : Rest) (o : Option Rest)
@@ -52,6 +52,16 @@ quote_prefix text line r (Some t) s u q e i =
       ap (λ z. line_end (place_at line z)) (sym f) ∙ columns_line_end 1 (place_at line t) ∙ quote_line_end line r t q,
     )
 
+-- after the columns of a container, as many as it needs or fewer
+columns_prefix : (text : List ℕ) (line n : ℕ) (r s : Rest)
+    → IsUtf8 text → (if has_columns n r then Some (after_columns n r) else None) ≡ Some s → IsPlaceOf text (place_at line r)
+    → IsPlaceOf text (place_at line s) × (line_end (place_at line s) ≡ line_end (place_at line r))
+columns_prefix text line n r s u e i =
+    let f : after_columns n r ≡ s = (cond_some (has_columns n r) (after_columns n r) s e).1 in (
+      subst (λ z. IsPlaceOf text (place_at line z)) f (columns_keep text n (place_at line r) u i),
+      ap (λ z. line_end (place_at line z)) (sym f) ∙ columns_line_end n (place_at line r),
+    )
+
 -- after a prefix
 pub prefix_keeps : (text : List ℕ) (line : ℕ) (c : Container) (r s : Rest) → IsUtf8 text → prefix c r ≡ Some s → IsPlaceOf text (place_at line r)
     → IsPlaceOf text (place_at line s) × (line_end (place_at line s) ≡ line_end (place_at line r))
@@ -59,16 +69,9 @@ unfolding prefix
 prefix_keeps text line (BlockQuote kind) r s u e i =
     let f = quote_prefix text line (after_columns 3 r) (past_quote (after_columns 3 r)) s u refl e (columns_keep text 3 (place_at line r) u i) in
     (f.0, f.1 ∙ columns_line_end 3 (place_at line r))
-prefix_keeps text line (ListItem n) r s u e i =
-    let f : after_columns n r ≡ s = (cond_some (has_columns n r) (after_columns n r) s e).1 in (
-      subst (λ z. IsPlaceOf text (place_at line z)) f (columns_keep text n (place_at line r) u i),
-      ap (λ z. line_end (place_at line z)) (sym f) ∙ columns_line_end n (place_at line r),
-    )
-prefix_keeps text line (FootnoteDefinition n) r s u e i =
-    let f : after_columns n r ≡ s = (cond_some (has_columns n r) (after_columns n r) s e).1 in (
-      subst (λ z. IsPlaceOf text (place_at line z)) f (columns_keep text n (place_at line r) u i),
-      ap (λ z. line_end (place_at line z)) (sym f) ∙ columns_line_end n (place_at line r),
-    )
+prefix_keeps text line (ListItem n) r s u e i = columns_prefix text line n r s u e i
+prefix_keeps text line (FootnoteDefinition n) r s u e i = columns_prefix text line n r s u e i
+prefix_keeps text line (Definition n) r s u e i = columns_prefix text line n r s u e i
 
 after_by : (text : List ℕ) (line : ℕ) (c : Container) (r s : Rest) (o : Option Rest) → IsUtf8 text → option_and_then (prefix c) o ≡ Some s
     → ((q : Rest) → o ≡ Some q → IsPlaceOf text (place_at line q) × (line_end (place_at line q) ≡ line_end (place_at line r)))
@@ -197,6 +200,32 @@ marked_shorter r s m =
 pub item_shorter : (r : Rest) (item : (ℕ × ℕ × ℕ) × Rest) → item_at r ≡ Some item → length item.1.left < length r.left
 item_shorter r item h =
     let s = marked_shorter (all_taken r) item.1 (item_marked r item h) in
+    let a = columns_shorter (indent r) r in
+    omega arith
+
+-- what a definition's marker that was taken says
+definition_by : (t : Bool) (r : Rest) (definition : ℕ × Rest)
+    → (if t then definition_of (indent r) (all_taken r) else None) ≡ Some definition → definition_of (indent r) (all_taken r) ≡ Some definition
+definition_by true r definition h = h
+definition_by false r definition h = cc
+
+marked_definition : (r : Rest) (definition : ℕ × Rest) → definition_marker_at r ≡ Some definition → IsMarked (all_taken r) definition.1
+unfolding definition_marker_at
+marked_definition r definition h = definition-marked (indent r) (all_taken r) definition (definition_by (nat_lt (indent r) 4) r definition h)
+
+-- after a definition's marker
+pub definition_keeps : (text : List ℕ) (line : ℕ) (r : Rest) (definition : ℕ × Rest)
+    → IsUtf8 text → definition_marker_at r ≡ Some definition → IsPlaceOf text (place_at line r)
+    → IsPlaceOf text (place_at line definition.1) × (line_end (place_at line definition.1) ≡ line_end (place_at line r))
+definition_keeps text line r definition u h i =
+    let m = marked_definition r definition h in (
+      marked-keeps text line (all_taken r) definition.1 u m (all_keep text line r u i),
+      marked-line_end line (all_taken r) definition.1 m ∙ columns_line_end (indent r) (place_at line r),
+    )
+
+pub definition_shorter : (r : Rest) (definition : ℕ × Rest) → definition_marker_at r ≡ Some definition → length definition.1.left < length r.left
+definition_shorter r definition h =
+    let s = marked_shorter (all_taken r) definition.1 (marked_definition r definition h) in
     let a = columns_shorter (indent r) r in
     omega arith
 

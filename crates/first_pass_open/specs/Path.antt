@@ -1,23 +1,25 @@
 -- The containers that are open in a tree.
-use Rattle.std.specs.Prelude.{ℕ, ◌-◌, List, [], ◌∷◌, length, drop, Option, Some, None}
+use Rattle.std.specs.Prelude.{ℕ, ◌-◌, ◌==◌, Bool, false, List, [], ◌∷◌, length, drop, reverse, slice_get, Option, Some, None}
 use Rattle.std.specs.Option.{option_and_then}
 use Rattle.first_pass_items.specs.declared.item.Item.{Item}
 use Rattle.first_pass_items.specs.declared.item.ItemBody.{ItemBody}
 use Rattle.first_pass_items.specs.declared.item.ItemBody.TheVariants.{BlockQuote as BlockQuoteBody, ListItem as ListItemBody}
-use Rattle.first_pass_items.specs.declared.item.ItemBody.TheVariants.{FootnoteDefinition as FootnoteDefinitionBody}
+use Rattle.first_pass_items.specs.declared.item.ItemBody.TheVariants.{FootnoteDefinition as FootnoteDefinitionBody, DefinitionListDefinition}
 use Rattle.first_pass_tree.specs.declared.tree_index.TreeIndex.{TreeIndex}
 use Rattle.first_pass_tree.specs.Forest.{Forest, body_at}
 use Rattle.first_pass_lines.specs.Rest.{Rest}
 use Rattle.first_pass_grammar.specs.declared.kind.Container.{Container}
-use Rattle.first_pass_grammar.specs.declared.kind.Container.TheVariants.{BlockQuote, ListItem, FootnoteDefinition}
+use Rattle.first_pass_grammar.specs.declared.kind.Container.TheVariants.{BlockQuote, ListItem, FootnoteDefinition, Definition}
 use Rattle.first_pass_items.specs.declared.option_set.Options.{Options}
-use Rattle.first_pass_grammar.specs.Containers.{Context, context, footnote_columns, prefix}
+use Rattle.first_pass_grammar.specs.Containers.{Context, context, footnote_columns, prefix, is_definition}
+use Rattle.first_pass_grammar.specs.Kinds.{Continued}
 
 -- the container that a node is under these options, if it is one
 abbrev pub container_of : Options → ItemBody → Option Container
 container_of options (BlockQuoteBody kind) = Some (BlockQuote kind)
 container_of options (ListItemBody columns) = Some (ListItem columns)
 container_of options (FootnoteDefinitionBody label) = Some (FootnoteDefinition (footnote_columns options))
+container_of options (DefinitionListDefinition columns) = Some (Definition columns)
 container_of options _ = None
 
 abbrev pub container_at : Options → List (ℕ × Item) → TreeIndex → Option Container
@@ -47,3 +49,16 @@ context_of options f = context options (path_of options f)
 -- the outermost m open nodes
 abbrev pub outer : ℕ → List TreeIndex → List TreeIndex
 outer m spine = drop (length spine - m) spine
+
+-- an open node is a definition of a definition list (this project)
+abbrev pub is_definition_node : Option Container → Bool
+is_definition_node None = false
+is_definition_node (Some c) = is_definition c
+
+-- the open node after the outermost n is one, if there is such a node (this project)
+abbrev pub definition_after : Options → Forest Item → ℕ → Bool
+definition_after options f n = is_definition_node (option_and_then (container_at options f.nodes) (slice_get (reverse f.spine) n))
+
+-- how a line continues the open containers that continues the outermost n open nodes, and no more (this project)
+abbrev pub continued_to : Options → Forest Item → ℕ → Continued
+continued_to options f n = record { whole = n == length f.spine; at_definition = definition_after options f n }

@@ -11,8 +11,8 @@ use first_pass_items::option_set::Options;
 use first_pass_scan::line_start::LineStart;
 use first_pass_tree::forest::Tree;
 
-// Takes the columns of an item's indent, or fewer where the line ends after them, and says whether they are
-// there; takes nothing where they aren't.
+// Takes the columns of an item's or a definition's indent, or fewer where the line ends after them, and says whether
+// they are there; takes nothing where they aren't.
 #[inline(always)]
 #[tactic(auto, unfolding(first_pass_grammar::specs::Containers::prefix))]
 fn takes_columns<'a>(columns: usize, line_start: &mut LineStart<'a>) -> bool
@@ -33,9 +33,9 @@ fn takes_prefix<'a>(body: ItemBody, line_start: &mut LineStart<'a>, options: Opt
     ensures { MatchOption (prefix_of (container_of options body) line_start.old)
         ((result ≡ false) × (line_start.new ≡ line_start.old)) (λ next. (result ≡ true) × (line_start.new ≡ next)) }
 {
-    // Three tests and no match on all kinds of nodes, which would be a jump that is seldom predicted.
+    // A few tests and no match on all kinds of nodes, which would be a jump that is seldom predicted.
     let columns = match body {
-        ItemBody::ListItem(columns) => Some(columns),
+        ItemBody::ListItem(columns) | ItemBody::DefinitionListDefinition(columns) => Some(columns),
         _ => None,
     };
     if let Some(columns) = columns {
@@ -51,9 +51,10 @@ fn takes_prefix<'a>(body: ItemBody, line_start: &mut LineStart<'a>, options: Opt
 }
 
 /// How many of the open nodes the line continues, the outermost first, up to the first by which it
-/// doesn't; the line start is then after what they take (CommonMark 5). A footnote definition takes four columns,
-/// or fewer and then the end of the line, where the options have footnotes as GitHub does, and else nothing; what is
-/// no container continues every line. The flag makes no difference.
+/// doesn't; the line start is then after what they take (CommonMark 5). A definition of a definition list takes the
+/// columns of its indent, as a list item does. A footnote definition takes four columns, or fewer and then the end of
+/// the line, where the options have footnotes as GitHub does, and else nothing; what is no container continues every
+/// line. The flag makes no difference.
 #[inline(always)]
 pub fn scan_containers<'a>(
     tree: &Tree<Item>,

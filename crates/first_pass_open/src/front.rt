@@ -1,13 +1,15 @@
 //! The front of a line: what the open containers take of it, and what is left then (CommonMark 5).
 
 ghost use Rattle.std.specs.Prelude.{◌≡◌, ◌<◌, ◌≤◌, ℕ, drop, length, is_some, Some, None, IfSome, IsTrue, IsUtf8, IsCharBoundary};
+ghost use Rattle.first_pass_items.specs.declared.option_set.Options.{Options};
 ghost use Rattle.first_pass_lines.specs.Places.{line_rest, place_at, IsPlaceOf};
 ghost use Rattle.first_pass_grammar.specs.Containers.{after, front};
-ghost use Rattle.first_pass_open.specs.Path.{outer, path_in, path_of};
+ghost use Rattle.first_pass_grammar.specs.Kinds.{continued};
+ghost use Rattle.first_pass_open.specs.Path.{outer, path_in, path_of, definition_after, continued_to};
 
 use crate::containers::scan_containers;
 use crate::source::Source;
-use first_pass_items::item::Item;
+use first_pass_items::item::{Item, ItemBody};
 use first_pass_items::option_set::Options;
 use first_pass_lines::places::rest_of;
 use first_pass_scan::line_start::LineStart;
@@ -36,6 +38,8 @@ pub fn front_of<'b>(bytes: &'b [u8], tree: &Tree<Item>, options: Options) -> Fro
     ensures front { result.rest ≡ front (path_of options tree.now) (line_rest bytes.now) }
     ensures continued { IsTrue result.whole → after (path_of options tree.now) (line_rest bytes.now)
         ≡ Some result.rest }
+    ensures kept { continued_to options tree.now result.kept
+        ≡ continued (path_of options tree.now) (line_rest bytes.now) }
 {
     let mut rest = LineStart::new(bytes);
     let kept = scan_containers(tree, &mut rest, options, false);
@@ -63,6 +67,8 @@ pub fn scan_front<'a>(source: &Source<'a>, tree: &Tree<Item>, start: usize) -> F
     ensures continued { IsTrue result.whole
         → after (path_of source.now.options tree.now) (line_rest (drop start source.now.text.now))
         ≡ Some result.rest }
+    ensures kept { continued_to source.now.options tree.now result.kept
+        ≡ continued (path_of source.now.options tree.now) (line_rest (drop start source.now.text.now)) }
     ensures place { IsPlaceOf source.now.text.now (place_at start result.rest) }
     ensures utf8 { IsUtf8 source.now.text.now }
 {
@@ -88,4 +94,16 @@ pub fn scan_continued<'a>(
         return None;
     }
     Some(front.rest)
+}
+
+/// Whether the open node after the outermost `kept` is a definition of a definition list; `false` where no more are
+/// open.
+pub fn is_definition_after(tree: &Tree<Item>, kept: usize) -> bool
+    ensures { (options : Options) → result ≡ definition_after options tree.now kept }
+{
+    tree.is_forest();
+    match tree.walk_spine().get(kept) {
+        None => false,
+        Some(ix) => matches!(tree[*ix].body, ItemBody::DefinitionListDefinition(_)),
+    }
 }

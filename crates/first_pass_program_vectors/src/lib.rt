@@ -1,4 +1,4 @@
-//! The work of both programs, each fault of a run, and the printed form of nodes that no text gives yet.
+//! The work of both programs, each fault of a run, and the printed form of nodes that are made without a text.
 #![tactic(auto)]
 
 #[cfg(test)]

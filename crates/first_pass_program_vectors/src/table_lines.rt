@@ -1,4 +1,4 @@
-//! How the node of a table is printed, and what its index names; and how nodes are printed that no text has yet.
+//! How the node of a table is printed, and what its index names; and how nodes are printed that come of no text.
 
 use bitflags::Flags;
 use first_pass::below::{Alignment, AlignmentIndex, Item, ItemBody};

@@ -122,7 +122,8 @@ impl<'a> LineStart<'a> {
         self.owed == 0 && is_plain_front(rest_of(self.bytes, self.at))
     }
 
-    /// Whether no column is owed, and a byte is next that is no space or tab, and with which no container begins.
+    /// Whether no column is owed, and a byte is next that is no space or tab, and with which no list item and no block
+    /// quote begins.
     #[inline(always)]
     pub fn is_at_inert(&self) -> bool
         ensures owed { result ≡ true → self.now.owed ≡ 0 }

@@ -22,7 +22,7 @@ use Rattle.first_pass_tokens.proofs.LineLemmas.{cell_ends}
 use Rattle.first_pass_tokens.proofs.OrderLemmas.{order_from, cell_in_order, cell_end_place}
 use Rattle.first_pass_grammar.specs.Counting.{own_nodes}
 use Rattle.first_pass_grammar.specs.Leaves.{Document}
-use Rattle.first_pass_grammar.specs.Order.{Extent, extent_of, extents, Row, Empty, Node, laid, IsBetween, Elsewhere, in_item, below, Fits}
+use Rattle.first_pass_grammar.specs.Order.{Extent, extent_of, extents, Row, Empty, Node, laid, IsBetween, Elsewhere, below, Fits}
 use Rattle.first_pass_grammar.specs.Tables.{cell_start, cell_text, cell_block, AreCells, filled, side_by_side, row_cells, row_block}
 use Rattle.first_pass_grammar.proofs.Orders.{beside, extents-append, extents-at_depth, laid-beside, laid-at_depth, fits-order, fits-later, fits-any}
 use Rattle.first_pass_grammar.proofs.Orders.{fits-beside, row_of, row_of-fits, length-block}
@@ -66,7 +66,7 @@ between-block text from to x kids between (row, is, fits) = (
   Node (extent_of x) row Empty,
   ap (λ (ns : List (ℕ × Extent)). (0, extent_of x) ∷ ns)
       (extents-at_depth 1 kids ∙ ap (λ (z : List (ℕ × Extent)). at_depth 1 z) is ∙ laid-at_depth 1 0 row ∙ sym (append-nil (laid 1 row))),
-  inl (between, fits-any text (below (in_item Elsewhere) from (extent_of x)) x.start x.«end» row fits, between.before),
+  inl (between, fits-any text (below Elsewhere from (extent_of x)) x.start x.«end» row fits, between.before),
 )
 
 -- it counts once at most

@@ -1,5 +1,5 @@
 -- The block of a paragraph, or of a heading that is underlined, lies between two offsets in order.
-use Rattle.std.proofs.Common.{◌≡◌, inl, inr, ℕ, ◌+◌, ◌-◌, ◌*◌, ◌<◌, ◌≤◌, suc, ◌&&◌, Bool, true, false, if◌then◌else◌, List, [], ◌∷◌, ◌++◌, length, drop, Option}
+use Rattle.std.proofs.Common.{◌≡◌, inl, inr, ℕ, ◌+◌, ◌-◌, ◌*◌, ◌<◌, ◌≤◌, suc, Bool, true, false, if◌then◌else◌, List, [], ◌∷◌, ◌++◌, length, drop, Option}
 use Rattle.std.proofs.Common.{Some, None, IsUtf8, IsCharBoundary, refl, sym, ap, subst, ◌∙◌, arith, MatchOption, get_or, slice_index, take, ◌==◌}
 use Rattle.std.proofs.Common.{length-take-le, get_or-drop}
 use Rattle.std.proofs.lemmas.List.{append-nil, get_or-take, take_all}
@@ -16,7 +16,7 @@ use Rattle.first_pass_grammar.specs.Leaves.{Document, document, marker_items, Te
 use Rattle.first_pass_grammar.specs.Completion.{lines_from}
 use Rattle.first_pass_grammar.specs.Counting.{own_nodes}
 use Rattle.first_pass_grammar.proofs.OwnNodes.{own_at_most}
-use Rattle.first_pass_grammar.specs.Order.{is_task_marker, Extent, Empty, Node, extent_of, extents, laid, Within, Elsewhere, InItem, InText, in_item, Fits}
+use Rattle.first_pass_grammar.specs.Order.{is_task_marker, Extent, Empty, Node, extent_of, extents, laid, Within, Elsewhere, InItem, below, Fits}
 use Rattle.first_pass_grammar.specs.Order.{FitsBetween, IsBetween}
 use Rattle.first_pass_grammar.specs.OpenOrder.{is_in_item, within_top}
 use Rattle.first_pass_text.specs.Appends.{AddsPlainText}
@@ -68,19 +68,23 @@ block_few from start next body marker chain low few some =
 -- a task list item marker stands in a list item
 abbrev StandsIn : Within → Option Item → Type 0
 StandsIn w None = Unit {0}
-StandsIn w (Some m) = in_item w ≡ true
+StandsIn w (Some m) = w ≡ InItem
+
+-- what the extent of a paragraph or a heading is
+abbrev text_extent : ℕ → ℕ → Extent
+text_extent start next = record { start = start; «end» = next; text_block = true; marker = false; item = false; definitions = false }
 
 -- what stands below a paragraph
 kids_fit : (text : List ℕ) (w : Within) (from start next : ℕ) (marker : Option Item) (chain : List Item)
     → AreInOrder text start next chain → StandsBefore text from start marker → StandsIn w marker
-    → (from ≤ start) × Fits text (if in_item w && true then InText from else Elsewhere) start next (row_of (marker_items marker ++ chain))
+    → (from ≤ start) × Fits text (below w from (text_extent start next)) start next (row_of (marker_items marker ++ chain))
 unfolding Fits row_of
 kids_fit text w from start next None chain h stands inside =
-    (stands, row_of-fits text (if in_item w && true then InText from else Elsewhere) start next chain h)
+    (stands, row_of-fits text (below w from (text_extent start next)) start next chain h)
 kids_fit text w from start next (Some m) chain h stands inside =
     let b : IsBetween text from start (extent_of m) = stands.1 in (
       omega (arith, b.behind, b.order, b.before),
-      subst (λ t. Fits text (if t && true then InText from else Elsewhere) start next (row_of (m ∷ chain))) (sym inside)
+      subst (λ v. Fits text (below v from (text_extent start next)) start next (row_of (m ∷ chain))) (sym inside)
           (inr (stands, b.order, row_of-fits text Elsewhere start next chain h)),
     )
 
@@ -89,10 +93,6 @@ block_laid : (start next : ℕ) (body : ItemBody) (chain : List Item)
 unfolding laid
 block_laid start next body chain =
     ap (λ (row : List (ℕ × Extent)). (0, extent_of (text_node start next body)) ∷ row) (row_of-laid 1 chain ∙ sym (append-nil (laid 1 (row_of chain))))
-
--- what the extent of a paragraph or a heading is
-abbrev text_extent : ℕ → ℕ → Extent
-text_extent start next = record { start = start; «end» = next; text_block = true; marker = false; item = false }
 
 block_between : (text : List ℕ) (w : Within) (from start next : ℕ) (body : ItemBody) (marker : Option Item) (chain : List Item)
     → extent_of (text_node start next body) ≡ text_extent start next
@@ -112,9 +112,8 @@ block_between text w from start next body marker chain extent starts ends h byte
       block_few from start next body marker chain kids.0 (few_in_order text start next chain h bytes),
     )
 
-inside_top : (t : Bool) → t ≡ true → in_item (if t then InItem else Elsewhere) ≡ true
-inside_top true h = refl
-inside_top false h = h
+inside_top : (t : Bool) → t ≡ true → (if t then InItem else Elsewhere) ≡ InItem
+inside_top t h = rw h refl
 
 top_stands : (old : Forest Item) (marker : Option Item) → IsInItem old marker → StandsIn (within_top old) marker
 top_stands old None h = h

@@ -8,6 +8,7 @@ use Rattle.first_pass_items.specs.declared.option_set.Options.{Options}
 use Rattle.first_pass_tree.specs.Forest.{Forest, appended, pushed, is_text}
 use Rattle.first_pass_tree.specs.declared.tree_index.TreeIndex.{TreeIndex}
 use Rattle.first_pass_lines.specs.Lines.{line_len}
+use Rattle.first_pass_lines.specs.Rest.{Rest}
 use Rattle.first_pass_lines.specs.Places.{Place, offset, line_rest, line_place, place_at, IsPlaceOf}
 use Rattle.first_pass_lines.proofs.LineFacts.{lines_at-line, lines_at-end}
 use Rattle.first_pass_lines.proofs.PlaceFacts.{line_end_boundary}
@@ -19,7 +20,7 @@ use Rattle.first_pass_tokens.specs.Chains.{text_token, add_text, add_token, add_
 use Rattle.first_pass_tokens.specs.TreeTokens.{chained, with_tokens, JoinsNone, AppendsLine}
 use Rattle.first_pass_tokens.proofs.ChainLemmas.{add_text-some, with_tokens-chained, with_text-chained, appended-chained}
 use Rattle.first_pass_grammar.specs.Containers.{Context, context, after, front}
-use Rattle.first_pass_grammar.specs.Kinds.{unindented, interrupts, ends_paragraph, ends_text, underline_left, underline_of}
+use Rattle.first_pass_grammar.specs.Kinds.{unindented, Continued, continued, interrupts, ends_paragraph, colon_ends, ends_text, underline_left, underline_of}
 use Rattle.first_pass_items.specs.declared.cow_str.CowStr.{CowStr}
 use Rattle.first_pass_grammar.specs.Names.{Names, Extends}
 use Rattle.first_pass_grammar.proofs.MoreNames.{extends_both}
@@ -45,17 +46,17 @@ use Rattle.first_pass_kinds.specs.declared.interrupt.NextLine.{NextLine}
 use Rattle.first_pass_kinds.specs.declared.interrupt.NextLine.TheVariants.{More, Underline, Other}
 
 -- At the end of the text a paragraph ends.
-interrupts-end : (around : Context) (whole : Bool) → interrupts around whole (line_rest []) ≡ true
+interrupts-end : (c : Context) (how : Continued) → interrupts c how (line_rest []) ≡ true
 unfolding interrupts
-interrupts-end around whole = refl
+interrupts-end c how = refl
 
-pub goes_within : (around : Context) (text : List ℕ) (n : ℕ) → ends_paragraph around (line_rest (drop n text)) ≡ false → n < length text
-goes_within around text n h =
+pub goes_within : (c : Context) (text : List ℕ) (n : ℕ) → ends_paragraph c (line_rest (drop n text)) ≡ false → n < length text
+goes_within c text n h =
     elim (cases_lt n (length text)) [
       | inl more ↦ more
-      | inr past ↦ absurd (false≢true (sym h ∙ ap (λ bs. ends_paragraph around (line_rest bs)) (ends_past text n past)
-          ∙ ap (interrupts around (is_some (after around.path (line_rest [])))) (front-end around.path)
-          ∙ interrupts-end around (is_some (after around.path (line_rest [])))))
+      | inr past ↦ absurd (false≢true (sym h ∙ ap (λ bs. ends_paragraph c (line_rest bs)) (ends_past text n past)
+          ∙ ap (interrupts c (continued c.path (line_rest []))) (front-end c.path)
+          ∙ interrupts-end c (continued c.path (line_rest []))))
     ]
 
 -- It has no underline there.
@@ -70,9 +71,15 @@ second_none : (t u : Bool) → (t || u) ≡ false → u ≡ false
 second_none true u h = cc
 second_none false u h = h
 
+first_none : (t u : Bool) → (t || u) ≡ false → t ≡ false
+first_none true u h = cc
+first_none false u h = refl
+
 text_within : (c : Context) (text : List ℕ) (n : ℕ) → ends_text c (line_rest (drop n text)) ≡ false → n < length text
 text_within c text n h =
-    goes_within c text n (second_none (is_some (underline_of c.path (line_rest (drop n text)))) (ends_paragraph c (line_rest (drop n text))) h)
+    let line : Rest = line_rest (drop n text) in
+    goes_within c text n (first_none (ends_paragraph c line) (colon_ends c line)
+    (second_none (is_some (underline_of c.path line)) (ends_paragraph c line || colon_ends c line) h))
 
 pub underline_within : (path : List Container) (text : List ℕ) (n : ℕ) (underline : ℕ × HeadingLevel)
     → underline_of path (line_rest (drop n text)) ≡ Some underline → n < length text

@@ -64,11 +64,11 @@ ended_last-are ds place past (e ∷ []) s h = only_by (e.place == place) ds past
 ended_last-are ds place past (e ∷ o ∷ es) s h = outer_by (e.place == place) ds place past e o es s h
 
 -- the last one ends at another place
-pub subtrees-ended : (ds : List ℕ) (place past : ℕ) (es fs : List Subtree) → fs ≡ ended place past es → IsSubtree ds place past
-    → AreSubtrees ds past es → AreSubtrees ds past fs
-subtrees-ended ds place past es fs e s h =
+pub subtrees-ended : (ds : List ℕ) (n place past : ℕ) (es fs : List Subtree) → fs ≡ ended place past es → IsSubtree ds place past
+    → AreSubtrees ds n es → AreSubtrees ds past fs
+subtrees-ended ds n place past es fs e s h =
     let w = s.behind in
-    let f = subtrees-up_to ds (place + 1) past _ (omega arith) (first-are ds past (place + 1) es h) in
+    let f = subtrees-up_to ds (place + 1) past _ (omega arith) (first-are ds n (place + 1) es h) in
     subst (AreSubtrees ds past) (sym e) (ended_last-are ds place past _ s f)
 
 -- a list whose last element is the first that is seen
@@ -156,6 +156,10 @@ current-subtree f ix e h =
     let d = length f.spine + 1 in
     let l = subst (λ (o : Option TreeIndex). IfSome o (λ c. IsLastAt (depths f.nodes) d c.0)) e h.at_current in
     last-subtree f.nodes d ix.0 l
+
+-- the same without the last nodes
+pub fewer-subtree : (ds : List ℕ) (place past end : ℕ) → place < past → past ≤ end → IsSubtree ds place end → IsSubtree ds place past
+fewer-subtree ds place past end l m h = record { behind = l; deeper = λ k a b. h.deeper k a (omega arith) }
 
 -- only the depths before their ends count
 subtrees-kept : (ds es : List ℕ) (n : ℕ) (xs : List Subtree) → ((k : ℕ) → k < n → get_or es k 0 ≡ get_or ds k 0) → AreSubtrees ds n xs → AreSubtrees es n xs

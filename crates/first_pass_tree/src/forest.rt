@@ -383,6 +383,17 @@ impl Tree<Item> {
         }
     }
 
+    /// As `note_end`, but the subtree ends before the node `ix`, which is to be moved out of the current node.
+    pub fn note_end_before(&mut self, ix: TreeIndex)
+        ensures { self.new ≡ self.old }
+    {
+        if let Some(current) = self.cur {
+            if current.0 < ix.0 && ix.0 <= self.nodes.len() {
+                self.subtrees.note_end(current.0, ix.0);
+            }
+        }
+    }
+
     /// The last of the subtrees that are remembered, if it stands from `from` on and before `to`. It is
     /// forgotten then.
     pub(crate) fn take_subtree(&mut self, from: usize, to: usize) -> Option<Subtree>

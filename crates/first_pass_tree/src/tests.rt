@@ -76,3 +76,21 @@ fn forgets_a_subtree_that_a_child_leaves(rt: HostRuntime) -> Result<(), Fail> {
     assert!(rt; tree.take_subtree(0, 4) == None);
     Ok(())
 }
+
+#[test]
+fn keeps_a_subtree_that_ends_before_the_child(rt: HostRuntime) -> Result<(), Fail> {
+    let mut tree = Tree::with_capacity(rt.alloc(), 4)?;
+    tree.append(item(0, 4, ItemBody::BlockQuote(None)))?;
+    tree.push()?;
+    tree.remember()?;
+    tree.append(item(2, 4, ItemBody::DefinitionList(ListFlags::IS_TIGHT)))?;
+    tree.push()?;
+    tree.remember()?;
+    let left = tree.append(item(2, 4, ItemBody::Paragraph))?;
+    tree.pop();
+    tree.note_end_before(left);
+    tree.move_out(left);
+    let inner = Subtree { place: 2, past: 3 };
+    assert!(rt; tree.take_subtree(0, 4) == Some(inner));
+    Ok(())
+}

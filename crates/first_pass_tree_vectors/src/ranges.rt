@@ -1,4 +1,4 @@
-//! Nodes that no text gives the pass yet, or never: whether their ranges are in order.
+//! Nodes that are made without a text, most of them as no text gives them: whether their ranges are in order.
 
 use first_pass_items::item::{AlignmentIndex, Item, ItemBody, ListFlags};
 use first_pass_ranges::breach::{Breach, Flaw};

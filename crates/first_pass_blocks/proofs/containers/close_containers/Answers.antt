@@ -1,9 +1,9 @@
 use Rattle.std.proofs.Common.{length, refl, sym, ap, subst, ◌∙◌, arith}
 use Rattle.first_pass_lists.specs.declared.reading.Reading.{Reading}
-use Rattle.first_pass_blocks.specs.Ordered.{IsOrderedAt}
+use Rattle.first_pass_blocks.specs.Ordered.{IsReadTo}
 use Rattle.first_pass_blocks.proofs.NamedLemmas.{AreReadNamed, popped_named}
 use Rattle.first_pass_blocks.proofs.CountLemmas.{count, popped_count}
-use Rattle.first_pass_blocks.proofs.OrderLemmas.{ordered_popped}
+use Rattle.first_pass_blocks.proofs.OrderLemmas.{read_popped}
 use Rattle.first_pass_blocks.proofs.StateLemmas.{closed_none, closed_one}
 use Rattle.first_pass_blocks.proofs.WholeKept.{IsReadWhole, popped_whole}
 use Rattle.first_pass_blocks.proofs.containers.close_containers.Goals as goal
@@ -26,11 +26,11 @@ loop-reading-preserved c =
     let one = closed_one _ _ _ c.args.kept c.args.ix c.is_forest.ensures c.pop.ensures (omega arith) i.closed in
     record {
       closed = one.0;
-      order = λ text within boundary ordered. subst (λ (q : Reading). IsOrderedAt text q c.args.ix) (sym c.pop.ensures)
-          (ordered_popped text _ c.args.ix c.args.ix (omega arith) within boundary (i.order text within boundary ordered));
+      order = λ text within boundary ordered. subst (λ (q : Reading). IsReadTo text q c.args.ix) (sym c.pop.ensures)
+          (read_popped text _ c.args.ix c.args.ix (omega arith) within boundary (i.order text within boundary ordered));
       none_added = ap count c.pop.ensures ∙ popped_count c.args.ix _ ∙ i.none_added;
       named = λ names h. subst (AreReadNamed names) (sym c.pop.ensures) (popped_named names c.args.ix _ (i.named names h));
-      whole = λ names h. subst (IsReadWhole names) (sym c.pop.ensures) (popped_whole names c.args.ix _ (i.whole names h));
+      whole = λ names h. subst (IsReadWhole names) (sym c.pop.ensures) (popped_whole names c.args.ix _ c.is_forest.ensures (i.whole names h));
       all_kept = λ all. (let none = ap (λ (q : Reading). length q.tree.spine) (i.all_kept all) in absurd (omega arith));
     }
 

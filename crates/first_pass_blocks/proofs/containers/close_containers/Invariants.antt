@@ -2,7 +2,7 @@ use Rattle.std.proofs.Common.{◌≡◌, ◌≤◌, ℕ, List, length, IsCharBou
 use Rattle.first_pass_grammar.specs.Names.{Names, AreNamed}
 use Rattle.first_pass_grammar.specs.WholeTables.{HasWholeTables}
 use Rattle.first_pass_grammar.specs.Counting.{own_nodes}
-use Rattle.first_pass_blocks.specs.Ordered.{IsOrderedAt}
+use Rattle.first_pass_blocks.specs.Ordered.{IsReadTo}
 use Rattle.first_pass_blocks.proofs.StateLemmas.{ClosedSoFar}
 use Rattle.first_pass_blocks.proofs.containers.close_containers.Given as goal
 
@@ -10,7 +10,7 @@ use Rattle.first_pass_blocks.proofs.containers.close_containers.Given as goal
 abbrev pub invariant-loop-reading : goal.invariant-loop-reading
 invariant-loop-reading l = record {
   closed : ClosedSoFar l.initial.reading l.reading l.kept l.ix;
-  order : (text : List ℕ) → l.ix ≤ length text → IsCharBoundary text l.ix → IsOrderedAt text l.initial.reading l.ix → IsOrderedAt text l.reading l.ix;
+  order : (text : List ℕ) → l.ix ≤ length text → IsCharBoundary text l.ix → IsReadTo text l.initial.reading l.ix → IsReadTo text l.reading l.ix;
   none_added : own_nodes l.reading.tree.nodes ≡ own_nodes l.initial.reading.tree.nodes;
   named : (names : Names) → AreNamed names l.initial.reading.tree.nodes → AreNamed names l.reading.tree.nodes;
   whole : (names : Names) → HasWholeTables names l.initial.reading.tree → HasWholeTables names l.reading.tree;

@@ -7,10 +7,10 @@ use Rattle.first_pass_grammar.specs.Names.{Names}
 use Rattle.first_pass_grammar.specs.Derivation.{Tables}
 use Rattle.first_pass_grammar.specs.Skeleton.{Inside}
 use Rattle.first_pass_grammar.specs.Completion.{lines_from}
-use Rattle.first_pass_grammar.specs.OpenOrder.{IsOrderedTo}
 use Rattle.first_pass_lists.specs.Closing.{item_finished}
 use Rattle.first_pass_lists.specs.declared.reading.Reading.{Reading}
-use Rattle.first_pass_blocks.specs.Ordered.{IsOrderedAt}
+use Rattle.first_pass_blocks.specs.Ordered.{IsReadTo}
+use Rattle.first_pass_blocks.specs.Positions.{OrderedUpTo}
 use Rattle.first_pass_blocks.specs.State.{Ready, ReadyAt}
 use Rattle.first_pass_blocks.proofs.NamedLemmas.{AreReadNamed, blank_named, item_finished_named}
 use Rattle.first_pass_blocks.proofs.WholeKept.{IsReadWhole, blank_whole, item_finished_whole}
@@ -59,12 +59,12 @@ returns-then-is_some-clause-entered c =
           let d : Document = document text source.options names in
           subst (λ q. Ready d defined q (lines_from text (start + line_len (drop start text)))) (sym c.read_blank_line.ensures)
           (blank_line_read d defined _ now start _ (settled_line a names defined) (blank a ∙ c.if-is_some.true) ready);
-      order = λ ordered. inl (subst (λ (q : Reading). IsOrderedAt text q (start + line_len (drop start text))) (sym c.read_blank_line.ensures)
+      order = λ ordered. inl (subst (λ (q : Reading). IsReadTo text q (start + line_len (drop start text))) (sym c.read_blank_line.ensures)
           (ordered_blank_line options text c.args.reading.now now start c.scan_front-front.ensures.utf8 w
           c.requires.boundary
-          (λ o. subst (λ (q : Reading). IsOrderedAt text q start) (sym is)
+          (λ o. subst (λ (q : Reading). IsReadTo text q start) (sym is)
           (ended_ordered options text start closed (omega arith) c.requires.boundary (kept.order text (omega arith) c.requires.boundary o)))
-          (λ h. is ∙ ended_unblank options start c.args.reading.now closed h.uncounted
+          (λ h uncounted. is ∙ ended_unblank options start c.args.reading.now closed uncounted
           (kept.all_kept (handed_whole options text c.args.reading.now start c.scan_front-front.result.kept
           _ (left a) refl c.scan_front-front.ensures.within c.scan_front-front.ensures.taken
           c.scan_front-front.ensures.stops h).0)) ordered));
@@ -100,9 +100,9 @@ returns-clause-entered c =
             (subst (λ n. ReadyAt d defined (item_finished now).tree (item_finished now).blank (Inside p) (lines_from text n)) (sym here.1)
             (line_entered d defined _ now start _ (settled_line a names defined) (blank a ∙ c.if-is_some.false) ready));
         order = λ ordered. ordered_at_place text _ start p refl c.requires.boundary here.0
-            (subst (λ (q : Reading). IsOrderedTo text q.tree start) (sym c.finish_empty_list_item.ensures)
+            (subst (λ (q : Reading). OrderedUpTo text q.tree start) (sym c.finish_empty_list_item.ensures)
             (ordered_other_line options text c.args.reading.now now start
-            (λ o. subst (λ (q : Reading). IsOrderedAt text q start) (sym is)
+            (λ o. subst (λ (q : Reading). IsReadTo text q start) (sym is)
             (ended_ordered options text start closed (omega arith) c.requires.boundary (kept.order text (omega arith) c.requires.boundary o)))
             (λ h. let some = (handed_whole source.options text c.args.reading.now start c.scan_front-front.result.kept _ (left a)
             refl c.scan_front-front.ensures.within c.scan_front-front.ensures.taken c.scan_front-front.ensures.stops h).1 in

@@ -6,13 +6,14 @@ use Rattle.first_pass_items.specs.declared.option_set.Options.{Options}
 use Rattle.first_pass_grammar.specs.Completion.{lines_from}
 use Rattle.first_pass_lists.specs.declared.reading.Reading.{Reading}
 use Rattle.first_pass_open.specs.declared.source.Source.{Source}
-use Rattle.first_pass_blocks.specs.Ordered.{reached, IsOrderedAt, IsOrderedFrom}
+use Rattle.first_pass_blocks.specs.Ordered.{reached, IsReadTo, IsReadFrom}
 use Rattle.first_pass_blocks.specs.State.{Ready}
 use Rattle.first_pass_names.specs.TableEntries.{tables, names_of}
 use Rattle.first_pass_blocks.specs.Written.{TablesAreWritten}
 use Rattle.first_pass_blocks.proofs.WrittenLemmas.{none_written}
 use Rattle.first_pass_grammar.proofs.OwnNodes.{own_at_most}
 use Rattle.first_pass_grammar.proofs.WholeForests.{derived_whole}
+use Rattle.first_pass_blocks.proofs.SettledNodes.{derived_settled}
 use Rattle.first_pass_blocks.proofs.OrderLemmas.{ordered_whole}
 use Rattle.first_pass_open.proofs.FrontLemmas.{outer-none}
 use Rattle.first_pass_blocks.proofs.StateLemmas.{ready_finish}
@@ -52,7 +53,7 @@ loop-ix-preserved c =
           subst (λ (z : List ℕ × Options). Ready (document z.0 z.1 names) (tables pass.allocs) before (lines_from z.0 c.loop-ix.ix)
           → Ready (document z.0 z.1 names) (tables new.allocs) behind (lines_from z.0 next)) (both_same i.same_text i.same_options) (e.ready names more)
           (i.ready names (extends_both names (names_of new.allocs) (names_of pass.allocs) more e.names));
-      order = subst (λ (z : List ℕ × Options). IsOrderedFrom z.1 z.0 before c.loop-ix.ix → IsOrderedFrom z.1 z.0 behind next)
+      order = subst (λ (z : List ℕ × Options). IsReadFrom z.1 z.0 before c.loop-ix.ix → IsReadFrom z.1 z.0 behind next)
           (both_same i.same_text i.same_options) e.order i.order;
       named = e.named i.named;
       written = subst (λ t. TablesAreWritten t pass.allocs → TablesAreWritten t new.allocs) i.same_text e.written i.written;
@@ -60,9 +61,9 @@ loop-ix-preserved c =
     }
 
 -- At the end of the text no line is handed on.
-at_end : (options : Options) (text : List ℕ) (r : Reading) (at : ℕ) → length text ≤ at → IsOrderedFrom options text r at → IsOrderedAt text r at
+at_end : (options : Options) (text : List ℕ) (r : Reading) (at : ℕ) → length text ≤ at → IsReadFrom options text r at → IsReadTo text r at
 at_end options text r at past (inl o) = o
-at_end options text r at past (inr h) = (let within = h.within in absurd (omega arith))
+at_end options text r at past (inr h) = (let within = h.0.within in absurd (omega arith))
 
 -- At the end of the text all containers are closed.
 all_closed : (c : goal.After-close_containers) → c.close_containers.new.reading.tree.spine ≡ []
@@ -89,6 +90,12 @@ returns-clause-whole c =
 pub returns-clause-finished : goal.returns-clause-finished
 returns-clause-finished c = all_closed c
 
+pub returns-clause-settled : goal.returns-clause-settled
+returns-clause-settled c =
+    let names = names_of c.loop-ix.pass.allocs in
+    let d = document c.args.text.now c.args.options names in
+    derived_settled d c.close_containers.new.reading.tree.nodes (tables c.loop-ix.pass.allocs) (returns-clause-derived c)
+
 pub returns-clause-order : goal.returns-clause-order
 returns-clause-order c =
     let text = c.args.text.now in
@@ -99,11 +106,11 @@ returns-clause-order c =
     let read : Reading = c.loop-ix.pass.reading in
     let past = c.loop-ix-test.false in
     let order = at_end c.args.options text read c.loop-ix.ix (omega arith) i.order in
-    let within = order.within in
+    let within = order.0.within in
     let same : c.loop-ix.ix ≡ n = omega arith in
     let closes = c.close_containers.ensures.kept.order text in
-    let here : IsOrderedAt text now n = closes (omega arith) last (subst (IsOrderedAt text read) same order) in
-    ordered_whole text now.tree (reached now.empty_item n) (all_closed c) here.ordered
+    let here : IsReadTo text now n = closes (omega arith) last (subst (IsReadTo text read) same order) in
+    ordered_whole text now.tree (reached now.empty_item n) (all_closed c) here.0.ordered
 
 pub returns-clause-few : goal.returns-clause-few
 returns-clause-few c =

@@ -3,7 +3,7 @@ use Rattle.first_pass_grammar.specs.Names.{Names, Extends, AreNamed}
 use Rattle.first_pass_grammar.specs.Leaves.{document}
 use Rattle.first_pass_grammar.specs.Counting.{own_nodes}
 use Rattle.first_pass_grammar.specs.Completion.{lines_from}
-use Rattle.first_pass_blocks.specs.Ordered.{IsOrderedFrom}
+use Rattle.first_pass_blocks.specs.Ordered.{IsReadFrom}
 use Rattle.first_pass_blocks.specs.State.{Ready}
 use Rattle.first_pass_names.specs.TableEntries.{tables, names_of}
 use Rattle.first_pass_blocks.specs.Written.{TablesAreWritten}
@@ -17,7 +17,7 @@ invariant-loop-ix l = record {
   boundary : IsCharBoundary l.text l.ix;
   ready : (names : Names)
       → Extends names (names_of l.pass.allocs) → Ready (document l.text l.fn.options names) (tables l.pass.allocs) l.pass.reading (lines_from l.text l.ix);
-  order : IsOrderedFrom l.fn.options l.text l.pass.reading l.ix;
+  order : IsReadFrom l.fn.options l.text l.pass.reading l.ix;
   named : AreNamed (names_of l.pass.allocs) l.pass.reading.tree.nodes;
   written : TablesAreWritten l.text l.pass.allocs;
   few : own_nodes l.pass.reading.tree.nodes ≤ 1 + 4 * l.ix;

@@ -4,9 +4,9 @@ use Rattle.std.proofs.lemmas.Bool.Decides.{nat_tests}
 use Rattle.first_pass_lines.specs.Lines.{at_line_end}
 use Rattle.first_pass_lines.specs.Rest.{Rest, indent}
 use Rattle.first_pass_scan.specs.LeafLines.{setext_underline}
-use Rattle.first_pass_grammar.specs.Kinds.{all_taken, interrupts_in, interrupts}
+use Rattle.first_pass_grammar.specs.Kinds.{Continued, all_taken, interrupts_in, interrupts}
 use Rattle.first_pass_grammar.specs.Containers.{Context}
-use Rattle.first_pass_open.specs.Path.{context_of}
+use Rattle.first_pass_open.specs.Path.{context_of, continued_to}
 use Rattle.first_pass_grammar.specs.Definitions.{is_underline}
 use Rattle.first_pass_kinds.specs.Memory.{may_head}
 use Rattle.first_pass_kinds.proofs.interrupt.scan_definition_end.Goals as goal
@@ -14,10 +14,10 @@ use Rattle.first_pass_kinds.proofs.interrupt.scan_definition_end.Goals as goal
 few : (n m : ℕ) → n ≡ min 4 m → nat_lt n 4 ≡ nat_lt m 4
 few n m e = grind (arith, nat_tests, e)
 
-interrupts_at : (around : Context) (whole : Bool) (r : Rest) (columns : ℕ) (bs : List ℕ) → columns ≡ min 4 (indent r) → bs ≡ (all_taken r).left →
-    (if nat_lt columns 4 then interrupts_in around whole bs else at_line_end bs) ≡ interrupts around whole r
+interrupts_at : (around : Context) (how : Continued) (r : Rest) (columns : ℕ) (bs : List ℕ) → columns ≡ min 4 (indent r) → bs ≡ (all_taken r).left →
+    (if nat_lt columns 4 then interrupts_in around how bs else at_line_end bs) ≡ interrupts around how r
 unfolding interrupts
-interrupts_at around whole r columns bs e f = let t : nat_lt columns 4 ≡ nat_lt (indent r) 4 = few columns (indent r) e in rw (t, f) refl
+interrupts_at around how r columns bs e f = let t : nat_lt columns 4 ≡ nat_lt (indent r) 4 = few columns (indent r) e in rw (t, f) refl
 
 underline_at : (r : Rest) (columns : ℕ) (bs : List ℕ) → columns ≡ min 4 (indent r) → bs ≡ (all_taken r).left →
     (nat_lt columns 4 && is_some (setext_underline bs)) ≡ is_underline r
@@ -60,14 +60,16 @@ returns-then-branch-clause-value c =
     let columns = columns_are _ _ _ c.scan_indentation-columns.ensures.columns c.copy-text.ensures in
     let left = left_is _ _ _ c.scan_indentation-columns.ensures.rest c.copy-text.ensures in
     ended_by _ _ _ _ c.in_ok-scan_paragraph_end.ensures.value
-    (interrupts_at (context_of c.args.source.now.options c.args.tree.now) c.args.front.now.whole c.args.front.now.rest _ _ columns left) c.if-branch.true
+    (interrupts_at (context_of c.args.source.now.options c.args.tree.now) (continued_to c.args.source.now.options c.args.tree.now c.args.front.now.kept)
+    c.args.front.now.rest _ _ columns left) c.if-branch.true
 
 pub returns-then-is_over-clause-value : goal.returns-then-is_over-clause-value
 returns-then-is_over-clause-value c =
     let columns = columns_are _ _ _ c.scan_indentation-columns.ensures.columns c.copy-text.ensures in
     let left = left_is _ _ _ c.scan_indentation-columns.ensures.rest c.copy-text.ensures in
     lazy_by _ _ _ _ _ _ c.in_ok-scan_paragraph_end.ensures.value
-    (interrupts_at (context_of c.args.source.now.options c.args.tree.now) c.args.front.now.whole c.args.front.now.rest _ _ columns left)
+    (interrupts_at (context_of c.args.source.now.options c.args.tree.now) (continued_to c.args.source.now.options c.args.tree.now c.args.front.now.kept)
+    c.args.front.now.rest _ _ columns left)
     c.if-branch.false c.if-is_over.true
 
 pub returns-clause-value : goal.returns-clause-value
@@ -75,7 +77,8 @@ returns-clause-value c =
     let columns = columns_are _ _ _ c.scan_indentation-columns.ensures.columns c.copy-text.ensures in
     let left = left_is _ _ _ c.scan_indentation-columns.ensures.rest c.copy-text.ensures in
     whole_by _ _ _ _ _ _ _ c.in_ok-scan_paragraph_end.ensures.value
-    (interrupts_at (context_of c.args.source.now.options c.args.tree.now) c.args.front.now.whole c.args.front.now.rest _ _ columns left)
+    (interrupts_at (context_of c.args.source.now.options c.args.tree.now) (continued_to c.args.source.now.options c.args.tree.now c.args.front.now.kept)
+    c.args.front.now.rest _ _ columns left)
     c.if-branch.false c.if-is_over.false
     (c.is_underline.ensures ∙ underline_at c.args.front.now.rest _ _ columns (c.left.ensures ∙ left))
 

@@ -1,5 +1,5 @@
 use Rattle.std.proofs.Common.{Some, sym, ap, ◌∙◌}
-use Rattle.first_pass_items.specs.declared.item.ItemBody.TheVariants.{List as ListBody}
+use Rattle.first_pass_items.specs.declared.item.ItemBody.TheVariants.{List as ListBody, DefinitionList}
 use Rattle.first_pass_tree.specs.Forest.{with_body_at}
 use Rattle.first_pass_lists.specs.Closing.{loosened_by}
 use Rattle.first_pass_tree.proofs.BodyLemmas.{body_of}
@@ -11,3 +11,10 @@ returns-in-List c =
     let ix = c.args.ix in
     c.set_body.ensures ∙ ap (λ n. with_body_at f ix (ListBody (record { 0 = n }) c.in-List.byte c.in-List.number)) (c.empty.ensures tt)
     ∙ sym (ap (loosened_by f ix) (body_of f ix c.index.result.now c.index.ensures ∙ ap (λ b. Some b) c.in-List.is))
+
+pub returns-in-DefinitionList : goal.returns-in-DefinitionList
+returns-in-DefinitionList c =
+    let f = c.args.tree.now in
+    let ix = c.args.ix in
+    c.set_body-in-DefinitionList.ensures ∙ ap (λ n. with_body_at f ix (DefinitionList (record { 0 = n }))) (c.empty-in-DefinitionList.ensures tt)
+    ∙ sym (ap (loosened_by f ix) (body_of f ix c.index.result.now c.index.ensures ∙ ap (λ b. Some b) c.in-DefinitionList.is))

@@ -1,4 +1,4 @@
-use Rattle.std.proofs.Common.{false, ◌+◌, refl, ap, ◌∙◌, arith}
+use Rattle.std.proofs.Common.{◌+◌, refl, ap, ◌∙◌, arith}
 use Rattle.first_pass_lines.specs.Rest.{Rest}
 use Rattle.first_pass_grammar.specs.Tables.{interrupts_row}
 use Rattle.first_pass_open.specs.Path.{context_of}

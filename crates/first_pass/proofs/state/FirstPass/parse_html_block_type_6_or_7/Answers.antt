@@ -23,7 +23,7 @@ returns-clause-fits c = λ p i from low.
     c.max.result p i (e.block p i) from low
 
 pub returns-clause-order : goal.returns-clause-order
-returns-clause-order c = λ at low uncounted o.
+returns-clause-order c = λ at low o.
     let self = c.args.self.now in
     let text = self.pass.source.text.now in
     let e = c.in_ok-next.ensures in
@@ -39,7 +39,7 @@ returns-clause-order c = λ at low uncounted o.
     e.boundary.1.0 p i in
     ordered_stopped self.pass.source.options text new
     (path_of self.pass.source.options old.tree) (html_to_blank text (path_of self.pass.source.options old.tree) p) c.in_ok-next.next e.boundary.1 refl
-    uncounted path
+    path
     (html_stops (length text) (path_of self.pass.source.options old.tree) p (lines_from text (behind_line_at text (offset p)))) block.left_is
     (block_ordered text old new at c.args.start_ix _ o low (returns-clause-fits c p i) ends.0 refl)
 

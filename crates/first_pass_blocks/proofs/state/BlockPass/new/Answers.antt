@@ -2,6 +2,7 @@ use Rattle.std.proofs.Common.{length, None, false, refl, ap, ◌∙◌, arith}
 use Rattle.first_pass_lists.specs.Closing.{remembered}
 use Rattle.first_pass_tree.specs.Forest.{with_end_at}
 use Rattle.first_pass_blocks.proofs.NamedLemmas.{first_named}
+use Rattle.first_pass_blocks.proofs.Nests.{first_closes}
 use Rattle.first_pass_blocks.proofs.OrderLemmas.{ordered_none, ordered_first}
 use Rattle.first_pass_blocks.proofs.WholeKept.{first_whole}
 use Rattle.first_pass_blocks.proofs.StateLemmas.{ready_first}
@@ -16,9 +17,11 @@ pub returns-clause-order : goal.returns-clause-order
 returns-clause-order c =
     let text = c.args.text.now in
     let tree = c.set_end.new.self in
-    ordered_none text (remembered tree None false) 0 refl (omega arith)
-    (ordered_first text tree c.root-root.result c.utf8.text c.root-root.ensures.value
-    (c.set_end.ensures ∙ ap (λ f. with_end_at f c.root-root.result (length text)) c.in_ok-tree.ensures))
+    let is = c.set_end.ensures ∙ ap (λ f. with_end_at f c.root-root.result (length text)) c.in_ok-tree.ensures in (
+      ordered_none text (remembered tree None false) 0 refl (omega arith)
+          (ordered_first text tree c.root-root.result c.utf8.text c.root-root.ensures.value is),
+      first_closes text tree c.root-root.result (length text) 0 is,
+    )
 
 pub returns-clause-named : goal.returns-clause-named
 returns-clause-named c =

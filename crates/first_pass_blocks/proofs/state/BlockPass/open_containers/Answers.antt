@@ -1,7 +1,7 @@
-use Rattle.std.proofs.Common.{◌≡◌, ℕ, ◌<◌, ◌≤◌, Bool, true, false, List, length, Option, Some, None, MatchOption, refl, sym, ap, subst, ◌∙◌, arith}
+use Rattle.std.proofs.Common.{◌≡◌, ℕ, ◌<◌, ◌≤◌, Bool, true, false, List, length, Option, Some, None, MatchOption, IsUtf8, refl, sym, ap, subst, ◌∙◌, arith}
 use Rattle.first_pass_lines.specs.Places.{Place, offset, line_end, IsPlaceOf}
 use Rattle.first_pass_lines.proofs.PlaceFacts.{place_length}
-use Rattle.first_pass_tree.specs.Forest.{in_table}
+use Rattle.first_pass_tree.specs.Forest.{IsForest, in_table}
 use Rattle.first_pass_grammar.specs.Containers.{at_rest}
 use Rattle.first_pass_grammar.specs.Footnotes.{footnote_head_at}
 use Rattle.first_pass_grammar.specs.Openers.{Start as ContainerStart, start_at}
@@ -13,12 +13,13 @@ use Rattle.first_pass_blocks.specs.declared.openers.AfterMarker.TheVariants.{OnL
 use Rattle.first_pass_blocks.specs.declared.openers.Start.{Start}
 use Rattle.first_pass_blocks.specs.declared.state.BlockPass.{BlockPass}
 use Rattle.first_pass_blocks.specs.FootnoteHeads.{StaysSame, TriesFootnote}
-use Rattle.first_pass_blocks.specs.Positions.{Position, InLine, LeafAt, IsFrom, ReadsTo}
+use Rattle.first_pass_blocks.specs.Positions.{Position, InLine, LeafAt, IsFrom, ReadsTo, may_define}
 use Rattle.first_pass_blocks.specs.Progress.{PassesTo}
 use Rattle.first_pass_blocks.specs.Starts.{start_told, after_at, last_at, IsAfter}
-use Rattle.first_pass_blocks.specs.Views.{reading_of, source_of, tree_of}
+use Rattle.first_pass_blocks.specs.Views.{allocs_of, reading_of, source_of, tree_of}
 use Rattle.first_pass_blocks.proofs.BlockRead.{passes_reading, passes_both}
-use Rattle.first_pass_blocks.proofs.StartLemmas.{start_opens, no_start, opened_start, start_found, start_missing, reads_none}
+use Rattle.first_pass_blocks.proofs.StartLemmas.{start_opens, no_start, opened_start, reads_none}
+use Rattle.first_pass_blocks.proofs.StartFound.{start_found, start_missing}
 use Rattle.first_pass_blocks.proofs.state.BlockPass.open_containers.Goals as goal
 use Rattle.first_pass_blocks.proofs.state.BlockPass.open_containers.Goals.{Else-branch, In_ok-open_start}
 
@@ -26,8 +27,8 @@ use Rattle.first_pass_blocks.proofs.state.BlockPass.open_containers.Goals.{Else-
 rest_later : (text : List ℕ) (p new : Place) → IsPlaceOf text p → IsPlaceOf text new → length new.rest.left < length p.rest.left → offset p ≤ offset new
 rest_later text p new i j less = let a = place_length text p i in let b = place_length text new j in omega (arith, a, b, less)
 
-pub loop-place-init : goal.loop-place-init
-loop-place-init c =
+pub loop-self-init : goal.loop-self-init
+loop-self-init c =
     let self = c.args.self.now in
     let first : Place = c.args.place.now in
     record {
@@ -92,44 +93,63 @@ opens_note over first old now mid p q t is here source opened tries =
       opened = passes_both over first.line old now mid (InLine first) (InLine p) (InLine q) opened steps;
     }
 
-pub loop-place-smaller-then-branch : goal.loop-place-smaller-then-branch
-loop-place-smaller-then-branch c =
-    let i = c.loop-place.invariant in
-    (opens_note c.args.self.now.source c.args.place.now c.args.self.now c.loop-place.self c.open_footnote.new.self c.loop-place.place c.open_footnote.new.place
+pub loop-self-smaller-then-branch : goal.loop-self-smaller-then-branch
+loop-self-smaller-then-branch c =
+    let i = c.loop-self.invariant in
+    (opens_note c.args.self.now.source c.args.place.now c.args.self.now c.loop-self.self c.open_footnote.new.self c.loop-self.place c.open_footnote.new.place
     c.in_ok-open_footnote.field-0 c.if-branch.true i.here i.opened.source i.opened c.in_ok-open_footnote.ensures).less
 
-pub loop-place-preserved-then-branch : goal.loop-place-preserved-then-branch
-loop-place-preserved-then-branch c =
+pub loop-self-preserved-then-branch : goal.loop-self-preserved-then-branch
+loop-self-preserved-then-branch c =
     let over = c.args.self.now.source in
     let first : Place = c.args.place.now in
-    let p : Place = c.loop-place.place in
+    let p : Place = c.loop-self.place in
     let q : Place = c.open_footnote.new.place in
-    let i = c.loop-place.invariant in
-    let o = opens_note over first c.args.self.now c.loop-place.self c.open_footnote.new.self p q c.in_ok-open_footnote.field-0 c.if-branch.true i.here
+    let i = c.loop-self.invariant in
+    let o = opens_note over first c.args.self.now c.loop-self.self c.open_footnote.new.self p q c.in_ok-open_footnote.field-0 c.if-branch.true i.here
     i.opened.source i.opened c.in_ok-open_footnote.ensures in
     record { no_empty = o.no_empty; here = o.here; opened = o.opened }
 
 -- at the place where another container is sought
 at_place : (c : Else-branch) → IsTried c.args.self.now.source c.args.place.now c.args.self.now c.open_footnote.new.self c.open_footnote.new.place
 at_place c =
-    let i = c.loop-place.invariant in
-    tried c.args.self.now.source c.args.place.now c.args.self.now c.loop-place.self c.open_footnote.new.self c.loop-place.place c.open_footnote.new.place
+    let i = c.loop-self.invariant in
+    tried c.args.self.now.source c.args.place.now c.args.self.now c.loop-self.self c.open_footnote.new.self c.loop-self.place c.open_footnote.new.place
     c.in_ok-open_footnote.field-0 c.if-branch.false i.here i.no_empty i.opened.source i.opened c.in_ok-open_footnote.ensures
 
+-- whether a definition may begin at a place, as the calls tell it
+abbrev may_in : Source → BlockPass → Bool
+may_in over pass = may_define over.options (tree_of pass)
+
 -- no container begins any more
-absent : (over now : Source) (p new : Place) (r : Option Start) → now ≡ over → r ≡ None
-    → MatchOption (start_at now.options p) ((r ≡ None) × (new ≡ p)) (λ s. (r ≡ Some (start_told s)) × (new ≡ at_rest p s.rest))
-    → (start_at over.options p ≡ None) × (new ≡ p)
-absent over now p new r same is says =
-    let missing = start_missing _ r p new is says in (subst (λ (z : Source). start_at z.options p ≡ None) same missing.0, missing.1)
+absent : (over : Source) (now : BlockPass) (may : Bool) (p new : Place) (r : Option Start) → source_of now ≡ over → may ≡ may_in (source_of now) now → r ≡ None
+    → MatchOption (start_at (source_of now).options may p) ((r ≡ None) × (new ≡ p)) (λ s. (r ≡ Some (start_told s)) × (new ≡ at_rest p s.rest))
+    → (start_at over.options (may_in over now) p ≡ None) × (new ≡ p)
+absent over now may p new r same told is says =
+    let missing = start_missing _ r p new is says in (
+      subst (λ (z : Source). start_at z.options (may_in z now) p ≡ None) same
+          (ap (λ (t : Bool). start_at (source_of now).options t p) (sym told) ∙ missing.0),
+      missing.1,
+    )
 
 pub returns-in_default-clause-place : goal.returns-in_default-clause-place
 returns-in_default-clause-place c =
     let over = c.args.self.now.source in
     let i = at_place (goal.at.returns-in_default-clause-place c).Else-branch in
-    let a = absent over c.open_footnote.new.self.source c.open_footnote.new.place c.start_at.new.place c.start_at.result i.opened.source c.in_default.is
-    c.start_at.ensures in
+    let a = absent over c.open_footnote.new.self c.may_define-may_define.result c.open_footnote.new.place c.start_at.new.place c.start_at.result i.opened.source
+    c.may_define-may_define.ensures c.in_default.is c.start_at.ensures in
     subst (λ (q : Place). IsFrom over.text.now c.args.place.now q) (sym a.1) i.here
+
+ended_here : (over : Source) (first : Place) (old mid new : BlockPass) (p q : Place) → IsUtf8 over.text.now → IsForest (tree_of mid)
+    → IsTried over first old mid p → start_at over.options (may_in over mid) p ≡ None → q ≡ p
+    → source_of new ≡ source_of mid → reading_of new ≡ reading_of mid → allocs_of new ≡ allocs_of mid
+    → PassesTo over first.line old new (InLine first) (LeafAt q)
+ended_here over first old mid new p q utf8 forest i none at source reading allocs =
+    let stays = no_start over (reading_of mid) p utf8 i.here.0 forest i.no_empty first.line i.here.1 i.bare none in
+    subst (λ (z : Place). PassesTo over first.line old new (InLine first) (LeafAt z)) (sym at)
+    (passes_both over first.line old mid new (InLine first) (InLine p) (LeafAt p) i.opened
+    (passes_reading over first.line mid new (InLine p) (LeafAt p) source allocs
+    (subst (λ (z : Reading). ReadsTo over first.line (reading_of mid) z (InLine p) (LeafAt p)) (sym reading) stays)))
 
 pub returns-in_default-clause-opened : goal.returns-in_default-clause-opened
 returns-in_default-clause-opened c =
@@ -137,27 +157,28 @@ returns-in_default-clause-opened c =
     let first : Place = c.args.place.now in
     let p : Place = c.open_footnote.new.place in
     let i = at_place (goal.at.returns-in_default-clause-opened c).Else-branch in
-    let a = absent over c.open_footnote.new.self.source p c.start_at.new.place c.start_at.result i.opened.source c.in_default.is c.start_at.ensures in
-    let none = no_start over c.open_footnote.new.self.reading p c.requires.utf8 i.here.0 c.is_forest.ensures i.no_empty first.line i.here.1 i.bare a.0 in
-    subst (λ (q : Place). PassesTo over first.line c.args.self.now c.open_footnote.new.self (InLine first) (LeafAt q)) (sym a.1)
-    (passes_both over first.line c.args.self.now c.open_footnote.new.self c.open_footnote.new.self (InLine first) (InLine p) (LeafAt p) i.opened
-    (passes_reading over first.line c.open_footnote.new.self c.open_footnote.new.self (InLine p) (LeafAt p) refl refl none))
+    let a = absent over c.open_footnote.new.self c.may_define-may_define.result p c.start_at.new.place c.start_at.result i.opened.source
+    c.may_define-may_define.ensures
+    c.in_default.is c.start_at.ensures in
+    ended_here over first c.args.self.now c.open_footnote.new.self _ p _ c.requires.utf8 c.is_forest.ensures i a.0 a.1 refl refl refl
 
 -- a container begins
-record Found (over : Source) (p new : Place) (told : Start) : Type 0 where
+record Found (over : Source) (now : BlockPass) (p new : Place) (told : Start) : Type 0 where
   start : ContainerStart
-  begins : start_at over.options p ≡ Some start
+  begins : start_at over.options (may_in over now) p ≡ Some start
   told_is : told ≡ start_told start
   new_is : new ≡ at_rest p start.rest
 
-found : (over now : Source) (p new : Place) (r : Option Start) (told : Start) → now ≡ over → r ≡ Some told
-    → MatchOption (start_at now.options p) ((r ≡ None) × (new ≡ p)) (λ s. (r ≡ Some (start_told s)) × (new ≡ at_rest p s.rest))
-    → Found over p new told
-found over now p new r told same is says =
+found : (over : Source) (now : BlockPass) (may : Bool) (p new : Place) (r : Option Start) (told : Start) → source_of now ≡ over
+    → may ≡ may_in (source_of now) now → r ≡ Some told
+    → MatchOption (start_at (source_of now).options may p) ((r ≡ None) × (new ≡ p)) (λ s. (r ≡ Some (start_told s)) × (new ≡ at_rest p s.rest))
+    → Found over now p new told
+found over now may p new r told same may_is is says =
     let f = start_found _ r told p new is says in
     record {
       start = f.0;
-      begins = subst (λ (z : Source). start_at z.options p ≡ Some f.0) same f.1;
+      begins = subst (λ (z : Source). start_at z.options (may_in z now) p ≡ Some f.0) same
+          (ap (λ (t : Bool). start_at (source_of now).options t p) (sym may_is) ∙ f.1);
       told_is = f.2;
       new_is = f.3;
     }
@@ -169,7 +190,8 @@ open_start-requires c =
     let p : Place = c.open_footnote.new.place in
     let new : Place = c.start_at.new.place in
     let i = at_place (goal.at.open_start-requires c).Else-branch in
-    let f = found over c.open_footnote.new.self.source p new c.start_at.result c.in-Some.start i.opened.source c.in-Some.is c.start_at.ensures in
+    let f = found over c.open_footnote.new.self c.may_define-may_define.result p new c.start_at.result c.in-Some.start i.opened.source
+    c.may_define-may_define.ensures c.in-Some.is c.start_at.ensures in
     let opens = start_opens over c.open_footnote.new.self.reading p c.requires.utf8 i.here.0 c.is_forest.ensures i.no_empty first.line i.here.1 i.bare
     f.start f.begins in
     subst (λ (z : Source). IsPlaceOf z.text.now new) (sym i.opened.source)
@@ -188,7 +210,8 @@ step c =
     let i = at_place (goal.at.In_ok-open_start c).Else-branch in
     let q : Reading = c.open_start.new.reading in
     let new : Place = c.start_at.new.place in
-    let f = found over c.open_footnote.new.self.source p new c.start_at.result c.in-Some.start i.opened.source c.in-Some.is c.start_at.ensures in
+    let f = found over c.open_footnote.new.self c.may_define-may_define.result p new c.start_at.result c.in-Some.start i.opened.source
+    c.may_define-may_define.ensures c.in-Some.is c.start_at.ensures in
     let s = opened_start over c.open_footnote.new.self.reading p c.requires.utf8 i.here.0 c.is_forest.ensures i.no_empty first.line i.here.1 i.bare f.start new
     c.in-Some.start
     q f.begins f.told_is f.new_is c.in_ok-open_start.ensures in
@@ -205,20 +228,20 @@ step c =
       subst (λ (e : ℕ). ReadsTo over first.line c.open_footnote.new.self.reading q (InLine p) (after_at new e c.in-Some.start.after)) (sym stop) s.3,
     )
 
-pub loop-place-smaller : goal.loop-place-smaller
-loop-place-smaller c =
-    let no = subst (TriesFootnote c.loop-place.self c.open_footnote.new.self c.loop-place.place c.open_footnote.new.place) c.if-branch.false
+pub loop-self-smaller : goal.loop-self-smaller
+loop-self-smaller c =
+    let no = subst (TriesFootnote c.loop-self.self c.open_footnote.new.self c.loop-self.place c.open_footnote.new.place) c.if-branch.false
     c.in_ok-open_footnote.ensures in
-    subst (λ (p : Place). length c.start_at.new.place.rest.left < length p.rest.left) no.1 (step (goal.at.loop-place-smaller c).In_ok-open_start).1
+    subst (λ (p : Place). length c.start_at.new.place.rest.left < length p.rest.left) no.1 (step (goal.at.loop-self-smaller c).In_ok-open_start).1
 
-pub loop-place-preserved : goal.loop-place-preserved
-loop-place-preserved c =
+pub loop-self-preserved : goal.loop-self-preserved
+loop-self-preserved c =
     let over = c.args.self.now.source in
     let first : Place = c.args.place.now in
     let p : Place = c.open_footnote.new.place in
     let new : Place = c.start_at.new.place in
-    let i = at_place (goal.at.loop-place-preserved c).Else-branch in
-    let s = step (goal.at.loop-place-preserved c).In_ok-open_start in
+    let i = at_place (goal.at.loop-self-preserved c).Else-branch in
+    let s = step (goal.at.loop-self-preserved c).In_ok-open_start in
     let opens = subst (λ (a : AfterMarker). ReadsTo over first.line c.open_footnote.new.self.reading c.open_start.new.reading (InLine p)
     (after_at new (line_end new) a))
     c.in-OnLine.is s.3 in

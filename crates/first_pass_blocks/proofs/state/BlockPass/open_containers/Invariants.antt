@@ -4,12 +4,12 @@ use Rattle.first_pass_blocks.specs.Progress.{PassesTo}
 use Rattle.first_pass_blocks.proofs.state.BlockPass.open_containers.Given as goal
 
 -- the containers are open that begin before this place
-abbrev pub invariant-loop-place : goal.invariant-loop-place
-invariant-loop-place l = record {
+abbrev pub invariant-loop-self : goal.invariant-loop-self
+invariant-loop-self l = record {
   no_empty : l.self.reading.empty_item ≡ None;
   here : IsFrom l.fn.self.source.text.now l.fn.place l.place;
   opened : PassesTo l.fn.self.source l.fn.place.line l.fn.self l.self (InLine l.fn.place) (InLine l.place);
 }
 
-abbrev pub decreases-loop-place : goal.decreases-loop-place
-decreases-loop-place l = length l.place.rest.left
+abbrev pub decreases-loop-self : goal.decreases-loop-self
+decreases-loop-self l = length l.place.rest.left

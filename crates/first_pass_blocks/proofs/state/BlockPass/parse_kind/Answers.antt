@@ -14,19 +14,19 @@ use Rattle.first_pass_kinds.specs.Found.{IsFoundAt, kind_of, marked_kind}
 use Rattle.first_pass_kinds.specs.declared.kinds.MarkedLeaf.{MarkedLeaf}
 use Rattle.first_pass_kinds.proofs.KindLemmas.{Says, kind_says}
 use Rattle.first_pass_blocks.specs.Adding.{AddsLeaf}
-use Rattle.first_pass_blocks.specs.Ordered.{IsOrderedAt}
+use Rattle.first_pass_blocks.specs.Ordered.{IsReadTo}
 use Rattle.first_pass_blocks.specs.Positions.{line_or}
 use Rattle.first_pass_blocks.specs.State.{Ready}
 use Rattle.first_pass_blocks.proofs.CountLemmas.{count, blank_count}
 use Rattle.first_pass_blocks.proofs.HandedOn.{list_finished_blank}
 use Rattle.first_pass_blocks.proofs.HtmlRead.{html_stands, html_read}
-use Rattle.first_pass_blocks.proofs.KindBlocks.{marked_some, marked_other, columns_are, AddsHtml}
+use Rattle.first_pass_blocks.proofs.KindBlocks.{marked_some, marked_other, marked_no_run, columns_are, AddsHtml}
 use Rattle.first_pass_blocks.proofs.LeafAdded.{found_boundary}
 use Rattle.first_pass_blocks.proofs.LeafLemmas.{ready_blank_leaf, line_end_of}
 use Rattle.first_pass_blocks.proofs.LeafRead.{leaf_read}
 use Rattle.first_pass_blocks.proofs.LineLemmas.{list_finished_none}
 use Rattle.first_pass_blocks.proofs.NamedLemmas.{AreReadNamed, blank_named}
-use Rattle.first_pass_blocks.proofs.OrderLemmas.{ordered_none, ordered_blank_read}
+use Rattle.first_pass_blocks.proofs.OrderLemmas.{ordered_none, read_blank_read}
 use Rattle.first_pass_blocks.proofs.OrderSteps.{line_or-below, place_before_end}
 use Rattle.first_pass_blocks.proofs.WholeKept.{IsReadWhole, blank_whole}
 use Rattle.first_pass_blocks.proofs.state.BlockPass.parse_kind.Goals as goal
@@ -66,8 +66,8 @@ returns-in-Blank c =
           (subst (IsKind self.source.options p.rest) (ap kind_of c.in-Blank.is) c.requires.found.kind) c.requires.no_empty ready));
       named = λ h. subst (AreReadNamed (names_of self.allocs)) (sym c.read_blank_line.ensures) (blank_named (names_of self.allocs) old h);
       written = λ h. h;
-      order = λ o. inl (subst (λ (q : Reading). IsOrderedAt text q next) (sym c.read_blank_line.ensures)
-          (ordered_blank_read text old from next (omega arith) high (ordered_none text old from c.requires.no_empty (omega arith) o.1)));
+      order = λ o. inl (subst (λ (q : Reading). IsReadTo text q next) (sym c.read_blank_line.ensures)
+          (read_blank_read text old from next (omega arith) high (ordered_none text old from c.requires.no_empty (omega arith) o.1.0, o.1.1)));
       whole = λ h k. subst (IsReadWhole (names_of self.allocs)) (sym c.read_blank_line.ensures) (blank_whole (names_of self.allocs) old k);
       few = omega arith;
     }
@@ -134,5 +134,5 @@ returns-in_ok-next-in-Marked c =
       fits = e.fits;
     } in
     leaf_read self new p (marked_kind leaf) next c.requires.place c.requires.no_empty c.is_forest.ensures
-    (subst (IsKind options p.rest) (ap kind_of c.in-Marked.is) c.requires.found.kind) (marked_some leaf) (marked_other leaf)
+    (subst (IsKind options p.rest) (ap kind_of c.in-Marked.is) c.requires.found.kind) (marked_some leaf) (marked_other leaf) (marked_no_run leaf)
     (subst (λ (r : Reading). AddsLeaf (record self { reading = r }) new p (marked_kind leaf) next) rem adds)

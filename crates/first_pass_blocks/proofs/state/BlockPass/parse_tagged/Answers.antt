@@ -49,7 +49,7 @@ returns-in-None c =
       ready = λ names more tagged. ready_any_line (document text self.source.options names) (tables self.allocs) self.reading at any c.requires.no_empty tagged;
       named = λ h. h;
       written = λ h. h;
-      order = λ ordered. inl (ordered_none text self.reading at c.requires.no_empty c.requires.boundary.0 ordered);
+      order = λ ordered. inl (ordered_none text self.reading at c.requires.no_empty c.requires.boundary.0 ordered.0, ordered.1);
       whole = λ h k. k;
       few = omega arith;
     }

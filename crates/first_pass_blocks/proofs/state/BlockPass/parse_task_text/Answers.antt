@@ -7,7 +7,7 @@ use Rattle.first_pass_lists.specs.declared.reading.Reading.{Reading}
 use Rattle.first_pass_blocks.specs.State.{Ready}
 use Rattle.first_pass_open.proofs.PlaceLemmas.{all_keep, read_to}
 use Rattle.first_pass_blocks.proofs.CountLemmas.{block_count}
-use Rattle.first_pass_blocks.proofs.OrderSteps.{ordered_block, unindented_later}
+use Rattle.first_pass_blocks.proofs.OrderSteps.{ordered_text, unindented_later}
 use Rattle.first_pass_lines.specs.Places.{offset}
 use Rattle.first_pass_open.specs.Between.{AddsBetween, StandsBefore}
 use Rattle.first_pass_names.specs.TableEntries.{tables, told_by, names_of}
@@ -15,7 +15,8 @@ use Rattle.first_pass_blocks.proofs.WrittenLemmas.{written_stay}
 use Rattle.first_pass_names.proofs.NameLemmas.{extends_none}
 use Rattle.first_pass_grammar.proofs.TextsNamed.{text_named}
 use Rattle.first_pass_blocks.proofs.NamedLemmas.{block_added, task_is_no_text, task_has_none}
-use Rattle.first_pass_blocks.proofs.WholeKept.{task_shows, block_whole, added_text_whole}
+use Rattle.first_pass_blocks.proofs.WholeKept.{task_shows, kept_of, block_whole, added_text_whole}
+use Rattle.first_pass_blocks.proofs.FirstItems.{text_silent_first}
 use Rattle.first_pass_blocks.proofs.LeafLemmas.{line_end_of, ready_text}
 use Rattle.first_pass_blocks.proofs.state.BlockPass.parse_task_text.Goals as goal
 
@@ -66,14 +67,17 @@ returns c =
       boundary = e.block.boundary;
       ready = λ names more ready. let d = document text options names in
           subst (λ z. Ready d z new (lines_from text next)) (sym (ap told_by e.more.entries))
-          (ready_text d (tables self.allocs) old tree p at next c.args.marker e.block.items there i (e.block.is_text names more) e.block.tree_is none ready);
+          (ready_text d (tables self.allocs) old tree p at next c.args.marker e.block.items mark there i (e.block.is_text names more) e.block.tree_is
+          none ready);
       named = λ h. block_added now (names_of self.allocs) old.tree tree e.block.items e.more.names e.block.tree_is
           (text_named (document text options now) _ (unindented p) (Some c.args.marker) _ _ (task_has_none c.args.marker.body mark)
           (e.block.is_text now (extends_none now) (unindented p) i (sym there))) h;
       written = written_stay text self.allocs c.parse_paragraph.new.allocs e.more.entries;
-      order = λ o. inl (ordered_block text old.tree new o.from next (fits o.from o.stands) e.block.boundary.0 none o.ordered);
+      order = λ o. inl (ordered_text text old.tree new c.args.marker (offset p) next fits e.block.boundary.0 none o);
       whole = λ h k. block_whole now (names_of self.allocs) old.tree tree e.block.items e.more.names e.block.tree_is
           (added_text_whole (document text options now) _ (unindented p) (Some c.args.marker) _ _ i (task_shows c.args.marker.body mark)
-          (e.block.is_text now (extends_none now) (unindented p) i (sym there))) h k;
+          (e.block.is_text now (extends_none now) (unindented p) i (sym there)))
+          (text_silent_first (document text options now) _ (unindented p) (Some c.args.marker) _ _ (task_shows c.args.marker.body mark)
+          (e.block.is_text now (extends_none now) (unindented p) i (sym there))) h (kept_of (names_of self.allocs) old.tree k);
       few = λ from stands apart. block_count text from next old.tree tree (fits from stands) apart;
     }

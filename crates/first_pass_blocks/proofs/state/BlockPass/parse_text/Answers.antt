@@ -3,7 +3,7 @@ use Rattle.first_pass_lines.specs.Places.{Place}
 use Rattle.first_pass_grammar.specs.Leaves.{document}
 use Rattle.first_pass_grammar.specs.Kinds.{unindented}
 use Rattle.first_pass_names.specs.TableEntries.{tables, names_of}
-use Rattle.first_pass_lists.specs.Closing.{list_finished}
+use Rattle.first_pass_lists.specs.Closing.{is_after_definition, list_finished}
 use Rattle.first_pass_blocks.proofs.LineLemmas.{list_finished_none}
 use Rattle.first_pass_blocks.proofs.HandedOn.{list_finished_blank}
 use Rattle.first_pass_lists.specs.declared.reading.Reading.{Reading}
@@ -15,7 +15,7 @@ use Rattle.first_pass_blocks.specs.TextsAdded.{AddsText}
 use Rattle.first_pass_open.specs.Between.{AddsBetween}
 use Rattle.first_pass_blocks.specs.Runs.{ReadsRun}
 use Rattle.first_pass_blocks.proofs.LeafAdded.{found_boundary}
-use Rattle.first_pass_blocks.proofs.TextLemmas.{run_line, run_text}
+use Rattle.first_pass_blocks.proofs.TextLemmas.{run_line, run_text, run_title, plain_text}
 use Rattle.first_pass_blocks.proofs.state.BlockPass.parse_text.Goals as goal
 
 pub parse_definitions-requires-clause-boundary : goal.parse_definitions-requires-clause-boundary
@@ -36,6 +36,34 @@ returns-in-NextLine c =
     run_line self mid _ p nested c.in-NextLine.line c.in-NextLine.next c.requires.utf8 c.requires.place c.requires.no_empty c.is_forest.ensures
     c.requires.kind refl e.kept.source e.kept.names e.kept.written run refl refl (c.finish_list.ensures ∙ ap (list_finished c.in-NextLine.line) e.kept.reading)
 
+pub parse_possible_title-requires-clause-boundary : goal.parse_possible_title-requires-clause-boundary
+parse_possible_title-requires-clause-boundary c =
+    let self = c.args.self.now in
+    let text = self.source.text.now in
+    let p = c.args.place in
+    let e = c.in_ok-line.ensures in
+    let i = all_keep text p.line p.rest c.requires.utf8 c.requires.place in
+    let run = subst (ReadsRun text (context_in self) (in_table self.reading.tree.nodes self.reading.tree.spine) (unindented p) (tables self.allocs)
+    (tables c.parse_definitions.new.self.allocs)) c.in-Paragraph.is
+    (e.run (unindented p) (ap (λ (q : Place). q.line) (sym c.place.view_is)) (sym c.requires.at) i) in
+    subst (λ (z : Source). IsCharBoundary z.text.now c.in-Paragraph.text) (sym e.kept.source) (subst (IsCharBoundary text) (sym run.says) run.stands.boundary)
+
+pub returns-then-is_after_definition : goal.returns-then-is_after_definition
+returns-then-is_after_definition c =
+    let self = c.args.self.now in
+    let text = self.source.text.now in
+    let p = c.args.place in
+    let r : Reading = self.reading in
+    let mid = c.parse_definitions.new.self in
+    let e = c.in_ok-line.ensures in
+    let i = all_keep text p.line p.rest c.requires.utf8 c.requires.place in
+    let nested = in_table r.tree.nodes r.tree.spine in
+    let run = subst (ReadsRun text (context_in self) nested (unindented p) (tables self.allocs) (tables mid.allocs)) c.in-Paragraph.is
+    (e.run (unindented p) (ap (λ (q : Place). q.line) (sym c.place.view_is)) (sym c.requires.at) i) in
+    run_title self mid _ p nested c.in-Paragraph.text c.in_ok-next-in-Paragraph.next c.requires.utf8 c.requires.place c.requires.no_empty c.is_forest.ensures
+    c.requires.kind refl e.kept.source e.kept.reading e.kept.names e.kept.written run (sym c.is_after_definition.ensures ∙ c.if-is_after_definition.true)
+    c.in_ok-next-in-Paragraph.ensures
+
 pub parse_paragraph-requires-clause-boundary : goal.parse_paragraph-requires-clause-boundary
 parse_paragraph-requires-clause-boundary c =
     let self = c.args.self.now in
@@ -55,14 +83,14 @@ returns c =
     let options = self.source.options in
     let p = c.args.place in
     let at = c.in-Paragraph.text in
-    let next = c.in_ok-next-in-Paragraph.next in
+    let next = c.in_ok-next-in-Paragraph-2.next in
     let r : Reading = self.reading in
     let mid = c.parse_definitions.new.self in
     let names = names_of c.parse_paragraph.new.allocs in
     let tree = c.parse_paragraph.new.tree in
     let ended : Reading = c.finish_list-in-Paragraph.new.self in
     let e = c.in_ok-line.ensures in
-    let f = c.in_ok-next-in-Paragraph.ensures in
+    let f = c.in_ok-next-in-Paragraph-2.ensures in
     let i = all_keep text p.line p.rest c.requires.utf8 c.requires.place in
     let nested = in_table r.tree.nodes r.tree.spine in
     let run = subst (ReadsRun text (context_in self) nested (unindented p) (tables self.allocs) (tables mid.allocs)) c.in-Paragraph.is
@@ -76,5 +104,7 @@ returns c =
     let fits : (from : ℕ) → from ≤ at → AddsBetween text from next (list_finished at r).tree tree =
     λ from before. subst (λ (z : Reading). AddsBetween text from next z.tree tree) done
     (subst (λ (z : Source). AddsBetween z.text.now from next ended.tree tree) e.kept.source (f.fits tt from before)) in
-    run_text self mid _ p nested at next c.requires.utf8 c.requires.place c.requires.no_empty c.is_forest.ensures c.requires.kind refl e.kept.source
-    e.kept.names e.kept.written run refl f.more none blank block fits
+    let after = ap (λ (z : Reading). is_after_definition z.tree) (sym e.kept.reading) ∙ sym c.is_after_definition.ensures ∙ c.if-is_after_definition.false in
+    run_text self mid _ p nested at next c.requires.utf8 c.requires.place c.requires.kind refl e.kept.source e.kept.names e.kept.written run refl f.more
+    block.later block.boundary
+    (plain_text self _ p at next c.requires.no_empty c.is_forest.ensures c.requires.kind after none blank block fits)

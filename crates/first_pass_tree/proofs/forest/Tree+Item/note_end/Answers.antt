@@ -13,5 +13,5 @@ invariant_of-self c =
     let s = current-subtree _ ix c.in-Some.is c.self.invariant.forest in
     record {
       forest = c.self.invariant.forest;
-      known = subtrees-ended (depths ns) ix.0 (length ns) _ _ e s c.self.invariant.known;
+      known = subtrees-ended (depths ns) (length ns) ix.0 (length ns) _ _ e s c.self.invariant.known;
     }

@@ -3,7 +3,7 @@ use Rattle.std.proofs.lemmas.Bool.{false≢true}
 use Rattle.first_pass_lines.specs.Lines.{begins}
 use Rattle.first_pass_links.specs.Labels.{is_label}
 use Rattle.first_pass_links.proofs.LineLabels.{line_len, head_unmarked, head_none, head_some}
-use Rattle.first_pass_links.proofs.footnote.is_at_line_head.Goals as goal
+use Rattle.first_pass_links.proofs.footnote.begins_footnote_in_line.Goals as goal
 
 -- what the calls said of the bracket after the label, and of the colon after that
 bracket : (text label rest : List ℕ) (n : ℕ) (b : Bool) → label ≡ drop 2 text → n ≡ line_len label → rest ≡ drop n label → b ≡ begins 93 rest

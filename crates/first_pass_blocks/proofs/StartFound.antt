@@ -1,0 +1,84 @@
+-- Which container begins at a place, as the calls tell it.
+use Rattle.std.proofs.Common.{◌≡◌, ℕ, Bool, true, false, List, Option, Some, None, MatchOption, refl, sym, ap, subst, ◌∙◌, if◌then◌else◌}
+use Rattle.first_pass_items.specs.declared.option_set.Options.{Options}
+use Rattle.std.specs.Option.{option_map}
+use Rattle.first_pass_lines.specs.Rest.{Rest, after_columns}
+use Rattle.first_pass_lines.specs.Places.{Place, IsPlaceOf}
+use Rattle.first_pass_grammar.specs.declared.kind.Container.TheVariants.{BlockQuote}
+use Rattle.first_pass_grammar.specs.Containers.{prefix, at_rest}
+use Rattle.first_pass_grammar.specs.Kinds.{item_at, definition_marker_at}
+use Rattle.first_pass_grammar.specs.Openers.{Start, definition_start, start_at}
+use Rattle.first_pass_grammar.proofs.OpenerFacts.{marker_where, start_quote, start_none}
+use Rattle.first_pass_open.proofs.PlaceLemmas.{quote_taken}
+use Rattle.first_pass_blocks.specs.declared.openers.Start.{Start as ToldStart}
+use Rattle.first_pass_blocks.specs.Starts.{start_told}
+
+-- what the call says that tells which container begins at a place
+pub start_found : (o : Option Start) (found : Option ToldStart) (t : ToldStart) (old new : Place) → found ≡ Some t
+    → MatchOption o ((found ≡ None) × (new ≡ old)) (λ s. (found ≡ Some (start_told s)) × (new ≡ at_rest old s.rest))
+    → (s : Start) × (o ≡ Some s) × (t ≡ start_told s) × (new ≡ at_rest old s.rest)
+start_found None found t old new e h = (let z : None ≡ Some t = sym h.0 ∙ e in cc)
+start_found (Some s) found t old new e h = (let z : Some t ≡ Some (start_told s) = sym e ∙ h.0 in let same : t ≡ start_told s = cc in (s, refl, same, h.1))
+
+pub start_missing : (o : Option Start) (found : Option ToldStart) (old new : Place) → found ≡ None
+    → MatchOption o ((found ≡ None) × (new ≡ old)) (λ s. (found ≡ Some (start_told s)) × (new ≡ at_rest old s.rest)) → (o ≡ None) × (new ≡ old)
+start_missing None found old new e h = (refl, h.1)
+start_missing (Some s) found old new e h = (let z : None ≡ Some (start_told s) = sym e ∙ h.0 in cc)
+
+pub matches : {A : Type 0} (N : Type 0) (P : A → Type 0) (o : Option A) (s : A) → o ≡ Some s → P s → MatchOption o N P
+matches N P o s is h = subst (λ x. MatchOption x N P) (sym is) h
+
+pub matches_none : {A : Type 0} (N : Type 0) (P : A → Type 0) (o : Option A) → o ≡ None → N → MatchOption o N P
+matches_none N P o is h = subst (λ x. MatchOption x N P) (sym is) h
+
+-- what a definition's marker that was taken says
+pub definition_found : (o : Option (ℕ × Rest)) (found : Option ℕ) (n : ℕ) (old new : Rest) → found ≡ Some n
+    → MatchOption o ((found ≡ None) × (new ≡ old)) (λ marker. (found ≡ Some marker.0) × (new ≡ marker.1)) → o ≡ Some (n, new)
+definition_found None found n old new e h = (let z : None ≡ Some n = sym h.0 ∙ e in cc)
+definition_found (Some marker) found n old new e h = (let z : Some marker.0 ≡ Some n = sym h.0 ∙ e in let w : marker.0 ≡ n = cc in
+    ap (λ (k : ℕ). Some (k, marker.1)) w ∙ ap (λ (q : Rest). Some (n, q)) (sym h.1))
+
+pub definition_absent : (o : Option (ℕ × Rest)) (found : Option ℕ) (old new : Rest)
+    → found ≡ None → MatchOption o ((found ≡ None) × (new ≡ old)) (λ marker. (found ≡ Some marker.0) × (new ≡ marker.1)) → (o ≡ None) × (new ≡ old)
+definition_absent None found old new e h = (refl, h.1)
+definition_absent (Some marker) found old new e h = (let z : None ≡ Some marker.0 = sym e ∙ h.0 in cc)
+
+-- a block quote, of which nothing was taken before
+pub quote_here : (old mid new : Rest) (width : Option ℕ) (at : ℕ) → mid ≡ old → width ≡ Some at
+    → MatchOption (prefix (BlockQuote None) mid) ((width ≡ None) × (new ≡ mid)) (λ next. (width ≡ Some (after_columns 3 mid).taken) × (new ≡ next))
+    → (prefix (BlockQuote None) old ≡ Some new) × (at ≡ (after_columns 3 old).taken)
+quote_here old mid new width at same taken says =
+    let t = quote_taken (prefix (BlockQuote None) mid) width _ at mid new taken says in
+    (ap (prefix (BlockQuote None)) (sym same) ∙ t.0, t.1 ∙ ap (λ (r : Rest). (after_columns 3 r).taken) same)
+
+-- where a definition begins one may
+none_begins : (options : Options) (p : Place) (marker : ℕ × Rest) (q : Option Rest) → prefix (BlockQuote None) p.rest ≡ q → item_at p.rest ≡ None
+    → start_at options false p ≡ Some (definition_start p marker) → ⊥
+none_begins options p marker None quote item begins =
+    (let e : None ≡ Some (definition_start p marker) = sym (start_none options false p item refl quote) ∙ begins in cc)
+none_begins options p marker (Some r) quote item begins =
+    (let e = ap (option_map (λ (s : Start). s.head.opener)) (sym (start_quote options false p r item refl quote) ∙ begins) in cc)
+
+pub may_if : (options : Options) (may : Bool) (p : Place) (marker : ℕ × Rest) → item_at p.rest ≡ None
+    → start_at options may p ≡ Some (definition_start p marker) → may ≡ true
+may_if options true p marker item begins = refl
+may_if options false p marker item begins = absurd (none_begins options p marker (prefix (BlockQuote None) p.rest) refl item begins)
+
+pub same_place : (text : List ℕ) (p q : Place) → p ≡ q → IsPlaceOf text q → IsPlaceOf text p
+same_place text p q same i = subst (IsPlaceOf text) (sym same) i
+
+-- no definition begins at a place, and nothing was taken there
+abbrev pub IsUntaken : Bool → Place → Place → Type 0
+IsUntaken may p q = (marker_where may p ≡ None) × (q ≡ p)
+
+pub untaken_then : (may : Bool) (p q : Place) (found : Option ℕ) (mid new : Rest) → may ≡ true → mid ≡ p.rest → found ≡ None
+    → MatchOption (definition_marker_at mid) ((found ≡ None) × (new ≡ mid)) (λ marker. (found ≡ Some marker.0) × (new ≡ marker.1))
+    → q ≡ at_rest p new → IsUntaken may p q
+untaken_then may p q found mid new is same none says there =
+    let m = definition_absent (definition_marker_at mid) found mid new none says in (
+      ap (λ (t : Bool). if t then definition_marker_at p.rest else None) is ∙ ap definition_marker_at (sym same) ∙ m.0,
+      there ∙ ap (at_rest p) (m.1 ∙ same),
+    )
+
+pub untaken_else : (may : Bool) (p q : Place) (mid : Rest) → may ≡ false → mid ≡ p.rest → q ≡ at_rest p mid → IsUntaken may p q
+untaken_else may p q mid is same there = (ap (λ (t : Bool). if t then definition_marker_at p.rest else None) is, there ∙ ap (at_rest p) same)

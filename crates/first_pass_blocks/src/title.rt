@@ -1,0 +1,61 @@
+//! A text right after a definition, which may be the next title of the definition list.
+
+ghost use Rattle.std.specs.Prelude.{◌≡◌, true, IfOk, IsCharBoundary};
+ghost use Rattle.first_pass_lists.specs.Closing.{is_after_definition};
+ghost use Rattle.first_pass_blocks.specs.Titles.{current_end, is_paragraph_last, ReadsTitle};
+ghost use Rattle.first_pass_blocks.specs.Views.{source_text, tree_of};
+
+use crate::state::BlockPass;
+use crate::text::parse_paragraph;
+use first_pass_items::item::{Item, ItemBody};
+use first_pass_tree::forest::Tree;
+use std::alloc::AllocError;
+
+// Where the current node ends; 0 where there is none.
+fn current_end(tree: &Tree<Item>) -> usize
+    ensures { result ≡ current_end tree.now }
+{
+    let Some(ix) = tree.cur() else {
+        return 0;
+    };
+    tree.is_forest();
+    tree[ix].end
+}
+
+// Whether the current node is a paragraph.
+fn is_paragraph_last(tree: &Tree<Item>) -> bool
+    ensures { result ≡ is_paragraph_last tree.now }
+{
+    let Some(ix) = tree.cur() else {
+        return false;
+    };
+    tree.is_forest();
+    matches!(tree[ix].body, ItemBody::Paragraph)
+}
+
+impl<'a> BlockPass<'a> {
+    /// Reads the paragraph, heading or table whose text begins at the offset `text`, right after a definition, and
+    /// returns the offset at which the line after it begins, or the text's length. A paragraph may be the next title of
+    /// the definition list; a heading or a table ends the list where its last definition ends (this project).
+    pub(crate) fn parse_possible_title(&mut self, text: usize) -> Result<usize, AllocError>
+        requires boundary { IsCharBoundary (source_text self.old) text }
+        requires after { is_after_definition (tree_of self.old) ≡ true }
+        ensures { IfOk result (λ next. ReadsTitle self.old self.new text next) }
+    {
+        let end = current_end(&self.reading.tree);
+        let next = parse_paragraph(
+            &self.source,
+            &mut self.reading.tree,
+            &mut self.allocs,
+            text,
+            None,
+        )?;
+        self.reading.tree.is_forest();
+        if is_paragraph_last(&self.reading.tree) {
+            self.reading.keep_possible_title(end);
+        } else {
+            self.reading.leave_definitions(end);
+        }
+        Ok(next)
+    }
+}

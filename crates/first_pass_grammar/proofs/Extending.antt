@@ -1,0 +1,276 @@
+-- What adds blocks in front of a sequence leads to the same trees.
+use Rattle.std.proofs.Common.{◌≡◌, ℕ, suc, ◌<◌, ◌≤◌, Bool, true, false, ◌||◌, ◌&&◌, List, [], ◌∷◌, ◌++◌, length, Option, Some, None}
+use Rattle.std.proofs.Common.{MatchOption, refl, sym, ap, ◌∙◌, subst, arith}
+use Rattle.std.specs.Option.{is_some}
+use Rattle.first_pass_items.specs.declared.item.Item.{Item}
+use Rattle.first_pass_lines.specs.Places.{Place}
+use Rattle.first_pass_grammar.specs.declared.kind.Container.{Container}
+use Rattle.first_pass_grammar.specs.Containers.{taken, is_quote, in_quote, in_footnote}
+use Rattle.first_pass_grammar.specs.Footnotes.{footnote_head_at, ends_footnote}
+use Rattle.first_pass_grammar.specs.Openers.{start_at}
+use Rattle.first_pass_grammar.specs.Leaves.{Document, around}
+use Rattle.first_pass_grammar.specs.Blocks.{LeafBlock, Block, label_of, Skeleton, Nil, Then, Node}
+use Rattle.first_pass_grammar.specs.Before.{Last, Before, last_container, after_container, before_end}
+use Rattle.first_pass_grammar.specs.Skeleton.{From, Line, Inside, Opening, OpensLeaf, OpensNode, OpensBy, OpensFootnote, Opens, Level, level, Left, Lines}
+use Rattle.first_pass_grammar.specs.Skeleton.{InLine}
+use Rattle.first_pass_grammar.specs.Skeleton.{may_define, ends_old_footnote, onward, blanks_alone, end_of_left, end_before, IsFirst, IsSequence}
+use Rattle.first_pass_grammar.specs.Rows.{ItemsOf, Rows, any_gap, rows_of}
+use Rattle.first_pass_grammar.specs.LinkTables.{LinkEntry, with_link, with_links, with_label, with_labels}
+use Rattle.first_pass_grammar.specs.Derivation.{Tables, told, definitions_of, footnotes_of, told_by}
+use Rattle.first_pass_grammar.specs.Completion.{ended, Closed, Pending, NoList, OneList, rows_beyond, rendered, Frame, InContainer, InList, InDefinitions}
+use Rattle.first_pass_grammar.specs.Completion.{closed_as, definitions_open, containers_of, loosened, AreBelow, IsPlain, last_plain, last_of}
+use Rattle.first_pass_grammar.proofs.Tightening.{length-modify}
+use Rattle.first_pass_grammar.proofs.Finishes.{Finish, containers-loosened, Tail, before_of}
+use Rattle.first_pass_grammar.proofs.Goings.{begins_inside, enters}
+
+-- a run of blank lines that holds one that counts or doesn't, after what is last
+abbrev pub tail : Closed → Bool → Tail
+tail closed run = record { closed = closed; run = run }
+
+-- the containers of open nodes, and what stands before the next block in them
+abbrev pub lvl : List Frame → Tail → Level
+lvl frames t = level (containers_of frames) (before_of frames t)
+
+-- what is equal comes about alike
+pub finish_moved : (d : Document) (defined : Tables) (list list' : Pending) (before before' : Before) (frames frames' : List Frame)
+    (nodes nodes' : List (ℕ × Item)) (os : List ℕ) (from : From) (lines : List Place) (forest : List (ℕ × Item)) (tables : Tables)
+    → list ≡ list' → before ≡ before' → frames ≡ frames' → nodes ≡ nodes'
+    → Finish d defined list before frames nodes os from lines forest tables → Finish d defined list' before' frames' nodes' os from lines forest tables
+finish_moved d defined list list' before before' frames frames' nodes nodes' os from lines forest tables opened stand same alike fin =
+    subst (λ z. Finish d defined list' before' frames' z os from lines forest tables) alike
+    (subst (λ z. Finish d defined list' before' z nodes os from lines forest tables) same
+    (subst (λ z. Finish d defined list' z frames nodes os from lines forest tables) stand
+    (subst (λ z. Finish d defined z before frames nodes os from lines forest tables) opened fin)))
+
+-- A block in what is innermost, with a blank line before it, makes the list loose around that.
+abbrev pub loosened_in : Bool → List Frame → List Frame
+loosened_in gap [] = []
+loosened_in gap (frame ∷ frames) = frame ∷ loosened gap frames
+
+pub length-ended : (nodes : List (ℕ × Item)) (place e : ℕ) → length (ended nodes place e) ≡ length nodes
+unfolding ended
+length-ended nodes place e = length-modify nodes place (λ x. record { start = x.start; «end» = e; body = x.body })
+
+pub AreBelow-more : (n m : ℕ) (places : List ℕ) → n ≤ m → AreBelow n places → AreBelow m places
+AreBelow-more n m [] h b = tt
+AreBelow-more n m (o ∷ os) h b = (let p : o < n = b.0 in omega arith, b.1)
+
+pub loosened-false : (frames : List Frame) → loosened false frames ≡ frames
+loosened-false [] = refl
+loosened-false (InContainer c ∷ frames) = refl
+loosened-false (InList byte true ∷ frames) = refl
+loosened-false (InList byte false ∷ frames) = refl
+loosened-false (InDefinitions true ∷ frames) = refl
+loosened-false (InDefinitions false ∷ frames) = refl
+
+pub loosened_in-false : (frames : List Frame) → loosened_in false frames ≡ frames
+loosened_in-false [] = refl
+loosened_in-false (frame ∷ frames) = ap (λ z. frame ∷ z) (loosened-false frames)
+
+loosened-twice : (g h : Bool) (frames : List Frame) → loosened h (loosened g frames) ≡ loosened (g || h) frames
+loosened-twice g h [] = refl
+loosened-twice g h (InContainer c ∷ frames) = refl
+loosened-twice g h (InList byte true ∷ frames) = refl
+loosened-twice g h (InList byte false ∷ frames) = refl
+loosened-twice g h (InDefinitions true ∷ frames) = refl
+loosened-twice g h (InDefinitions false ∷ frames) = refl
+
+pub plain_loosened : (gap : Bool) (frames : List Frame) → IsPlain frames → loosened gap frames ≡ frames
+plain_loosened gap [] h = refl
+plain_loosened gap (InContainer c ∷ frames) h = refl
+plain_loosened gap (InList byte loose ∷ frames) h = absurd h
+plain_loosened gap (InDefinitions loose ∷ frames) h = absurd h
+
+-- what is last where no list is innermost
+pub plain_last : (closed : Closed) (frames : List Frame) → IsPlain frames → last_of frames closed ≡ last_plain closed
+plain_last closed [] h = refl
+plain_last closed (InContainer c ∷ frames) h = refl
+plain_last closed (InList byte loose ∷ frames) h = absurd h
+plain_last closed (InDefinitions loose ∷ frames) h = absurd h
+
+-- before the next block, after what is last and a run of blank lines
+abbrev pub stands_after : Last → Bool → Before
+stands_after last run = record { last = last; counted = run }
+
+pub plain_before : (t : Tail) (frames : List Frame) → IsPlain frames → before_of frames t ≡ stands_after (last_plain t.closed) t.run
+plain_before t frames plain = ap (λ z. stands_after z t.run) (plain_last t.closed frames plain)
+
+-- where not blank lines alone are taken, what blocks stand in ends where they leave the lines
+abbrev pub EndsAt : ℕ → From → Left → ℕ → Type 0
+EndsAt n from mid last = blanks_alone from ≡ None → last ≡ end_of_left n [] None mid
+
+end_anywhere : (n : ℕ) (path : List Container) (left : Left) → end_of_left n path None left ≡ end_of_left n [] None left
+end_anywhere n path (Lines lines) = refl
+end_anywhere n path (InLine p lines) = refl
+
+-- What a block adds, or a list's end: the same items come of it, blank lines at the end count alike, and the same gaps with one that is noted.
+pub record Adds (d : Document) (depth : ℕ) (path : List Container) (list list' : Pending) (before before' : Before) (gap : Bool)
+    (nodes nodes' : List (ℕ × Item)) (from : From) (lines : List Place) (s t : Skeleton) (mid : Left) : Type 0 where
+  pub seq : IsSequence d t (level path before) from lines mid
+  pub items : (last : ℕ) → EndsAt (length d.text) from mid last
+      → rendered depth last nodes list (rows_of (in_quote path) before last t) ≡ rendered depth last nodes' list' (rows_of (in_quote path) before' last s)
+  pub counts : (before_end (in_quote path) before t).counted ≡ (before_end (in_quote path) before' s).counted
+  pub gaps : (last : ℕ) → any_gap (rows_beyond list (rows_of (in_quote path) before last t))
+      ≡ (gap || any_gap (rows_beyond list' (rows_of (in_quote path) before' last s)))
+
+-- a container ends alike, wherever the blocks in it continue
+abbrev pub EndsAlike : ℕ → From → From → Type 0
+EndsAlike n from there = (path : List Container) (mid : Left) → end_before n path from mid ≡ end_before n path there mid
+
+-- what is told with more definitions, one list after the other
+told_links : (links a b : List LinkEntry) → with_links links (a ++ b) ≡ with_links (with_links links a) b
+unfolding with_links
+told_links links [] b = refl
+told_links links (x ∷ a) b = told_links (with_link x links) a b
+
+told_labels : (labels a b : List (List ℕ)) → with_labels labels (a ++ b) ≡ with_labels (with_labels labels a) b
+unfolding with_labels
+told_labels labels [] b = refl
+told_labels labels (x ∷ a) b = told_labels (with_label x labels) a b
+
+abbrev tables_with : List (List ℕ) → List LinkEntry → Tables
+tables_with footnotes links = record { links = links; footnotes = footnotes }
+
+pub told-append : (defined : Tables) (a b : List LinkEntry) → told (told defined a) b ≡ told defined (a ++ b)
+told-append defined a b = ap (tables_with defined.footnotes) (sym (told_links defined.links a b))
+
+-- what a leaf block defines before a sequence, and what a container's blocks do
+pub told_leaf : (defined : Tables) (b : LeafBlock) (s : Skeleton) → told_by (told defined b.definitions) s ≡ told_by defined (Then (Block b) s)
+unfolding definitions_of footnotes_of
+told_leaf defined b s =
+    ap (tables_with (with_labels defined.footnotes (footnotes_of s))) (sym (told_links defined.links b.definitions (definitions_of s)))
+
+abbrev pub told_both : Tables → Skeleton → Skeleton → Tables
+told_both defined kids s = record {
+  links = with_links defined.links (definitions_of kids ++ definitions_of s);
+  footnotes = with_labels defined.footnotes (footnotes_of kids ++ footnotes_of s);
+}
+
+pub told_kids : (defined : Tables) (kids s : Skeleton) → told_by (told_by defined kids) s ≡ told_both defined kids s
+told_kids defined kids s =
+    ap (tables_with (with_labels (with_labels defined.footnotes (footnotes_of kids)) (footnotes_of s)))
+    (sym (told_links defined.links (definitions_of kids) (definitions_of s)))
+    ∙ ap (λ z. tables_with z (with_links defined.links (definitions_of kids ++ definitions_of s)))
+    (sym (told_labels defined.footnotes (footnotes_of kids) (footnotes_of s)))
+
+finish_told : (d : Document) (defined defined' : Tables) (list : Pending) (before : Before) (frames : List Frame) (nodes : List (ℕ × Item)) (os : List ℕ)
+    (from : From) (lines : List Place) (forest : List (ℕ × Item)) (tables : Tables) → defined ≡ defined'
+    → Finish d defined list before frames nodes os from lines forest tables → Finish d defined' list before frames nodes os from lines forest tables
+finish_told d defined defined' list before frames nodes os from lines forest tables is fin =
+    subst (λ z. Finish d z list before frames nodes os from lines forest tables) is fin
+
+pub extend : (d : Document) (defined defined' : Tables) (frames : List Frame) (list list' : Pending) (before before' : Before) (gap : Bool)
+    (nodes nodes' : List (ℕ × Item)) (os : List ℕ) (from there : From) (lines left : List Place) (forest : List (ℕ × Item)) (tables : Tables)
+    (f : Skeleton → Skeleton)
+    → IsPlain frames → EndsAlike (length d.text) from there
+    → ((s : Skeleton) (mid : Left) → IsSequence d s (level (containers_of frames) before') there left mid
+    → Adds d (suc (length os)) (containers_of frames) list list' before before' gap nodes nodes' from lines s (f s) mid)
+    → ((s : Skeleton) → told_by defined' s ≡ told_by defined (f s))
+    → Finish d defined' list' before' (loosened_in gap frames) nodes' os there left forest tables
+    → Finish d defined list before frames nodes os from lines forest tables
+unfolding Finish
+extend d defined defined' [] list list' before before' gap nodes nodes' [] from there lines left forest tables f plain ends adds tells
+    (s, seq, is, tables_are) =
+    let a = adds s (Lines []) seq in (f s, a.seq, is ∙ sym (a.items (length d.text) (λ line. refl)), tables_are ∙ tells s)
+extend d defined defined' [] list list' before before' gap nodes nodes' (o ∷ os) from there lines left forest tables f plain ends adds tells fin = fin
+extend d defined defined' (InContainer c ∷ frames) list list' before before' gap nodes nodes' [] from there lines left forest tables f plain ends
+    adds tells fin = fin
+extend d defined defined' (InList byte loose ∷ frames) list list' before before' gap nodes nodes' os from there lines left forest tables f plain ends
+    adds tells fin = absurd plain
+extend d defined defined' (InDefinitions loose ∷ frames) list list' before before' gap nodes nodes' os from there lines left forest tables f plain ends
+    adds tells fin = absurd plain
+extend d defined defined' (InContainer c ∷ frames) list list' before before' gap nodes nodes' (o ∷ os) from there lines left forest tables f plain ends
+    adds tells (s, mid, seq, fin) =
+    let path : List Container = containers_of frames in
+    let a = adds s mid (subst (λ p. IsSequence d s (level (c ∷ p) before') there left mid) (containers-loosened gap frames) seq) in
+    let same : end_before (length d.text) (containers_of (loosened gap frames)) there mid ≡ end_before (length d.text) path from mid =
+    ap (λ p. end_before (length d.text) p there mid) (containers-loosened gap frames) ∙ sym (ends path mid) in
+    let e : ℕ = end_before (length d.text) path from mid in
+    let at : EndsAt (length d.text) from mid e = λ none. ap (λ z. end_of_left (length d.text) path z mid) none ∙ end_anywhere (length d.text) path mid in
+    let depth : ℕ = suc (length (o ∷ os)) in
+    let rows : ℕ → Rows = λ last. rows_of (is_quote c) before' last s in
+    let now : Before = after_container c (before_end (is_quote c) before' s) in
+    let g : loosened (any_gap (rows_beyond list' (rows e))) (loosened gap frames)
+    ≡ loosened (any_gap (rows_beyond list (rows_of (is_quote c) before e (f s)))) frames =
+    loosened-twice gap _ frames ∙ ap (λ z. loosened z frames) (sym (a.gaps e)) in (
+      f s,
+      mid,
+      a.seq,
+      finish_moved d _ _ _ _ _ _ _ _ _ os (onward mid).0 (onward mid).1 forest tables refl
+          (ap (λ z. record { last = last_container c; counted = z }) (sym a.counts)) g (ap (λ z. ended z o e) (sym (a.items e at)))
+          (finish_told d _ _ _ _ _ _ os (onward mid).0 (onward mid).1 forest tables (tells s)
+          (subst (λ z. Finish d (told_by defined' s) (NoList (closed_as c z)) now (loosened (any_gap (rows_beyond list' (rows z))) (loosened gap frames))
+          (ended (rendered depth z nodes' list' (rows z)) o z) os (onward mid).0 (onward mid).1 forest tables) same fin)),
+    )
+
+-- What begins inside a line begins at the line.
+enter_first : (d : Document) (l : Level) (line q : Place) (lines : List Place) (opening : Opening) → taken l.path line ≡ Some q
+    → ends_old_footnote l ≡ false → IsFirst d l (Inside q) lines opening → IsFirst d l Line (line ∷ lines) opening
+enter_first d l line q lines opening is old first =
+    record { place = first.place; behind = first.behind; begins = enters d.options l line q lines is old ∙ first.begins; opens = first.opens }
+
+enter_seq : (d : Document) (s : Skeleton) (l : Level) (line q : Place) (lines : List Place) (left : Left) → taken l.path line ≡ Some q
+    → ends_old_footnote l ≡ false → IsSequence d s l (Inside q) lines left → IsSequence d s l Line (line ∷ lines) left
+unfolding IsSequence
+enter_seq d Nil l line q lines left is old seq = enters d.options l line q lines is old ∙ seq
+enter_seq d (Then leaf next) l line q lines left is old (there, mid, first, seq) =
+    (there, mid, enter_first d l line q lines (OpensLeaf leaf there mid) is old first, seq)
+enter_seq d (Node head e kids next) l line q lines left is old (inside, behind, mid, first, inner, ends, seq) =
+    (inside, behind, mid, enter_first d l line q lines (OpensNode head inside behind) is old first, inner, ends, seq)
+
+pub enter_step : (d : Document) (defined : Tables) (frames : List Frame) (list : Pending) (before : Before) (nodes : List (ℕ × Item)) (os : List ℕ)
+    (line q : Place) (lines : List Place) (forest : List (ℕ × Item)) (tables : Tables) → taken (containers_of frames) line ≡ Some q
+    → ends_old_footnote (level (containers_of frames) before) ≡ false → Finish d defined list before frames nodes os (Inside q) lines forest tables
+    → Finish d defined list before frames nodes os Line (line ∷ lines) forest tables
+unfolding Finish
+enter_step d defined [] list before nodes [] line q lines forest tables is old (s, seq, forest_is, tables_are) =
+    (s, enter_seq d s (level [] before) line q lines (Lines []) is old seq, forest_is, tables_are)
+enter_step d defined [] list before nodes (o ∷ os) line q lines forest tables is old fin = fin
+enter_step d defined (InContainer c ∷ frames) list before nodes [] line q lines forest tables is old fin = fin
+enter_step d defined (InList byte loose ∷ frames) list before nodes [] line q lines forest tables is old fin = fin
+enter_step d defined (InDefinitions loose ∷ frames) list before nodes [] line q lines forest tables is old fin = fin
+enter_step d defined (InList byte loose ∷ frames) list before nodes (o ∷ os) line q lines forest tables is old fin =
+    enter_step d defined frames (OneList o (ItemsOf byte) loose) before nodes os line q lines forest tables is old fin
+enter_step d defined (InDefinitions loose ∷ frames) list before nodes (o ∷ os) line q lines forest tables is old fin =
+    enter_step d defined frames (definitions_open o loose list) before nodes os line q lines forest tables is old fin
+enter_step d defined (InContainer c ∷ frames) list before nodes (o ∷ os) line q lines forest tables is old (s, mid, seq, fin) =
+    (s, mid, enter_seq d s (level (c ∷ containers_of frames) before) line q lines mid is old seq, fin)
+
+-- no footnote definition that is innermost ends at a place
+abbrev pub StaysAt : Document → List Container → Place → Type 0
+StaysAt d path p = ends_footnote (around d path) p ≡ false
+
+-- so it is where no other begins, and outside of footnote definitions
+and_no : (b : Bool) → (b && false) ≡ false
+and_no true = refl
+and_no false = refl
+
+pub stays_without : (d : Document) (path : List Container) (p : Place) → footnote_head_at (around d path) p ≡ None → StaysAt d path p
+stays_without d path p none = ap (λ (o : Option (ℕ × List ℕ)). in_footnote path && is_some o) none ∙ and_no (in_footnote path)
+
+pub stays_outside : (d : Document) (path : List Container) (p : Place) → in_footnote path ≡ false → StaysAt d path p
+stays_outside d path p out = ap (λ (b : Bool). b && is_some (footnote_head_at (around d path) p)) out
+
+-- the label of a container that opens, if it has one
+abbrev pub label_opened : Opening → List (List ℕ)
+label_opened (OpensLeaf leaf there left) = []
+label_opened (OpensNode head inside behind) = label_of head.opener
+
+no_head : (d : Document) (l : Level) (p : Place) (lines : List Place) (head : Option (ℕ × List ℕ)) (o : Opening) → label_opened o ≡ []
+    → MatchOption head (OpensBy d l.path p lines (start_at d.options (may_define d l) p) o) (λ h. OpensFootnote d p lines h o) → head ≡ None
+unfolding OpensFootnote
+no_head d l p lines None o none opens = refl
+no_head d l p lines (Some (size, label)) o none (index, named, is) = let both : [] ≡ label ∷ [] = sym none ∙ ap label_opened is in cc
+
+-- and where something else begins
+pub opens_stays : (d : Document) (l : Level) (p : Place) (lines : List Place) (o : Opening) → label_opened o ≡ [] → Opens d l p lines o → StaysAt d l.path p
+opens_stays d l p lines o none opens = stays_without d l.path p (no_head d l p lines (footnote_head_at (around d l.path) p) o none opens)
+
+pub first_here : (d : Document) (l : Level) (p : Place) (lines : List Place) (opening : Opening)
+    → StaysAt d l.path p → Opens d l p lines opening → IsFirst d l (Inside p) lines opening
+first_here d l p lines opening stays opens =
+    record { place = p; behind = lines; begins = begins_inside d.options l p lines stays; opens = opens }
+
+pub alike_onward : (n : ℕ) (p : Place) (left : Left) → EndsAlike n (Inside p) (onward left).0
+alike_onward n p (Lines lines) path mid = refl
+alike_onward n p (InLine q lines) path mid = refl

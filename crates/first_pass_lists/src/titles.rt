@@ -1,0 +1,89 @@
+//! What follows the titles and definitions of a definition list (this project).
+
+ghost use Rattle.std.specs.Prelude.{◌≡◌, ◌<◌, ◌≤◌, length, Some};
+ghost use Rattle.first_pass_tree.specs.Forest.{body_at, depths, last_before};
+ghost use Rattle.first_pass_lists.specs.Titles.{first_other, fixed_up, is_in_group, is_possible_title, left_untitled};
+
+use first_pass_items::item::{Item, ItemBody};
+use first_pass_tree::forest::Tree;
+use first_pass_tree::tree_index::TreeIndex;
+
+/// Moves what follows the titles and definitions that the definition list `list_ix`, the current node, begins with
+/// out of the list: its first child that is neither, and all after that. The list ends then with the last that is left.
+/// Where a possible title comes first there, it becomes a paragraph. Where no other child is there, nothing changes;
+/// where no title or definition is there, nothing is moved.
+#[tactic(auto, unfolding(crate::specs::Titles::fixed_up))]
+pub fn fixup_end_of_definition_list(tree: &mut Tree<Item>, list_ix: TreeIndex)
+    requires { tree.old.current ≡ Some list_ix }
+    ensures { tree.new ≡ fixed_up tree.old list_ix }
+{
+    tree.is_forest();
+    let depth = tree.walk_spine().len() + 2;
+    let other = first_other(tree.nodes(), depth, list_ix.0 + 1);
+    if other >= tree.node_count() {
+        return;
+    }
+    let kept = last_of_depth(tree.nodes(), depth, other);
+    leave_untitled(tree, other);
+    if kept <= list_ix.0 {
+        return;
+    }
+    let end = tree[TreeIndex(kept)].end;
+    tree.set_end(list_ix, end);
+    tree.move_out(TreeIndex(other));
+}
+
+// The place of the first node from `from` on that has this depth and is neither a title nor a definition; where there
+// is none, that at which the nodes end.
+fn first_other(nodes: &[(usize, Item)], depth: usize, from: usize) -> usize
+    requires { from ≤ length nodes.now }
+    ensures { result ≡ first_other depth from nodes.now }
+{
+    let mut place = from;
+    while place < nodes.len() {
+        if nodes[place].0 == depth && !is_in_group(&nodes[place].1.body) {
+            return place;
+        }
+        place += 1;
+    }
+    place
+}
+
+// The last place before another whose node has this depth, or 0.
+fn last_of_depth(nodes: &[(usize, Item)], depth: usize, before: usize) -> usize
+    requires { before ≤ length nodes.now }
+    ensures { result ≡ last_before (depths nodes.now) depth before }
+{
+    let mut place = before;
+    while 0 < place {
+        place -= 1;
+        if nodes[place].0 == depth {
+            return place;
+        }
+    }
+    0
+}
+
+// Whether this is a title or a definition.
+fn is_in_group(body: &ItemBody) -> bool
+    ensures { result ≡ is_in_group body.now }
+{
+    matches!(
+        body,
+        ItemBody::DefinitionListTitle | ItemBody::DefinitionListDefinition(_)
+    )
+}
+
+// Makes the node at a place a paragraph where it is a possible title.
+fn leave_untitled(tree: &mut Tree<Item>, place: usize)
+    requires { place < length tree.old.nodes }
+    ensures { tree.new ≡ left_untitled tree.old place }
+{
+    tree.is_forest();
+    if matches!(
+        tree[TreeIndex(place)].body,
+        ItemBody::MaybeDefinitionListTitle
+    ) {
+        tree.set_body(TreeIndex(place), ItemBody::Paragraph);
+    }
+}

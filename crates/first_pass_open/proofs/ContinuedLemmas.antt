@@ -1,0 +1,103 @@
+-- How a line continues the containers that are open, told by how many of the open nodes it continues.
+use Rattle.std.proofs.Common.{◌≡◌, inl, inr, ℕ, zero, suc, ◌+◌, ◌-◌, ◌<◌, ◌≤◌, ◌==◌, true, false, List, ◌∷◌, length, get_or, reverse}
+use Rattle.std.proofs.Common.{slice_get, Option, Some, None, is_some, refl, sym, ap, ◌∙◌, subst, arith}
+use Rattle.std.proofs.Math.Bool.{and-true}
+use Rattle.std.proofs.lemmas.Bool.{cases_lt}
+use Rattle.std.proofs.lemmas.Bool.Decides.{nat_tests}
+use Rattle.std.proofs.lemmas.List.{length-reverse}
+use Rattle.std.proofs.lemmas.Option.{slice_get-get_or, slice_get_past}
+use Rattle.std.specs.Option.{option_and_then}
+use Rattle.first_pass_items.specs.declared.item.Item.{Item}
+use Rattle.first_pass_items.specs.declared.option_set.Options.{Options}
+use Rattle.first_pass_tree.specs.declared.tree_index.TreeIndex.{TreeIndex}
+use Rattle.first_pass_tree.specs.Forest.{Forest}
+use Rattle.first_pass_lines.specs.Rest.{Rest}
+use Rattle.first_pass_grammar.specs.declared.kind.Container.{Container}
+use Rattle.first_pass_grammar.specs.Containers.{after, prefix, is_definition, at_definition}
+use Rattle.first_pass_grammar.specs.Kinds.{continued}
+use Rattle.first_pass_grammar.proofs.FootnoteHeads.{whole_none}
+use Rattle.first_pass_open.specs.Path.{container_at, prefix_of, with_container, path_in, outer, is_definition_node, definition_after, continued_to}
+use Rattle.first_pass_open.proofs.FrontLemmas.{path_to, path_to-more, taken_more, outer-all, root}
+
+stop_by : (c : Container) (path : List Container) (r q : Rest) → after path r ≡ Some q → prefix c q ≡ None → at_definition (c ∷ path) r ≡ is_definition c
+unfolding at_definition after
+stop_by c path r q some none = rw some (rw none (and-true (is_definition c)))
+
+-- the first open node that a line doesn't continue
+stop_at : (o : Option Container) (path : List Container) (r q : Rest)
+    → after path r ≡ Some q → prefix_of o q ≡ None → at_definition (with_container o path) r ≡ is_definition_node o
+stop_at None path r q some none = cc
+stop_at (Some c) path r q some none = stop_by c path r q some none
+
+-- an open node further inside
+stop_kept : (o : Option Container) (path : List Container) (r : Rest) → after path r ≡ None → at_definition (with_container o path) r ≡ at_definition path r
+unfolding at_definition
+stop_kept None path r none = refl
+stop_kept (Some c) path r none = rw none refl
+
+stop_more : (options : Options) (ns : List (ℕ × Item)) (spine : List TreeIndex) (i : ℕ) (r : Rest) (d : ℕ) → i + d ≤ length spine
+    → ((m : ℕ) → i ≤ m → m ≤ length spine → after (path_to options ns spine m) r ≡ None)
+    → at_definition (path_to options ns spine (i + d)) r ≡ at_definition (path_to options ns spine i) r
+stop_more options ns spine i r zero h none = let z : i + 0 ≡ i = omega arith in ap (λ m. at_definition (path_to options ns spine m) r) z
+stop_more options ns spine i r (suc d) h none =
+    let z : i + suc d ≡ (i + d) + 1 = omega arith in
+    ap (λ m. at_definition (path_to options ns spine m) r) z
+    ∙ ap (λ c. at_definition c r) (path_to-more options ns spine (i + d) root (omega arith))
+    ∙ stop_kept (container_at options ns (get_or (reverse spine) (i + d) root)) (path_to options ns spine (i + d)) r (none (i + d) (omega arith) (omega arith))
+    ∙ stop_more options ns spine i r d (omega arith) none
+
+-- A line continues the outermost i open nodes, and no more.
+pub record IsKept (options : Options) (f : Forest Item) (i : ℕ) (r q : Rest) : Type 0 where
+  pub within : i ≤ length f.spine
+  pub taken : after (path_in options f.nodes (outer i f.spine)) r ≡ Some q
+  pub stops : (m : ℕ) → i < m → m ≤ length f.spine → after (path_in options f.nodes (outer m f.spine)) r ≡ None
+
+all_path : (options : Options) (f : Forest Item) → path_to options f.nodes f.spine (length f.spine) ≡ path_in options f.nodes f.spine
+all_path options f = ap (path_in options f.nodes) (outer-all f.spine)
+
+-- it continues all
+all_kept : (options : Options) (f : Forest Item) (i : ℕ) (r q : Rest) → IsKept options f i r q → length f.spine ≤ i
+    → continued_to options f i ≡ continued (path_in options f.nodes f.spine) r
+all_kept options f i r q k h =
+    let within = k.within in
+    let all : i ≡ length f.spine = omega arith in
+    let some : after (path_in options f.nodes f.spine) r ≡ Some q =
+    ap (λ c. after c r) (sym (all_path options f)) ∙ ap (λ m. after (path_to options f.nodes f.spine m) r) (sym all) ∙ k.taken in
+    let whole : (i == length f.spine) ≡ is_some (after (path_in options f.nodes f.spine) r) =
+    (let t : (i == length f.spine) ≡ true = grind (arith, nat_tests, all) in t ∙ sym (ap is_some some)) in
+    let none : slice_get (reverse f.spine) i ≡ None =
+    slice_get_past (reverse f.spine) i (subst (λ n. n ≤ i) (sym (length-reverse f.spine)) h) in
+    let stop : definition_after options f i ≡ at_definition (path_in options f.nodes f.spine) r =
+    ap (λ o. is_definition_node (option_and_then (container_at options f.nodes) o)) none
+    ∙ sym (whole_none (path_in options f.nodes f.spine) r (ap is_some some)) in
+    cc
+
+-- it doesn't
+some_kept : (options : Options) (f : Forest Item) (i : ℕ) (r q : Rest) → IsKept options f i r q → i < length f.spine
+    → continued_to options f i ≡ continued (path_in options f.nodes f.spine) r
+some_kept options f i r q k h =
+    let path = path_in options f.nodes f.spine in
+    let last : after path r ≡ None = ap (λ c. after c r) (sym (all_path options f)) ∙ k.stops (length f.spine) h (omega arith) in
+    let whole : (i == length f.spine) ≡ is_some (after path r) =
+    (let t : (i == length f.spine) ≡ false = grind (arith, nat_tests, h) in t ∙ sym (ap is_some last)) in
+    let node : Option Container = container_at options f.nodes (get_or (reverse f.spine) i root) in
+    let here : slice_get (reverse f.spine) i ≡ Some (get_or (reverse f.spine) i root) =
+    slice_get-get_or (reverse f.spine) i root (subst (λ n. i < n) (sym (length-reverse f.spine)) h) in
+    let next : prefix_of node q ≡ None =
+    sym (taken_more options f.nodes f.spine i root r q h k.taken) ∙ k.stops (i + 1) (omega arith) (omega arith) in
+    let z : i + 1 + (length f.spine - (i + 1)) ≡ length f.spine = omega arith in
+    let stop : definition_after options f i ≡ at_definition path r =
+    ap (λ o. is_definition_node (option_and_then (container_at options f.nodes) o)) here
+    ∙ sym (stop_at node (path_to options f.nodes f.spine i) r q k.taken next)
+    ∙ ap (λ c. at_definition c r) (sym (path_to-more options f.nodes f.spine i root h))
+    ∙ sym (stop_more options f.nodes f.spine (i + 1) r (length f.spine - (i + 1)) (omega arith) (λ m low high. k.stops m (omega arith) high))
+    ∙ ap (λ m. at_definition (path_to options f.nodes f.spine m) r) z
+    ∙ ap (λ c. at_definition c r) (all_path options f) in
+    cc
+
+pub kept_continued : (options : Options) (f : Forest Item) (i : ℕ) (r q : Rest) → IsKept options f i r q
+    → continued_to options f i ≡ continued (path_in options f.nodes f.spine) r
+kept_continued options f i r q k = elim (cases_lt i (length f.spine)) [
+  | inl fewer ↦ some_kept options f i r q k fewer
+  | inr all ↦ all_kept options f i r q k all
+]
