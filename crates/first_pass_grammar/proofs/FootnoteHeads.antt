@@ -59,7 +59,8 @@ stopped_none : (c : Container) (o : Option Rest) → is_some o ≡ false → is_
 stopped_none c None e h = cc
 stopped_none c (Some r) e h = cc
 
-whole_by : (c : Container) (path : List Container) (r : Rest) (t : Bool) → is_some (after path r) ≡ t → is_some (option_and_then (prefix c) (after path r)) ≡ true
+whole_by : (c : Container) (path : List Container) (r : Rest) (t : Bool) → is_some (after path r) ≡ t
+    → is_some (option_and_then (prefix c) (after path r)) ≡ true
     → (if t then is_definition c && not (is_some (option_and_then (prefix c) (after path r))) else at_definition path r) ≡ false
 whole_by c path r true e h = ap (λ b. is_definition c && not b) h ∙ and-false (is_definition c)
 whole_by c path r false e h = absurd (stopped_none c (after path r) e h)

@@ -27,7 +27,8 @@ marker_by true p marker h = h
 marker_by false p marker h = cc
 
 abbrev start_of_three : Options → Place → Option ((ℕ × ℕ × ℕ) × Rest) → Option (ℕ × Rest) → Option Rest → Option Start
-start_of_three options p i m q = option_or (option_map (item_as options p) i) (option_or (option_map (definition_start p) m) (option_map (quote_as options p) q))
+start_of_three options p i m q =
+    option_or (option_map (item_as options p) i) (option_or (option_map (definition_start p) m) (option_map (quote_as options p) q))
 
 start_by : (options : Options) (p : Place) (P : Start → Type 0) (i : Option ((ℕ × ℕ × ℕ) × Rest)) (m : Option (ℕ × Rest)) (q : Option Rest)
     → ((item : (ℕ × ℕ × ℕ) × Rest) → i ≡ Some item → P (item_as options p item))

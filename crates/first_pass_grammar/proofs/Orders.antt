@@ -257,7 +257,8 @@ beyond_by : (text : List ℕ) (item : Bool) (v : Within) (from to : ℕ) (row : 
 beyond_by text true v from to row wider h = h
 beyond_by text false v from to row wider h = wider h
 
-beyond_text : (text : List ℕ) (lead : Bool) (at : ℕ) (v : Within) (from to : ℕ) (row : Row) → (Fits text Elsewhere from to row → Fits text (beyond v) from to row)
+beyond_text : (text : List ℕ) (lead : Bool) (at : ℕ) (v : Within) (from to : ℕ) (row : Row)
+    → (Fits text Elsewhere from to row → Fits text (beyond v) from to row)
     → Fits text Elsewhere from to row → Fits text (beyond (if lead then InText at else v)) from to row
 beyond_text text true at v from to row wider h = h
 beyond_text text false at v from to row wider h = wider h

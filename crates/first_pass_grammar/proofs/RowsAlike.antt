@@ -303,7 +303,8 @@ first_alike m n (OneOf row inner next) (OneOf row' inner' next') a =
     (sym (untitled_bare row.what) ∙ ap (λ (r : Row). is_untitled r.what) a.0.0 ∙ untitled_bare row'.what)
     (sym (run_bare row.what) ∙ ap (λ (r : Row). is_run_row r.what) a.0.0 ∙ run_bare row'.what) a (first_alike m n next next' a.2)
 
-if_alike : (m n : Names) (t t' : Bool) (o o' : Option Definitions) → t ≡ t' → AlikeFirst m n o o' → AlikeFirst m n (if t then o else None) (if t' then o' else None)
+if_alike : (m n : Names) (t t' : Bool) (o o' : Option Definitions) → t ≡ t'
+    → AlikeFirst m n o o' → AlikeFirst m n (if t then o else None) (if t' then o' else None)
 if_alike m n t true o o' is f = rw is f
 if_alike m n t false o o' is f = rw is tt
 

@@ -155,9 +155,11 @@ silent_closed : (nodes : List (ℕ × Item)) (place depth : ℕ) (loose : Bool) 
 unfolding list_closed
 silent_closed nodes place depth true e i h = silent_modified nodes place i _ (λ x k. silent_flagged true x.body k) h
 silent_closed nodes place depth false e i h =
-    silent_modified (map_from (tightened depth) place nodes) place i _ (λ x k. silent_flagged false x.body k) (silent_from (tightened depth) (stays_tight depth) place nodes i h)
+    silent_modified (map_from (tightened depth) place nodes) place i _ (λ x k. silent_flagged false x.body k)
+    (silent_from (tightened depth) (stays_tight depth) place nodes i h)
 
-pub from_closed : (nodes : List (ℕ × Item)) (place depth : ℕ) (loose : Bool) (e i : ℕ) → SilentFrom nodes i → SilentFrom (list_closed nodes place depth loose e) i
+pub from_closed : (nodes : List (ℕ × Item)) (place depth : ℕ) (loose : Bool) (e i : ℕ)
+    → SilentFrom nodes i → SilentFrom (list_closed nodes place depth loose e) i
 unfolding list_closed
 from_closed nodes place depth true e i h = from_modified nodes place i _ (λ x k. silent_flagged true x.body k) h
 from_closed nodes place depth false e i h =
@@ -169,7 +171,8 @@ pub marks_closed : (names : Names) (nodes : List (ℕ × Item)) (place depth : �
 unfolding list_closed
 marks_closed names nodes place depth true e h = marks_modified names nodes place _ (λ x k. silent_flagged true x.body k) h
 marks_closed names nodes place depth false e h =
-    marks_modified names (map_from (tightened depth) place nodes) place _ (λ x k. silent_flagged false x.body k) (silent_from (tightened depth) (stays_tight depth) place nodes place h)
+    marks_modified names (map_from (tightened depth) place nodes) place _ (λ x k. silent_flagged false x.body k)
+    (silent_from (tightened depth) (stays_tight depth) place nodes place h)
     ∙ marks_from names depth place nodes
 
 -- a container closed

@@ -34,13 +34,15 @@ flagged loose body = body
 -- The nodes once the paragraph at a place is the title of a definition list: the list has its place, and what was below the paragraph is below the title.
 unfoldable pub with_title : List (ℕ × Item) → ℕ → List (ℕ × Item)
 with_title [] place = []
-with_title (n ∷ nodes) zero = (n.0, record n.1 { body = DefinitionList (list_flags true) }) ∷ (suc n.0, record n.1 { body = DefinitionListTitle }) ∷ map deeper nodes
+with_title (n ∷ nodes) zero =
+    (n.0, record n.1 { body = DefinitionList (list_flags true) }) ∷ (suc n.0, record n.1 { body = DefinitionListTitle }) ∷ map deeper nodes
 with_title (n ∷ nodes) (suc place) = n ∷ with_title nodes place
 
--- the nodes once a possible title at a place, which is last in a definition list, is a title; or a paragraph after that list
+-- the nodes once a possible title at a place, which is last in a definition list, is a title (this project)
 unfoldable pub title_taken : List (ℕ × Item) → ℕ → List (ℕ × Item)
 title_taken nodes place = modify nodes place (λ x. record x { body = DefinitionListTitle })
 
+-- the nodes once that possible title is a paragraph after the list (this project)
 unfoldable pub title_left : List (ℕ × Item) → ℕ → List (ℕ × Item)
 title_left nodes place = map_from shallower place (modify nodes place (λ x. record x { body = ParagraphBody }))
 

@@ -95,7 +95,7 @@ is_definition (ListItem columns) = false
 is_definition (FootnoteDefinition columns) = false
 is_definition (Definition columns) = true
 
--- of a path, the outermost first, the first container that the line does not continue of which this is left is a definition (this project)
+-- the outermost container of a path that a line does not continue is a definition (this project)
 unfoldable pub at_definition : List Container → Rest → Bool
 at_definition [] r = false
 at_definition (c ∷ path) r = if is_some (after path r) then is_definition c && not (is_some (after (c ∷ path) r)) else at_definition path r

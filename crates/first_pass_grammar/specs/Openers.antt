@@ -1,4 +1,4 @@
--- Which list item or block quote begins at a place, and what stands after its marker (CommonMark 5.1, 5.2).
+-- Which block quote, list item or definition begins at a place, and what stands after its marker (CommonMark 5.1, 5.2, and this project).
 use Rattle.std.specs.Prelude.{ℕ, Bool, Option, Some, None, if◌then◌else◌}
 use Rattle.std.specs.Option.{option_map, option_or}
 use Rattle.first_pass_items.specs.declared.item.Item.{Item}
@@ -22,7 +22,7 @@ pub data AfterMarker : Type 0 where
   LineEnds : Option Item → AfterMarker
   TagAlone : AfterMarker
 
--- a list item or a block quote that begins at a place: how it begins, what stands after its marker, and what is left of the line there
+-- a block quote, a list item or a definition that begins at a place: how it begins, what stands after its marker, and what is left of the line there
 pub record Start : Type 0 where
   pub head : Head
   pub after : AfterMarker

@@ -68,8 +68,8 @@ pub record IsBetween (text : List ℕ) (from to : ℕ) (x : Extent) : Type 0 whe
   pub starts : IsCharBoundary text x.start
   pub ends : IsCharBoundary text x.«end»
 
--- where a row stands: directly in a list item; directly in a paragraph or a heading of one, or in the title of a definition list that is first in one, before
--- whose start the marker of a task may stand, from an offset on; first in such a list; or elsewhere (GFM 5.3, and this project)
+-- where a row stands: directly in a list item; directly in a paragraph or a heading of one, or in the first title of a definition list directly in one,
+-- before whose start the marker of a task may stand, from an offset on; directly in such a list; or elsewhere (GFM 5.3, and this project)
 pub data Within : Type 0 where
   Elsewhere : Within
   InItem : Within

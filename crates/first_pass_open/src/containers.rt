@@ -28,6 +28,7 @@ fn takes_columns<'a>(columns: usize, line_start: &mut LineStart<'a>) -> bool
 }
 
 // Takes the prefix by which the line continues a node, and says whether it does; takes nothing where it doesn't.
+#[inline(always)]
 #[tactic(auto, unfolding(first_pass_grammar::specs::Containers::prefix))]
 fn takes_prefix<'a>(body: ItemBody, line_start: &mut LineStart<'a>, options: Options) -> bool
     ensures { MatchOption (prefix_of (container_of options body) line_start.old)

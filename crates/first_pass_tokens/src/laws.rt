@@ -17,7 +17,8 @@ ghost use Rattle.first_pass_tokens.specs.MarkupBytes.{StandOver, TextsHaveNoBack
 /// one list of brace contexts is left.
 pub fn one_line()
     ensures { (texts more : List CowStr) (s : Source) (tokens others : List Item) (a b : ℕ × Option Item)
-        (c d : MathBraces) → IsLine texts s tokens a c → IsLine more s others b d → AreAlike texts more tokens others × (a ≡ b) × (c ≡ d) }
+        (c d : MathBraces) → IsLine texts s tokens a c → IsLine more s others b d
+        → AreAlike texts more tokens others × (a ≡ b) × (c ≡ d) }
 {}
 
 /// A cell has one list of tokens, but for the indices of the texts that they name, and one end, and one

@@ -30,7 +30,7 @@ fn list_in_list(alloc: Global) -> Result<Tree<Item>, AllocError> {
 }
 
 #[test]
-fn remembers_subtrees(rt: HostRuntime) -> Result<(), Fail> {
+fn remembers_subtrees_until_they_are_cut(rt: HostRuntime) -> Result<(), Fail> {
     let mut tree = list_in_list(rt.alloc())?;
     assert!(rt; 4 < tree.node_count());
     assert!(rt; tree.end_of(TreeIndex(3)) == 5 && tree.end_of(TreeIndex(1)) == 5);
@@ -42,11 +42,7 @@ fn remembers_subtrees(rt: HostRuntime) -> Result<(), Fail> {
     tree.pop();
     tree.note_end();
     assert!(rt; tree.take_subtree(0, 5) == None);
-    Ok(())
-}
 
-#[test]
-fn forgets_subtrees_that_are_cut(rt: HostRuntime) -> Result<(), Fail> {
     let mut tree = list_in_list(rt.alloc())?;
     assert!(rt; tree.remove_node() == Some(TreeIndex(2)));
     tree.append(item(0, 4, ItemBody::Rule))?;
@@ -57,40 +53,29 @@ fn forgets_subtrees_that_are_cut(rt: HostRuntime) -> Result<(), Fail> {
     Ok(())
 }
 
+// A definition list in a quote: its last child is moved out, after its end was noted, or once it ends before that child.
 #[test]
-fn forgets_a_subtree_that_a_child_leaves(rt: HostRuntime) -> Result<(), Fail> {
-    let mut tree = Tree::with_capacity(rt.alloc(), 4)?;
-    tree.append(item(0, 4, ItemBody::BlockQuote(None)))?;
-    tree.push()?;
-    tree.remember()?;
-    let list = tree.append(item(2, 4, ItemBody::List(ListFlags::IS_TIGHT, b'-', 0)))?;
-    tree.push()?;
-    tree.remember()?;
-    let left = tree.append(item(2, 4, ItemBody::ListItem(2)))?;
-    tree.pop();
-    tree.note_end();
-    tree.move_out(left);
-    assert!(rt; tree.cur() == Some(left) && tree.next_sibling(list) == Some(left));
-    let outer = Subtree { place: 1, past: 2 };
-    assert!(rt; tree.take_subtree(0, 4) == Some(outer));
-    assert!(rt; tree.take_subtree(0, 4) == None);
-    Ok(())
-}
-
-#[test]
-fn keeps_a_subtree_that_ends_before_the_child(rt: HostRuntime) -> Result<(), Fail> {
-    let mut tree = Tree::with_capacity(rt.alloc(), 4)?;
-    tree.append(item(0, 4, ItemBody::BlockQuote(None)))?;
-    tree.push()?;
-    tree.remember()?;
-    tree.append(item(2, 4, ItemBody::DefinitionList(ListFlags::IS_TIGHT)))?;
-    tree.push()?;
-    tree.remember()?;
-    let left = tree.append(item(2, 4, ItemBody::Paragraph))?;
-    tree.pop();
-    tree.note_end_before(left);
-    tree.move_out(left);
-    let inner = Subtree { place: 2, past: 3 };
-    assert!(rt; tree.take_subtree(0, 4) == Some(inner));
+fn keeps_a_subtree_that_ends_before_a_child_that_leaves(rt: HostRuntime) -> Result<(), Fail> {
+    for ends_before in [false, true] {
+        let mut tree = Tree::with_capacity(rt.alloc(), 4)?;
+        tree.append(item(0, 4, ItemBody::BlockQuote(None)))?;
+        tree.push()?;
+        tree.remember()?;
+        let list = tree.append(item(2, 4, ItemBody::DefinitionList(ListFlags::IS_TIGHT)))?;
+        tree.push()?;
+        tree.remember()?;
+        let left = tree.append(item(2, 4, ItemBody::Paragraph))?;
+        tree.pop();
+        if ends_before {
+            tree.note_end_before(left);
+        } else {
+            tree.note_end();
+        }
+        tree.move_out(left);
+        assert!(rt; tree.cur() == Some(left) && tree.next_sibling(list) == Some(left));
+        let outer = Subtree { place: 1, past: 2 };
+        let inner = Subtree { place: 2, past: 3 };
+        assert!(rt; tree.take_subtree(0, 4) == Some(if ends_before { inner } else { outer }));
+    }
     Ok(())
 }
