@@ -28,6 +28,7 @@ pub struct ListMarker {
 
 /// Makes the paragraphs tight that stand directly in the items of a list, the current node, unless it is
 /// loose (CommonMark 5.3), and notes where it ends: before its last child, if that is given.
+#[inline(never)]
 fn close_list(tree: &mut Tree<Item>, list_ix: TreeIndex, flags: ListFlags, left: Option<TreeIndex>)
     requires { list_ix.0 < length tree.old.nodes }
     ensures { tree.new ≡ (if bit_and flags.0 1 == 1 then tight_items tree.old list_ix else tree.old) }
@@ -313,6 +314,7 @@ impl Reading {
 
     /// Closes what a new block ends: an empty item, and the list that is then innermost, at the offset
     /// `ix`. Where a blank line stands before the block, the list becomes loose in whose item it stands.
+    #[inline(always)]
     #[tactic(auto, unfolding(crate::specs::Closing::list_finished))]
     pub fn finish_list(&mut self, ix: usize)
         ensures { self.new ≡ list_finished ix self.old }
