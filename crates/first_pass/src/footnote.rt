@@ -2,8 +2,8 @@
 
 ghost use Rattle.std.specs.Prelude.{◌≡◌, ◌≤◌, ◌+◌, ◌<◌, ℕ, IfOk, IfSome, IsCharBoundary};
 ghost use Rattle.first_pass_blocks.specs.FootnoteHeads.{ReadsFootnote};
-ghost use Rattle.first_pass_blocks.specs.Ordered.{FitsUntitled, IsOrderedAt};
-ghost use Rattle.first_pass.specs.Views.{pass_of, reading_of, source_of, source_text, tree_of};
+ghost use Rattle.first_pass_blocks.specs.Ordered.{IsReadTo};
+ghost use Rattle.first_pass.specs.Views.{pass_of, reading_of, source_of, source_text};
 
 use crate::state::FirstPass;
 use std::alloc::AllocError;
@@ -21,10 +21,9 @@ impl<'a> FirstPass<'a> {
         ensures head { IfOk result (λ size. ReadsFootnote (pass_of self.old) (pass_of self.new) start size) }
         ensures within { IfOk result (λ size. IfSome size (λ n.
             (3 < n) × IsCharBoundary (source_text self.old) (start + n))) }
-        ensures order { IfOk result (λ size. IfSome size (λ n. (at : ℕ)
-            → FitsUntitled (source_text self.old) (tree_of self.old) at → at ≤ start
-            → IsOrderedAt (source_text self.old) (reading_of self.old) at
-            → IsOrderedAt (source_text self.old) (reading_of self.new) start)) }
+        ensures order { IfOk result (λ size. IfSome size (λ n. (at : ℕ) → at ≤ start
+            → IsReadTo (source_text self.old) (reading_of self.old) at
+            → IsReadTo (source_text self.old) (reading_of self.new) start)) }
     {
         let pass = &mut self.pass;
         let size = pass.parse_footnote(start)?;

@@ -2,7 +2,7 @@
 
 ghost use Rattle.std.specs.Prelude.{◌≡◌, ◌≤◌, ℕ, length, IsSome, IsCharBoundary, slice_get, OnOk};
 ghost use Rattle.first_pass_lists.specs.Closing.{popped, item_finished, list_finished, list_continued};
-ghost use Rattle.first_pass_blocks.specs.Ordered.{FitsUntitled, IsOrderedAt};
+ghost use Rattle.first_pass_blocks.specs.Ordered.{IsReadTo};
 ghost use Rattle.first_pass.specs.Kept.{KeepsTables};
 ghost use Rattle.first_pass.specs.Views.{reading_of, source_text, tree_of};
 
@@ -16,10 +16,9 @@ impl<'a> FirstPass<'a> {
         requires { IsSome (slice_get (tree_of self.old).spine 0) }
         ensures kept { KeepsTables self.old self.new }
         ensures reading { reading_of self.new ≡ popped ix (reading_of self.old) }
-        ensures order { (at : ℕ) → FitsUntitled (source_text self.old) (tree_of self.old) at → at ≤ ix
-            → ix ≤ length (source_text self.old)
-            → IsCharBoundary (source_text self.old) ix → IsOrderedAt (source_text self.old) (reading_of self.old) at
-            → IsOrderedAt (source_text self.old) (reading_of self.new) ix }
+        ensures order { (at : ℕ) → at ≤ ix → ix ≤ length (source_text self.old)
+            → IsCharBoundary (source_text self.old) ix → IsReadTo (source_text self.old) (reading_of self.old) at
+            → IsReadTo (source_text self.old) (reading_of self.new) ix }
     {
         let pass = &mut self.pass;
         pass.reading.pop(ix);
@@ -30,8 +29,8 @@ impl<'a> FirstPass<'a> {
     pub fn finish_empty_list_item(&mut self)
         ensures kept { KeepsTables self.old self.new }
         ensures reading { reading_of self.new ≡ item_finished (reading_of self.old) }
-        ensures order { (at : ℕ) → IsOrderedAt (source_text self.old) (reading_of self.old) at
-            → IsOrderedAt (source_text self.old) (reading_of self.new) at }
+        ensures order { (at : ℕ) → IsReadTo (source_text self.old) (reading_of self.old) at
+            → IsReadTo (source_text self.old) (reading_of self.new) at }
     {
         let pass = &mut self.pass;
         pass.reading.finish_empty_list_item();
@@ -42,10 +41,9 @@ impl<'a> FirstPass<'a> {
     pub fn finish_list(&mut self, ix: usize)
         ensures kept { KeepsTables self.old self.new }
         ensures reading { reading_of self.new ≡ list_finished ix (reading_of self.old) }
-        ensures order { (at : ℕ) → FitsUntitled (source_text self.old) (tree_of self.old) at → at ≤ ix
-            → ix ≤ length (source_text self.old)
-            → IsCharBoundary (source_text self.old) ix → IsOrderedAt (source_text self.old) (reading_of self.old) at
-            → IsOrderedAt (source_text self.old) (reading_of self.new) ix }
+        ensures order { (at : ℕ) → at ≤ ix → ix ≤ length (source_text self.old)
+            → IsCharBoundary (source_text self.old) ix → IsReadTo (source_text self.old) (reading_of self.old) at
+            → IsReadTo (source_text self.old) (reading_of self.new) ix }
     {
         let pass = &mut self.pass;
         pass.reading.finish_list(ix);
@@ -56,10 +54,9 @@ impl<'a> FirstPass<'a> {
     pub fn continue_list(&mut self, start: usize, ch: u8, index: u64) -> Result<(), AllocError>
         ensures kept { OnOk result (KeepsTables self.old self.new) }
         ensures reading { OnOk result (reading_of self.new ≡ list_continued start ch index (reading_of self.old)) }
-        ensures order { OnOk result ((at : ℕ) → FitsUntitled (source_text self.old) (tree_of self.old) at → at ≤ start
-            → start ≤ length (source_text self.old)
-            → IsCharBoundary (source_text self.old) start → IsOrderedAt (source_text self.old) (reading_of self.old) at
-            → IsOrderedAt (source_text self.old) (reading_of self.new) start) }
+        ensures order { OnOk result ((at : ℕ) → at ≤ start → start ≤ length (source_text self.old)
+            → IsCharBoundary (source_text self.old) start → IsReadTo (source_text self.old) (reading_of self.old) at
+            → IsReadTo (source_text self.old) (reading_of self.new) start) }
     {
         let pass = &mut self.pass;
         pass.reading.continue_list(start, ch, index)

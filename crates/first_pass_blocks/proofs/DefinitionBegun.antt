@@ -22,7 +22,8 @@ use Rattle.first_pass_lists.specs.Closing.{definitions_by, definitions_at, defin
 use Rattle.first_pass_lists.specs.declared.reading.Reading.{Reading}
 use Rattle.first_pass_blocks.specs.Ordered.{top_of, AreNested}
 use Rattle.first_pass_blocks.proofs.Nests.{classes_body, nested_same, nested_before, top_before, AreBefore, IsSettled, begun_settled, kept_like, like_nested}
-use Rattle.first_pass_blocks.proofs.OrderLemmas.{ordered_same, ordered_begun, extents-body, list_extent, ordered_list_kept}
+use Rattle.first_pass_blocks.proofs.OrderLemmas.{ordered_same, ordered_begun, extents-body, list_extent}
+use Rattle.first_pass_blocks.proofs.PopOrder.{ordered_list_kept}
 
 -- the paragraph's node becomes a list's, with its title after it
 listed_extents : (nodes : List (ℕ × Item)) (front : List (ℕ × Extent)) (d : ℕ) (x : Extent) (more : List (ℕ × Extent)) (k : ℕ) (b : ItemBody)

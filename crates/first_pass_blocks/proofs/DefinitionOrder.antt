@@ -1,37 +1,38 @@
 -- Order where definition lists are opened and closed: a paragraph becomes a title, a possible title is kept, and what is none is moved out of its list.
-use Rattle.std.proofs.Common.{◌≡◌, ℕ, zero, suc, ◌+◌, ◌<◌, ◌≤◌, ◌==◌, not, is_some, Bool, true, false, if◌then◌else◌, List, [], ◌∷◌, ◌++◌, length}
-use Rattle.std.proofs.Common.{map, slice_get, Option, Some, None, IfSome, IsCharBoundary, refl, sym, ap, subst, ◌∙◌, arith}
+use Rattle.std.proofs.Common.{◌≡◌, ℕ, suc, ◌+◌, ◌<◌, ◌≤◌, not, is_some, Bool, true, false, if◌then◌else◌, List, [], ◌∷◌, ◌++◌, length}
+use Rattle.std.proofs.Common.{take, drop, slice_get, Option, Some, None, IfSome, IsCharBoundary, refl, sym, ap, subst, ◌∙◌, arith}
 use Rattle.std.proofs.Common.{length-append}
-use Rattle.std.proofs.lemmas.Bool.{cond_both, and_parts}
-use Rattle.std.specs.Int.RustNames.{bit_and}
+use Rattle.std.proofs.lemmas.Bool.{and_parts}
+use Rattle.std.proofs.lemmas.List.{take-map, drop-map}
+use Rattle.std.proofs.Math.Seq.{take-append_seam, drop-append_seam}
 use Rattle.std.specs.Prelude.{IsSomeAnd}
 use Rattle.std.specs.Option.{option_and_then, option_map, option_map_or}
 use Rattle.first_pass_items.specs.declared.item.Item.{Item}
 use Rattle.first_pass_items.specs.declared.item.ItemBody.{ItemBody}
-use Rattle.first_pass_items.specs.declared.item.ItemBody.TheVariants.{List as ListBody, ListItem as ListItemBody, Paragraph, DefinitionList}
-use Rattle.first_pass_items.specs.declared.item.ItemBody.TheVariants.{DefinitionListDefinition, MaybeDefinitionListTitle}
+use Rattle.first_pass_items.specs.declared.item.ItemBody.TheVariants.{Paragraph, DefinitionList}
+use Rattle.first_pass_items.specs.declared.item.ItemBody.TheVariants.{MaybeDefinitionListTitle}
 use Rattle.first_pass_tree.specs.declared.tree_index.TreeIndex.{TreeIndex}
-use Rattle.first_pass_tree.specs.Forest.{Forest, IsForest, IsLastAt, depths, modify, with_body_at, with_end_at, body_at, item_at, at_depth, added, map_from}
-use Rattle.first_pass_tree.specs.Forest.{shallower, with_end}
-use Rattle.first_pass_tree.specs.Tight.{tight_items}
+use Rattle.first_pass_tree.specs.Forest.{Forest, IsForest, IsLastAt, depths, modify, with_body_at, with_end_at, body_at, item_at, at_depth, added}
+use Rattle.first_pass_tree.specs.Forest.{with_end}
 use Rattle.first_pass_tree.proofs.BodyLemmas.{body-kept, body-changed}
 use Rattle.first_pass_grammar.specs.Order.{Extent, extent_of, extents, is_task_marker, Row, laid, IsBetween, Elsewhere}
 use Rattle.first_pass_grammar.specs.Order.{InItem, Fits, FitsBetween}
 use Rattle.first_pass_grammar.specs.OpenOrder.{laid_open, AreAt, open_within, FitsOpen, item_on_top, within_top, IsOrderedTo}
 use Rattle.first_pass_grammar.proofs.Orders.{ended_at, extents-append, length-extents, extents-at_depth, laid-at_depth, laid_open-level}
-use Rattle.first_pass_grammar.proofs.Orders.{length-places, fits-any, below_ended, extents-ended, between-any}
-use Rattle.first_pass_grammar.proofs.RowSplits.{last_child, fits_open_ends, laid-shallower, extents-moved}
-use Rattle.first_pass_open.specs.OpenBlock.{closed_by}
+use Rattle.first_pass_grammar.proofs.Orders.{length-places, below_ended, extents-ended, between-any}
+use Rattle.first_pass_grammar.proofs.RowSplits.{last_child, fits_open_ends}
 use Rattle.first_pass_open.specs.Between.{AddsBetween}
-use Rattle.first_pass_lists.specs.Closing.{remembered, with_tree, gap_noted, top_body, current_body, popped_by, popped_at, current_moved, top_end}
+use Rattle.first_pass_lists.specs.Closing.{with_tree, gap_noted, top_body, current_body, top_end}
 use Rattle.first_pass_lists.specs.Closing.{definitions_closed, possible_title, definitions_left, title_kept, is_after_definition}
 use Rattle.first_pass_lists.specs.Closing.{is_definition_list as is_definitions}
 use Rattle.first_pass_lists.specs.declared.reading.Reading.{Reading}
-use Rattle.first_pass_blocks.specs.Ordered.{top_of, AreNested, untitled, FitsUntitled, HasDefinition, CanClose, IsReadTo}
+use Rattle.first_pass_blocks.specs.Ordered.{top_of, AreNested, EndsBeforeLast, EndsBeforeTitle, HasDefinition, CanClose, IsReadTo}
 use Rattle.first_pass_blocks.proofs.Nests.{classes_body, classes_ended, nested_same}
 use Rattle.first_pass_blocks.proofs.Nests.{title_there, definitions_closed_outside, noted_outside, outside_closes, nested_front, top_front}
-use Rattle.first_pass_blocks.proofs.OrderLemmas.{ordered_same, ordered_more, ordered_added, ordered_closed, ordered_none, extents-tight}
-use Rattle.first_pass_blocks.proofs.OrderLemmas.{extents-body, ordered_gap_noted, closed_empty, noted_empty}
+use Rattle.first_pass_blocks.proofs.OrderLemmas.{ordered_same, ordered_added, ordered_none}
+use Rattle.first_pass_blocks.proofs.OrderLemmas.{extents-body}
+use Rattle.first_pass_blocks.proofs.PopOrder.{ordered_gap_noted, closed_empty, noted_empty}
+use Rattle.first_pass_blocks.proofs.LeftOrder.{extents-end, modify-front, length-changed, end_there, HasLeft, left_ordered}
 
 -- What is last is no task list item marker: the tree is in order up to its end.
 pub ordered_to_last : (text : List ℕ) (f : Forest Item) (a : ℕ) (c : TreeIndex) (y : Item) → IsForest f → f.current ≡ Some c → item_at f c ≡ Some y
@@ -83,67 +84,6 @@ pub ordered_reended : (text : List ℕ) (f : Forest Item) (a e : ℕ) (ix : Tree
 ordered_reended text f a e ix rest spine h =
     reended_by text f a e ix rest h.root h.levels h.row h.nodes spine (subst (AreAt h.root h.levels) spine h.places) h.fits h.within h.whole
 
--- what closes the innermost open node, by extents alone
-extents_closed : (r : Reading) (f : Forest Item) (ix : TreeIndex) (b : Option ItemBody) → extents (popped_by r f ix b).tree.nodes ≡ extents f.nodes
-extents_closed r f ix (Some (ListBody flags byte number)) =
-    cond_both (bit_and flags.0 1 == 1) (tight_items f ix) f (λ (g : Forest Item). extents g.nodes ≡ extents f.nodes) (λ b. extents-tight _ (ix.0 + 1) f.nodes)
-    (λ b. refl)
-extents_closed r f ix (Some (DefinitionList flags)) =
-    cond_both (bit_and flags.0 1 == 1) (tight_items f ix) f (λ (g : Forest Item). extents g.nodes ≡ extents f.nodes) (λ b. extents-tight _ (ix.0 + 1) f.nodes)
-    (λ b. refl)
-extents_closed r f ix (Some (ListItemBody columns)) = refl
-extents_closed r f ix (Some (DefinitionListDefinition columns)) = refl
-extents_closed r f ix None = refl
-extents_closed r f ix (Some b) = refl
-
-spine_closed : (r : Reading) (f : Forest Item) (ix : TreeIndex) (b : Option ItemBody) → (popped_by r f ix b).tree.spine ≡ f.spine
-spine_closed r f ix (Some (ListBody flags byte number)) =
-    cond_both (bit_and flags.0 1 == 1) (tight_items f ix) f (λ (g : Forest Item). g.spine ≡ f.spine) (λ b. refl) (λ b. refl)
-spine_closed r f ix (Some (DefinitionList flags)) =
-    cond_both (bit_and flags.0 1 == 1) (tight_items f ix) f (λ (g : Forest Item). g.spine ≡ f.spine) (λ b. refl) (λ b. refl)
-spine_closed r f ix (Some (ListItemBody columns)) = refl
-spine_closed r f ix (Some (DefinitionListDefinition columns)) = refl
-spine_closed r f ix None = refl
-spine_closed r f ix (Some b) = refl
-
--- the same, and the last child is moved out of it
-extents_left : (r : Reading) (e : ℕ) (ix c : TreeIndex) (rest : List TreeIndex) (front more : List (ℕ × Extent))
-    → extents (closed_by r.tree e (ix ∷ rest)).nodes ≡ front ++ more → c.0 ≡ length front
-    → extents (current_moved (popped_at e r (ix ∷ rest)) (Some c)).tree.nodes ≡ front ++ map shallower more
-extents_left r e ix c rest front more is at =
-    let f : Forest Item = closed_by r.tree e (ix ∷ rest) in
-    let q : Reading = popped_at e r (ix ∷ rest) in
-    ap (λ k. extents (map_from shallower k q.tree.nodes)) at
-    ∙ extents-moved front more q.tree.nodes (extents_closed r f ix (body_at f.nodes ix.0) ∙ is)
-
--- ends at a place, by extents
-extents-end : (nodes : List (ℕ × Item)) (k e : ℕ) → extents (modify nodes k (λ x. record x { «end» = e })) ≡ modify (extents nodes) k (λ x. ended_at x e)
-extents-end [] k e = refl
-extents-end (n ∷ nodes) zero e = refl
-extents-end (n ∷ nodes) (suc k) e = ap (λ z. (n.0, extent_of n.1) ∷ z) (extents-end nodes k e)
-
-end_again : (xs : List (ℕ × Extent)) (k e : ℕ)
-    → modify (modify xs k (λ x. ended_at x e)) k (λ x. ended_at x e) ≡ modify xs k (λ x. ended_at x e)
-end_again [] k e = refl
-end_again (n ∷ xs) zero e = refl
-end_again (n ∷ xs) (suc k) e = ap (λ z. n ∷ z) (end_again xs k e)
-
-modify-front : (nodes more : List (ℕ × Item)) (k : ℕ) (g : Item → Item) → k < length nodes → modify (nodes ++ more) k g ≡ modify nodes k g ++ more
-modify-front [] more k g low = absurd (omega arith)
-modify-front (n ∷ nodes) more zero g low = refl
-modify-front (n ∷ nodes) more (suc k) g low = ap (λ z. n ∷ z) (modify-front nodes more k g (omega arith))
-
-length-changed : (nodes : List (ℕ × Item)) (k : ℕ) (g : Item → Item) → length (modify nodes k g) ≡ length nodes
-length-changed [] k g = refl
-length-changed (n ∷ nodes) zero g = refl
-length-changed (n ∷ nodes) (suc k) g = ap suc (length-changed nodes k g)
-
-end_there : (nodes : List (ℕ × Item)) (k e : ℕ) → k < length nodes
-    → option_map_or (λ x. x.«end») (option_map (λ n. n.1) (slice_get (modify nodes k (λ x. record x { «end» = e })) k)) 0 ≡ e
-end_there [] k e low = absurd (omega arith)
-end_there (n ∷ nodes) zero e low = refl
-end_there (n ∷ nodes) (suc k) e low = end_there nodes k e (omega arith)
-
 -- a possible title is last
 kept_some : (f : Forest Item) {i : ℕ} → body_at f.nodes i ≡ Some MaybeDefinitionListTitle → f.current ≡ Some (record { 0 = i })
     → IsSomeAnd (current_body f) (λ b. is_task_marker b ≡ false)
@@ -155,59 +95,38 @@ kept_some f {i} there current =
 module _ (text : List ℕ) (old : Forest Item) (ix : TreeIndex) (rest : List TreeIndex) (spine : old.spine ≡ ix ∷ rest) (low : ix.0 < length old.nodes)
     (items : List (ℕ × Item)) (e next : ℕ) (o : IsOrderedTo text old e) (boundary : IsCharBoundary text e) (fits : FitsBetween text Elsewhere e next items)
     (within : next ≤ length text) where
-  -- the extents of what is in the list then
-  ends_front : List (ℕ × Extent)
-  ends_front = extents (modify old.nodes ix.0 (λ x. record x { «end» = e }))
+  -- the place of the block
+  abbrev place : TreeIndex
+  place = record { 0 = length old.nodes }
 
-  abbrev ReadClosed : Forest Item → Type 0
-  ReadClosed f = (f.spine ≡ ix ∷ rest) × (f.current ≡ Some (record { 0 = length old.nodes }))
-      × (extents (modify f.nodes ix.0 (λ x. record x { «end» = e })) ≡ ends_front ++ laid (suc (suc (length rest))) fits.0)
-
-  deep_is : length old.spine + 1 + 0 ≡ suc (suc (length rest))
-  deep_is = (let n : length old.spine ≡ suc (length rest) = ap length spine in omega arith)
+  -- the nodes before it, once the list has that end
+  abbrev ended : List (ℕ × Item)
+  ended = modify old.nodes ix.0 (λ x. record x { «end» = e })
 
   block_extents : extents (at_depth (length old.spine + 1) items) ≡ laid (suc (suc (length rest))) fits.0
   block_extents =
+      let n : length old.spine ≡ suc (length rest) = ap length spine in
+      let deep : length old.spine + 1 + 0 ≡ suc (suc (length rest)) = omega arith in
       extents-at_depth (length old.spine + 1) items ∙ ap (at_depth (length old.spine + 1)) fits.1 ∙ laid-at_depth (length old.spine + 1) 0 fits.0
-      ∙ ap (λ (k : ℕ). laid k fits.0) deep_is
+      ∙ ap (λ (k : ℕ). laid k fits.0) deep
 
-  -- once the block was added, that list closed has these extents
-  added_closed : ReadClosed (added old items)
-  unfolding ends_front
-  added_closed = (
-    spine,
-    refl,
-    ap extents (modify-front old.nodes (at_depth (length old.spine + 1) items) ix.0 (λ x. record x { «end» = e }) low)
-        ∙ extents-append (modify old.nodes ix.0 (λ x. record x { «end» = e })) (at_depth (length old.spine + 1) items)
-        ∙ ap (λ (z : List (ℕ × Extent)). ends_front ++ z) block_extents,
-  )
+  added_extents : extents (modify (added old items).nodes ix.0 (λ x. record x { «end» = e })) ≡ extents ended ++ laid (suc (suc (length rest))) fits.0
+  added_extents =
+      ap extents (modify-front old.nodes (at_depth (length old.spine + 1) items) ix.0 (λ x. record x { «end» = e }) low)
+      ∙ extents-append ended (at_depth (length old.spine + 1) items) ∙ ap (λ (z : List (ℕ × Extent)). extents ended ++ z) block_extents
 
   -- the list closed, with the block after it
-  left_ordered : (q : Reading) (d : ℕ) → d ≡ e → ReadClosed q.tree → IsOrderedTo text (definitions_closed d q).tree next
-  unfolding ends_front definitions_closed
-  left_ordered q d d_is (q_spine, current, closed) =
-      let c : TreeIndex = record { 0 = length old.nodes } in
-      let shut : IsOrderedTo text (closed_by old e (ix ∷ rest)) e = ordered_closed text old e e ix rest spine (omega arith) o.within boundary o in
-      let at : c.0 ≡ length ends_front =
-      sym (length-extents (modify old.nodes ix.0 (λ x. record x { «end» = e })) ∙ length-changed old.nodes ix.0 (λ x. record x { «end» = e })) in
-      let f : Forest Item = closed_by q.tree e (ix ∷ rest) in
-      let g : Reading = current_moved (popped_at e q (ix ∷ rest)) (Some c) in
-      let same : (definitions_closed d q) ≡ g =
-      ap (λ z. definitions_closed z q) d_is ∙ ap (λ s. current_moved (popped_at e q s) q.tree.current) q_spine
-      ∙ ap (current_moved (popped_at e q (ix ∷ rest))) current in
-      subst (λ (z : Reading). IsOrderedTo text z.tree next) (sym same)
-      (ordered_more text (closed_by old e (ix ∷ rest)) g.tree e next fits.0
-      (extents_left q e ix c rest ends_front (laid (suc (suc (length rest))) fits.0) closed at
-      ∙ ap (λ (z : List (ℕ × Extent)). ends_front ++ z) (laid-shallower (suc (length rest)) fits.0))
-      (spine_closed q f ix (body_at f.nodes ix.0)) (fits-any text (within_top (closed_by old e (ix ∷ rest))) e next fits.0 fits.2) within shut)
+  block_left : (q : Reading) → q.tree ≡ added old items → IsOrderedTo text (definitions_closed e q).tree next
+  block_left q is =
+      left_ordered text old ix place rest spine refl fits.0 e next o boundary fits.2 within q e refl
+      (subst (HasLeft text old ix place rest spine refl fits.0 e next o boundary fits.2 within) (sym is) (spine, refl, added_extents))
 
   -- a possible title is kept: the block is one, and the list has the offset as its end
   kept_tree : Forest Item
-  kept_tree = with_end_at (with_body_at (added old items) (record { 0 = length old.nodes }) MaybeDefinitionListTitle) ix e
+  kept_tree = with_end_at (with_body_at (added old items) place MaybeDefinitionListTitle) ix e
 
   module _ (paragraph : body_at (added old items).nodes (length old.nodes) ≡ Some Paragraph) where
-    as_possible_title : extents (with_body_at (added old items) (record { 0 = length old.nodes }) MaybeDefinitionListTitle).nodes
-        ≡ extents (added old items).nodes
+    as_possible_title : extents (with_body_at (added old items) place MaybeDefinitionListTitle).nodes ≡ extents (added old items).nodes
     as_possible_title = extents-body (added old items).nodes (length old.nodes) Paragraph MaybeDefinitionListTitle paragraph refl
 
     possible_there : body_at kept_tree.nodes (length old.nodes) ≡ Some MaybeDefinitionListTitle
@@ -219,21 +138,27 @@ module _ (text : List ℕ) (old : Forest Item) (ix : TreeIndex) (rest : List Tre
         MaybeDefinitionListTitle paragraph
         (λ x is. refl)
 
-    kept_closed : ReadClosed (with_body_at kept_tree (record { 0 = length old.nodes }) Paragraph)
+    kept_extents : extents kept_tree.nodes ≡ extents ended ++ laid (suc (suc (length rest))) fits.0
     unfolding kept_tree
-    kept_closed =
-        let c : ℕ = length old.nodes in
+    kept_extents =
         let a : List (ℕ × Item) = (added old items).nodes in
-        let m : List (ℕ × Item) = modify a c (λ x. record x { body = MaybeDefinitionListTitle }) in
-        let t : List (ℕ × Item) = modify m ix.0 (λ x. record x { «end» = e }) in
-        let p : List (ℕ × Item) = modify t c (λ x. record x { body = Paragraph }) in
-        let ended : List (ℕ × Extent) → List (ℕ × Extent) = λ xs. modify xs ix.0 (λ x. ended_at x e) in
-        let back : extents p ≡ extents t = extents-body t c MaybeDefinitionListTitle Paragraph possible_there refl in (
-          spine,
-          refl,
-          extents-end p ix.0 e ∙ ap ended (back ∙ extents-end m ix.0 e) ∙ end_again (extents m) ix.0 e ∙ ap ended as_possible_title
-              ∙ sym (extents-end a ix.0 e) ∙ added_closed.2,
-        )
+        let m : List (ℕ × Item) = modify a (length old.nodes) (λ x. record x { body = MaybeDefinitionListTitle }) in
+        extents-end m ix.0 e ∙ ap (λ xs. modify xs ix.0 (λ x. ended_at x e)) as_possible_title ∙ sym (extents-end a ix.0 e) ∙ added_extents
+
+    place_is : length old.nodes ≡ length (extents ended)
+    place_is = sym (length-extents ended ∙ length-changed old.nodes ix.0 (λ x. record x { «end» = e }))
+
+    extents_before : extents (take (length old.nodes) kept_tree.nodes) ≡ extents ended
+    extents_before =
+        sym (take-map (λ n. (n.0, extent_of n.1)) (length old.nodes) kept_tree.nodes) ∙ ap (take (length old.nodes)) kept_extents
+        ∙ ap (λ k. take k (extents ended ++ laid (suc (suc (length rest))) fits.0)) place_is
+        ∙ take-append_seam (extents ended) (laid (suc (suc (length rest))) fits.0)
+
+    extents_last : extents (drop (length old.nodes) kept_tree.nodes) ≡ laid (suc (suc (length rest))) fits.0
+    extents_last =
+        sym (drop-map (λ n. (n.0, extent_of n.1)) (length old.nodes) kept_tree.nodes) ∙ ap (drop (length old.nodes)) kept_extents
+        ∙ ap (λ k. drop k (extents ended ++ laid (suc (suc (length rest))) fits.0)) place_is
+        ∙ drop-append_seam (extents ended) (laid (suc (suc (length rest))) fits.0)
 
     kept_end : top_end kept_tree ≡ e
     unfolding kept_tree
@@ -245,28 +170,39 @@ module _ (text : List ℕ) (old : Forest Item) (ix : TreeIndex) (rest : List Tre
         ap (λ (s : List TreeIndex). option_map_or (λ x. x.«end») (option_and_then (λ ix. item_at kept_tree ix) (slice_get s 0)) 0) spine
         ∙ end_there m ix.0 e within_m
 
-    the_current : kept_tree.current ≡ Some (record { 0 = length old.nodes })
+    the_current : kept_tree.current ≡ Some place
     unfolding kept_tree
     the_current = refl
 
-    kept_current : (title : TreeIndex) → kept_tree.current ≡ Some title → title ≡ record { 0 = length old.nodes }
+    kept_current : (title : TreeIndex) → kept_tree.current ≡ Some title → title ≡ place
     unfolding kept_tree
     kept_current title is = cc
 
-    kept_untitled : FitsUntitled text kept_tree next
-    kept_untitled title is =
-        let t = title_there kept_tree title is in
-        let place : title ≡ record { 0 = length old.nodes } = kept_current title t.current in
-        subst (λ z. IsOrderedTo text (untitled kept_tree z) next) (sym place)
-        (left_ordered (with_tree (remembered kept_tree None false) (with_body_at kept_tree (record { 0 = length old.nodes }) Paragraph))
-        (top_end kept_tree) kept_end
-        kept_closed)
+    kept_spine : kept_tree.spine ≡ ix ∷ rest
+    unfolding kept_tree
+    kept_spine = spine
+
+    kept_before : IsOrderedTo text (record kept_tree { nodes = take (length old.nodes) kept_tree.nodes }) e
+    kept_before =
+        ordered_same text (with_end_at old ix e) (record kept_tree { nodes = take (length old.nodes) kept_tree.nodes }) e extents_before
+        (kept_spine ∙ sym spine) (ordered_reended text old e e ix rest spine o)
+
+    kept_title : EndsBeforeTitle text kept_tree next
+    kept_title title is =
+        subst (λ (z : TreeIndex). EndsBeforeLast text kept_tree next z.0) (sym (kept_current title (title_there kept_tree title is).current))
+        (record {
+          before = subst (IsOrderedTo text (record kept_tree { nodes = take (length old.nodes) kept_tree.nodes })) (sym kept_end) kept_before;
+          ends = subst (IsCharBoundary text) (sym kept_end) boundary;
+          row = fits.0;
+          last = extents_last ∙ ap (λ (s : List TreeIndex). laid (suc (length s)) fits.0) (sym kept_spine);
+          fits = subst (λ k. Fits text Elsewhere k next fits.0) (sym kept_end) fits.2;
+        })
 
     kept_ordered : IsOrderedTo text kept_tree next
     unfolding kept_tree
     kept_ordered =
         let a : Forest Item = added old items in
-        let m : Forest Item = with_body_at a (record { 0 = length old.nodes }) MaybeDefinitionListTitle in
+        let m : Forest Item = with_body_at a place MaybeDefinitionListTitle in
         ordered_reended text m next e ix rest spine
         (ordered_same text a m next as_possible_title refl (ordered_added text old e next items (between-any text (within_top old) e next items fits) within o))
 
@@ -281,6 +217,9 @@ module _ (text : List ℕ) (old : Forest Item) (ix : TreeIndex) (rest : List Tre
         nested_same a kept_tree.nodes old.spine
         (classes_ended m ix.0 e ∙ classes_body a (length old.nodes) Paragraph MaybeDefinitionListTitle paragraph refl)
         (nested_front old.nodes (at_depth (length old.spine + 1) items) old.spine h)
+
+    kept_closes : AreNested old.nodes old.spine → CanClose text kept_tree next
+    kept_closes h = record { nested = kept_nested h; last = kept_last; title = kept_title }
 
 -- Where a definition is last in a definition list: both, and where it ends.
 record AfterDefinition (f : Forest Item) : Type 0 where
@@ -355,10 +294,8 @@ module _ (text : List ℕ) (r : Reading) (read : Forest Item) (at start next : �
       let a : Reading = with_tree r (added r.tree items) in
       let shut : Reading = definitions_closed e a in
       let closed : IsOrderedTo text shut.tree next =
-      left_ordered text r.tree the_definition.place the_definition.outer the_definition.spine place_within items e next ordered_before.0
-      ordered_before.2 block_fits
-      within a e refl (added_closed text r.tree the_definition.place the_definition.outer the_definition.spine place_within items e next ordered_before.0
-      ordered_before.2 block_fits within) in
+      block_left text r.tree the_definition.place the_definition.outer the_definition.spine place_within items e next ordered_before.0
+      ordered_before.2 block_fits within a refl in
       let more = nested_front r.tree.nodes (at_depth (length r.tree.spine + 1) items) r.tree.spine closes.nested in
       let top = ap is_definitions (top_front r.tree.nodes (at_depth (length r.tree.spine + 1) items) r.tree.spine closes.nested) ∙ list_top in
       let outside = noted_outside shut (definitions_closed_outside e a more top) in
@@ -386,13 +323,8 @@ module _ (text : List ℕ) (r : Reading) (read : Forest Item) (at start next : �
             (subst (λ (z : Forest Item). IsOrderedTo text z next) (sym same)
             (kept_ordered text r.tree ix rest the_definition.spine place_within items e next ordered_before.0 ordered_before.2 block_fits within there)),
         subst (λ (z : Forest Item). CanClose text z next) (sym same)
-            (record {
-              nested = kept_nested text r.tree ix rest the_definition.spine place_within items e next ordered_before.0 ordered_before.2 block_fits within there
-                  closes.nested;
-              last = kept_last text r.tree ix rest the_definition.spine place_within items e next ordered_before.0 ordered_before.2 block_fits within there;
-              untitled = kept_untitled text r.tree ix rest the_definition.spine place_within items e next ordered_before.0 ordered_before.2
-                  block_fits within there;
-            }),
+            (kept_closes text r.tree ix rest the_definition.spine place_within items e next ordered_before.0 ordered_before.2 block_fits within there
+            closes.nested),
       )
 
   -- a heading or a table: the list ends before it

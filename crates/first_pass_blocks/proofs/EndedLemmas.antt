@@ -12,7 +12,7 @@ use Rattle.first_pass_blocks.proofs.CountLemmas.{count, popped_count}
 use Rattle.first_pass_blocks.proofs.NamedLemmas.{AreReadNamed, popped_named}
 use Rattle.first_pass_blocks.proofs.OldFootnotes.{ended_as, in_old}
 use Rattle.first_pass_blocks.proofs.Nests.{note_untitled}
-use Rattle.first_pass_blocks.proofs.OrderLemmas.{read_popped}
+use Rattle.first_pass_blocks.proofs.PopOrder.{read_popped}
 use Rattle.first_pass_blocks.proofs.WholeKept.{IsReadWhole, popped_plain_whole}
 
 -- what holds of what is remembered and once what is innermost is closed, holds then

@@ -27,7 +27,8 @@ use Rattle.first_pass_lists.specs.declared.reading.Reading.{Reading}
 use Rattle.first_pass_blocks.specs.Ordered.{IsOrderedAt, IsHandedOn, IsOrderedFrom, AreNested, IsReadTo, IsReadFrom}
 use Rattle.first_pass_blocks.specs.Positions.{OrderedUpTo}
 use Rattle.first_pass_blocks.proofs.Nests.{tree_closes}
-use Rattle.first_pass_blocks.proofs.OrderLemmas.{ordered_none, read_blank_read, read_item_finished}
+use Rattle.first_pass_blocks.proofs.OrderLemmas.{ordered_none}
+use Rattle.first_pass_blocks.proofs.PopOrder.{read_blank_read, read_item_finished}
 use Rattle.first_pass_blocks.proofs.OrderSteps.{ordered_tree, place_before_end}
 use Rattle.first_pass_blocks.proofs.LineLemmas.{finished_none}
 use Rattle.first_pass_items.specs.declared.option_set.Options.{Options}

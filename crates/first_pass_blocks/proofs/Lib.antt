@@ -34,6 +34,8 @@ pub mod OldFootnotes
 pub mod OpenLemmas
 pub mod OpenerLemmas
 pub mod OrderLemmas
+pub mod LeftOrder
+pub mod PopOrder
 pub mod OrderSteps
 pub mod PopLemmas
 pub mod RawFits

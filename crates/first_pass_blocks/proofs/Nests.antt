@@ -13,6 +13,7 @@ use Rattle.first_pass_items.specs.declared.item.ItemBody.TheVariants.{BlockQuote
 use Rattle.first_pass_items.specs.declared.item.ItemBody.TheVariants.{FootnoteDefinition as FootnoteDefinitionBody, DefinitionList}
 use Rattle.first_pass_items.specs.declared.item.ItemBody.TheVariants.{DefinitionListDefinition, MaybeDefinitionListTitle}
 use Rattle.first_pass_tree.specs.declared.tree_index.TreeIndex.{TreeIndex}
+use Rattle.first_pass_tree.proofs.BodyLemmas.{body-changed}
 use Rattle.first_pass_tree.specs.Forest.{Forest, empty_forest, with_end_at, modify, with_body_at, body_at, depths, map_from, shallower, added}
 use Rattle.first_pass_tree.specs.Tight.{tight_body, tightened, tight_run, tight_at, tight_items}
 use Rattle.std.specs.Prelude.{IsSomeAnd}
@@ -172,20 +173,24 @@ definitions_list None h = cc
 definitions_list (Some (DefinitionList flags)) h = refl
 definitions_list (Some b) h = cc
 
-unless_list : (t : Bool) (top : Option ItemBody) (ix : TreeIndex) → is_definition_list top ≡ t → is_list top ≡ false
-    → (if t then Some ix else None) ≡ None
-unless_list true top ix is none = absurd (true≢false (sym (definitions_list top is) ∙ none))
-unless_list false top ix is none = refl
+other_list : (b : Option ItemBody) → is_list b ≡ false → is_definition_list b ≡ false
+other_list None h = refl
+other_list (Some (DefinitionList flags)) h = cc
+other_list (Some b) h = refl
 
-no_title_by : (top : Option ItemBody) (ix : TreeIndex) (b : Option ItemBody) → is_list top ≡ false → title_by top ix b ≡ None
-no_title_by top ix (Some MaybeDefinitionListTitle) none = unless_list (is_definition_list top) top ix refl none
-no_title_by top ix None none = refl
-no_title_by top ix (Some b) none = refl
+untitled_by : (top : Option ItemBody) (ix : TreeIndex) (b : Option ItemBody) → is_definition_list top ≡ false → title_by top ix b ≡ None
+untitled_by top ix (Some MaybeDefinitionListTitle) other = ap (λ (t : Bool). if t then Some ix else None) other
+untitled_by top ix None other = refl
+untitled_by top ix (Some b) other = refl
+
+untitled_top : (f : Forest Item) (o : Option TreeIndex) → is_definition_list (top_body f) ≡ false
+    → option_and_then (λ ix. title_by (top_body f) ix (body_at f.nodes ix.0)) o ≡ None
+untitled_top f None other = refl
+untitled_top f (Some c) other = untitled_by (top_body f) c (body_at f.nodes c.0) other
 
 pub no_title : (f : Forest Item) (current : Option TreeIndex) → is_list (top_body f) ≡ false
     → option_and_then (λ ix. title_by (top_body f) ix (body_at f.nodes ix.0)) current ≡ None
-no_title f None none = refl
-no_title f (Some c) none = no_title_by (top_body f) c (body_at f.nodes c.0) none
+no_title f current none = untitled_top f current (other_list (top_body f) none)
 
 unless_item : (top : Option ItemBody) (ix : TreeIndex) (b : Option ItemBody) → is_item b ≡ true → title_by top ix b ≡ None
 unless_item top ix None item = refl
@@ -195,7 +200,7 @@ unless_item top ix (Some b) item = refl
 last_by : (top : Option ItemBody) (ix : TreeIndex) (b : Option ItemBody) (t : Bool) → is_list top ≡ t → (is_list top ≡ true → is_item b ≡ true)
     → title_by top ix b ≡ None
 last_by top ix b true is item = unless_item top ix b (item is)
-last_by top ix b false is item = no_title_by top ix b is
+last_by top ix b false is item = untitled_by top ix b (other_list top is)
 
 -- The innermost open node closed: the nodes keep their classes, and it is current.
 pub record PopsTo (r q : Reading) (ix : TreeIndex) (rest : List TreeIndex) : Type 0 where
@@ -568,17 +573,53 @@ begun_settled start body r other may h =
 pub begun_outside : (start : ℕ) (body : ItemBody) (r : Reading) → is_definition_list (Some body) ≡ false → IsOutside r → IsSettled (begun start body r)
 begun_outside start body r other h = begun_settled start body r other (λ list. absurd (true≢false (sym list ∙ h.1))) h.0
 
-pub list_continued_nested : (start byte number : ℕ) (r : Reading) → AreNested r.tree.nodes r.tree.spine
-    → AreNested (list_continued start byte number r).tree.nodes (list_continued start byte number r).tree.spine
+-- a list of items is no definition list, nor is it once it is loose
+list_of_other : (ch : ℕ) (b : Option ItemBody) → is_list_of ch b ≡ true → is_definition_list b ≡ false
+list_of_other ch None h = cc
+list_of_other ch (Some (ListBody flags byte number)) h = refl
+list_of_other ch (Some b) h = cc
+
+loosened_other : (f : Forest Item) (ix : TreeIndex) (b : Option ItemBody) → body_at f.nodes ix.0 ≡ b → is_definition_list b ≡ false
+    → is_definition_list (body_at (loosened_by f ix b).nodes ix.0) ≡ false
+loosened_other f ix (Some (ListBody flags byte number)) is other =
+    ap is_definition_list
+    (body-changed f.nodes ix.0 (λ x. record x { body = ListBody (list_flags false) byte number }) (ListBody flags byte number)
+    (ListBody (list_flags false) byte number) is (λ x e. refl))
+loosened_other f ix (Some (DefinitionList flags)) is other = absurd (true≢false other)
+loosened_other f ix None is other = ap is_definition_list is ∙ other
+loosened_other f ix (Some b) is other = ap is_definition_list is ∙ other
+
+top_other : (f : Forest Item) (s : List TreeIndex) → f.spine ≡ s → is_definition_list (top_body f) ≡ false
+    → is_definition_list (top_body (loosened_top f s)) ≡ false
+top_other f [] spine other = other
+top_other f (ix ∷ rest) spine other =
+    let g : Forest Item = loosened_at f ix in
+    let top : top_body g ≡ body_at g.nodes ix.0 =
+    ap (λ (s : List TreeIndex). option_and_then (λ ix. body_at g.nodes ix.0) (slice_get s 0)) (loosened_spine f ix (body_at f.nodes ix.0) ∙ spine) in
+    let here : is_definition_list (body_at f.nodes ix.0) ≡ false =
+    sym (ap (λ (s : List TreeIndex). is_definition_list (option_and_then (λ ix. body_at f.nodes ix.0) (slice_get s 0))) spine) ∙ other in
+    ap is_definition_list top ∙ loosened_other f ix (body_at f.nodes ix.0) refl here
+
+kept_other : (r : Reading) → is_definition_list (top_body r.tree) ≡ false → is_definition_list (top_body (list_kept r).tree) ≡ false
+kept_other r other =
+    cond_both r.blank (record r { tree = loosened_top r.tree r.tree.spine; blank = false }) r (λ (q : Reading). is_definition_list (top_body q.tree) ≡ false)
+    (λ b. top_other r.tree r.tree.spine refl other) (λ b. other)
+
+pub list_continued_settled : (start byte number : ℕ) (r : Reading) → AreNested r.tree.nodes r.tree.spine → IsSettled (list_continued start byte number r)
 unfolding list_continued
-list_continued_nested start byte number r h =
+list_continued_settled start byte number r h =
     let s : Reading = item_finished r in
     let k = item_finished_nested r h in
     let body : ItemBody = ListBody (list_flags true) byte number in
-    cond_both (is_list_of byte (top_body s.tree)) (list_kept s) (begun start body (list_finished start s))
-    (λ (q : Reading). AreNested q.tree.nodes q.tree.spine)
-    (λ b. like_nested s.tree (list_kept s).tree (kept_like s) k)
-    (λ b. (begun_outside start body (list_finished start s) refl (list_finished_outside start s k)).nested)
+    let kept : is_list_of byte (top_body s.tree) ≡ true → IsSettled (list_kept s) =
+    (λ list. let other = kept_other s (list_of_other byte (top_body s.tree) list) in
+    record {
+      nested = like_nested s.tree (list_kept s).tree (kept_like s) k;
+      none = untitled_top (list_kept s).tree (list_kept s).tree.current other;
+      last = λ is. absurd (true≢false (sym is ∙ other));
+    }) in
+    cond_both (is_list_of byte (top_body s.tree)) (list_kept s) (begun start body (list_finished start s)) IsSettled kept
+    (λ b. begun_outside start body (list_finished start s) refl (list_finished_outside start s k))
 
 pub footnote_begun_settled : (start : ℕ) (index : CowIndex) (r : Reading) → AreNested r.tree.nodes r.tree.spine → IsSettled (footnote_begun start index r)
 unfolding footnote_begun
@@ -629,7 +670,7 @@ added_outside f items h none = (nested_front f.nodes _ f.spine h, ap is_list (to
 -- what can be closed then
 pub settled_closes : (text : List ℕ) (r : Reading) (at : ℕ) → IsSettled r → CanClose text r.tree at
 settled_closes text r at h =
-    record { nested = h.nested; last = h.last; untitled = λ title is. (let e : None ≡ Some title = sym h.none ∙ is in cc) }
+    record { nested = h.nested; last = h.last; title = λ title is. (let e : None ≡ Some title = sym h.none ∙ is in cc) }
 
 pub outside_closes : (text : List ℕ) (r : Reading) (at : ℕ) → IsOutside r → CanClose text r.tree at
 outside_closes text r at h = settled_closes text r at (outside_settled r h)

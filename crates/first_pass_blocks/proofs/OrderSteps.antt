@@ -37,9 +37,10 @@ use Rattle.first_pass_blocks.proofs.OpenLemmas.{get_end}
 use Rattle.first_pass_open.proofs.PlaceLemmas.{all_keep, task_keeps, option_on, quote_less}
 use Rattle.first_pass_blocks.proofs.LineLemmas.{list_finished_none, list_continued_none}
 use Rattle.first_pass_blocks.proofs.OpenerLemmas.{item_opened}
-use Rattle.first_pass_blocks.proofs.OrderLemmas.{ordered_later, ordered_appended, ordered_added, ordered_begun, ordered_none, ordered_list_finished}
-use Rattle.first_pass_blocks.proofs.OrderLemmas.{ordered_list_continued, ordered_note, untitled_later}
-use Rattle.first_pass_blocks.proofs.Nests.{list_continued_nested, list_finished_outside, footnote_begun_settled, begun_settled, begun_outside, child_outside}
+use Rattle.first_pass_blocks.proofs.OrderLemmas.{ordered_later, ordered_appended, ordered_added, ordered_begun, ordered_none}
+use Rattle.first_pass_blocks.proofs.LeftOrder.{title_later}
+use Rattle.first_pass_blocks.proofs.PopOrder.{ordered_list_finished, ordered_list_continued, ordered_note}
+use Rattle.first_pass_blocks.proofs.Nests.{list_continued_settled, list_finished_outside, footnote_begun_settled, begun_settled, begun_outside, child_outside}
 use Rattle.first_pass_blocks.proofs.Nests.{added_outside, settled_closes, outside_closes, tree_closes}
 use Rattle.first_pass_blocks.proofs.DefinitionBegun.{ordered_definition}
 
@@ -54,7 +55,7 @@ offset_later text line r s i j less =
 -- what is in order and can be closed so up to an offset is so up to a later one
 pub upto_later : (text : List ℕ) (f : Forest Item) (a b : ℕ) → a ≤ b → b ≤ length text → OrderedUpTo text f a → OrderedUpTo text f b
 upto_later text f a b low high (o, c) =
-    (ordered_later text f a b low high o, record { nested = c.nested; last = c.last; untitled = untitled_later text f a b low high c.untitled })
+    (ordered_later text f a b low high o, record { nested = c.nested; last = c.last; title = title_later text f a b low c.title })
 
 by_list : (t : Bool) (text : List ℕ) (f : Forest Item) (line at : ℕ)
     → line ≤ at → at ≤ length text → OrderedUpTo text f line → OrderedUpTo text f (if t then line else at)
@@ -128,11 +129,11 @@ ordered_item text r line start byte number columns low high boundary none (o, c)
     let below : at ≤ start = line_or-below r.tree line start low in
     let before = ordered_none text r at none (omega arith) o in
     let list : Reading = list_continued start byte number r in
-    let on = ordered_list_continued text r at start byte number c.untitled below high boundary before in (
+    let on = ordered_list_continued text r at start byte number c.title below high boundary before in (
       ordered_begun text list start start (ListItemBody columns) (omega arith) high boundary
           (ordered_tree text list start (list_continued_none start byte number r) on),
       settled_closes text (begun start (ListItemBody columns) list) start
-          (begun_settled start (ListItemBody columns) list refl (λ list. refl) (list_continued_nested start byte number r c.nested)),
+          (begun_settled start (ListItemBody columns) list refl (λ list. refl) (list_continued_settled start byte number r c.nested).nested),
     )
 
 -- a definition opened at a place in a line
@@ -156,10 +157,10 @@ ordered_finished text r line at e start low mid which high boundary none (o, c) 
     let on : IsOrderedAt text (list_finished e r) start = elim which [
       | inl (is, first) ↦
           subst (λ z. IsOrderedAt text (list_finished z r) start) (sym is)
-          (ordered_list_finished text r a line start c.untitled (omega arith) (omega arith) high first
+          (ordered_list_finished text r a line start c.title (omega arith) (omega arith) high first
           (λ h. line_or-list r.tree line at (sym (ap (λ (q : Reading). is_list (top_body q.tree)) same) ∙ h)) before)
       | inr is ↦ subst (λ z. IsOrderedAt text (list_finished z r) start) (sym is)
-          (ordered_list_finished text r a start start c.untitled (omega arith) (omega arith) high boundary (λ h. omega arith) before)
+          (ordered_list_finished text r a start start c.title (omega arith) (omega arith) high boundary (λ h. omega arith) before)
     ] in
     (on, outside_closes text (list_finished e r) start (list_finished_outside e r c.nested))
 
@@ -180,7 +181,7 @@ ordered_quote text r line at start kind low mid high first boundary none o =
 pub ordered_note_in : (text : List ℕ) (r : Reading) (at start : ℕ) (index : CowIndex) → at ≤ start → start ≤ length text
     → IsCharBoundary text start → r.empty_item ≡ None → OrderedUpTo text r.tree at → OrderedUpTo text (footnote_begun start index r).tree start
 ordered_note_in text r at start index low high boundary none (o, c) = (
-  ordered_note text r at start index c.untitled low high boundary (ordered_none text r at none (omega arith) o),
+  ordered_note text r at start index c.title low high boundary (ordered_none text r at none (omega arith) o),
   settled_closes text (footnote_begun start index r) start (footnote_begun_settled start index r c.nested),
 )
 

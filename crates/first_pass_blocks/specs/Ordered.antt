@@ -1,5 +1,5 @@
 -- How far what the pass remembers is in order.
-use Rattle.std.specs.Prelude.{◌≡◌, ◌⊎◌, ℕ, ◌≤◌, ◌<◌, true, false, List, [], ◌∷◌, length, drop, Option, Some, None, slice_get, IsSomeAnd, IsCharBoundary}
+use Rattle.std.specs.Prelude.{◌≡◌, ◌⊎◌, ℕ, suc, ◌≤◌, ◌<◌, true, false, List, [], ◌∷◌, length, take, drop, Option, Some, None, slice_get, IsSomeAnd, IsCharBoundary}
 use Rattle.std.specs.Option.{option_and_then}
 use Rattle.first_pass_items.specs.declared.item.Item.{Item}
 use Rattle.first_pass_items.specs.declared.item.ItemBody.{ItemBody}
@@ -9,12 +9,11 @@ use Rattle.first_pass_lines.specs.Rest.{Rest}
 use Rattle.first_pass_lines.specs.Places.{line_rest, place_at, offset}
 use Rattle.first_pass_grammar.specs.Containers.{after, in_old_footnote}
 use Rattle.first_pass_grammar.specs.Kinds.{is_blank_rest}
-use Rattle.first_pass_grammar.specs.Order.{is_task_marker}
+use Rattle.first_pass_grammar.specs.Order.{extents, is_task_marker, Row, laid, Elsewhere, Fits}
 use Rattle.first_pass_grammar.specs.OpenOrder.{IsOrderedTo}
 use Rattle.first_pass_items.specs.declared.option_set.Options.{Options}
 use Rattle.first_pass_open.specs.Path.{path_of}
-use Rattle.first_pass_lists.specs.Closing.{remembered, top_body, current_body, is_definition_list, is_list, is_item, possible_title}
-use Rattle.first_pass_lists.specs.Closing.{title_closed}
+use Rattle.first_pass_lists.specs.Closing.{top_body, current_body, is_definition_list, is_list, is_item, possible_title, top_end}
 use Rattle.first_pass_lists.specs.declared.reading.Reading.{Reading}
 
 -- up to an offset, but with an empty item up to the end of its marker's line
@@ -39,24 +38,29 @@ AreNested nodes [] = Unit {0}
 AreNested nodes (ix ∷ spine) =
     (ix.0 < length nodes) × (is_list (top_of nodes spine) ≡ true → is_item (body_at nodes ix.0) ≡ true) × AreNested nodes spine
 
--- the definition list that is innermost is closed, and its possible title is a paragraph after it
-abbrev pub untitled : Forest Item → TreeIndex → Forest Item
-untitled f title = (title_closed (remembered f None false) title).tree
+-- What is before the node at a place is in order up to the end that the innermost open node has so far; and the node at the place, which is last in it, lies
+-- with what is below it between there and an offset (this project).
+pub record EndsBeforeLast (text : List ℕ) (f : Forest Item) (at place : ℕ) : Type 0 where
+  pub before : IsOrderedTo text (record f { nodes = take place f.nodes }) (top_end f)
+  pub ends : IsCharBoundary text (top_end f)
+  pub row : Row
+  pub last : extents (drop place f.nodes) ≡ laid (suc (length f.spine)) row
+  pub fits : Fits text Elsewhere (top_end f) at row
 
--- Where a possible title is last, the tree is in order up to an offset as well if it is no title (this project).
-abbrev pub FitsUntitled : List ℕ → Forest Item → ℕ → Type 0
-FitsUntitled text f at = (title : TreeIndex) → possible_title f ≡ Some title → IsOrderedTo text (untitled f title) at
+-- Where a possible title is last, the definition list has its end before it (this project).
+abbrev pub EndsBeforeTitle : List ℕ → Forest Item → ℕ → Type 0
+EndsBeforeTitle text f at = (title : TreeIndex) → possible_title f ≡ Some title → EndsBeforeLast text f at title.0
 
 -- something is last in a definition list that is innermost, and that is no marker of a task (this project)
 abbrev pub HasDefinition : Forest Item → Type 0
 HasDefinition f = is_definition_list (top_body f) ≡ true → IsSomeAnd (current_body f) (λ b. is_task_marker b ≡ false)
 
--- What is open can be closed in order: only items are open directly in lists, something is last in a definition list, and a possible title that is last fits
--- as a paragraph too (this project).
+-- What is open can be closed in order: only items are open directly in lists, something is last in a definition list, and where that is a possible title, the
+-- list has its end before it (this project).
 pub record CanClose (text : List ℕ) (f : Forest Item) (at : ℕ) : Type 0 where
   pub nested : AreNested f.nodes f.spine
   pub last : HasDefinition f
-  pub untitled : FitsUntitled text f at
+  pub title : EndsBeforeTitle text f at
 
 -- what is remembered is in order up to an offset, and what is open can be closed so
 abbrev pub IsReadTo : List ℕ → Reading → ℕ → Type 0

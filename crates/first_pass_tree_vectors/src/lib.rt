@@ -6,4 +6,6 @@ mod pieces;
 #[cfg(test)]
 mod ranges;
 #[cfg(test)]
+mod titles;
+#[cfg(test)]
 mod tree;

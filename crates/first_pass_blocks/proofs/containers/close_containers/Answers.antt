@@ -3,7 +3,7 @@ use Rattle.first_pass_lists.specs.declared.reading.Reading.{Reading}
 use Rattle.first_pass_blocks.specs.Ordered.{IsReadTo}
 use Rattle.first_pass_blocks.proofs.NamedLemmas.{AreReadNamed, popped_named}
 use Rattle.first_pass_blocks.proofs.CountLemmas.{count, popped_count}
-use Rattle.first_pass_blocks.proofs.OrderLemmas.{read_popped}
+use Rattle.first_pass_blocks.proofs.PopOrder.{read_popped}
 use Rattle.first_pass_blocks.proofs.StateLemmas.{closed_none, closed_one}
 use Rattle.first_pass_blocks.proofs.WholeKept.{IsReadWhole, popped_whole}
 use Rattle.first_pass_blocks.proofs.containers.close_containers.Goals as goal

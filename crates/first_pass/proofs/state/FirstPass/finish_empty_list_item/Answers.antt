@@ -1,4 +1,4 @@
-use Rattle.first_pass_blocks.proofs.OrderLemmas.{finish_item_keeps_order}
+use Rattle.first_pass_blocks.proofs.PopOrder.{finish_item_keeps_order}
 use Rattle.first_pass.proofs.state.FirstPass.finish_empty_list_item.Goals as goal
 
 pub returns-clause-order : goal.returns-clause-order

@@ -3,25 +3,22 @@ use Rattle.first_pass_lists.specs.Closing.{footnote_begun}
 use Rattle.first_pass_lists.specs.declared.reading.Reading.{Reading}
 use Rattle.first_pass_blocks.specs.declared.state.BlockPass.{BlockPass}
 use Rattle.first_pass_blocks.specs.FootnoteHeads.{StaysSame, ReadsFootnote}
-use Rattle.first_pass_blocks.specs.Ordered.{FitsUntitled, IsOrderedAt}
-use Rattle.first_pass_blocks.specs.Views.{reading_of, source_text, tree_of}
+use Rattle.first_pass_blocks.specs.Ordered.{IsReadTo}
+use Rattle.first_pass_blocks.specs.Views.{reading_of, source_text}
 use Rattle.first_pass_blocks.proofs.LineLemmas.{footnote_begun_none}
 use Rattle.first_pass_blocks.proofs.FootnoteFound.{IsRead, some_found}
-use Rattle.first_pass_blocks.proofs.OrderLemmas.{ordered_none, ordered_note}
+use Rattle.first_pass_blocks.proofs.PopOrder.{footnote_keeps_order}
 use Rattle.first_pass.proofs.state.FirstPass.parse_footnote.Goals as goal
 
 -- a footnote definition that is opened at an offset keeps order
 order_by : (old new : BlockPass) (start : ℕ) (size : Option ℕ) → IsCharBoundary (source_text old) start → ReadsFootnote old new start size
-    → IfSome size (λ n. (at : ℕ) → FitsUntitled (source_text old) (tree_of old) at → at ≤ start → IsOrderedAt (source_text old) (reading_of old) at
-    → IsOrderedAt (source_text old) (reading_of new) start)
+    → IfSome size (λ n. (at : ℕ) → at ≤ start → IsReadTo (source_text old) (reading_of old) at → IsReadTo (source_text old) (reading_of new) start)
 order_by old new start None boundary reads = tt
-order_by old new start (Some n) boundary reads = λ at closes low o.
+order_by old new start (Some n) boundary reads = λ at low o.
     let f = some_found (StaysSame old new) (IsRead old new start) _ (Some n) n refl reads in
     let opened = f.2.1 in
-    let now : Reading = footnote_begun start opened.index (reading_of old) in
-    subst (λ (r : Reading). IsOrderedAt (source_text old) r start) (sym opened.opened)
-    (ordered_none (source_text old) now start (footnote_begun_none start opened.index (reading_of old)) boundary.0
-    (ordered_note (source_text old) (reading_of old) at start opened.index closes low boundary.0 boundary o))
+    footnote_keeps_order (source_text old) (reading_of old) (reading_of new) at start opened.index opened.opened low boundary.0 boundary
+    (footnote_begun_none start opened.index (reading_of old)) o
 
 pub returns-clause-order : goal.returns-clause-order
 returns-clause-order c =

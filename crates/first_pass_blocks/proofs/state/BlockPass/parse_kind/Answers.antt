@@ -26,7 +26,8 @@ use Rattle.first_pass_blocks.proofs.LeafLemmas.{ready_blank_leaf, line_end_of}
 use Rattle.first_pass_blocks.proofs.LeafRead.{leaf_read}
 use Rattle.first_pass_blocks.proofs.LineLemmas.{list_finished_none}
 use Rattle.first_pass_blocks.proofs.NamedLemmas.{AreReadNamed, blank_named}
-use Rattle.first_pass_blocks.proofs.OrderLemmas.{ordered_none, read_blank_read}
+use Rattle.first_pass_blocks.proofs.OrderLemmas.{ordered_none}
+use Rattle.first_pass_blocks.proofs.PopOrder.{read_blank_read}
 use Rattle.first_pass_blocks.proofs.OrderSteps.{line_or-below, place_before_end}
 use Rattle.first_pass_blocks.proofs.WholeKept.{IsReadWhole, blank_whole}
 use Rattle.first_pass_blocks.proofs.state.BlockPass.parse_kind.Goals as goal
