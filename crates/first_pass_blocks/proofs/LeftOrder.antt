@@ -158,7 +158,7 @@ titled_at text f at title (ix ∷ rest) spine list t h within =
     ap (λ (z : List (ℕ × Item)). extents z) (sym (take-append-drop title.0 f.nodes)) ∙ extents-append old.nodes (drop title.0 f.nodes)
     ∙ ap (λ (z : List (ℕ × Extent)). extents old.nodes ++ z) h.last in
     let closed : extents (modify p ix.0 (λ x. record x { «end» = e }))
-        ≡ extents (modify old.nodes ix.0 (λ x. record x { «end» = e })) ++ laid (suc (suc (length rest))) h.row =
+    ≡ extents (modify old.nodes ix.0 (λ x. record x { «end» = e })) ++ laid (suc (suc (length rest))) h.row =
     extents-end p ix.0 e ∙ ap ended (same ∙ split) ∙ modify-front (extents old.nodes) more ix.0 (λ x. ended_at x e) extents_low
     ∙ ap (λ (z : List (ℕ × Extent)). z ++ more) (sym (extents-end old.nodes ix.0 e))
     ∙ ap (λ k. extents (modify old.nodes ix.0 (λ x. record x { «end» = e })) ++ laid k h.row) deep in

@@ -1,6 +1,4 @@
-use Rattle.std.proofs.Common.{◌≤◌, ℕ, Option, Some, None, IfSome, IsCharBoundary, refl, sym, subst}
-use Rattle.first_pass_lists.specs.Closing.{footnote_begun}
-use Rattle.first_pass_lists.specs.declared.reading.Reading.{Reading}
+use Rattle.std.proofs.Common.{◌≤◌, ℕ, Option, Some, None, IfSome, IsCharBoundary, refl}
 use Rattle.first_pass_blocks.specs.declared.state.BlockPass.{BlockPass}
 use Rattle.first_pass_blocks.specs.FootnoteHeads.{StaysSame, ReadsFootnote}
 use Rattle.first_pass_blocks.specs.Ordered.{IsReadTo}
