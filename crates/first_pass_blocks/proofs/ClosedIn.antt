@@ -191,9 +191,6 @@ pub closed_at_body : (f : Forest Item) (c : TreeIndex) (b : ItemBody) → is_def
 closed_at_body f c b h current is =
     closed_elsewhere_in f h ∙ ap (λ z. placed z (body_at f.nodes)) current ∙ ap (λ z. option_map_or (closed_elsewhere c.0) z OtherClosed) is
 
-pub closed_at_none : (f : Forest Item) → is_definition_list (top_body f) ≡ false → f.current ≡ None → closed_in f ≡ OtherClosed
-closed_at_none f h current = closed_elsewhere_in f h ∙ ap (λ z. placed z (body_at f.nodes)) current
-
 -- trees in which paragraphs are the same, elsewhere
 placed_same : (c : Option TreeIndex) (body other : ℕ → Option ItemBody)
     → ((i : ℕ) → option_map_or (closed_elsewhere i) (other i) OtherClosed ≡ option_map_or (closed_elsewhere i) (body i) OtherClosed)

@@ -11,7 +11,6 @@ use Rattle.first_pass_tree.specs.Forest.{Forest, with_body_at}
 use Rattle.first_pass_lines.specs.Rest.{Rest, indent}
 use Rattle.first_pass_grammar.specs.declared.kind.Container.{Container}
 use Rattle.first_pass_grammar.specs.declared.kind.Container.TheVariants.{ListItem, Definition}
-use Rattle.first_pass_grammar.specs.Before.{is_paragraph_body}
 use Rattle.first_pass_grammar.specs.Containers.{prefix, after, is_quote}
 use Rattle.first_pass_grammar.specs.Completion.{InContainer}
 use Rattle.first_pass_open.specs.Path.{container_of}
@@ -56,10 +55,6 @@ item_true b n = refl
 pub item_no_list : (b : ItemBody) (n : ℕ) → is_definition_list (Some (item_body b n)) ≡ false
 item_no_list (DefinitionListDefinition columns) n = refl
 item_no_list b n = refl
-
-pub item_no_paragraph : (b : ItemBody) (n : ℕ) → is_paragraph_body (item_body b n) ≡ false
-item_no_paragraph (DefinitionListDefinition columns) n = refl
-item_no_paragraph b n = refl
 
 pub item_no_quote : (b : ItemBody) (n : ℕ) → is_quote (item_container b n) ≡ false
 item_no_quote (DefinitionListDefinition columns) n = refl

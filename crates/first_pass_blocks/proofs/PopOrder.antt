@@ -358,9 +358,6 @@ unfolding blank_read
 ordered_blank_read text r at b later within h = ordered_at_later text (blank_read r) at b later within (blank_by text r at (top_body r.tree) refl h)
 
 -- the tree is the same after a blank line, or an item is innermost in it
-closes_same : (text : List ℕ) (f g : Forest Item) (at : ℕ) → g ≡ f → EndsBeforeTitle text f at → EndsBeforeTitle text g at
-closes_same text f g at same h = subst (λ (z : Forest Item). EndsBeforeTitle text z at) (sym same) h
-
 blank_closes_by : (text : List ℕ) (r : Reading) (at : ℕ) (b : Option ItemBody) → top_body r.tree ≡ b
     → (is_item (top_body r.tree) ≡ true → is_item (top_body (blank_read_by r b).tree) ≡ true) → EndsBeforeTitle text r.tree at
     → EndsBeforeTitle text (blank_read_by r b).tree at

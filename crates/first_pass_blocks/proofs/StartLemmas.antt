@@ -393,17 +393,7 @@ module _ (source : Source) (r : Reading) (p : Place) (utf8 : IsUtf8 source.text.
       × ReadsTo source line r (start_opened p.line (start_told s) n r) (InLine p) (after_at (at_rest p s.rest) (line_end p) (after_told s.after)) in
       rw (q_is, new_is, told) (subst here (sym opens.2.2) opens)
 
--- one step after another
-pub reads_both : (source : Source) (line : ℕ) (a b c : Reading) (p q t : Position) → ReadsTo source line a b p q → ReadsTo source line b c q t
-    → ReadsTo source line a c p t
-reads_both source line a b c p q t one two = record {
-  ready = λ names defined h. two.ready names defined (one.ready names defined h);
-  order = λ h. two.order (one.order h);
-  few = λ first h. two.few first (one.few first h);
-  named = λ names h. two.named names (one.named names h);
-  whole = λ names h. two.whole names (one.whole names h);
-}
-
+-- no step
 pub reads_none : (source : Source) (line : ℕ) (r : Reading) (p : Position) → ReadsTo source line r r p p
 reads_none source line r p = record {
   ready = λ names defined h. h;

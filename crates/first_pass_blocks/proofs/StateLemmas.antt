@@ -1,7 +1,7 @@
 -- The tree between two blocks, over what its nodes can still become: open nodes closed before the next line.
-use Rattle.std.proofs.Common.{◌≡◌, ℕ, zero, suc, ◌+◌, ◌-◌, ◌<◌, ◌≤◌, ◌==◌, nat_lt, Bool, true, false, List, [], ◌∷◌, length, map, slice_get}
+use Rattle.std.proofs.Common.{◌≡◌, ℕ, zero, suc, ◌+◌, ◌-◌, ◌<◌, ◌≤◌, ◌==◌, nat_lt, Bool, true, false, List, [], ◌∷◌, length, map}
 use Rattle.std.proofs.Common.{drop}
-use Rattle.std.proofs.Common.{Option, Some, None, IsSome, is_some, refl, sym, ap, subst, ◌∙◌, arith, if◌then◌else◌}
+use Rattle.std.proofs.Common.{Option, Some, None, is_some, refl, sym, ap, subst, ◌∙◌, arith, if◌then◌else◌}
 use Rattle.std.proofs.lemmas.Bool.{true≢false}
 use Rattle.std.specs.Int.RustNames.{bit_and}
 use Rattle.std.specs.Option.{option_and_then}
@@ -512,8 +512,3 @@ pub closed_one : (old now new : Reading) (kept at : ℕ) → IsForest now.tree �
 closed_one old now new kept at forest is more c =
     subst (λ q. ClosedSoFar old q kept at × (length q.tree.spine < length now.tree.spine)) (sym is)
     (closed_more old now kept at now.tree.spine forest refl more c)
-
--- an open node is there
-pub some_open : (s : List TreeIndex) → 0 < length s → IsSome (slice_get s 0)
-some_open [] h = absurd (omega arith)
-some_open (ix ∷ s) h = refl

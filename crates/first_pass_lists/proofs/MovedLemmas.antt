@@ -137,11 +137,3 @@ pub closed_current : (r : Reading) (e : ℕ) (ix last : TreeIndex) (rest : List 
 closed_current r e ix last rest forest spine current =
     ap (λ (q : Reading). q.tree.current) (closed_by_parts r e (ix ∷ rest) (Some last) spine current)
     ∙ moved_current (popped_at e r (ix ∷ rest)).tree last (last_closed r e ix last rest forest spine current)
-
--- and what was around it is open
-pub closed_spine : (r : Reading) (e : ℕ) (ix last : TreeIndex) (rest : List TreeIndex) → r.tree.spine ≡ ix ∷ rest → r.tree.current ≡ Some last
-    → (definitions_closed e r).tree.spine ≡ rest
-closed_spine r e ix last rest spine current =
-    let f : Forest Item = closed_by r.tree e (ix ∷ rest) in
-    ap (λ (q : Reading). q.tree.spine) (closed_by_parts r e (ix ∷ rest) (Some last) spine current)
-    ∙ (closed_alike r f ix (body_at f.nodes ix.0)).spine_is
