@@ -1,4 +1,5 @@
-//! Lists and their items, as calls of the pass: how they continue, become loose and are closed (CommonMark 5.2, 5.3).
+//! Lists and definition lists, and their items, as calls of the pass: how they continue, become loose and are closed
+//! (CommonMark 5.2, 5.3).
 
 ghost use Rattle.std.specs.Prelude.{◌≡◌, ◌≤◌, ℕ, length, IsSome, IsCharBoundary, slice_get, OnOk};
 ghost use Rattle.first_pass_lists.specs.Closing.{popped, item_finished, list_finished, list_continued};
@@ -11,7 +12,9 @@ use std::alloc::AllocError;
 
 impl<'a> FirstPass<'a> {
     /// Closes the innermost open node, of which there has to be one, at the offset `ix`. The paragraphs of
-    /// a list become tight, unless it is loose (CommonMark 5.3).
+    /// a list become tight, unless it is loose (CommonMark 5.3). A definition list in which a possible title
+    /// is last ends where its last definition does, and the possible title is a paragraph after it (this
+    /// project).
     pub fn pop(&mut self, ix: usize)
         requires { IsSome (slice_get (tree_of self.old).spine 0) }
         ensures kept { KeepsTables self.old self.new }
@@ -24,8 +27,8 @@ impl<'a> FirstPass<'a> {
         pass.reading.pop(ix);
     }
 
-    /// Closes the innermost open node, if it is an item that began with two blank lines, after the line of
-    /// its marker (CommonMark 5.2). No item is empty then.
+    /// Closes the innermost open node, if it is an item or a definition that began with two blank lines, after the line
+    /// of its marker (CommonMark 5.2, and this project). No item is empty then.
     pub fn finish_empty_list_item(&mut self)
         ensures kept { KeepsTables self.old self.new }
         ensures reading { reading_of self.new ≡ item_finished (reading_of self.old) }
@@ -36,8 +39,9 @@ impl<'a> FirstPass<'a> {
         pass.reading.finish_empty_list_item();
     }
 
-    /// Closes what a new block ends: an empty item, and the list that is then innermost, at the offset
-    /// `ix`. Where a blank line stands before the block, the list becomes loose in whose item it stands.
+    /// Closes what a new block ends: an empty item, and the list that is then innermost, at the offset `ix`; a definition
+    /// list in which a possible title is last ends where its last definition does. Where a blank line stands before the
+    /// block, the list becomes loose in whose item it stands.
     pub fn finish_list(&mut self, ix: usize)
         ensures kept { KeepsTables self.old self.new }
         ensures reading { reading_of self.new ≡ list_finished ix (reading_of self.old) }

@@ -40,12 +40,13 @@ end_there f n = option_map_or (λ x. x.«end») (item_at f (place n)) 0
 abbrev pub left_untitled : Forest Item → ℕ → Forest Item
 left_untitled f n = if is_possible_title (body_at f.nodes n) then with_body_at f (place n) Paragraph else f
 
--- a child of the current node, and what is after it, after that; the current node ends with the child before, which there is
+-- A child of the current node and what is after it are moved out of that, which ends with the child before them then; where none is before them, nothing is
+-- moved.
 abbrev pub left_with : Forest Item → TreeIndex → ℕ → ℕ → Forest Item
 left_with f list other kept = if nat_lt list.0 kept then moved_from (with_end_at f list (end_there f kept)) other else f
 
 -- What follows the titles and definitions that the current node, a definition list, begins with is after the list, which ends with the last of them; where
--- a possible title comes first there, it is a paragraph (this project).
+-- a possible title comes first there, it is a paragraph. Where the list begins with none of them, nothing is moved (this project).
 unfoldable pub fixed_up : Forest Item → TreeIndex → Forest Item
 fixed_up f list =
     let other : ℕ = first_other (length f.spine + 2) (list.0 + 1) f.nodes in

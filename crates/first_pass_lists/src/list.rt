@@ -69,7 +69,7 @@ impl Reading {
         ensures { self.new ≡ popped ix self.old }
     {
         match self.possible_title() {
-            Some(title) => self.fixup_end_of_definition_list(title),
+            Some(title) => self.leave_possible_title(title),
             None => self.close_innermost(ix, None),
         }
     }
@@ -121,7 +121,7 @@ impl Reading {
 
     // Closes the definition list that is innermost where its last definition ends. The possible title after that, the
     // current node, is a paragraph after the list then.
-    fn fixup_end_of_definition_list(&mut self, title: TreeIndex)
+    fn leave_possible_title(&mut self, title: TreeIndex)
         requires open { IsSome (slice_get self.old.tree.spine 0) }
         requires title { title.0 < length self.old.tree.nodes }
         ensures { self.new ≡ title_closed self.old title }
@@ -283,8 +283,8 @@ impl Reading {
         Ok(())
     }
 
-    /// Closes the innermost open node, if it is an item that began with two blank lines, after the line of
-    /// its marker (CommonMark 5.2). No item is empty then.
+    /// Closes the innermost open node, if it is an item or a definition that began with two blank lines, after the line
+    /// of its marker (CommonMark 5.2, and this project). No item is empty then.
     #[tactic(auto, using(crate::proofs::WithinLemmas::item_is_open), unfolding(crate::specs::Closing::item_finished))]
     pub fn finish_empty_list_item(&mut self)
         ensures { self.new ≡ item_finished self.old }
@@ -297,7 +297,7 @@ impl Reading {
         self.empty_item = None;
     }
 
-    // Whether the innermost open node is an item.
+    // Whether the innermost open node is an item or a definition.
     #[tactic(auto, using(crate::proofs::WithinLemmas::top_within))]
     fn is_in_item(&self) -> bool
         ensures { result ≡ is_item (top_body self.now.tree) }
@@ -312,8 +312,9 @@ impl Reading {
         )
     }
 
-    /// Closes what a new block ends: an empty item, and the list that is then innermost, at the offset
-    /// `ix`. Where a blank line stands before the block, the list becomes loose in whose item it stands.
+    /// Closes what a new block ends: an empty item, and the list that is then innermost, at the offset `ix`; a definition
+    /// list in which a possible title is last ends where its last definition does. Where a blank line stands before the
+    /// block, the list becomes loose in whose item it stands.
     #[inline(always)]
     #[tactic(auto, unfolding(crate::specs::Closing::list_finished))]
     pub fn finish_list(&mut self, ix: usize)
@@ -372,7 +373,8 @@ impl Reading {
         }
     }
 
-    /// Reads a blank line: where an item was empty, it takes blank lines alone from then on.
+    /// Reads a blank line, which doesn't count directly in a block quote. An item or a definition that was empty takes
+    /// blank lines alone from then on.
     #[tactic(auto, using(crate::proofs::WithinLemmas::top_within), unfolding(crate::specs::Closing::blank_read))]
     pub fn read_blank_line(&mut self)
         ensures { self.new ≡ blank_read self.old }
