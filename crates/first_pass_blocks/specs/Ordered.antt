@@ -38,8 +38,8 @@ AreNested nodes [] = Unit {0}
 AreNested nodes (ix ∷ spine) =
     (ix.0 < length nodes) × (is_list (top_of nodes spine) ≡ true → is_item (body_at nodes ix.0) ≡ true) × AreNested nodes spine
 
--- What is before the node at a place is in order up to the end that the innermost open node has so far; and the node at the place, which is last in it, lies
--- with what is below it between there and an offset (this project).
+-- The node at a place is the last child of the innermost open node, which has its end before that so far: what is before the place is in order up to this
+-- end, and the child lies, with what is below it, between this end and an offset (this project).
 pub record EndsBeforeLast (text : List ℕ) (f : Forest Item) (at place : ℕ) : Type 0 where
   pub before : IsOrderedTo text (record f { nodes = take place f.nodes }) (top_end f)
   pub ends : IsCharBoundary text (top_end f)
@@ -51,12 +51,12 @@ pub record EndsBeforeLast (text : List ℕ) (f : Forest Item) (at place : ℕ) :
 abbrev pub EndsBeforeTitle : List ℕ → Forest Item → ℕ → Type 0
 EndsBeforeTitle text f at = (title : TreeIndex) → possible_title f ≡ Some title → EndsBeforeLast text f at title.0
 
--- something is last in a definition list that is innermost, and that is no marker of a task (this project)
+-- where a definition list is innermost, something is last in it, and that is no marker of a task (this project)
 abbrev pub HasDefinition : Forest Item → Type 0
 HasDefinition f = is_definition_list (top_body f) ≡ true → IsSomeAnd (current_body f) (λ b. is_task_marker b ≡ false)
 
--- What is open can be closed in order: only items are open directly in lists, something is last in a definition list, and where that is a possible title, the
--- list has its end before it (this project).
+-- What is open can be closed in order: only items are open directly in lists; where a definition list is innermost, something is last in it, and where that is
+-- a possible title, the list has its end before it (this project).
 pub record CanClose (text : List ℕ) (f : Forest Item) (at : ℕ) : Type 0 where
   pub nested : AreNested f.nodes f.spine
   pub last : HasDefinition f
@@ -80,8 +80,8 @@ pub record IsHandedOn (options : Options) (text : List ℕ) (r : Reading) (at : 
 abbrev pub IsOrderedFrom : Options → List ℕ → Reading → ℕ → Type 0
 IsOrderedFrom options text r at = IsOrderedAt text r at ⊎ IsHandedOn options text r at
 
--- The same of what the pass remembers, which can be closed in order; no footnote definition in the old form ends before a blank line that is handed on (this
--- project).
+-- The same of what the pass remembers, which can be closed in order: where a blank line is handed on, only items are open directly in lists, what is innermost
+-- is no list, and no footnote definition in the old form ends there (this project).
 abbrev pub IsReadFrom : Options → List ℕ → Reading → ℕ → Type 0
 IsReadFrom options text r at =
     IsReadTo text r at

@@ -66,6 +66,7 @@ pub(crate) fn enter_line<'a>(
 fn end_old_footnote<'a>(reading: &mut Reading, source: &Source<'a>, start_ix: usize)
     ensures { reading.new ≡ footnote_ended source.now.options start_ix reading.old }
 {
+    // `finish_old_footnote` asks for a blank line too; here that spares most lines the call.
     if reading.blank && !source.options.has_gfm_footnotes() {
         reading.finish_old_footnote(start_ix);
     }
