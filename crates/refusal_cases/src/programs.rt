@@ -1,0 +1,123 @@
+//! The pass over a text, and the work of the programs.
+
+use crate::case::Case;
+use crate::outcome::Outcome;
+use first_pass_blocks::pass::run_first_pass;
+use first_pass_host::fault::BlocksFault;
+use first_pass_host::option_word::parse_options;
+use first_pass_host::words::words_of;
+use first_pass_printed::links::append_link;
+use first_pass_printed::node::append_node;
+use first_pass_program::bench::bench_run;
+use first_pass_program::run::blocks_run;
+use first_pass_timing::clock::TimeSource;
+use std::alloc::{AllocError, Global};
+use std::io;
+use std::io::Write;
+
+/// How many bytes are written at most, so that writing takes no memory.
+const ROOM: usize = 8192;
+
+/// A writer that asks for its memory before it is written to.
+#[derive(Drop)]
+struct Page {
+    bytes: Vec<u8>,
+}
+
+impl Write for Page {
+    fn write(&mut self, buf: &[u8]) -> io::Result<usize> {
+        let count = buf.len().min(ROOM.saturating_sub(self.bytes.len()));
+        self.bytes.extend_from_slice(&buf[..count])?;
+        Ok(count)
+    }
+
+    fn flush(&mut self) -> io::Result<()> {
+        Ok(())
+    }
+}
+
+/// A clock by which ten nanoseconds go by between two readings.
+#[derive(Drop)]
+struct Ticks {
+    nanos: u128,
+}
+
+impl TimeSource for Ticks {
+    fn nanos(&mut self) -> io::Result<u128> {
+        self.nanos = self.nanos.saturating_add(10);
+        Ok(self.nanos)
+    }
+}
+
+/// Makes a call of this name, and once more where it is refused; `None` where it is another call.
+pub fn call_program(rt: &HostRuntime, case: &Case<'_>) -> Option<Outcome> {
+    match call_once(rt, case)? {
+        Outcome::Refused => match call_once(rt, case)? {
+            Outcome::Usual => Some(Outcome::Refused),
+            _ => Some(Outcome::Differs),
+        },
+        outcome => Some(outcome),
+    }
+}
+
+fn call_once(rt: &HostRuntime, case: &Case<'_>) -> Option<Outcome> {
+    match case.call {
+        "parse" => Some(parse(rt.alloc(), case).unwrap_or(Outcome::Elsewhere)),
+        "words" => Some(take_words(rt, case)),
+        "blocks" | "bench" => Some(run(rt.alloc(), case).unwrap_or(Outcome::Elsewhere)),
+        _ => None,
+    }
+}
+
+/// The pass over the text: it hands out a tree and tables, or neither.
+fn parse(alloc: Global, case: &Case<'_>) -> Result<Outcome, AllocError> {
+    let mut lines = Vec::with_capacity(alloc, ROOM)?;
+    let Some(options) = parse_options(case.words.as_slice()) else {
+        return Ok(Outcome::Differs);
+    };
+    let Ok((tree, allocs)) = run_first_pass(alloc, case.text.as_str(), options) else {
+        return Ok(Outcome::Refused);
+    };
+    for node in tree.nodes() {
+        append_node(&mut lines, node.0, node.1, &allocs)?;
+    }
+    for (label, link) in allocs.refdefs().iter() {
+        append_link(&mut lines, label, link)?;
+    }
+    if lines.as_slice() == case.wanted.as_bytes() {
+        Ok(Outcome::Usual)
+    } else {
+        Ok(Outcome::Differs)
+    }
+}
+
+/// The words that this program is given.
+fn take_words(rt: &HostRuntime, case: &Case<'_>) -> Outcome {
+    match words_of(rt) {
+        Ok(words) if words.is_empty() => Outcome::Usual,
+        Err(BlocksFault::OutOfMemory) => Outcome::Refused,
+        _ => Outcome::Differs,
+    }
+}
+
+/// The work of a program: where it is refused, what was written is a beginning of the whole.
+fn run(alloc: Global, case: &Case<'_>) -> Result<Outcome, AllocError> {
+    let mut page = Page {
+        bytes: Vec::with_capacity(alloc, ROOM)?,
+    };
+    let words = case.words.as_slice();
+    let mut input = case.text.as_bytes();
+    let answer = if case.call == "blocks" {
+        blocks_run(alloc, words, &mut input, &mut page)
+    } else {
+        bench_run(&mut Ticks { nanos: 0 }, alloc, words, &mut input, &mut page)
+    };
+    let wanted = case.wanted.as_bytes();
+    let written = page.bytes.as_slice();
+    Ok(match answer {
+        Ok(()) if written == wanted => Outcome::Usual,
+        Err(BlocksFault::OutOfMemory) if wanted.starts_with(written) => Outcome::Refused,
+        Err(BlocksFault::OutOfMemory) => Outcome::Changed,
+        _ => Outcome::Differs,
+    })
+}

@@ -1,0 +1,72 @@
+//! The table: its groups of lines, one after the other.
+
+use crate::case::{Case, read_case};
+use crate::outcome::{Outcome, is_one_refused, told};
+use crate::programs::call_program;
+use crate::tables::call_tables;
+use crate::trees::call_tree;
+use first_pass_cases::fault::CasesFault;
+use first_pass_cases::tally::{Tally, append_place};
+use first_pass_cases::texts::is_heading;
+use std::alloc::{AllocError, Global};
+
+/// Makes the call of each case, and appends to the report what it came to, where that is asked for, and each case that
+/// differs.
+pub fn compare(rt: &HostRuntime, table: &str, report: &mut String) -> Result<Tally, CasesFault> {
+    let mut tally = Tally::new();
+    let mut line: usize = 1;
+    for group in table.trim_end_matches('\n').split("\n\n") {
+        if !is_heading(group) {
+            let differs = compare_case(rt, group, line, report)?;
+            tally.count(differs);
+        }
+        line = line.saturating_add(group.lines().count()).saturating_add(1);
+    }
+    Ok(tally)
+}
+
+/// Makes the call of the case whose first line has this number, and tells whether it differs.
+fn compare_case(
+    rt: &HostRuntime,
+    group: &str,
+    line: usize,
+    report: &mut String,
+) -> Result<bool, CasesFault> {
+    let case = read_case(rt.alloc(), group)?;
+    let Some(outcome) = outcome_of(rt, &case) else {
+        return Err(CasesFault::Malformed(line, "no such call"));
+    };
+    if case.after.is_some() {
+        write!(report, "{}: {}\n", case.call, outcome.word())?;
+        return Ok(false);
+    }
+    if outcome != Outcome::Usual {
+        append_place(report, line)?;
+        write!(report, "{group}\n\n")?;
+    }
+    Ok(outcome != Outcome::Usual)
+}
+
+/// What the call of a case comes to, or `None` where there is no such call.
+fn outcome_of(rt: &HostRuntime, case: &Case<'_>) -> Option<Outcome> {
+    let Some(count) = case.after else {
+        return call(rt, case);
+    };
+    if is_one_refused(rt.alloc(), count) {
+        return Some(Outcome::Elsewhere);
+    }
+    let returned = call(rt, case)?;
+    Some(told(rt.alloc(), returned))
+}
+
+/// Makes the call of a case.
+fn call(rt: &HostRuntime, case: &Case<'_>) -> Option<Outcome> {
+    if let Some(outcome) = call_program(rt, case) {
+        return Some(outcome);
+    }
+    let answer = match call_tree(rt.alloc(), case.call) {
+        Some(answer) => answer,
+        None => call_tables(rt.alloc(), case.call)?,
+    };
+    Some(answer.unwrap_or(Outcome::Elsewhere))
+}
