@@ -1,6 +1,6 @@
 //! Runs under a clock that is told what to say, and each fault.
 
-use crate::fakes::{Sink, Source, Told, time};
+use crate::fakes::{Odd, Sink, Source, Told, time};
 use first_pass_host::fault::BlocksFault;
 use std::alloc::Global;
 use std::process::Abort;
@@ -32,7 +32,19 @@ fn assert_printed(
 
 #[test]
 fn bad_options_come_first(rt: HostRuntime) -> Result<(), Fail> {
-    let bad: &[&[&str]] = &[&["x"], &["0", "0"], &["0", "1", "1"]];
+    let bad: &[&[&str]] = &[
+        &[""],
+        &["+1"],
+        &["x"],
+        &["1"],
+        &["65536"],
+        &["0", ""],
+        &["0", "+1"],
+        &["0", "-1"],
+        &["0", "0"],
+        &["0", "4294967296"],
+        &["0", "1", "1"],
+    ];
     for words in bad {
         let mut clock = Told { left: &[0, 1] };
         let mut input = Source::new(b"\xff", 3, 1);
@@ -185,23 +197,27 @@ fn each_reading_of_the_clock_fails_in_turn(rt: HostRuntime) -> Result<(), Fail> 
 }
 
 // The three writes of a line, twenty bytes at a time.
-#[test]
-fn each_write_fails_in_turn(rt: HostRuntime) -> Result<(), Fail> {
+fn odd_at_each_write(rt: &impl Abort, alloc: Global, odd: Odd) -> Result<(), Fail> {
     let whole = b"8 bytes, 7 nodes, best of 1 runs: 0.000 ms, 8000.0 MB/s\n".as_slice();
-    for fails_at in 1..5 {
+    for odd_at in 1..5 {
         let mut clock = Told { left: &[0, 1] };
         let mut input = Source::new(TEXT, 3, 0);
-        let mut output = Sink::new(rt.alloc(), 20, fails_at);
-        let answer = time(rt.alloc(), &["0", "1"], &mut clock, &mut input, &mut output)?;
-        if fails_at == 4 {
+        let mut output = Sink::new(alloc, 20, odd_at);
+        output.odd = odd;
+        let answer = time(alloc, &["0", "1"], &mut clock, &mut input, &mut output)?;
+        if odd_at == 4 || odd == Odd::IsShort {
             assert!(rt; answer == Ok(()) && output.bytes.as_slice() == whole);
-            break;
+        } else {
+            assert!(rt; answer == Err(BlocksFault::WriteFailed), "write {odd_at}");
+            assert!(rt; whole.starts_with(output.bytes.as_slice()));
         }
-        assert!(rt; answer == Err(BlocksFault::WriteFailed), "write {fails_at}");
-        assert!(rt;
-            whole.starts_with(output.bytes.as_slice()),
-            "write {fails_at}"
-        );
     }
     Ok(())
+}
+
+#[test]
+fn each_write_is_odd_in_turn(rt: HostRuntime) -> Result<(), Fail> {
+    odd_at_each_write(&rt, rt.alloc(), Odd::IsShort)?;
+    odd_at_each_write(&rt, rt.alloc(), Odd::TakesNothing)?;
+    odd_at_each_write(&rt, rt.alloc(), Odd::Fails)
 }

@@ -31,21 +31,34 @@ impl TimeSource for Told<'_> {
     }
 }
 
-/// A reader of bytes that gives at most `step` of them at a time, and fails at the read of that number.
+/// What the one read or write does that is unlike the others.
+#[derive(Clone, Copy, PartialEq, Eq, Debug)]
+pub enum Odd {
+    Fails,
+    /// It moves one byte where there are more.
+    IsShort,
+    /// It takes no byte. A read that gives none has found the end.
+    TakesNothing,
+}
+
+/// A reader of bytes that gives at most `step` of them at a time, and is odd at the read of that number.
 #[derive(Drop)]
 pub struct Source<'a> {
     pub rest: &'a [u8],
     pub step: usize,
-    pub fails_at: usize,
+    pub odd_at: usize,
+    pub odd: Odd,
     pub reads: usize,
 }
 
 impl Source<'_> {
-    pub fn new(rest: &[u8], step: usize, fails_at: usize) -> Source<'_> {
+    /// One whose odd read fails.
+    pub fn new(rest: &[u8], step: usize, odd_at: usize) -> Source<'_> {
         Source {
             rest,
             step,
-            fails_at,
+            odd_at,
+            odd: Odd::Fails,
             reads: 0,
         }
     }
@@ -54,10 +67,13 @@ impl Source<'_> {
 impl Read for Source<'_> {
     fn read(&mut self, buf: &mut [u8]) -> io::Result<usize> {
         self.reads = self.reads.saturating_add(1);
-        if self.reads == self.fails_at {
-            return Err(io::Error::from(ErrorKind::Other));
-        }
-        let count = self.rest.len().min(self.step).min(buf.len());
+        let most = match self.odd {
+            _ if self.reads != self.odd_at => self.step,
+            Odd::Fails => return Err(io::Error::from(ErrorKind::Other)),
+            Odd::IsShort => 1,
+            Odd::TakesNothing => 0,
+        };
+        let count = self.rest.len().min(most).min(buf.len());
         let all: &[u8] = self.rest;
         buf[..count].copy_from_slice(&all[..count]);
         self.rest = &all[count..];
@@ -65,21 +81,24 @@ impl Read for Source<'_> {
     }
 }
 
-/// A writer that takes at most `step` bytes at a time, and fails at the write of that number.
+/// A writer that takes at most `step` bytes at a time, and is odd at the write of that number.
 #[derive(Drop)]
 pub struct Sink {
     pub bytes: Vec<u8>,
     pub step: usize,
-    pub fails_at: usize,
+    pub odd_at: usize,
+    pub odd: Odd,
     pub writes: usize,
 }
 
 impl Sink {
-    pub fn new(alloc: Global, step: usize, fails_at: usize) -> Sink {
+    /// One whose odd write fails.
+    pub fn new(alloc: Global, step: usize, odd_at: usize) -> Sink {
         Sink {
             bytes: Vec::new(alloc),
             step,
-            fails_at,
+            odd_at,
+            odd: Odd::Fails,
             writes: 0,
         }
     }
@@ -88,16 +107,20 @@ impl Sink {
 impl Write for Sink {
     fn write(&mut self, buf: &[u8]) -> io::Result<usize> {
         self.writes = self.writes.saturating_add(1);
-        if self.writes == self.fails_at {
-            return Err(io::Error::from(ErrorKind::Other));
-        }
-        let count = buf.len().min(self.step);
+        let most = match self.odd {
+            _ if self.writes != self.odd_at => self.step,
+            Odd::Fails => return Err(io::Error::from(ErrorKind::Other)),
+            Odd::IsShort => 1,
+            Odd::TakesNothing => 0,
+        };
+        let count = buf.len().min(most);
         self.bytes.extend_from_slice(&buf[..count])?;
         Ok(count)
     }
 
+    // Nothing is held back here, so a run that asks for a flush would fail for no reason.
     fn flush(&mut self) -> io::Result<()> {
-        Ok(())
+        Err(io::Error::from(ErrorKind::Other))
     }
 }
 

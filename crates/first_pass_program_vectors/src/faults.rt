@@ -1,6 +1,6 @@
 //! Each fault of a run, and what is written before it.
 
-use crate::fakes::{Sink, Source, run};
+use crate::fakes::{Odd, Sink, Source, run};
 use first_pass_host::fault::BlocksFault;
 use std::alloc::{AllocError, Global};
 use std::process::Abort;
@@ -29,7 +29,16 @@ fn write(
 
 #[test]
 fn bad_options_come_first(rt: HostRuntime) -> Result<(), Fail> {
-    let bad: &[&[&str]] = &[&["x"], &["0", "0"]];
+    let bad: &[&[&str]] = &[
+        &[""],
+        &["+1"],
+        &["-1"],
+        &["x"],
+        &["1"],
+        &["65536"],
+        &["99999999999999999999999"],
+        &["0", "0"],
+    ];
     for words in bad {
         let mut input = Source::new(b"\xff", WHOLE, 1);
         let mut sink = Sink::new(rt.alloc(), WHOLE, 1);
@@ -82,38 +91,55 @@ fn each_read_fails_in_turn(rt: HostRuntime) -> Result<(), Fail> {
     Ok(())
 }
 
-// Fails each write in turn of what a run without options writes for a text, so many bytes at a time, until a run
-// succeeds: how many writes there are.
+// Has each write in turn be odd of what a run without options writes for a text, so many bytes at a time, until no
+// write is: how many writes there are.
+fn odd_at_each_write(
+    rt: &impl Abort,
+    alloc: Global,
+    text: &[u8],
+    step: usize,
+    odd: Odd,
+) -> Result<usize, Fail> {
+    let mut whole = Sink::new(alloc, step, 0);
+    let answer = write(alloc, text, WHOLE, &mut whole)?;
+    assert!(rt; answer == Ok(()));
+    for odd_at in 1..100 {
+        let mut sink = Sink::new(alloc, step, odd_at);
+        sink.odd = odd;
+        let answer = write(alloc, text, WHOLE, &mut sink)?;
+        if sink.writes < odd_at || odd == Odd::IsShort {
+            assert!(rt; answer == Ok(()), "write {odd_at}");
+            assert!(rt; sink.bytes.as_slice() == whole.bytes.as_slice());
+        } else {
+            assert!(rt; answer == Err(BlocksFault::WriteFailed), "write {odd_at}");
+            assert!(rt; sink.writes == odd_at && sink.bytes.len() < whole.bytes.len());
+            assert!(rt; whole.bytes.as_slice().starts_with(sink.bytes.as_slice()));
+        }
+        if sink.writes < odd_at {
+            break;
+        }
+    }
+    Ok(whole.writes)
+}
+
+// The same for each kind of an odd write.
 fn fail_each_write(
     rt: &impl Abort,
     alloc: Global,
     text: &[u8],
     step: usize,
 ) -> Result<usize, Fail> {
-    let mut whole = Sink::new(alloc, step, 0);
-    let answer = write(alloc, text, WHOLE, &mut whole)?;
-    assert!(rt; answer == Ok(()));
-    for fails_at in 1..100 {
-        let mut sink = Sink::new(alloc, step, fails_at);
-        let answer = write(alloc, text, WHOLE, &mut sink)?;
-        if answer == Ok(()) {
-            assert!(rt; whole.writes < fails_at && sink.bytes.as_slice() == whole.bytes.as_slice());
-            break;
-        }
-        assert!(rt; answer == Err(BlocksFault::WriteFailed), "write {fails_at}");
-        assert!(rt; sink.writes == fails_at && sink.bytes.len() < whole.bytes.len());
-        assert!(rt;
-            whole.bytes.as_slice().starts_with(sink.bytes.as_slice()),
-            "write {fails_at}"
-        );
-    }
-    Ok(whole.writes)
+    odd_at_each_write(rt, alloc, text, step, Odd::IsShort)?;
+    odd_at_each_write(rt, alloc, text, step, Odd::TakesNothing)?;
+    odd_at_each_write(rt, alloc, text, step, Odd::Fails)
 }
 
 #[test]
 fn each_write_fails_in_turn(rt: HostRuntime) -> Result<(), Fail> {
     let text = long_text(rt.alloc())?;
-    assert!(rt; 3 < fail_each_write(&rt, rt.alloc(), text.as_slice(), WHOLE)?);
+    // A thousand of its paragraphs.
+    let front = text.as_slice().get(..3000).ok_or("a short text")?;
+    assert!(rt; 3 < fail_each_write(&rt, rt.alloc(), front, WHOLE)?);
     Ok(())
 }
 
@@ -152,6 +178,26 @@ fn steps_make_no_difference(rt: HostRuntime) -> Result<(), Fail> {
     let mut bytewise = Sink::new(rt.alloc(), 1, 0);
     let answer = write(rt.alloc(), text.as_slice(), 1, &mut bytewise)?;
     assert!(rt; answer == Ok(()) && bytewise.bytes.as_slice() == whole.bytes.as_slice());
+    Ok(())
+}
+
+// Ten reads of a text of 9,000 bytes, each of which gives one byte in turn, and the whole is read all the same.
+#[test]
+fn each_read_is_short_in_turn(rt: HostRuntime) -> Result<(), Fail> {
+    let text = long_text(rt.alloc())?;
+    let mut whole = Sink::new(rt.alloc(), WHOLE, 0);
+    let answer = write(rt.alloc(), text.as_slice(), WHOLE, &mut whole)?;
+    assert!(rt; answer == Ok(()));
+    for odd_at in 1..=10 {
+        let mut input = Source::new(text.as_slice(), 1000, odd_at);
+        input.odd = Odd::IsShort;
+        let mut sink = Sink::new(rt.alloc(), WHOLE, 0);
+        let answer = run(rt.alloc(), &[], &mut input, &mut sink)?;
+        assert!(rt;
+            answer == Ok(()) && sink.bytes.as_slice() == whole.bytes.as_slice(),
+            "read {odd_at}"
+        );
+    }
     Ok(())
 }
 
