@@ -2,6 +2,7 @@
 use Rattle.std.specs.Prelude.{◌≡◌, ℕ, ◌||◌, Bool, true, false, List, [], ◌∷◌, if◌then◌else◌}
 use Rattle.first_pass_items.specs.declared.item.Item.{Item}
 use Rattle.first_pass_items.specs.declared.item.ItemBody.TheVariants.{HtmlBlock}
+use Rattle.first_pass_html.specs.Ends.{BlockEnd, AtRawEndTag, AtText, holds_raw_end_tag}
 use Rattle.first_pass_html.specs.Starts.{begins_with}
 use Rattle.first_pass_lines.specs.Lines.{at_line_end}
 use Rattle.first_pass_lines.specs.Places.{Place, offset, line_of}
@@ -21,18 +22,23 @@ abbrev pub is_empty : List ℕ → Bool
 is_empty [] = true
 is_empty (b ∷ bs) = false
 
--- What a line is to an HTML block of the kinds 1 to 5 from a place on: the one that holds the text which ends the kind is the last (CommonMark 4.6, end
--- conditions 1 to 5).
-abbrev pub tag_verdict : List ℕ → Place → Verdict
-tag_verdict text q = if holds text (line_of q) then IsLast q else GoesOn q
+-- what ends a block of the kinds 1 to 5 stands somewhere in the bytes (CommonMark 4.6, end conditions 1 to 5)
+unfoldable pub holds_end : BlockEnd → List ℕ → Bool
+holds_end AtRawEndTag bs = holds_raw_end_tag bs
+holds_end (AtText text) bs = holds text bs
+
+-- What a line is to an HTML block of the kinds 1 to 5 from a place on: the one that holds what ends the block is the last (CommonMark 4.6, end conditions 1 to
+-- 5).
+abbrev pub tag_verdict : BlockEnd → Place → Verdict
+tag_verdict until q = if holds_end until (line_of q) then IsLast q else GoesOn q
 
 -- The same of a line after the first one. Where the containers take the whole of a last line, the block ends with the text (this project).
-abbrev pub tag_judge : List ℕ → Place → Place → Verdict
-tag_judge text line q = if is_empty q.rest.left then Closes (offset q) else tag_verdict text q
+abbrev pub tag_judge : BlockEnd → Place → Place → Verdict
+tag_judge until line q = if is_empty q.rest.left then Closes (offset q) else tag_verdict until q
 
 -- The lines of an HTML block of the kinds 1 to 5: the one at a place, and those among the lines after it, in a text of n bytes.
-abbrev pub until_end : ℕ → List Container → List ℕ → Place → List Place → Extent
-until_end n path text p lines = extent_by (tag_verdict text p) p lines (extent (in_containers path (tag_judge text)) n lines)
+abbrev pub until_end : ℕ → List Container → BlockEnd → Place → List Place → Extent
+until_end n path until p lines = extent_by (tag_verdict until p) p lines (extent (in_containers path (tag_judge until)) n lines)
 
 -- What a line is to an HTML block of the kinds 6 and 7 after its first: a blank line stops it (CommonMark 4.6, end conditions 6 and 7), after what the
 -- containers take of that line, but where the line ends there, at its start (this project).

@@ -25,7 +25,7 @@ pub data Kind : Type 0 where
   IndentedCode : Kind
   -- a metadata block, with the byte of its marks: `-` or `+`
   Metadata : ℕ → Kind
-  -- an HTML block that ends at a text, which its first line tells: one of the kinds 1 to 5 (CommonMark 4.6)
+  -- an HTML block that ends with the line which holds its end, as its first line tells: one of the kinds 1 to 5 (CommonMark 4.6)
   HtmlToEnd : Kind
   -- an HTML block that ends before a blank line: one of the kinds 6 and 7 (CommonMark 4.6)
   HtmlToBlank : Kind

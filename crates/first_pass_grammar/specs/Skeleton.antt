@@ -20,6 +20,7 @@ use Rattle.first_pass_grammar.specs.Containers.{footnote_columns}
 use Rattle.first_pass_grammar.specs.Footnotes.{footnote_head_at, place_behind, behind_head, ends_footnote}
 use Rattle.first_pass_grammar.specs.Kinds.{Kind, Blank, IndentedCode, Metadata, HtmlToEnd, HtmlToBlank, ThematicBreak, AtxHeading, FencedCode, LinkDefinitions}
 use Rattle.first_pass_grammar.specs.Kinds.{Paragraph, all_taken, unindented, is_blank_rest, IsKind, ends_tag}
+use Rattle.first_pass_html.specs.Ends.{BlockEnd}
 use Rattle.first_pass_html.specs.Starts.{html_end}
 use Rattle.first_pass_grammar.specs.CodeBlocks.{code_lines, last_is_blank, IsIndentedCode, metadata_lines, IsMetadata, fenced_lines, IsFencedCode}
 use Rattle.first_pass_grammar.specs.Extents.{Extent}
@@ -91,9 +92,9 @@ OpensAs d path p lines (Metadata byte) opening =
     let e = metadata_lines (length d.text) path byte lines in
     OpensExtent (Metadata byte) p e (IsMetadata d (offset (unindented p)) byte e.places e.«end») opening
 OpensAs d path p lines HtmlToEnd opening =
-    (text : List ℕ) × (html_end (drop 1 (all_taken p.rest).left) ≡ Some text)
+    (until : BlockEnd) × (html_end (drop 1 (all_taken p.rest).left) ≡ Some until)
     × (
-    let e = until_end (length d.text) path text (unindented p) lines in
+    let e = until_end (length d.text) path until (unindented p) lines in
     OpensExtent HtmlToEnd p e (IsHtml d (offset (unindented p)) (indent p.rest) e.places e.«end») opening)
 OpensAs d path p lines HtmlToBlank opening =
     let e = until_blank (length d.text) path (unindented p) lines in

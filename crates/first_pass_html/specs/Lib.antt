@@ -1,4 +1,5 @@
 pub mod Names
+pub mod Ends
 pub mod Starts
 pub mod Tags
 pub mod TagLengths

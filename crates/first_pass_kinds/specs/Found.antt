@@ -1,8 +1,9 @@
--- Which kind what was found at a place stands for, and the text that ends an HTML block.
+-- Which kind what was found at a place stands for, and what ends an HTML block.
 use Rattle.std.specs.Prelude.{◌≡◌, ℕ, List, drop, min, Some}
 use Rattle.first_pass_items.specs.declared.option_set.Options.{Options}
 use Rattle.first_pass_lines.specs.Rest.{indent}
 use Rattle.first_pass_lines.specs.Places.{Place, offset}
+use Rattle.first_pass_html.specs.Ends.{end_of}
 use Rattle.first_pass_html.specs.Starts.{html_end}
 use Rattle.first_pass_grammar.specs.Kinds.{Kind, IsKind, unindented, Blank, IndentedCode, Metadata, HtmlToEnd, HtmlToBlank, ThematicBreak, AtxHeading}
 use Rattle.first_pass_grammar.specs.Kinds.{FencedCode, Paragraph}
@@ -27,9 +28,9 @@ kind_of FoundParagraph = Paragraph
 kind_of FoundHtml = HtmlToBlank
 kind_of (Marked leaf) = marked_kind leaf
 
--- the text with which an HTML block of the kinds 1 to 5 was found is the one that ends the block which begins here (CommonMark 4.6)
+-- the end with which an HTML block of the kinds 1 to 5 was found is that of the block which begins here (CommonMark 4.6)
 abbrev pub HasEnd : List ℕ → MarkedLeaf → Type 0
-HasEnd bs (MarkedHtml «end») = html_end (drop 1 bs) ≡ Some «end».now
+HasEnd bs (MarkedHtml «end») = html_end (drop 1 bs) ≡ Some (end_of «end»)
 HasEnd bs _ = Unit {0}
 
 abbrev pub IsFoundWith : List ℕ → Found → Type 0

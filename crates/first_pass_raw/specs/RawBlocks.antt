@@ -3,6 +3,7 @@ use Rattle.std.specs.Prelude.{◌≡◌, ℕ, ◌+◌, Bool, List, [], length, d
 use Rattle.first_pass_items.specs.declared.option_set.Options.{Options}
 use Rattle.first_pass_items.specs.declared.item.Item.{Item}
 use Rattle.first_pass_tree.specs.Forest.{Forest, added}
+use Rattle.first_pass_html.specs.Ends.{BlockEnd}
 use Rattle.first_pass_lines.specs.Lines.{line_len}
 use Rattle.first_pass_lines.specs.Places.{Place, offset}
 use Rattle.first_pass_tokens.specs.TreeTokens.{with_tokens, chained}
@@ -101,8 +102,8 @@ abbrev pub metadata_behind : List ℕ → List Container → ℕ → ℕ → Ext
 metadata_behind text path byte start = metadata_lines (length text) path byte (lines_from text (behind_line_at text start))
 
 -- the lines of an HTML block from a place on
-abbrev pub html_to_end : List ℕ → List Container → List ℕ → Place → Extent
-html_to_end text path tag p = until_end (length text) path tag p (lines_from text (behind_line_at text (offset p)))
+abbrev pub html_to_end : List ℕ → List Container → BlockEnd → Place → Extent
+html_to_end text path until p = until_end (length text) path until p (lines_from text (behind_line_at text (offset p)))
 
 abbrev pub html_to_blank : List ℕ → List Container → Place → Extent
 html_to_blank text path p = until_blank (length text) path p (lines_from text (behind_line_at text (offset p)))
