@@ -15,7 +15,7 @@ ghost use Rattle.first_pass.specs.Views.{allocs_of, pass_of, reading_of, source_
 
 pub use crate::interrupt::scan_paragraph_interrupt_no_table;
 pub use crate::state::FirstPass;
-pub use first_pass_below::below::{count_header_cols, get_html_end_tag};
+pub use first_pass_below::below::{HtmlEnd, count_header_cols, get_html_end_tag};
 pub use first_pass_blocks::pass::run_first_pass;
 use first_pass_blocks::state::BlockPass;
 use first_pass_items::option_set::Options;

@@ -1,6 +1,7 @@
 //! Leaf blocks whose lines are raw: code, metadata and HTML.
 
 ghost use Rattle.std.specs.Prelude.{◌≡◌, ◌≤◌, ◌<◌, ℕ, Some, None, true, false, max, length, drop, IfOk, OnOk, IsCharBoundary};
+ghost use Rattle.first_pass_html.specs.Ends.{end_of};
 ghost use Rattle.first_pass_lines.specs.Lines.{is_blank_line, is_content};
 ghost use Rattle.first_pass_scan.specs.LeafLines.{code_fence};
 ghost use Rattle.first_pass_lines.specs.Rest.{indent};
@@ -19,6 +20,7 @@ ghost use Rattle.first_pass.specs.Kept.{KeepsNames};
 ghost use Rattle.first_pass.specs.Views.{allocs_of, context_in, reading_of, source_options, source_text, tree_of};
 
 use crate::state::FirstPass;
+use first_pass_html::ends::HtmlEnd;
 use first_pass_open::place::Place;
 use first_pass_raw::fenced_code::Fence;
 use first_pass_raw::html_block::HtmlStart;
@@ -228,12 +230,12 @@ impl<'a> FirstPass<'a> {
     }
 
     /// Appends the HTML block of the kinds 1 to 5 that begins at the offset `start_ix` after `indent` columns, or
-    /// after `remaining_space` owed ones where these are more, and continues to the line that holds `html_end_tag`.
+    /// after `remaining_space` owed ones where these are more, and continues to the first line that holds its end.
     /// Returns the offset at which the line begins that is not read, or the text's length (CommonMark 4.6).
     pub fn parse_html_block_type_1_to_5(
         &mut self,
         start_ix: usize,
-        html_end_tag: &str,
+        html_end: HtmlEnd,
         remaining_space: usize,
         indent: usize,
     ) -> Result<usize, AllocError>
@@ -243,7 +245,7 @@ impl<'a> FirstPass<'a> {
         ensures kept { OnOk result (KeepsNames self.old self.new) }
         ensures reading { OnOk result (reading_of self.new ≡ with_block (reading_of self.old) (tree_of self.new)) }
         ensures block { IfOk result (λ next. (p : Place) → IsPlaceAt (source_text self.old) start_ix p
-            → let e = html_to_end (source_text self.old) (context_in self.old).path html_end_tag.now p in
+            → let e = html_to_end (source_text self.old) (context_in self.old).path (end_of html_end) p in
             AddsRaw (document (source_text self.old) (source_options self.old) (names_of (allocs_of self.new))) (λ d.
             IsHtml d start_ix (max remaining_space indent) e.places e.«end») e.left (tree_of self.old)
             (tree_of self.new) next) }
@@ -265,7 +267,7 @@ impl<'a> FirstPass<'a> {
             &mut pass.reading.tree,
             &mut pass.allocs,
             start,
-            html_end_tag,
+            html_end,
         )?;
         pass.reading.empty_item = None;
         Ok(next)

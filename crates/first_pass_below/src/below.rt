@@ -1,6 +1,7 @@
 //! The names of the crates below: options, items and texts, the tree, and the scanners.
 
 pub use first_pass_flank::flank::is_punctuation;
+pub use first_pass_html::ends::HtmlEnd;
 pub use first_pass_html::starts::{get_html_end_tag, starts_html_block_type_6};
 pub use first_pass_html::tags::scan_html_type_7;
 pub use first_pass_items::cow_str::{CowStr, InlineStr};

@@ -80,7 +80,7 @@ module _ (d : Document) where
   kind_untitled path p lines Blank o e = subst OpensUntitled (sym e) tt
   kind_untitled path p lines IndentedCode o (items, is, e) = subst OpensUntitled (sym e) (untitled_is _ _ items is.items_are refl)
   kind_untitled path p lines (Metadata byte) o (items, is, e) = subst OpensUntitled (sym e) (untitled_is _ _ items is.items_are refl)
-  kind_untitled path p lines HtmlToEnd o (text, found, (items, is, e)) = subst OpensUntitled (sym e) (untitled_is _ _ items is.items_are refl)
+  kind_untitled path p lines HtmlToEnd o (until, found, (items, is, e)) = subst OpensUntitled (sym e) (untitled_is _ _ items is.items_are refl)
   kind_untitled path p lines HtmlToBlank o (items, is, e) = subst OpensUntitled (sym e) (untitled_is _ _ items is.items_are refl)
   kind_untitled path p lines (ThematicBreak size) o e = subst OpensUntitled (sym e) refl
   kind_untitled path p lines (AtxHeading level) o (index, chain, stop, is, e) = subst OpensUntitled (sym e) refl

@@ -10,6 +10,7 @@ use Rattle.first_pass_lines.specs.Lines.{line_len}
 use Rattle.first_pass_lines.specs.Rest.{indent}
 use Rattle.first_pass_lines.specs.Places.{Place, offset, line_end, moved_columns, IsPlaceOf}
 use Rattle.first_pass_lines.proofs.PlaceFacts.{columns_line_end}
+use Rattle.first_pass_html.specs.Ends.{BlockEnd}
 use Rattle.first_pass_html.specs.Starts.{html_end}
 use Rattle.first_pass_grammar.specs.Derivation.{Tables}
 use Rattle.first_pass_grammar.specs.declared.kind.Container.{Container}
@@ -119,24 +120,24 @@ module _ (text : List ℕ) (options : Options) (names : Names) (p : Place) (old 
         );
       }
 
-  -- HTML up to a text
-  pub html_end_added : (tag : List ℕ) (columns : ℕ) → html_end (drop 1 (all_taken p.rest).left) ≡ Some tag → columns ≡ indent p.rest
+  -- HTML up to its end
+  pub html_end_added : (until : BlockEnd) (columns : ℕ) → html_end (drop 1 (all_taken p.rest).left) ≡ Some until → columns ≡ indent p.rest
       → (
-      let e : Extent = html_to_end text (path_of options old) tag (unindented p) in
+      let e : Extent = html_to_end text (path_of options old) until (unindented p) in
       AddsRaw (document text options names) (λ d. IsHtml d at columns e.places e.«end») e.left old new next)
       → AddsKind (document text options names) p HtmlToEnd false old new next
   unfolding OpensAs
-  html_end_added tag columns tag_is width a =
+  html_end_added until columns until_is width a =
       let path : List Container = path_of options old in
-      let e : Extent = html_to_end text path tag (unindented p) in
-      let f : Extent = until_end (length text) path tag (unindented p) (lines_from text (line_end p)) in
-      let same : e ≡ f = ap (λ n. until_end (length text) path tag (unindented p) (lines_from text n)) (line_end_of text p place) in
+      let e : Extent = html_to_end text path until (unindented p) in
+      let f : Extent = until_end (length text) path until (unindented p) (lines_from text (line_end p)) in
+      let same : e ≡ f = ap (λ n. until_end (length text) path until (unindented p) (lines_from text n)) (line_end_of text p place) in
       record {
         items = a.items;
         tree_is = a.tree_is;
         opens = λ more extends. (
-          tag,
-          tag_is,
+          until,
+          until_is,
           (
             a.items,
             subst (λ k. IsHtml (document text options more) (offset (unindented p)) k f.places f.«end» a.items) width

@@ -3,6 +3,7 @@ use Rattle.std.proofs.Common.{◌≡◌, ℕ, ◌+◌, ◌<◌, ◌≤◌, Bool,
 use Rattle.first_pass_items.specs.declared.option_set.Options.{Options}
 use Rattle.first_pass_items.specs.declared.item.Item.{Item}
 use Rattle.first_pass_tree.specs.Forest.{Forest}
+use Rattle.first_pass_html.specs.Ends.{BlockEnd}
 use Rattle.first_pass_lines.specs.Lines.{is_content}
 use Rattle.first_pass_scan.specs.LeafLines.{code_fence}
 use Rattle.first_pass_lines.specs.Places.{Place, offset, start_of, IsPlaceOf}
@@ -66,21 +67,21 @@ module _ (text : List ℕ) (options : Options) (names : Names) (old new : Forest
             (a.are names (extends_none names)) b (metadata_behind_placed text u (path_of options old) byte start b) from next low before);
       }
 
-  pub to_end_between : (tag : List ℕ) (columns : ℕ) → ((p : Place) → IsPlaceAt text start p → let e : Extent = html_to_end text
-      (path_of options old) tag p in AddsRaw (document text options names) (λ d. IsHtml d start columns e.places e.«end») e.left old new next)
+  pub to_end_between : (until : BlockEnd) (columns : ℕ) → ((p : Place) → IsPlaceAt text start p → let e : Extent = html_to_end text
+      (path_of options old) until p in AddsRaw (document text options names) (λ d. IsHtml d start columns e.places e.«end») e.left old new next)
       → (from : ℕ) → from ≤ start → AddsBetween text from next old new
-  to_end_between tag columns adds from low =
+  to_end_between until columns adds from low =
       let p : Place = first_at text start 0 in
       let i = first_is text start 0 in
       let a = adds p i in
-      let e : Extent = html_to_end text (path_of options old) tag p in
-      let before = ends_before_next text e next within a.left_is (to_end_before text u (path_of options old) tag p (place_of text start p b i)) in
+      let e : Extent = html_to_end text (path_of options old) until p in
+      let before = ends_before_next text e next within a.left_is (to_end_before text u (path_of options old) until p (place_of text start p b i)) in
       record {
         items = a.items;
         tree_is = a.tree_is;
         fits = between-any text
             (within_top old) from _ a.items (html_fits (document text options names) start columns e a.items u (a.are names (extends_none names)) b
-            (subst (λ n. IsPlaced text n e) i.offset_is (to_end_placed text u (path_of options old) tag p (place_of text start p b i))) from next low before);
+            (subst (λ n. IsPlaced text n e) i.offset_is (to_end_placed text u (path_of options old) until p (place_of text start p b i))) from next low before);
       }
 
   pub to_blank_between : (columns : ℕ) (p : Place) → IsPlaceAt text start p → (

@@ -236,7 +236,7 @@ module _ (d : Document) where
             (raw_lines_each IsSettled raw_settled range_text d [] _ is.chain (range_text_each IsSettled text_settled) tt is.lines),
         tt,
       )
-  opens_as path p lines HtmlToEnd o (text, found, (items, is, e)) =
+  opens_as path p lines HtmlToEnd o (until, found, (items, is, e)) =
       subst SettledOpening (sym e) (
         chain_settled _ _ HtmlBlock is.chain items is.items_are refl
             (raw_lines_each IsSettled raw_settled range_html d [] _ is.chain (range_html_each IsSettled raw_settled) tt is.lines),

@@ -8,6 +8,7 @@ ghost use Rattle.first_pass_kinds.specs.declared.kinds.MarkedLeaf.TheVariants.{I
 ghost use Rattle.first_pass_blocks.specs.Adding.{AddsLeaf, IsFoundIn};
 
 use crate::state::BlockPass;
+use first_pass_html::ends::HtmlEnd;
 use first_pass_items::item::HeadingLevel;
 use first_pass_kinds::kinds::MarkedLeaf;
 use first_pass_open::place::Place;
@@ -102,15 +103,10 @@ impl<'a> BlockPass<'a> {
         Ok(next)
     }
 
-    // Appends the HTML block that this text ends, after so many columns, which is found at the offset `at`.
-    fn append_html(
-        &mut self,
-        end: &'static str,
-        columns: usize,
-        at: usize,
-    ) -> Result<usize, AllocError>
+    // Appends the HTML block that ends so, after so many columns, which is found at the offset `at`.
+    fn append_html(&mut self, end: HtmlEnd, columns: usize, at: usize) -> Result<usize, AllocError>
         requires { (p : Place) × IsFoundIn self.old p (HtmlToEnd end) columns at }
-        ensures { IfOk result (λ next. (p : Place) → IsFoundIn self.old p (HtmlToEnd end.entry) columns at
+        ensures { IfOk result (λ next. (p : Place) → IsFoundIn self.old p (HtmlToEnd end) columns at
             → AddsLeaf self.old self.new p HtmlKind next) }
     {
         let next = parse_html_block_type_1_to_5(

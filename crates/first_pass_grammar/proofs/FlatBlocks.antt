@@ -171,7 +171,7 @@ module _ (P : ItemBody → Type 0) (d : Document) (holds : HoldsOfTokens d.names
   kind_holds path p lines Blank o e = subst (HoldsInOpening P) (sym e) tt
   kind_holds path p lines IndentedCode o (items, is, e) = subst (HoldsInOpening P) (sym e) (other_block P _ _ _ refl is.items_are refl)
   kind_holds path p lines (Metadata byte) o (items, is, e) = subst (HoldsInOpening P) (sym e) (other_block P _ _ _ refl is.items_are refl)
-  kind_holds path p lines HtmlToEnd o (text, found, (items, is, e)) = subst (HoldsInOpening P) (sym e) (other_block P _ _ _ refl is.items_are refl)
+  kind_holds path p lines HtmlToEnd o (until, found, (items, is, e)) = subst (HoldsInOpening P) (sym e) (other_block P _ _ _ refl is.items_are refl)
   kind_holds path p lines HtmlToBlank o (items, is, e) = subst (HoldsInOpening P) (sym e) (other_block P _ _ _ refl is.items_are refl)
   kind_holds path p lines (ThematicBreak size) o e = subst (HoldsInOpening P) (sym e) (other_block P _ _ _ refl refl refl)
   kind_holds path p lines (AtxHeading level) o (index, chain, stop, is, e) = subst (HoldsInOpening P) (sym e) (other_block P _ _ _ refl refl refl)

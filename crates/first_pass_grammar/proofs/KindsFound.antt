@@ -12,6 +12,7 @@ use Rattle.first_pass_lines.specs.Lines.{begins, level_number, atx_level}
 use Rattle.first_pass_lines.specs.Rest.{Rest, indent}
 use Rattle.first_pass_lines.specs.Places.{Place, offset, moved_columns}
 use Rattle.first_pass_scan.specs.LeafLines.{hrule_len, code_fence}
+use Rattle.first_pass_html.specs.Ends.{BlockEnd}
 use Rattle.first_pass_html.specs.Starts.{html_end}
 use Rattle.first_pass_html.specs.Tags.{BeginsTagLine}
 use Rattle.first_pass_html.proofs.TagDecisions.{tag_line_decided}
@@ -38,9 +39,9 @@ use Rattle.first_pass_grammar.proofs.MoreNames.{extends_none, extends_both}
 use Rattle.first_pass_grammar.proofs.LinesFound.{heading_found}
 use Rattle.first_pass_grammar.proofs.TablesFound.{text_found}
 
--- what is of the kinds 1 to 5 of HTML ends at a text
+-- what is of the kinds 1 to 5 of HTML has an end
 abbrev HasEnd : List ℕ → Kind → Type 0
-HasEnd bs HtmlToEnd = (text : List ℕ) × (html_end (drop 1 bs) ≡ Some text)
+HasEnd bs HtmlToEnd = (until : BlockEnd) × (html_end (drop 1 bs) ≡ Some until)
 HasEnd bs _ = Unit {0}
 
 there_is : {A : Type 0} (o : Option A) → is_some o ≡ true → (x : A) × (o ≡ Some x)

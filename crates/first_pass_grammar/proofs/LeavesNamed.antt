@@ -33,7 +33,7 @@ opens_named d path p lines IndentedCode items gap left (own, is, opens) =
 opens_named d path p lines (Metadata byte) items gap left (own, is, opens) =
     subst (AreNamed d.names) (sym (ap items_of_leaf opens))
     (block_named d.names _ _ _ is.chain own is.items_are tt (lines_named range_text d [] _ is.chain text_is_free tt is.lines))
-opens_named d path p lines HtmlToEnd items gap left (text, found, (own, is, opens)) =
+opens_named d path p lines HtmlToEnd items gap left (until, found, (own, is, opens)) =
     subst (AreNamed d.names) (sym (ap items_of_leaf opens))
     (block_named d.names _ _ _ is.chain own is.items_are tt (lines_named range_html d [] _ is.chain html_is_free tt is.lines))
 opens_named d path p lines HtmlToBlank items gap left (own, is, opens) =

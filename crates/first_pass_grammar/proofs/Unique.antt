@@ -8,6 +8,7 @@ use Rattle.first_pass_items.specs.declared.item.ItemBody.TheVariants.{Root, Rule
 use Rattle.first_pass_items.specs.declared.item.ItemBody.TheVariants.{HtmlBlock}
 use Rattle.first_pass_items.specs.declared.option_set.Options.{Options}
 use Rattle.first_pass_items.specs.OptionWords.{has}
+use Rattle.first_pass_html.specs.Ends.{BlockEnd}
 use Rattle.first_pass_lines.specs.Lines.{level_number}
 use Rattle.first_pass_scan.specs.Markers.{task_of}
 use Rattle.first_pass_lines.specs.Rest.{Rest, indent}
@@ -175,14 +176,14 @@ opens_once d n path p lines (Metadata byte) o o' e f =
     one_extent d.names n (Metadata byte) p x (IsMetadata d (offset (unindented p)) byte x.places x.«end»)
     (IsMetadata (with_names d n) (offset (unindented p)) byte x.places x.«end») o o'
     (one_metadata d n (offset (unindented p)) byte x.places x.«end») e f
-opens_once d n path p lines HtmlToEnd o o' (text, is, e) (text', is', f) =
-    let found : Some text' ≡ Some text = sym is' ∙ is in
-    let same : text' ≡ text = cc in
-    let x : Extent = until_end (length d.text) path text (unindented p) lines in
+opens_once d n path p lines HtmlToEnd o o' (until, is, e) (until', is', f) =
+    let found : Some until' ≡ Some until = sym is' ∙ is in
+    let same : until' ≡ until = cc in
+    let x : Extent = until_end (length d.text) path until (unindented p) lines in
     one_extent d.names n HtmlToEnd p x (IsHtml d (offset (unindented p)) (indent p.rest) x.places x.«end»)
     (IsHtml (with_names d n) (offset (unindented p)) (indent p.rest) x.places x.«end») o o'
     (one_html d n (offset (unindented p)) (indent p.rest) x.places x.«end») e
-    (subst (λ (t : List ℕ).
+    (subst (λ (t : BlockEnd).
     let y = until_end (length d.text) path t (unindented p) lines in
     OpensExtent HtmlToEnd p y (IsHtml (with_names d n) (offset (unindented p)) (indent p.rest) y.places y.«end») o') same f)
 opens_once d n path p lines HtmlToBlank o o' e f =

@@ -22,7 +22,7 @@ use Rattle.first_pass_grammar.specs.Kinds.{Paragraph, unindented, is_blank_rest,
 use Rattle.first_pass_grammar.specs.Leaves.{Document, around, heading_text_at, block_with, TextLines}
 use Rattle.first_pass_grammar.specs.CodeBlocks.{fence_judge, metadata_judge, metadata_kind}
 use Rattle.first_pass_grammar.specs.Extents.{in_containers}
-use Rattle.first_pass_grammar.specs.HtmlBlocks.{holds, tag_judge, blank_judge}
+use Rattle.first_pass_grammar.specs.HtmlBlocks.{holds_end, tag_judge, blank_judge}
 use Rattle.first_pass_grammar.specs.LinkTables.{LinkEntry}
 use Rattle.first_pass_grammar.specs.LinkRuns.{kind_in, Beyond, Ended, FlowsOn}
 use Rattle.first_pass_grammar.specs.RawLines.{range_text, range_html}
@@ -163,13 +163,13 @@ module _ (d : Document) (full : HeadsAreFull d) where
         tt,
         extent_at d.text (in_containers path (metadata_judge byte)) (length d.text) lines h,
       )
-  opens_as path p lines HtmlToEnd o i h (text, found, (items, is, e)) =
+  opens_as path p lines HtmlToEnd o i h (until, found, (items, is, e)) =
       subst (WholeOpening d) (sym e) (
         chain_whole d.names _ _ HtmlBlock is.chain items is.items_are (λ names depth start end. refl)
             (raw_lines_each ShowsNothing raw_shows range_html d [] _ is.chain (range_html_each ShowsNothing raw_shows) tt is.lines),
         tt,
-        tag_left_at d.text (holds text (line_of (unindented p))) (unindented p) lines _ h
-            (extent_at d.text (in_containers path (tag_judge text)) (length d.text) lines h),
+        tag_left_at d.text (holds_end until (line_of (unindented p))) (unindented p) lines _ h
+            (extent_at d.text (in_containers path (tag_judge until)) (length d.text) lines h),
       )
   opens_as path p lines HtmlToBlank o i h (items, is, e) =
       subst (WholeOpening d) (sym e) (

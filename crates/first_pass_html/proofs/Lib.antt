@@ -7,4 +7,5 @@ pub mod FrontFacts
 pub mod WholeTagFacts
 pub mod LongestNames
 pub mod RawFacts
+pub mod EndFacts
 pub mod TagDecisions

@@ -9,7 +9,8 @@ use Rattle.std.proofs.lemmas.Map.Views.{Contains-from_any, list_any-from_Contain
 use Rattle.std.proofs.lemmas.Option.{none-some}
 use Rattle.std.proofs.lemmas.Slice.Eq.{bytes_eq-Decides}
 use Rattle.first_pass_html.specs.Names.{in_lower_case, block_names, IsBlockName, is_block_name}
-use Rattle.first_pass_html.specs.Starts.{HasBlockName, begins_block_name, begins_block_tag, raw_end_of, raw_end, html_end}
+use Rattle.first_pass_html.specs.Ends.{BlockEnd}
+use Rattle.first_pass_html.specs.Starts.{HasBlockName, begins_block_name, begins_block_tag, is_raw_name, begins_raw_text, html_end}
 use Rattle.first_pass_html.proofs.NameFacts.{name_found}
 
 -- the test of a name finds the names of blocks, and no others
@@ -38,7 +39,7 @@ block_tag_first [] h = absurd (true≢false (sym h))
 block_tag_first (c ∷ cs) h = (c, cs, refl)
 
 -- nor one of the kinds 1 to 5
-pub html_end_first : (bs : List ℕ) (text : List ℕ) → html_end bs ≡ Some text → (c : ℕ) × (cs : List ℕ) × (bs ≡ c ∷ cs)
-unfolding html_end raw_end raw_end_of
-html_end_first [] text h = absurd (none-some text h)
-html_end_first (c ∷ cs) text h = (c, cs, refl)
+pub html_end_first : (bs : List ℕ) (until : BlockEnd) → html_end bs ≡ Some until → (c : ℕ) × (cs : List ℕ) × (bs ≡ c ∷ cs)
+unfolding html_end begins_raw_text is_raw_name
+html_end_first [] until h = absurd (none-some until h)
+html_end_first (c ∷ cs) until h = (c, cs, refl)

@@ -2,6 +2,7 @@
 //! CommonMark 4.6.
 #![tactic(auto)]
 
+pub mod ends;
 pub mod names;
 pub mod starts;
 pub mod tags;

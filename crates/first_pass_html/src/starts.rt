@@ -1,33 +1,30 @@
 //! Where HTML blocks of the kinds 1 to 6 begin.
 
-ghost use Rattle.std.specs.Prelude.{◌≡◌, ◌↔◌, IsTrue, ◌∷◌, MatchOption, None, Some, bytes_eq};
+ghost use Rattle.std.specs.Prelude.{◌≡◌, ◌↔◌, IsTrue, ◌∷◌, bytes_eq};
+ghost use Rattle.std.specs.Option.{option_map};
 ghost use Rattle.first_pass_items.specs.Bytes.{exclamation_mark};
+ghost use Rattle.first_pass_html.specs.Ends.{end_of};
 ghost use Rattle.first_pass_html.specs.Names.{in_lower_case};
 ghost use Rattle.first_pass_html.specs.Starts as starts;
 
+use crate::ends::HtmlEnd;
 use crate::names::{begins_with_name, block_name_len};
 use first_pass_lines::lines::is_ascii_white;
 use first_pass_lines::places::rest_of;
 
-/// The text that ends the HTML block of the kinds 1 to 5 that `bytes`, which follow the `<`, begin:
-/// the closing tag of `<pre`, `<script`, `<style` or `<textarea` in lower case, `-->`, `?>`, `]]>` or
-/// `>`. `None` where no block of these kinds begins. CommonMark 4.6.
-pub fn get_html_end_tag(bytes: &[u8]) -> Option<&'static str>
-    ensures value { MatchOption result (starts.html_end bytes.now ≡ None) (λ text. starts.html_end bytes.now
-        ≡ Some text.now) }
+/// What ends the HTML block of the kinds 1 to 5 that `bytes`, which follow the `<`, begin: any end tag of raw text for
+/// `<pre`, `<script`, `<style` and `<textarea`, else the text `-->`, `?>`, `]]>` or `>`. `None` where no block of these
+/// kinds begins. CommonMark 4.6.
+pub fn get_html_end_tag(bytes: &[u8]) -> Option<HtmlEnd>
+    ensures value { option_map end_of result ≡ starts.html_end bytes.now }
 {
     let [first, rest @ ..] = bytes else {
         return None;
     };
     match *first {
         b'!' => declaration_end(rest),
-        b'?' => Some("?>"),
-        b'p' | b'P' => raw_end(bytes, "pre", "</pre>"),
-        b's' | b'S' => {
-            let script = raw_end(bytes, "script", "</script>");
-            script.or(raw_end(bytes, "style", "</style>"))
-        }
-        b't' | b'T' => raw_end(bytes, "textarea", "</textarea>"),
+        b'?' => Some(HtmlEnd::Text("?>")),
+        _ if begins_raw_text(bytes) => Some(HtmlEnd::AnyRawTag),
         _ => None,
     }
 }
@@ -46,7 +43,7 @@ pub fn starts_html_block_type_6(bytes: &[u8]) -> bool
 }
 
 /// Whether the name is one of raw text, in any case: pre, script, style or textarea. CommonMark 4.6.
-#[tactic(auto, unfolding(crate::specs::Starts::is_raw_name, crate::specs::Starts::raw_end_of))]
+#[tactic(auto, unfolding(crate::specs::Starts::is_raw_name))]
 pub fn is_raw_name(name: &[u8]) -> bool
     ensures value { result ≡ starts.is_raw_name name.now }
 {
@@ -57,16 +54,16 @@ pub fn is_raw_name(name: &[u8]) -> bool
 }
 
 // What ends the comment, the CDATA section or the declaration whose `<!` stands before the bytes.
-#[tactic(auto, unfolding(crate::specs::Starts::html_end, crate::specs::Starts::raw_end))]
-fn declaration_end(bytes: &[u8]) -> Option<&'static str>
-    ensures { starts.IsText (starts.html_end (exclamation_mark ∷ bytes.now)) result }
+#[tactic(auto, unfolding(crate::specs::Starts::html_end, crate::specs::Starts::begins_raw_text))]
+fn declaration_end(bytes: &[u8]) -> Option<HtmlEnd>
+    ensures { option_map end_of result ≡ starts.html_end (exclamation_mark ∷ bytes.now) }
 {
     if bytes.starts_with(b"--") {
-        Some("-->")
+        Some(HtmlEnd::Text("-->"))
     } else if bytes.starts_with(b"[CDATA[") {
-        Some("]]>")
+        Some(HtmlEnd::Text("]]>"))
     } else if begins_letter(bytes) {
-        Some(">")
+        Some(HtmlEnd::Text(">"))
     } else {
         None
     }
@@ -82,15 +79,22 @@ fn begins_letter(bytes: &[u8]) -> bool
     }
 }
 
-// The `end` of raw text, where the bytes begin with its name, in any case, and what ends the name.
-fn raw_end(bytes: &[u8], name: &str, end: &'static str) -> Option<&'static str>
-    ensures { starts.IsTextIf (starts.begins_raw name.now bytes.now) end.now result }
+// Whether a raw text begins here: pre, script, style or textarea in any case, and what ends the name.
+#[tactic(auto, using(crate::proofs::RawFacts::raw_begins))]
+fn begins_raw_text(bytes: &[u8]) -> bool
+    ensures { result ≡ starts.begins_raw_text bytes.now }
 {
-    if begins_with_name(bytes, name.as_bytes()) && ends_raw_name(rest_of(bytes, name.len())) {
-        Some(end)
-    } else {
-        None
-    }
+    begins_raw(bytes, b"pre")
+        || begins_raw(bytes, b"script")
+        || begins_raw(bytes, b"style")
+        || begins_raw(bytes, b"textarea")
+}
+
+// Whether the bytes begin with the name of raw text, in any case, and what ends it.
+fn begins_raw(bytes: &[u8], name: &[u8]) -> bool
+    ensures { result ≡ starts.begins_raw name.now bytes.now }
+{
+    begins_with_name(bytes, name) && ends_raw_name(rest_of(bytes, name.len()))
 }
 
 // Whether the name of raw text ends before these bytes.

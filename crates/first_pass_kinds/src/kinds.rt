@@ -9,6 +9,7 @@ ghost use Rattle.first_pass_grammar.specs.Kinds.{html_kind, last_kind, metadata_
 ghost use Rattle.first_pass_kinds.specs.Found.{kind_of, IsFoundWith};
 
 use bitflags::Flags;
+use first_pass_html::ends::HtmlEnd;
 use first_pass_html::starts::{get_html_end_tag, starts_html_block_type_6};
 use first_pass_html::tags::scan_html_type_7;
 use first_pass_items::item::HeadingLevel;
@@ -40,8 +41,8 @@ pub enum MarkedLeaf {
     IndentedCode,
     /// A metadata block, with the byte of its marks: `-` or `+`.
     Metadata(u8),
-    /// An HTML block of the kinds 1 to 5, with the text that ends it (CommonMark 4.6).
-    HtmlToEnd(&'static str),
+    /// An HTML block of the kinds 1 to 5, with what ends it (CommonMark 4.6).
+    HtmlToEnd(HtmlEnd),
     /// A thematic break, with how many bytes it has, its line end too (CommonMark 4.1).
     ThematicBreak(usize),
     /// An ATX heading (CommonMark 4.2).

@@ -15,6 +15,7 @@ use Rattle.first_pass_items.specs.declared.item.Item.{Item}
 use Rattle.first_pass_items.specs.declared.item.ItemBody.TheVariants.{HtmlBlock}
 use Rattle.first_pass_items.specs.declared.option_set.Options.{Options}
 use Rattle.first_pass_tree.specs.Forest.{Forest, is_text, appended}
+use Rattle.first_pass_html.specs.Ends.{BlockEnd, AtRawEndTag, AtText, holds_raw_end_tag}
 use Rattle.first_pass_html.specs.Starts.{begins_with}
 use Rattle.first_pass_lines.specs.Lines.{line_len}
 use Rattle.first_pass_lines.specs.Places.{Place, offset, line_of, line_end, IsPlaceOf}
@@ -27,7 +28,7 @@ use Rattle.first_pass_grammar.specs.Names.{Names, Extends}
 use Rattle.first_pass_grammar.specs.Leaves.{Document, document, block_with}
 use Rattle.first_pass_grammar.specs.RawLines.{AreColumns, ends_with_both, range_html, raw_items, IsRawLine, AreRawLines}
 use Rattle.first_pass_grammar.specs.Extents.{Extent, with_line, ends_at, Verdict, GoesOn, IsLast, Closes, extent_by}
-use Rattle.first_pass_grammar.specs.HtmlBlocks.{holds, is_empty, tag_judge, blank_judge, owing, IsHtml}
+use Rattle.first_pass_grammar.specs.HtmlBlocks.{holds, holds_end, is_empty, tag_judge, blank_judge, owing, IsHtml}
 use Rattle.first_pass_grammar.specs.Completion.{lines_from}
 use Rattle.first_pass_names.proofs.NameLemmas.{extends_none, extends_both}
 use Rattle.first_pass_open.specs.OpenBlock.{closed_by, opened_block}
@@ -68,31 +69,41 @@ holds-decides text (b ∷ bs) =
     (λ s. elim s [ inl first ↦ stands_first text (b ∷ bs) first | inr behind ↦ stands_behind text b bs behind ]) (stands_either text b bs)
     (Decides-or (begins_with text (b ∷ bs)) (holds text bs) (begun text (b ∷ bs)) (holds-decides text bs))
 
--- what a search in what is left of a line tells
-pub held_is : (text tag : List ℕ) (p : Place) (at next : ℕ) (found : Bool) (piece : List ℕ)
-    → IsPlaceAt text at p → next ≡ line_end p → piece ≡ slice_range text at next → MatchBool found (HasMatch (FindsText tag) piece) (FindsText tag piece None)
-    → holds tag (line_of p) ≡ found
-held_is text tag p at next found piece i next_is piece_is m =
+-- what a search in a line tells
+pub raw_held : (until : BlockEnd) (line bytes : List ℕ) (found : Bool) → until ≡ AtRawEndTag → bytes ≡ line → found ≡ holds_raw_end_tag bytes
+    → found ≡ holds_end until line
+unfolding holds_end
+raw_held until line bytes found until_is same is = rw until_is (is ∙ ap holds_raw_end_tag same)
+
+pub text_held : (until : BlockEnd) (text line : List ℕ) (found : Bool)
+    → until ≡ AtText text → MatchBool found (HasMatch (FindsText text) line) (FindsText text line None) → found ≡ holds_end until line
+unfolding holds_end
+text_held until text line found until_is m = rw until_is (sym (one_answer (holds text line) found (holds-decides text line) (contains_text found text line m)))
+
+-- whether a line holds what ends a block, at a place that begins what is left of it
+pub held_is : (text : List ℕ) (until : BlockEnd) (p : Place) (at next : ℕ) (found : Bool) (piece : List ℕ)
+    → IsPlaceAt text at p → next ≡ line_end p → piece ≡ slice_range text at next → found ≡ holds_end until piece → holds_end until (line_of p) ≡ found
+held_is text until p at next found piece i next_is piece_is is =
     let start = i.offset_is in
     let k : next - at ≡ line_len p.rest.left = omega arith in
-    ap (λ n. holds tag (take n p.rest.left)) (sym k) ∙ ap (λ bs. holds tag (take (next - at) bs)) i.left_is ∙ ap (holds tag) (sym piece_is)
-    ∙ one_answer (holds tag piece) found (holds-decides tag piece) (contains_text found tag piece m)
+    ap (λ n. holds_end until (take n p.rest.left)) (sym k) ∙ ap (λ bs. holds_end until (take (next - at) bs)) i.left_is ∙ ap (holds_end until) (sym piece_is)
+    ∙ sym is
 
 some_left : (bs : List ℕ) → ¬ (length bs ≡ 0) → is_empty bs ≡ false
 some_left [] e = absurd (e refl)
 some_left (b ∷ bs) e = refl
 
 -- what a line is to an HTML block of the kinds 1 to 5, of which something is left at a place
-pub tag_here : (text tag : List ℕ) (line p : Place) (at next : ℕ) (found : Bool) (piece : List ℕ)
+pub tag_here : (text : List ℕ) (until : BlockEnd) (line p : Place) (at next : ℕ) (found : Bool) (piece : List ℕ)
     → IsPlaceOf text p → at ≡ offset p → ¬ (at ≡ length text) → next ≡ line_end p → piece ≡ slice_range text at next
-    → MatchBool found (HasMatch (FindsText tag) piece) (FindsText tag piece None) → {v : Bool} → found ≡ v
-    → tag_judge tag line p ≡ (if v then IsLast p else GoesOn p)
-tag_here text tag line p at next found piece i at_is some next_is piece_is m {v} is =
+    → found ≡ holds_end until piece → {v : Bool} → found ≡ v
+    → tag_judge until line p ≡ (if v then IsLast p else GoesOn p)
+tag_here text until line p at next found piece i at_is some next_is piece_is m {v} is =
     let l = place_length text p i in
     let left = some_left p.rest.left (λ e. some (omega arith)) in
     let held =
-    held_is text tag p at next found piece (record { offset_is = sym at_is; left_is = i.left ∙ ap (λ k. drop k text) (sym at_is) }) next_is piece_is m in
-    ap (λ t. if t then Closes (offset p) else (if holds tag (line_of p) then IsLast p else GoesOn p)) left
+    held_is text until p at next found piece (record { offset_is = sym at_is; left_is = i.left ∙ ap (λ k. drop k text) (sym at_is) }) next_is piece_is m in
+    ap (λ t. if t then Closes (offset p) else (if holds_end until (line_of p) then IsLast p else GoesOn p)) left
     ∙ ap (λ t. if t then IsLast p else GoesOn p) (held ∙ is)
 
 -- items that are no texts, so that nothing is joined to one
@@ -209,21 +220,21 @@ module _ (text : List ℕ) (options : Options) (named : Names) (start columns ne
     behind_first path judge = ap (extent_from text path judge) (ap (behind_line_at text) i.offset_is ∙ sym next_is)
 
     -- where the first line holds the text that ends the kind
-    held_extent : (path : List Container) (tag : List ℕ)
-        → holds tag (line_of p) ≡ true → html_to_end text path tag p ≡ with_line p (ends_at next (lines_from text next))
-    held_extent path tag held =
+    held_extent : (path : List Container) (until : BlockEnd)
+        → holds_end until (line_of p) ≡ true → html_to_end text path until p ≡ with_line p (ends_at next (lines_from text next))
+    held_extent path until held =
         ap (λ t. extent_by (if t then IsLast p else GoesOn p) p (lines_from text (behind_line_at text (offset p)))
-        (extent_from text path (tag_judge tag) (behind_line_at text (offset p)))) held
+        (extent_from text path (tag_judge until) (behind_line_at text (offset p)))) held
         ∙ ap (λ k. with_line p (ends_at k (lines_from text (behind_line_at text (offset p))))) (sym first_end)
         ∙ ap (λ k. with_line p (ends_at next (lines_from text k))) (ap (behind_line_at text) i.offset_is ∙ sym next_is)
 
     -- where it doesn't, and where none is sought
-    pub tag_extent : (path : List Container) (tag : List ℕ)
-        → holds tag (line_of p) ≡ false → html_to_end text path tag p ≡ with_line p (extent_from text path (tag_judge tag) next)
-    tag_extent path tag held =
+    pub tag_extent : (path : List Container) (until : BlockEnd)
+        → holds_end until (line_of p) ≡ false → html_to_end text path until p ≡ with_line p (extent_from text path (tag_judge until) next)
+    tag_extent path until held =
         ap (λ t. extent_by (if t then IsLast p else GoesOn p) p (lines_from text (behind_line_at text (offset p)))
-        (extent_from text path (tag_judge tag) (behind_line_at text (offset p)))) held
-        ∙ ap (with_line p) (behind_first path (tag_judge tag))
+        (extent_from text path (tag_judge until) (behind_line_at text (offset p)))) held
+        ∙ ap (with_line p) (behind_first path (tag_judge until))
 
     pub blank_extent : (path : List Container) → html_to_blank text path p ≡ with_line p (extent_from text path blank_judge next)
     blank_extent path = ap (with_line p) (behind_first path blank_judge)
@@ -235,12 +246,12 @@ module _ (text : List ℕ) (options : Options) (named : Names) (start columns ne
         (first_read (ends_at next [])) in_opened ∙ opened_path options g opened start HtmlBlock refl refl there
 
     -- the block has one line
-    pub html_one : (tag : List ℕ) (new : Forest Item) → holds tag (line_of p) ≡ true → new ≡ closed_by one next one.spine
+    pub html_one : (until : BlockEnd) (new : Forest Item) → holds_end until (line_of p) ≡ true → new ≡ closed_by one next one.spine
         → (
-        let e = html_to_end text (path_of options g) tag p in
+        let e = html_to_end text (path_of options g) until p in
         AddsRaw (document text options named) (λ d. IsHtml d start columns e.places e.«end») e.left g new next)
-    html_one tag new held new_is = whole_added named (html_to_end text (path_of options g) tag p) (ends_at next (lines_from text next)) one new next next
-        (held_extent (path_of options g) tag held) first_alone new_is
+    html_one until new held new_is = whole_added named (html_to_end text (path_of options g) until p) (ends_at next (lines_from text next)) one new next next
+        (held_extent (path_of options g) until held) first_alone new_is
 
     -- it has those after the first, too
     module _ (names : Names) (judge : Place → Place → Verdict) (two : Forest Item) (e : Extent) (stop left : ℕ) (path : path_of options one ≡ path_of options g)

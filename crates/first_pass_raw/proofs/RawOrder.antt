@@ -11,6 +11,7 @@ use Rattle.std.proofs.lemmas.Str.{IsCharBoundary-before_ascii, IsCharBoundary-en
 use Rattle.first_pass_items.specs.declared.item.Item.{Item}
 use Rattle.first_pass_items.specs.declared.item.ItemBody.{ItemBody}
 use Rattle.first_pass_items.specs.declared.item.ItemBody.TheVariants.{IndentCodeBlock, FencedCodeBlock, MetadataBlock, HtmlBlock}
+use Rattle.first_pass_html.specs.Ends.{BlockEnd}
 use Rattle.first_pass_lines.specs.Lines.{begins, is_content, is_blank, line_len, at_line_end}
 use Rattle.first_pass_scan.specs.LeafLines.{run_len, has_backquote, code_fence, closing_fence_len}
 use Rattle.first_pass_metadata.specs.Metadata.{three_of, closing_marks, closing_metadata_len}
@@ -31,7 +32,7 @@ use Rattle.first_pass_grammar.specs.Extents.{Extent as Lines, with_line, ends_at
 use Rattle.first_pass_grammar.specs.Extents.{in_containers}
 use Rattle.first_pass_grammar.specs.CodeBlocks.{code_place, code_by, code_lines, unless_blank, without_blanks, last_end, IsIndentedCode, closing_fence_end}
 use Rattle.first_pass_grammar.specs.CodeBlocks.{fence_verdict, fence_judge, IsFencedCode, metadata_verdict, metadata_judge, metadata_kind, IsMetadata}
-use Rattle.first_pass_grammar.specs.HtmlBlocks.{holds, is_empty, tag_verdict, tag_judge, blank_judge, first_owing, IsHtml}
+use Rattle.first_pass_grammar.specs.HtmlBlocks.{holds_end, is_empty, tag_verdict, tag_judge, blank_judge, first_owing, IsHtml}
 use Rattle.first_pass_grammar.specs.Completion.{lines_from}
 use Rattle.first_pass_grammar.specs.Counting.{own_nodes}
 use Rattle.first_pass_grammar.specs.Order.{Elsewhere, FitsBetween}
@@ -734,10 +735,10 @@ module _ (text : List ℕ) (u : IsUtf8 text) (path : List Container) where
       metadata_verdict_within at line q (closing_metadata_len byte line.rest.left) is b i (λ n h. metadata_ends byte line.rest.left n h)
 
   -- of an HTML block
-  tag_stays : (tag : List ℕ) → StaysWithin (tag_judge tag)
-  tag_stays tag at line q is b i =
-      cond_both (is_empty q.rest.left) (Closes (offset q)) (tag_verdict tag q) (IsWithin at) (λ none. (in_behind at q i, i.stands.boundary))
-      (λ some. cond_both (holds tag (line_of q)) (IsLast q) (GoesOn q) (IsWithin at) (λ held. i) (λ other. i))
+  tag_stays : (until : BlockEnd) → StaysWithin (tag_judge until)
+  tag_stays until at line q is b i =
+      cond_both (is_empty q.rest.left) (Closes (offset q)) (tag_verdict until q) (IsWithin at) (λ none. (in_behind at q i, i.stands.boundary))
+      (λ some. cond_both (holds_end until (line_of q)) (IsLast q) (GoesOn q) (IsWithin at) (λ held. i) (λ other. i))
 
   blank_stays : StaysWithin blank_judge
   blank_stays at line q is b i =
@@ -831,13 +832,13 @@ module _ (text : List ℕ) (u : IsUtf8 text) (path : List Container) where
   pub metadata_behind_placed : (byte start : ℕ) → IsCharBoundary text start → IsPlaced text start (metadata_behind text path byte start)
   metadata_behind_placed byte start b = behind_placed (metadata_judge byte) (metadata_stays byte) start b
 
-  pub to_end_placed : (tag : List ℕ) (p : Place) → IsPlaceOf text p → IsPlaced text (offset p) (html_to_end text path tag p)
-  to_end_placed tag p i =
+  pub to_end_placed : (until : BlockEnd) (p : Place) → IsPlaceOf text p → IsPlaced text (offset p) (html_to_end text path until p)
+  to_end_placed until p i =
       let lines : List Place = lines_from text (behind_line_at text (offset p)) in
-      cond_both (holds tag (line_of p)) (IsLast p) (GoesOn p)
-      (λ (v : Verdict). IsPlaced text (offset p) (extent_by v p lines (extent (in_containers path (tag_judge tag)) (length text) lines)))
+      cond_both (holds_end until (line_of p)) (IsLast p) (GoesOn p)
+      (λ (v : Verdict). IsPlaced text (offset p) (extent_by v p lines (extent (in_containers path (tag_judge until)) (length text) lines)))
       (λ held. only_placed p (line_end p) lines i (omega arith) (place_end text p u i))
-      (λ other. first_placed (tag_judge tag) (tag_stays tag) lines p i (ap (lines_from text) (place_line p i)))
+      (λ other. first_placed (tag_judge until) (tag_stays until) lines p i (ap (lines_from text) (place_line p i)))
 
   pub to_blank_placed : (p : Place) → IsPlaceOf text p → IsPlaced text (offset p) (html_to_blank text path p)
   to_blank_placed p i = first_placed blank_judge blank_stays (lines_from text (behind_line_at text (offset p))) p i (ap (lines_from text) (place_line p i))
@@ -914,11 +915,11 @@ module _ (text : List ℕ) (u : IsUtf8 text) (path : List Container) where
       let long = ap (λ (p : Place). line_len p.rest.left) is in
       metadata_before at line q (closing_metadata_len byte line.rest.left) (λ n h. let w = metadata_within byte line.rest.left n plain h in omega arith)
 
-  tag_stays_before : (tag : List ℕ) → StaysBefore (tag_judge tag)
-  tag_stays_before tag at line q is i =
+  tag_stays_before : (until : BlockEnd) → StaysBefore (tag_judge until)
+  tag_stays_before until at line q is i =
       let same = i.same_end in
-      cond_both (is_empty q.rest.left) (Closes (offset q)) (tag_verdict tag q) (IsBefore at) (λ none. omega arith)
-      (λ some. cond_both (holds tag (line_of q)) (IsLast q) (GoesOn q) (IsBefore at) (λ held. omega arith) (λ other. tt))
+      cond_both (is_empty q.rest.left) (Closes (offset q)) (tag_verdict until q) (IsBefore at) (λ none. omega arith)
+      (λ some. cond_both (holds_end until (line_of q)) (IsLast q) (GoesOn q) (IsBefore at) (λ held. omega arith) (λ other. tt))
 
   -- So do the raw leaf blocks, but for an HTML block that ends after the prefix of a blank line.
   behind_before : (judge : Place → Place → Verdict) → StaysBefore judge → (start : ℕ) → IsCharBoundary text start
@@ -933,11 +934,11 @@ module _ (text : List ℕ) (u : IsUtf8 text) (path : List Container) where
   pub metadata_behind_before : (byte start : ℕ) → is_content byte ≡ true → IsCharBoundary text start → EndsBefore text (metadata_behind text path byte start)
   metadata_behind_before byte start plain b = behind_before (metadata_judge byte) (metadata_stays_before byte plain) start b
 
-  pub to_end_before : (tag : List ℕ) (p : Place) → IsPlaceOf text p → EndsBefore text (html_to_end text path tag p)
-  to_end_before tag p i =
+  pub to_end_before : (until : BlockEnd) (p : Place) → IsPlaceOf text p → EndsBefore text (html_to_end text path until p)
+  to_end_before until p i =
       let lines : List Place = lines_from text (behind_line_at text (offset p)) in
       let left = left_start (offset p) lines i.boundary refl in
       let ends = place_line p i in
-      cond_both (holds tag (line_of p)) (IsLast p) (GoesOn p)
-      (λ (v : Verdict). EndsBefore text (extent_by v p lines (extent (in_containers path (tag_judge tag)) (length text) lines)))
-      (λ held. omega arith) (λ other. behind_before (tag_judge tag) (tag_stays_before tag) (offset p) i.boundary)
+      cond_both (holds_end until (line_of p)) (IsLast p) (GoesOn p)
+      (λ (v : Verdict). EndsBefore text (extent_by v p lines (extent (in_containers path (tag_judge until)) (length text) lines)))
+      (λ held. omega arith) (λ other. behind_before (tag_judge until) (tag_stays_before until) (offset p) i.boundary)

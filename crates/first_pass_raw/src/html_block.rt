@@ -8,7 +8,8 @@ ghost use Rattle.first_pass_names.specs.TableEntries.{names_of, NamesMore};
 ghost use Rattle.first_pass_items.specs.declared.item.ItemBody.TheVariants.{HtmlBlock};
 ghost use Rattle.first_pass_items.specs.declared.option_set.Options.{Options};
 ghost use Rattle.first_pass_grammar.specs.RawLines.{range_html};
-ghost use Rattle.first_pass_grammar.specs.HtmlBlocks.{IsHtml};
+ghost use Rattle.first_pass_html.specs.Ends.{end_of};
+ghost use Rattle.first_pass_grammar.specs.HtmlBlocks.{holds_end, IsHtml};
 ghost use Rattle.first_pass_tokens.specs.TreeTokens.{JoinsNone};
 ghost use Rattle.first_pass_open.specs.OpenBlock.{opened_block};
 ghost use Rattle.first_pass_raw.specs.RawBlocks.{IsPlaceAt, AppendsRaw, AddsRaw, html_to_end, html_to_blank};
@@ -17,6 +18,7 @@ ghost use Rattle.first_pass_raw.specs.RawBlocks.{behind_line_at};
 use crate::extent::{JudgesLines, read_lines};
 use crate::raw_line::{RawKind, RawLine, append_raw_line};
 use crate::verdict::Verdict;
+use first_pass_html::ends::{HtmlEnd, holds_raw_end_tag};
 use first_pass_items::item::{Item, ItemBody};
 use first_pass_lines::lines::scan_blank_line;
 use first_pass_lines::places::next_line;
@@ -36,20 +38,19 @@ pub struct HtmlStart {
     pub columns: usize,
 }
 
-/// Appends the HTML block of the kinds 1 to 5 that begins at `start` and continues to the line that holds
-/// `html_end_tag`. Returns the offset at which the line begins that is not read, or the text's length (CommonMark
-/// 4.6).
+/// Appends the HTML block of the kinds 1 to 5 that begins at `start` and continues to the first line that holds its
+/// end. Returns the offset at which the line begins that is not read, or the text's length (CommonMark 4.6).
 pub fn parse_html_block_type_1_to_5<'a>(
     source: &Source<'a>,
     tree: &mut Tree<Item>,
     allocs: &mut Allocations<'a>,
     start: HtmlStart,
-    html_end_tag: &str,
+    html_end: HtmlEnd,
 ) -> Result<usize, AllocError>
     requires boundary { IsCharBoundary source.now.text.now start.at }
     requires columns { start.columns ≤ 3 }
     ensures block { IfOk result (λ next. (p : Place) → IsPlaceAt source.now.text.now start.at p
-        → let e = html_to_end source.now.text.now (path_of source.now.options tree.old) html_end_tag.now p in
+        → let e = html_to_end source.now.text.now (path_of source.now.options tree.old) (end_of html_end) p in
         AddsRaw (document source.now.text.now source.now.options (names_of allocs.new)) (λ d.
         IsHtml d start.at start.columns e.places e.«end») e.left tree.old tree.new next) }
     ensures boundary { IfOk result (λ next. (behind_line_at source.now.text.now start.at ≤ next)
@@ -58,12 +59,11 @@ pub fn parse_html_block_type_1_to_5<'a>(
     ensures utf8 { IsUtf8 source.now.text.now }
 {
     let end = open_html_block(tree, allocs, source.text, start)?;
-    if source.text[start.at..end].contains(html_end_tag) {
+    if holds_end(&source.text[start.at..end], html_end) {
         close_block(tree, end);
         return Ok(end);
     }
-    let block = ToTag { tag: html_end_tag };
-    let lines = read_lines(&block, source, tree, allocs, end)?;
+    let lines = read_lines(&ToEnd { html_end }, source, tree, allocs, end)?;
     close_block(tree, lines.end);
     Ok(lines.next)
 }
@@ -126,17 +126,28 @@ fn open_html_block<'a>(
     Ok(next)
 }
 
-// An HTML block that continues to the line that holds this text.
-#[derive(Clone, Copy)]
-struct ToTag<'t> {
-    tag: &'t str,
+// Whether what ends a block of the kinds 1 to 5 stands somewhere in the line.
+fn holds_end(line: &str, html_end: HtmlEnd) -> bool
+    ensures { result ≡ holds_end (end_of html_end) line.now }
+{
+    match html_end {
+        HtmlEnd::AnyRawTag => holds_raw_end_tag(line.as_bytes()),
+        HtmlEnd::Text(text) => line.contains(text),
+    }
 }
 
-impl JudgesLines for ToTag<'_> {
+// An HTML block that continues to the first line that holds its end.
+#[derive(Clone, Copy)]
+struct ToEnd {
+    html_end: HtmlEnd,
+}
+
+impl JudgesLines for ToEnd {
     ghost use Rattle.first_pass_grammar.specs.HtmlBlocks.{tag_judge};
+    ghost use Rattle.first_pass_html.specs.Ends.{end_of};
     ghost use Rattle.first_pass_raw.specs.declared.raw_line.RawKind.TheVariants.{Html};
 
-    ghost judges = { λ block. tag_judge block.tag.now };
+    ghost judges = { λ block. tag_judge (end_of block.html_end) };
 
     ghost kinds = { λ block. Html };
 
@@ -157,7 +168,7 @@ impl JudgesLines for ToTag<'_> {
         if at == text.len() {
             return Verdict::Closes(at);
         }
-        if text[at..next].contains(self.tag) {
+        if holds_end(&text[at..next], self.html_end) {
             Verdict::IsLast
         } else {
             Verdict::GoesOn

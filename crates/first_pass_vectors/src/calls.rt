@@ -3,7 +3,9 @@
 use bitflags::Flags;
 use first_pass::below::{Item, ItemBody, TreeIndex};
 use first_pass::flank::TableParseMode;
-use first_pass::pass::{FirstPass, count_header_cols, run_first_pass, surgerize_tight_list};
+use first_pass::pass::{
+    FirstPass, HtmlEnd, count_header_cols, run_first_pass, surgerize_tight_list,
+};
 use first_pass_items::option_set::Options;
 use first_pass_lines::lines::scan_atx_heading;
 use first_pass_scan::leaf_scan::scan_code_fence;
@@ -199,7 +201,12 @@ fn metadata_end(alloc: Global) -> Result<usize, AllocError> {
 
 fn comment_end(alloc: Global) -> Result<usize, AllocError> {
     let mut pass = FirstPass::new(alloc, "<!-- a\n-->\nb", Options::empty())?;
-    pass.parse_html_block_type_1_to_5(0, "-->", 0, 0)
+    pass.parse_html_block_type_1_to_5(0, HtmlEnd::Text("-->"), 0, 0)
+}
+
+fn preformatted_end(alloc: Global) -> Result<usize, AllocError> {
+    let mut pass = FirstPass::new(alloc, "<pre>\n</STYLE>\na", Options::empty())?;
+    pass.parse_html_block_type_1_to_5(0, HtmlEnd::AnyRawTag, 0, 0)
 }
 
 fn division_end(alloc: Global) -> Result<usize, AllocError> {
@@ -223,6 +230,7 @@ fn raw_blocks(rt: HostRuntime) -> Result<(), Fail> {
     assert_eq!(rt; indented_end(rt.alloc())?, 7);
     assert_eq!(rt; metadata_end(rt.alloc())?, 10);
     assert_eq!(rt; comment_end(rt.alloc())?, 11);
+    assert_eq!(rt; preformatted_end(rt.alloc())?, 15);
     assert_eq!(rt; division_end(rt.alloc())?, 6);
     append_code(rt.alloc())?;
     append_html(rt.alloc())?;

@@ -125,6 +125,20 @@ fn long_paragraphs_and_tables(rt: HostRuntime) -> Result<(), Fail> {
     Ok(())
 }
 
+#[test]
+fn raw_text_without_its_end(rt: HostRuntime) -> Result<(), Fail> {
+    let cases: &[(&[(&str, usize)], usize, usize)] = &[
+        // The root, the block, and its two lines.
+        (&[("<pre>\n", 1), ("<", 100_000)], 4, 0),
+        (&[("<pre>\n", 1), ("</textarea", 10_000)], 4, 0),
+        // The root, the block, and many lines.
+        (&[("<pre>\n", 1), ("< </ </pre\n", 10_000)], 10_003, 0),
+        // The same as a comment.
+        (&[("<!--\n", 1), ("--<\n", 25_000)], 25_003, 0),
+    ];
+    assert_counted(&rt, rt.alloc(), cases)
+}
+
 // The tree of a table of 1,025 columns with 256 rows of one cell that is not filled in, which fill in all that may be,
 // and then a line.
 fn wide(alloc: Global, line: &[(&str, usize)]) -> Result<Tree<Item>, AllocError> {

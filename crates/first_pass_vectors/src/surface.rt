@@ -18,8 +18,8 @@ pub use first_pass::items::{
     Allocations, FootDefs, FootnoteDef, HeadingAttributes, LabelKey, LinkDef, RefDefs,
 };
 pub use first_pass::pass::{
-    FirstPass, count_header_cols, fixup_end_of_definition_list, get_html_end_tag, run_first_pass,
-    scan_paragraph_interrupt_no_table, surgerize_tight_list,
+    FirstPass, HtmlEnd, count_header_cols, fixup_end_of_definition_list, get_html_end_tag,
+    run_first_pass, scan_paragraph_interrupt_no_table, surgerize_tight_list,
 };
 pub use first_pass::walk::{LoopInstruction, iterate_special_bytes, next_special, special_bytes};
 

@@ -1,6 +1,7 @@
 //! Calls of `first_pass_html`.
 
 use first_pass_cases::answer::Answer;
+use first_pass_html::ends::{HtmlEnd, holds_raw_end_tag};
 use first_pass_html::names::is_block_name;
 use first_pass_html::starts::{get_html_end_tag, is_raw_name, starts_html_block_type_6};
 use first_pass_html::tags::scan_html_type_7;
@@ -10,9 +11,11 @@ use std::alloc::AllocError;
 pub fn answer_html(call: &str, bytes: &[u8], answer: &mut Answer) -> Result<bool, AllocError> {
     match call {
         "get_html_end_tag" => match get_html_end_tag(bytes) {
-            Some(end) => answer.text(end)?,
+            Some(HtmlEnd::AnyRawTag) => answer.word("AnyRawTag")?,
+            Some(HtmlEnd::Text(text)) => answer.text(text)?,
             None => answer.none()?,
         },
+        "holds_raw_end_tag" => answer.flag(holds_raw_end_tag(bytes))?,
         "starts_html_block_type_6" => answer.flag(starts_html_block_type_6(bytes))?,
         "is_block_name" => answer.flag(is_block_name(bytes))?,
         "is_raw_name" => answer.flag(is_raw_name(bytes))?,

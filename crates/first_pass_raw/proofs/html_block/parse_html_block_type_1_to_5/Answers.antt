@@ -1,4 +1,5 @@
 use Rattle.std.proofs.Common.{◌∙◌, arith}
+use Rattle.first_pass_html.specs.Ends.{end_of}
 use Rattle.first_pass_grammar.specs.HtmlBlocks.{tag_judge}
 use Rattle.first_pass_open.specs.Path.{path_of}
 use Rattle.first_pass_raw.proofs.HtmlLemmas.{held_is, first_end, one_open, more_open, html_one, html_more, tag_extent}
@@ -9,20 +10,20 @@ close_block-requires c = one_open c.args.source.now.text.now c.args.source.now.o
     c.args.tree.now c.open_html_block.new.tree
     c.in_ok-end.ensures.line c.in_ok-end.ensures.next.0
 
-pub returns-then-contains-clause-block : goal.returns-then-contains-clause-block
-returns-then-contains-clause-block c = λ p i.
+pub returns-then-holds_end-clause-block : goal.returns-then-holds_end-clause-block
+returns-then-holds_end-clause-block c = λ p i.
     let ends = first_end c.args.source.now.text.now c.args.source.now.options _ c.args.start.at c.args.start.columns c.in_ok-end.«end» c.args.tree.now
     c.open_html_block.new.tree
     c.in_ok-end.ensures.line c.in_ok-end.ensures.next.0 p i in
-    let held = held_is c.args.source.now.text.now c.args.html_end_tag.now p c.args.start.at c.in_ok-end.«end» c.contains.result _ i ends c.range.ensures.value
-    c.contains.ensures.cases ∙ c.if-contains.true in
+    let held = held_is c.args.source.now.text.now (end_of c.args.html_end) p c.args.start.at c.in_ok-end.«end» c.holds_end.result _ i ends c.range.ensures.value
+    c.holds_end.ensures ∙ c.if-holds_end.true in
     html_one c.args.source.now.text.now c.args.source.now.options _ c.args.start.at c.args.start.columns c.in_ok-end.«end» c.args.tree.now
     c.open_html_block.new.tree
     c.in_ok-end.ensures.line c.in_ok-end.ensures.next.0 p i
-    c.args.html_end_tag.now c.close_block.new.tree held c.close_block.ensures
+    (end_of c.args.html_end) c.close_block.new.tree held c.close_block.ensures
 
-pub returns-then-contains-clause-boundary : goal.returns-then-contains-clause-boundary
-returns-then-contains-clause-boundary c = (omega (arith, c.in_ok-end.ensures.next.0), c.in_ok-end.ensures.next.1)
+pub returns-then-holds_end-clause-boundary : goal.returns-then-holds_end-clause-boundary
+returns-then-holds_end-clause-boundary c = (omega (arith, c.in_ok-end.ensures.next.0), c.in_ok-end.ensures.next.1)
 
 pub close_block-requires-2 : goal.close_block-requires-2
 close_block-requires-2 c =
@@ -36,14 +37,14 @@ returns-clause-block c = λ p i.
     let ends = first_end c.args.source.now.text.now c.args.source.now.options _ c.args.start.at c.args.start.columns c.in_ok-end.«end» c.args.tree.now
     c.open_html_block.new.tree
     c.in_ok-end.ensures.line c.in_ok-end.ensures.next.0 p i in
-    let held = held_is c.args.source.now.text.now c.args.html_end_tag.now p c.args.start.at c.in_ok-end.«end» c.contains.result _ i ends c.range.ensures.value
-    c.contains.ensures.cases ∙ c.if-contains.false in
+    let held = held_is c.args.source.now.text.now (end_of c.args.html_end) p c.args.start.at c.in_ok-end.«end» c.holds_end.result _ i ends c.range.ensures.value
+    c.holds_end.ensures ∙ c.if-holds_end.false in
     html_more c.args.source.now.text.now c.args.source.now.options _ c.args.start.at c.args.start.columns c.in_ok-end.«end» c.args.tree.now
     c.open_html_block.new.tree
     c.in_ok-end.ensures.line c.in_ok-end.ensures.next.0 p i
-    _ (tag_judge c.args.html_end_tag.now) c.read_lines.new.tree _ c.in_ok-lines.lines.«end» c.in_ok-lines.lines.next
+    _ (tag_judge (end_of c.args.html_end)) c.read_lines.new.tree _ c.in_ok-lines.lines.«end» c.in_ok-lines.lines.next
     (c.in_ok-end.ensures.path c.args.source.now.options) c.in_ok-lines.ensures.lines
     (tag_extent c.args.source.now.text.now c.args.source.now.options _ c.args.start.at c.args.start.columns c.in_ok-end.«end» c.args.tree.now
     c.open_html_block.new.tree
-    c.in_ok-end.ensures.line c.in_ok-end.ensures.next.0 p i (path_of c.args.source.now.options c.args.tree.now) c.args.html_end_tag.now held)
+    c.in_ok-end.ensures.line c.in_ok-end.ensures.next.0 p i (path_of c.args.source.now.options c.args.tree.now) (end_of c.args.html_end) held)
     c.close_block-2.new.tree c.in_ok-lines.ensures.more.names c.close_block-2.ensures

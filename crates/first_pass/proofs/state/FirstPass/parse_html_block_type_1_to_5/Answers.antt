@@ -1,4 +1,5 @@
 use Rattle.std.proofs.Common.{None, refl, subst}
+use Rattle.first_pass_html.specs.Ends.{end_of}
 use Rattle.first_pass_raw.specs.RawBlocks.{AddsRaw, html_to_end}
 use Rattle.first_pass_open.specs.Path.{path_of}
 use Rattle.first_pass_names.specs.TableEntries.{names_of}
@@ -14,7 +15,7 @@ pub returns-clause-fits : goal.returns-clause-fits
 returns-clause-fits c =
     to_end_between c.args.self.now.pass.source.text.now c.args.self.now.pass.source.options _ c.args.self.now.pass.reading.tree
     c.parse_html_block_type_1_to_5.new.tree
-    c.args.start_ix c.in_ok-next.next c.in_ok-next.ensures.utf8 c.requires.boundary c.in_ok-next.ensures.boundary.1.0 c.args.html_end_tag.now _
+    c.args.start_ix c.in_ok-next.next c.in_ok-next.ensures.utf8 c.requires.boundary c.in_ok-next.ensures.boundary.1.0 (end_of c.args.html_end) _
     c.in_ok-next.ensures.block
 
 pub returns-clause-order : goal.returns-clause-order
@@ -29,7 +30,7 @@ returns-clause-block c = λ p i.
     let self = c.args.self.now in
     let text = self.pass.source.text.now in
     let tree = self.pass.reading.tree in
-    let e : Extent = html_to_end text (path_of self.pass.source.options tree) c.args.html_end_tag.now p in
+    let e : Extent = html_to_end text (path_of self.pass.source.options tree) (end_of c.args.html_end) p in
     subst (λ n. AddsRaw (document text self.pass.source.options (names_of c.parse_html_block_type_1_to_5.new.allocs))
     (λ d. IsHtml d c.args.start_ix n e.places e.«end») e.left
     tree c.parse_html_block_type_1_to_5.new.tree c.in_ok-next.next) c.max.ensures (c.in_ok-next.ensures.block p i)

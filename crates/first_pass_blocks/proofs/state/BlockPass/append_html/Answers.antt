@@ -1,4 +1,5 @@
 use Rattle.std.proofs.Common.{◌≡◌, Some, drop, refl}
+use Rattle.first_pass_html.specs.Ends.{end_of}
 use Rattle.first_pass_html.specs.Starts.{html_end}
 use Rattle.first_pass_grammar.specs.Kinds.{unindented, all_taken}
 use Rattle.first_pass_names.specs.TableEntries.{names_of}
@@ -22,17 +23,17 @@ returns c = λ p f.
     let text = self.source.text.now in
     let options = self.source.options in
     let leaf : MarkedLeaf = HtmlToEnd c.args.«end» in
-    let tag = c.args.«end».now in
+    let until = end_of c.args.«end» in
     let e = c.in_ok-next.ensures in
     let next = c.in_ok-next.next in
     let at = c.args.at in
     let names = names_of c.parse_html_block_type_1_to_5.new.allocs in
     let tree = c.parse_html_block_type_1_to_5.new.tree in
     let i = all_keep text p.line p.rest f.utf8 f.place in
-    let tag_is : html_end (drop 1 (all_taken p.rest).left) ≡ Some tag = f.found.«end» in
+    let until_is : html_end (drop 1 (all_taken p.rest).left) ≡ Some until = f.found.«end» in
     leaf_added self _ p leaf c.args.columns at next f refl e.more refl refl e.boundary
     (to_end_between text options names self.reading.tree tree at next f.utf8 (found_boundary text p at f.utf8 f.place f.found.at_is) e.boundary.1.0
-    tag c.args.columns e.block)
-    (html_end_added text options names p self.reading.tree tree at next f.found.at_is i tag c.args.columns tag_is
+    until c.args.columns e.block)
+    (html_end_added text options names p self.reading.tree tree at next f.found.at_is i until c.args.columns until_is
     (columns_are _ _ f.found.columns_are (found_says options p leaf c.args.columns at f.found)).0
     (e.block (unindented p) (is_here text options names p self.reading.tree tree at next f.found.at_is i)))

@@ -1,0 +1,49 @@
+//! What ends HTML blocks of the kinds 1 to 5.
+
+ghost use Rattle.std.specs.Prelude.{◌≡◌, ◌∷◌};
+ghost use Rattle.first_pass_items.specs.Bytes.{less_than};
+ghost use Rattle.first_pass_html.specs.Ends as ends;
+
+use crate::names::begins_with_name;
+use first_pass_lines::places::rest_of;
+use memchr::memchr;
+
+/// What ends an HTML block of the kinds 1 to 5: the line that holds it is the block's last (CommonMark 4.6).
+#[derive(Clone, Copy)]
+pub enum HtmlEnd {
+    /// Any of `</pre>`, `</script>`, `</style>` and `</textarea>`, in any case. The first kind.
+    AnyRawTag,
+    /// This text: `-->`, `?>`, `>` or `]]>`. The kinds 2 to 5.
+    Text(&'static str),
+}
+
+/// Whether one of `</pre>`, `</script>`, `</style>` and `</textarea>` stands somewhere in the bytes, in any case.
+/// CommonMark 4.6, end condition 1.
+pub fn holds_raw_end_tag(bytes: &[u8]) -> bool
+    ensures { result ≡ ends.holds_raw_end_tag bytes.now }
+{
+    let mut from = 0;
+    while let Some(before) = memchr(b'<', rest_of(bytes, from)) {
+        from += before + 1;
+        if ends_raw_text(rest_of(bytes, from)) {
+            return true;
+        }
+    }
+    false
+}
+
+// Whether the rest of an end tag of raw text stands after its `<`.
+#[tactic(auto, unfolding(crate::specs::Ends::begins_raw_end_tag))]
+fn ends_raw_text(bytes: &[u8]) -> bool
+    ensures { result ≡ ends.begins_raw_end_tag (less_than ∷ bytes.now) }
+{
+    match bytes {
+        [b'/', name @ ..] => {
+            begins_with_name(name, b"pre>")
+                || begins_with_name(name, b"script>")
+                || begins_with_name(name, b"style>")
+                || begins_with_name(name, b"textarea>")
+        }
+        _ => false,
+    }
+}
