@@ -3,7 +3,7 @@
 ghost use Rattle.std.specs.Prelude.{◌≡◌, ◌<◌, ◌≤◌, ◌+◌, ◌*◌, [], length, None, IfOk, IsUtf8, IsCharBoundary};
 ghost use Rattle.first_pass_lines.specs.Places.{offset, line_end, IsPlaceOf};
 ghost use Rattle.first_pass_grammar.specs.Leaves.{document};
-ghost use Rattle.first_pass_grammar.specs.Derivation.{no_tables, Derives};
+ghost use Rattle.first_pass_grammar.specs.Derivation.{no_tables, Derives, IsOnlyDerived};
 ghost use Rattle.first_pass_grammar.specs.Completion.{lines_from};
 ghost use Rattle.first_pass_grammar.specs.Kinds.{Paragraph, unindented, IsKind};
 ghost use Rattle.first_pass_grammar.specs.Counting.{own_nodes};
@@ -250,7 +250,8 @@ impl<'a> BlockPass<'a> {
 }
 
 /// Reads the blocks of a text: the finished tree that the block grammar derives from the text's lines
-/// under these options, and the tables of what the text defines. Nothing is open in the tree, and no paragraph in it
+/// under these options, and the tables of what the text defines. The grammar derives nothing else from them, as the
+/// law `one_derivation` says of any two derivations. Nothing is open in the tree, and no paragraph in it
 /// may still become a title. It has at most four nodes for each byte, besides its root and cells that rows of tables
 /// are filled with; each row has as many cells as its table has columns, and at most 262,144 cells are filled into a
 /// table. Each link definition in the tables is what stands at its range; its label, its destination and a title of one
@@ -262,6 +263,8 @@ pub fn run_first_pass<'a>(
     options: Options,
 ) -> Result<(Tree<Item>, Allocations<'a>), AllocError>
     ensures derived { IfOk result (λ answer. Derives (document text.now options (names_of answer.1)) answer.0.nodes
+        (tables answer.1)) }
+    ensures only { IfOk result (λ answer. IsOnlyDerived text.now options (names_of answer.1) answer.0.nodes
         (tables answer.1)) }
     ensures finished { IfOk result (λ answer. answer.0.spine ≡ []) }
     ensures settled { IfOk result (λ answer. AreSettled answer.0.nodes) }

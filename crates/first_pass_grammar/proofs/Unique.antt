@@ -37,7 +37,7 @@ use Rattle.first_pass_grammar.specs.Skeleton.{task_alone, behind_tag}
 use Rattle.first_pass_grammar.specs.Openers.{task_by, task_behind, tag_behind}
 use Rattle.first_pass_grammar.specs.Skeleton.{Opens, OpensAt, may_define, Level, level, level_in, level_after_leaf, level_after, Left, Lines, InLine, Going, Begins, Ends}
 use Rattle.first_pass_grammar.specs.Skeleton.{going, onward, behind_first, end_before, IsFirst, IsSequence}
-use Rattle.first_pass_grammar.specs.Derivation.{Tables, no_tables, node_of, Derives}
+use Rattle.first_pass_grammar.specs.Derivation.{Tables, no_tables, node_of, Derives, IsOnlyDerived}
 use Rattle.first_pass_grammar.proofs.NoIndex.{HasNoIndex, read_alone}
 use Rattle.first_pass_grammar.specs.RawLines.{range_text, range_html}
 use Rattle.first_pass_grammar.proofs.Alike.{with_names, AlikeNodes, HoldsNoIndex, AlikeLeaf, AlikeOpening, Alike, label_node, opened_alike, label_named}
@@ -449,3 +449,11 @@ one_forest text options m n f g t u x y =
           ∙ sym (ap (read_nodes n) y.forest_is),
       x.tables_are ∙ told_alike m n no_tables x.skeleton y.skeleton s ∙ sym y.tables_are,
     )
+
+-- so it derives nothing else where it derives this
+pub only_derived : (text : List ℕ) (options : Options) (names : Names) (forest : List (ℕ × Item)) (tables : Tables)
+    → Derives (document text options names) forest tables → IsOnlyDerived text options names forest tables
+only_derived text options names forest tables is = record {
+  nodes_are = λ n g u other. (one_forest text options n names g forest u tables other is).0;
+  tables_are = λ n g u other. (one_forest text options n names g forest u tables other is).1;
+}

@@ -9,7 +9,9 @@ use Rattle.first_pass_items.specs.declared.item.ListFlags.{ListFlags}
 use Rattle.first_pass_tree.specs.Forest.{at_depth}
 use Rattle.first_pass_tree.specs.Tight.{tightened}
 use Rattle.first_pass_lines.specs.Places.{lines_at}
-use Rattle.first_pass_grammar.specs.Leaves.{Document}
+use Rattle.first_pass_items.specs.declared.option_set.Options.{Options}
+use Rattle.first_pass_grammar.specs.Names.{Names, read_nodes}
+use Rattle.first_pass_grammar.specs.Leaves.{Document, document}
 use Rattle.first_pass_grammar.specs.LinkTables.{LinkEntry, with_links, with_label, with_labels}
 use Rattle.first_pass_grammar.specs.Blocks.{BlankLine, Block, LeafBlock, label_of, Skeleton, Nil, Then, Node}
 use Rattle.first_pass_grammar.specs.Skeleton.{Line, level, Lines, IsSequence}
@@ -106,3 +108,8 @@ pub record Derives (d : Document) (forest : List (ℕ × Item)) (tables : Tables
   pub sequence : IsSequence d skeleton (level [] nothing) Line (lines_at 0 d.text) (Lines [])
   pub forest_is : forest ≡ root_of (length d.text) ∷ items_of 1 false (rows_of false nothing (length d.text) skeleton)
   pub tables_are : tables ≡ told_by no_tables skeleton
+
+-- The grammar derives nothing else from a text: each forest that it derives reads as this one does, through what their indices name, and its tables are these.
+pub record IsOnlyDerived (text : List ℕ) (options : Options) (names : Names) (forest : List (ℕ × Item)) (tables : Tables) : Type 0 where
+  pub nodes_are : (n : Names) (g : List (ℕ × Item)) (u : Tables) → Derives (document text options n) g u → read_nodes n g ≡ read_nodes names forest
+  pub tables_are : (n : Names) (g : List (ℕ × Item)) (u : Tables) → Derives (document text options n) g u → u ≡ tables

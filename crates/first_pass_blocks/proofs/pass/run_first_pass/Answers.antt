@@ -12,6 +12,7 @@ use Rattle.first_pass_names.specs.TableEntries.{tables, names_of}
 use Rattle.first_pass_blocks.specs.Written.{TablesAreWritten}
 use Rattle.first_pass_blocks.proofs.WrittenLemmas.{none_written}
 use Rattle.first_pass_grammar.proofs.OwnNodes.{own_at_most}
+use Rattle.first_pass_grammar.proofs.Unique.{only_derived}
 use Rattle.first_pass_grammar.proofs.WholeForests.{derived_whole}
 use Rattle.first_pass_blocks.proofs.SettledNodes.{derived_settled}
 use Rattle.first_pass_blocks.proofs.OrderLemmas.{ordered_whole}
@@ -80,6 +81,11 @@ returns-clause-derived c =
     let closed : Ready d (tables c.loop-ix.pass.allocs) now [] =
     c.close_containers.ensures.kept.ready d (tables c.loop-ix.pass.allocs) [] refl (λ m low high. refl) here in
     ready_finish d (tables c.loop-ix.pass.allocs) now (all_closed c) closed
+
+pub returns-clause-only : goal.returns-clause-only
+returns-clause-only c =
+    only_derived c.args.text.now c.args.options (names_of c.loop-ix.pass.allocs) c.close_containers.new.reading.tree.nodes (tables c.loop-ix.pass.allocs)
+    (returns-clause-derived c)
 
 pub returns-clause-whole : goal.returns-clause-whole
 returns-clause-whole c =
