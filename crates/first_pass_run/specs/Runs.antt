@@ -1,0 +1,59 @@
+-- What a run of a program over a text reads and writes, whatever it is that the program says of a text (this project). It is said by a relation: under
+-- options, a text and the whole output for it.
+use Rattle.std.specs.Prelude.{◌⊎◌, ℕ, List, String, IsUtf8}
+use Rattle.std.specs.Io.KnownBytes.{Appends}
+use Rattle.first_pass_items.specs.declared.option_set.Options.{Options}
+use Rattle.first_pass_host.specs.declared.fault.BlocksFault.{BlocksFault}
+use Rattle.first_pass_host.specs.declared.fault.BlocksFault.TheVariants.{OutOfMemory, NotUtf8, BadOptions, ReadFailed, WriteFailed}
+use Rattle.first_pass_host.specs.OptionWord.{StandFor}
+use Rattle.first_pass_host.specs.Streams.{Stream, IsUntouched, AppendsFront, ReadsWhole}
+
+-- the whole output for a text is written
+pub record WritesOutput (Says : Options → List ℕ → List ℕ → Type 0) (options : Options) (text : List ℕ) (output : Stream) : Type 0 where
+  pub whole : List ℕ
+  pub says : Says options text whole
+  pub appended : Appends output.old output.new whole
+
+-- a beginning of the output for a text is written
+pub record WritesFront (Says : Options → List ℕ → List ℕ → Type 0) (options : Options) (text : List ℕ) (output : Stream) : Type 0 where
+  pub whole : List ℕ
+  pub says : Says options text whole
+  pub appended : AppendsFront output.old output.new whole
+
+-- What a fault leaves of a writer, once a text is there: where memory ends, nothing or a beginning of the whole output; where a write fails, a beginning.
+abbrev pub LeavesReport : (Options → List ℕ → List ℕ → Type 0) → BlocksFault → Options → List ℕ → Stream → Type 0
+LeavesReport Says OutOfMemory options text output = IsUntouched output ⊎ WritesFront Says options text output
+LeavesReport Says WriteFailed options text output = WritesFront Says options text output
+LeavesReport Says _ options text output = ⊥
+
+-- What a fault leaves of bytes that were read and a writer: nothing is written of bytes that aren't UTF-8.
+abbrev pub LeavesBytes : (Options → List ℕ → List ℕ → Type 0) → BlocksFault → Options → List ℕ → Stream → Type 0
+LeavesBytes Says NotUtf8 options bytes output = (IsUtf8 bytes → ⊥) × IsUntouched output
+LeavesBytes Says fault options bytes output = IsUtf8 bytes × LeavesReport Says fault options bytes output
+
+-- the whole output of a run with these words over a reader and a writer was written
+pub record WritesWhole {A : Type 0} (Says : Options → List ℕ → List ℕ → Type 0) (words : List (String A)) (input output : Stream) : Type 0 where
+  pub options : Options
+  pub stand_for : StandFor words options.0
+  pub text : List ℕ
+  pub read : ReadsWhole input.old input.new text
+  pub utf8 : IsUtf8 text
+  pub written : WritesOutput Says options text output
+
+-- what a fault leaves of a text that was read to its end, with the options that the words stand for
+pub record LeavesRead {A : Type 0} (Says : Options → List ℕ → List ℕ → Type 0) (fault : BlocksFault) (words : List (String A)) (input output : Stream)
+    : Type 0 where
+  pub options : Options
+  pub stand_for : StandFor words options.0
+  pub text : List ℕ
+  pub read : ReadsWhole input.old input.new text
+  pub leaves : LeavesBytes Says fault options text output
+
+-- What a fault leaves of a reader and a writer: nothing is read where the words stand for no options, and nothing written before the whole text is read.
+abbrev pub Leaves : {A : Type 0} → (Options → List ℕ → List ℕ → Type 0) → BlocksFault → List (String A) → Stream → Stream → Type 0
+Leaves Says BadOptions words input output = ((bits : ℕ) → StandFor words bits → ⊥) × IsUntouched input × IsUntouched output
+Leaves Says ReadFailed words input output = ((bits : ℕ) × StandFor words bits) × IsUntouched output
+Leaves Says OutOfMemory words input output =
+    (((bits : ℕ) × StandFor words bits) × IsUntouched output) ⊎ LeavesRead Says OutOfMemory words input output
+Leaves Says NotUtf8 words input output = LeavesRead Says NotUtf8 words input output
+Leaves Says WriteFailed words input output = LeavesRead Says WriteFailed words input output

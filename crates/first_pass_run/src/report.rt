@@ -1,0 +1,86 @@
+//! Reading a text, and writing what a program says of it.
+
+ghost use Rattle.std.specs.Prelude.{◌≡◌, ℕ, List, OnOk, IfErr, Err, IsUtf8};
+ghost use Rattle.first_pass_items.specs.declared.option_set.Options.{Options as OptionSet};
+ghost use Rattle.first_pass_host.specs.declared.fault.BlocksFault.TheVariants.{BadOptions};
+ghost use Rattle.first_pass_host.specs.OptionWord.{StandFor};
+ghost use Rattle.first_pass_host.specs.Streams.{stream_between};
+ghost use Rattle.first_pass_run.specs.Runs.{WritesOutput, LeavesReport, LeavesBytes, WritesWhole, Leaves};
+
+use first_pass_host::fault::BlocksFault;
+use first_pass_host::input::read_whole;
+use first_pass_host::option_word::parse_options;
+use first_pass_items::option_set::Options;
+use std::alloc::Global;
+use std::io::{Read, Write};
+use std::str;
+
+/// What a program says of a text.
+pub trait Report {
+    // Under options: a text, and the whole output for it.
+    ghost says: { Self → OptionSet → List ℕ → List ℕ → Type 0 };
+
+    /// Writes the whole output for a text under options. A fault is `OutOfMemory` where a request was refused, or
+    /// `WriteFailed`; what was written then is nothing, or a beginning of the output.
+    fn write_report<W: Write>(
+        &self,
+        alloc: Global,
+        text: &str,
+        options: Options,
+        output: &mut W,
+    ) -> Result<(), BlocksFault>
+        ensures ok { OnOk result (WritesOutput (says self.now) options text.now
+            (stream_between (W.contents output.old) (W.contents output.new))) }
+        ensures fault { IfErr result (λ fault. LeavesReport (says self.now) fault options text.now
+            (stream_between (W.contents output.old) (W.contents output.new))) };
+}
+
+/// Reads the input to its end, and writes what a report says of its text under the options that the words stand for.
+/// `words` are those after the program's name (see `parse_options`).
+///
+/// Faults are found in this order: the options, before the first read and without memory; the reads;
+/// UTF-8 of the whole input; the report. `OutOfMemory` comes at the request that was refused.
+/// What was written at a fault is nothing, or a beginning of the whole output. Reader and writer are lent,
+/// so that what they hold at the end can be said.
+pub fn run_report<P: Report, R: Read, W: Write>(
+    report: &P,
+    alloc: Global,
+    words: &[String],
+    input: &mut R,
+    output: &mut W,
+) -> Result<(), BlocksFault>
+    ensures ok { OnOk result (WritesWhole (P.says report.now) words.now
+        (stream_between (R.remaining input.old) (R.remaining input.new))
+        (stream_between (W.contents output.old) (W.contents output.new))) }
+    ensures fault { IfErr result (λ fault. Leaves (P.says report.now) fault words.now
+        (stream_between (R.remaining input.old) (R.remaining input.new))
+        (stream_between (W.contents output.old) (W.contents output.new))) }
+    ensures bad_options { ((bits : ℕ) → StandFor words.now bits → ⊥) → result ≡ Err BadOptions }
+    ensures options { (bits : ℕ) → StandFor words.now bits → result ≡ Err BadOptions → ⊥ }
+{
+    let Some(options) = parse_options(words) else {
+        return Err(BlocksFault::BadOptions);
+    };
+    let bytes = read_whole(alloc, input)?;
+    report_bytes(report, alloc, bytes.as_slice(), options, output)
+}
+
+/// Writes what a report says of a text that has still to be found to be UTF-8.
+fn report_bytes<P: Report, W: Write>(
+    report: &P,
+    alloc: Global,
+    bytes: &[u8],
+    options: Options,
+    output: &mut W,
+) -> Result<(), BlocksFault>
+    ensures utf8 { OnOk result (IsUtf8 bytes.now) }
+    ensures ok { OnOk result (WritesOutput (P.says report.now) options bytes.now
+        (stream_between (W.contents output.old) (W.contents output.new))) }
+    ensures fault { IfErr result (λ fault. LeavesBytes (P.says report.now) fault options bytes.now
+        (stream_between (W.contents output.old) (W.contents output.new))) }
+{
+    match str::from_utf8(bytes) {
+        Ok(text) => report.write_report(alloc, text, options, output),
+        Err(_) => Err(BlocksFault::NotUtf8),
+    }
+}
