@@ -79,7 +79,7 @@ pub opened_alone : (old opened : Forest Item) (start : ℕ) (ix : AlignmentIndex
     → opened ≡ opened_block old start (Table ix) → (place : TreeIndex) × IsJustPushed opened place
 opened_alone old opened start ix is =
     let x : Item = begun_item start (Table ix) in
-    (record { 0 = length old.nodes }, just_pushed old (appended old x) opened x (record { 0 = length old.nodes }) refl refl is)
+    (record { 0 = length old.nodes }, just_pushed old opened x (record { 0 = length old.nodes }) refl is)
 
 -- the lines after the delimiter row
 body_lines : (text : List ℕ) (mid : ℕ) → drop 1 (lines_from text mid) ≡ lines_from text (line_end_at text mid)

@@ -10,6 +10,7 @@ ghost use Rattle.first_pass_items.specs.declared.item.ItemBody.TheVariants.{Bloc
 use crate::reading::Reading;
 use bitflags::Flags;
 use first_pass_items::item::{BlockQuoteKind, CowIndex, Item, ItemBody, ListFlags};
+use first_pass_open::open_block::{close_block, open_block};
 use first_pass_tree::forest::Tree;
 use first_pass_tree::tight::surgerize_tight_list;
 use first_pass_tree::tree_index::TreeIndex;
@@ -82,7 +83,7 @@ impl Reading {
         ensures { self.new ≡ popped_at ix self.old self.old.tree.spine }
     {
         self.tree.is_forest();
-        let cur_ix = self.close_node(ix);
+        let cur_ix = close_block(&mut self.tree, ix);
         match self.tree[cur_ix].body {
             ItemBody::List(flags, _, _) | ItemBody::DefinitionList(flags) => {
                 close_list(&mut self.tree, cur_ix, flags, left);
@@ -90,18 +91,6 @@ impl Reading {
             ItemBody::ListItem(_) | ItemBody::DefinitionListDefinition(_) => self.empty_item = None,
             _ => {}
         }
-    }
-
-    // Closes the innermost open node, of which there has to be one, at the offset `ix`, and returns its place.
-    fn close_node(&mut self, ix: usize) -> TreeIndex
-        requires { IsSome (slice_get self.old.tree.spine 0) }
-        ensures node { slice_get self.old.tree.spine 0 ≡ Some result }
-        ensures reading { self.new ≡ with_tree self.old (closed_by self.old.tree ix self.old.tree.spine) }
-    {
-        self.tree.is_forest();
-        let cur_ix = self.tree.pop().unwrap();
-        self.tree.set_end(cur_ix, ix);
-        cur_ix
     }
 
     // The current node, if it is a possible title in the definition list that is innermost.
@@ -249,7 +238,12 @@ impl Reading {
     {
         self.open_definition_list()?;
         self.keep_list();
-        self.open_node(start, ItemBody::DefinitionListDefinition(indent))
+        open_block(
+            &mut self.tree,
+            start,
+            ItemBody::DefinitionListDefinition(indent),
+        )?;
+        Ok(())
     }
 
     // Makes the current node the title of a definition, if it is a possible title, or a paragraph: then a definition
@@ -408,7 +402,11 @@ impl Reading {
             return Ok(());
         }
         self.finish_list(start);
-        self.open_node(start, ItemBody::List(ListFlags::IS_TIGHT, ch, index))?;
+        open_block(
+            &mut self.tree,
+            start,
+            ItemBody::List(ListFlags::IS_TIGHT, ch, index),
+        )?;
         self.tree.remember()?;
         Ok(())
     }
@@ -448,7 +446,8 @@ impl Reading {
             ≡ begun start (ListItemBody marker.indent) (list_continued start marker.byte marker.number self.old)) }
     {
         self.continue_list(start, marker.byte, marker.number)?;
-        self.open_node(start, ItemBody::ListItem(marker.indent))
+        open_block(&mut self.tree, start, ItemBody::ListItem(marker.indent))?;
+        Ok(())
     }
 
     /// Opens a block quote of a kind at the offset `start`, in the line that begins at `line`.
@@ -461,7 +460,8 @@ impl Reading {
         ensures { OnOk result (self.new ≡ begun start (BlockQuoteBody kind) (list_finished line self.old)) }
     {
         self.finish_list(line);
-        self.open_node(start, ItemBody::BlockQuote(kind))
+        open_block(&mut self.tree, start, ItemBody::BlockQuote(kind))?;
+        Ok(())
     }
 
     /// Opens a footnote definition at the offset `start`, that of its `[`, with the label that an index names. What is
@@ -475,19 +475,7 @@ impl Reading {
         self.leave_list(start);
         self.leave_footnote(start);
         self.note_gap();
-        self.open_node(start, ItemBody::FootnoteDefinition(label))
-    }
-
-    // Opens a node at the offset `start`, as a last child of the innermost open one.
-    fn open_node(&mut self, start: usize, body: ItemBody) -> Result<(), AllocError>
-        ensures { OnOk result (self.new ≡ begun start body self.old) }
-    {
-        self.tree.append(Item {
-            start,
-            end: 0,
-            body,
-        })?;
-        self.tree.push()?;
+        open_block(&mut self.tree, start, ItemBody::FootnoteDefinition(label))?;
         Ok(())
     }
 }

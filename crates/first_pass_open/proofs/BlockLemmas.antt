@@ -14,26 +14,20 @@ use Rattle.first_pass_tokens.proofs.ChainLemmas.{chained-spine, chained-nodes, c
 use Rattle.first_pass_grammar.specs.Leaves.{marker_items}
 use Rattle.first_pass_open.specs.OpenBlock.{with_child, closed_by, IsJustPushed}
 
--- the node that was appended and opened
-pub opened_at : (g a : Forest Item) (x : Item) (ix : TreeIndex) → a ≡ appended g x → a.current ≡ Some ix → ix.0 ≡ length g.nodes
-opened_at g a x ix e h =
-    let f : Some (record { 0 = length g.nodes }) ≡ Some ix = sym (ap (λ (v : Forest Item). v.current) e) ∙ h in
-    ap (λ (i : TreeIndex). i.0) (let s : ix ≡ record { 0 = length g.nodes } = cc in s)
-
-pub opened_is : (g a p : Forest Item) (x : Item) (ix : TreeIndex) → a ≡ appended g x → p ≡ pushed a ix → p ≡ pushed (appended g x) ix
-opened_is g a p x ix e f = f ∙ ap (λ (v : Forest Item). pushed v ix) e
+-- the node that was opened stands where the nodes ended
+pub opened_is : (g p : Forest Item) (x : Item) (ix : TreeIndex) → ix.0 ≡ length g.nodes → p ≡ pushed (appended g x) (record { 0 = length g.nodes })
+    → p ≡ pushed (appended g x) ix
+opened_is g p x ix at is = is ∙ ap (λ (n : ℕ). pushed (appended g x) (record { 0 = n })) (sym at)
 
 -- it was just opened
-pub just_pushed : (g a p : Forest Item) (x : Item) (ix : TreeIndex) → a ≡ appended g x → a.current ≡ Some ix → p ≡ pushed a ix → IsJustPushed p ix
-just_pushed g a p x ix e h f =
-    let q = opened_is g a p x ix e f in
-    let i = opened_at g a x ix e h in
-    let n : length p.nodes ≡ length g.nodes + 1 = ap (λ (v : Forest Item). length v.nodes) q ∙ length-append g.nodes ((length g.spine + 1, x) ∷ []) in
+pub just_pushed : (g p : Forest Item) (x : Item) (ix : TreeIndex) → ix.0 ≡ length g.nodes → p ≡ pushed (appended g x) ix → IsJustPushed p ix
+just_pushed g p x ix at is =
+    let n : length p.nodes ≡ length g.nodes + 1 = ap (λ (v : Forest Item). length v.nodes) is ∙ length-append g.nodes ((length g.spine + 1, x) ∷ []) in
     record {
       rest = g.spine;
-      innermost = ap (λ (v : Forest Item). v.spine) q;
+      innermost = ap (λ (v : Forest Item). v.spine) is;
       last = omega arith;
-      none = ap (λ (v : Forest Item). v.current) q;
+      none = ap (λ (v : Forest Item). v.current) is;
     }
 
 -- a marker before a chain

@@ -595,7 +595,7 @@ code_item start = begun_item start IndentCodeBlock
 pub just_opened : (old now : Forest Item) (start : ℕ) → now ≡ opened_block old start IndentCodeBlock → IsJustOpened now
 just_opened old now start e = record {
   place = place_in (length old.nodes);
-  pushed = just_pushed old (appended old (code_item start)) now (code_item start) (place_in (length old.nodes)) refl refl e;
+  pushed = just_pushed old now (code_item start) (place_in (length old.nodes)) refl e;
 }
 
 module _ (text : List ℕ) (options : Options) (names : Names) (p : Place) (old opened now : Forest Item) (start «end» next : ℕ) (blank : Bool)

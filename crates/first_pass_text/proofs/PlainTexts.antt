@@ -31,8 +31,8 @@ use Rattle.first_pass_tokens.specs.LineTokens.{spot}
 use Rattle.first_pass_tokens.specs.TreeTokens.{chained}
 use Rattle.first_pass_tokens.specs.Chains.{close_break, cut}
 use Rattle.first_pass_tokens.proofs.ChainLemmas.{joins_none-fresh, pushed-fresh}
-use Rattle.first_pass_open.specs.OpenBlock.{with_child, closed_by}
-use Rattle.first_pass_open.proofs.BlockLemmas.{marked_chain, opened_at, opened_is, still_open, block_closed, open_place_of, open_item_of, open_named}
+use Rattle.first_pass_open.specs.OpenBlock.{with_child, closed_by, opened_block}
+use Rattle.first_pass_open.proofs.BlockLemmas.{marked_chain, opened_is, still_open, block_closed, open_place_of, open_item_of, open_named}
 use Rattle.first_pass_items.specs.declared.item.ItemBody.TheVariants.{Paragraph, Heading}
 use Rattle.first_pass_open.proofs.PathLemmas.{open_are_in}
 use Rattle.first_pass_text.specs.declared.paragraph.TextEnd.{TextEnd}
@@ -154,14 +154,12 @@ pub record StandsOpen (text : List ℕ) (options : Options) (names : Names) (sta
   pub later : line_end_at text start ≤ end.next
   pub boundary : IsCharBoundary text end.next
 
-pub stands_open : (text : List ℕ) (options : Options) (names : Names) (start : ℕ) (marker : Option Item) (g a p m r : Forest Item) (ix : TreeIndex)
-    (end : TextEnd) → IsForest g
-    → a ≡ appended g (opened_item start) → a.current ≡ Some ix → p ≡ pushed a ix → m ≡ with_child p marker → IfSome marker (λ y. is_text y.body ≡ false)
+pub stands_open : (text : List ℕ) (options : Options) (names : Names) (start : ℕ) (marker : Option Item) (g p m r : Forest Item) (ix : TreeIndex)
+    (end : TextEnd) → IsForest g → ix.0 ≡ length g.nodes → p ≡ opened_block g start Paragraph → m ≡ with_child p marker → IfSome marker (λ y. is_text y.body ≡ false)
     → AppendsLines (document text options names) start m r end → StandsOpen text options names start marker g r ix end
-stands_open text options names start marker g a p m r ix end forest a_is current p_is m_is plain read =
+stands_open text options names start marker g p m r ix end forest at p_is m_is plain read =
     let x : Item = opened_item start in
-    let at = opened_at g a x ix a_is current in
-    let opened = opened_is g a p x ix a_is p_is in
+    let opened = opened_is g p x ix at p_is in
     let there : m ≡ with_child (pushed (appended g x) ix) marker = m_is ∙ ap (λ f. with_child f marker) opened in
     let same : path_of options m ≡ path_of options g =
     path_of-paragraph options g p m x ix marker refl opened m_is at (open_are_in g.nodes g.spine forest.opened) in

@@ -18,7 +18,7 @@ use first_pass_items::item::{HeadingLevel, Item, ItemBody};
 use first_pass_lines::lines::{level_number, scan_whitespace_no_nl};
 use first_pass_lines::places::{next_line, rest_of};
 use first_pass_names::items::Allocations;
-use first_pass_open::open_block::close_block;
+use first_pass_open::open_block::{close_block, open_block};
 use first_pass_open::source::Source;
 use first_pass_tokens::braces::BraceContexts;
 use first_pass_tokens::pieces::Content;
@@ -112,12 +112,7 @@ pub fn parse_atx_heading<'a>(
         bytes.len()
     };
     let index = name_attributes(allocs, attributes)?;
-    tree.append(Item {
-        start,
-        end: 0,
-        body: ItemBody::Heading(atx_level, index),
-    })?;
-    let heading_ix = tree.push()?;
+    let heading_ix = open_block(tree, start, ItemBody::Heading(atx_level, index))?;
     let kept = kept_len(&bytes[header_start..content_end]);
     let content = Content {
         options: source.options,

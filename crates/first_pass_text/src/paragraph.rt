@@ -15,7 +15,7 @@ use first_pass_items::item::{HeadingLevel, Item, ItemBody};
 use first_pass_kinds::interrupt::{NextLine, scan_next_line};
 use first_pass_lines::places::next_line;
 use first_pass_names::items::Allocations;
-use first_pass_open::open_block::close_block;
+use first_pass_open::open_block::{close_block, open_block};
 use first_pass_open::source::Source;
 use first_pass_tokens::braces::BraceContexts;
 use first_pass_tokens::pieces::Content;
@@ -99,12 +99,7 @@ pub fn parse_paragraph<'a>(
         → AddsBetween source.now.text.now from next tree.old tree.new) }
 {
     tree.is_forest();
-    tree.append(Item {
-        start: start_ix,
-        end: 0,
-        body: ItemBody::Paragraph,
-    })?;
-    let node_ix = tree.push()?;
+    let node_ix = open_block(tree, start_ix, ItemBody::Paragraph)?;
     append_item(tree, tasklist_marker)?;
     let end = append_text_lines(source, tree, allocs, start_ix)?;
     let Some(level) = end.underline else {

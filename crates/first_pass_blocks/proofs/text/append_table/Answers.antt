@@ -19,7 +19,7 @@ parse_table-requires-clause-body c =
     subst (IsCharBoundary text) (sym body_is) (line_bounds text _ utf8 (line_bounds text c.args.start utf8 c.requires.boundary))
 
 pub parse_table-requires-clause-open : goal.parse_table-requires-clause-open
-parse_table-requires-clause-open c = opened_alone c.args.tree.now c.open_block.new.tree c.args.start c.in_ok-index.index c.in_ok-open_block.ensures
+parse_table-requires-clause-open c = opened_alone c.args.tree.now c.open_block.new.tree c.args.start c.in_ok-index.index c.in_ok-open_block.ensures.tree
 
 -- what is named once the table's rows are read continues its alignments
 grown_table : (c : goal.In_ok-next) → Extends (names_of c.parse_table.new.allocs) (names_of c.allocate_alignment.new.self)
@@ -51,7 +51,7 @@ returns-clause-block c = λ marker.
     let names = names_of c.parse_table.new.allocs in
     let ix = c.in_ok-index.index in
     let alignments = c.args.alignments.items in
-    let opened = c.in_ok-open_block.ensures in
+    let opened = c.in_ok-open_block.ensures.tree in
     let rows = subst (λ (f : Forest Item). AppendsRows (document text c.args.source.now.options names) (length alignments) c.args.start
     c.next_line-body.result f
     c.parse_table.new.tree c.in_ok-next.next) opened
@@ -71,7 +71,7 @@ returns-clause-fits c = λ from low.
     let names = names_of c.parse_table.new.allocs in
     let ix = c.in_ok-index.index in
     let alignments = c.args.alignments.items in
-    let opened = c.in_ok-open_block.ensures in
+    let opened = c.in_ok-open_block.ensures.tree in
     let rows = subst (λ (f : Forest Item). AppendsRows (document text c.args.source.now.options names) (length alignments) c.args.start
     c.next_line-body.result f
     c.parse_table.new.tree c.in_ok-next.next) opened

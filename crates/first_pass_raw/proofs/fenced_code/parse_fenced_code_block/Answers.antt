@@ -33,7 +33,7 @@ close_block-requires c =
     (names_of c.read_lines.new.allocs) (extent_from c.args.source.now.text.now (path_of c.args.source.now.options c.open_block.new.tree)
     (fence_judge c.args.fence.indent c.args.fence.byte c.args.fence.count) c.next_line-first.result) c.args.tree.now c.open_block.new.tree
     c.read_lines.new.tree
-    c.args.start_ix (FencedCodeBlock c.in_ok-info_ix.info_ix) c.in_ok-lines.lines.«end» c.in_ok-lines.lines.next c.in_ok-open_block.ensures
+    c.args.start_ix (FencedCodeBlock c.in_ok-info_ix.info_ix) c.in_ok-lines.lines.«end» c.in_ok-lines.lines.next c.in_ok-open_block.ensures.tree
     c.in_ok-lines.ensures.lines
 
 pub returns-clause-block : goal.returns-clause-block
@@ -42,11 +42,11 @@ returns-clause-block c =
     (names_of c.read_lines.new.allocs) c.args.tree.now c.open_block.new.tree c.read_lines.new.tree c.close_block.new.tree
     c.args.start_ix c.args.fence.indent c.args.fence.byte c.args.fence.count c.next_line-first.result c.in_ok-lines.lines.«end» c.in_ok-lines.lines.next
     c.in_ok-info_ix.info_ix
-    (open_are_in c.args.tree.now.nodes c.args.tree.now.spine c.is_forest.ensures.opened) c.in_ok-open_block.ensures
+    (open_are_in c.args.tree.now.nodes c.args.tree.now.spine c.is_forest.ensures.opened) c.in_ok-open_block.ensures.tree
     (first_read c.args.source.now.text.now c.as_bytes-bytes.result.now c.args.start_ix _
     (subst IsUtf8 c.as_bytes-bytes.ensures.value c.as_bytes-bytes.ensures.utf8) c.requires.boundary c.as_bytes-bytes.ensures.value
     c.next_line-first.ensures.value).0
     (λ more e. info_named (names_of c.args.allocs.now) (names_of c.allocate_cow.new.self) more c.in_ok-info_ix.info_ix c.in_ok-info.info
     c.info_string.result.now (info_string (drop (c.args.start_ix + c.args.fence.count) c.args.source.now.text.now))
     c.in_ok-info_ix.ensures.index c.in_ok-info_ix.ensures.names c.info_string.ensures c.in_ok-info.ensures.value c.in_ok-info.ensures.borrowed e)
-    c.in_ok-lines.ensures.more.names c.in_ok-lines.ensures.lines c.close_block.ensures
+    c.in_ok-lines.ensures.more.names c.in_ok-lines.ensures.lines c.close_block.ensures.tree

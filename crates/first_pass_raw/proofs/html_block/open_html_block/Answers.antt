@@ -21,7 +21,7 @@ line : (c : In_ok-append_raw_line) → AppendsRaw range_html c.args.text.now (na
     c.next_line-next.result (opened_block c.args.tree.now c.args.start.at HtmlBlock) c.append_raw_line.new.tree
 line c =
     subst (λ (f : Forest Item). AppendsRaw range_html c.args.text.now (names_of c.append_raw_line.new.allocs) c.args.start.columns c.args.start.at
-    c.next_line-next.result f c.append_raw_line.new.tree) c.in_ok-open_block.ensures c.in_ok-append_raw_line.ensures.line
+    c.next_line-next.result f c.append_raw_line.new.tree) c.in_ok-open_block.ensures.tree c.in_ok-append_raw_line.ensures.line
 
 pub returns-clause-next : goal.returns-clause-next
 returns-clause-next c =
@@ -36,7 +36,7 @@ returns-clause-path c = λ options.
     first_read c.args.text.now c.as_bytes.result.now c.args.start.at _ c.utf8.text c.requires.boundary c.as_bytes.ensures.value
     c.next_line-next.ensures.value in
     let opened : Forest Item = opened_block c.args.tree.now c.args.start.at HtmlBlock in
-    let forest = subst (IsForest {T = Item}) c.in_ok-open_block.ensures c.is_forest-2.ensures in
+    let forest = subst (IsForest {T = Item}) c.in_ok-open_block.ensures.tree c.is_forest-2.ensures in
     first_path c.args.text.now options _ c.args.start.at c.args.start.columns c.next_line-next.result c.args.tree.now c.append_raw_line.new.tree (line c)
     next.0
     (open_are_in c.args.tree.now.nodes c.args.tree.now.spine c.is_forest.ensures.opened) (open_are_in opened.nodes opened.spine forest.opened)

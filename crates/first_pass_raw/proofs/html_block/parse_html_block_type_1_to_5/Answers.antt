@@ -20,7 +20,7 @@ returns-then-holds_end-clause-block c = λ p i.
     html_one c.args.source.now.text.now c.args.source.now.options _ c.args.start.at c.args.start.columns c.in_ok-end.«end» c.args.tree.now
     c.open_html_block.new.tree
     c.in_ok-end.ensures.line c.in_ok-end.ensures.next.0 p i
-    (end_of c.args.html_end) c.close_block.new.tree held c.close_block.ensures
+    (end_of c.args.html_end) c.close_block.new.tree held c.close_block.ensures.tree
 
 pub returns-then-holds_end-clause-boundary : goal.returns-then-holds_end-clause-boundary
 returns-then-holds_end-clause-boundary c = (omega (arith, c.in_ok-end.ensures.next.0), c.in_ok-end.ensures.next.1)
@@ -47,4 +47,4 @@ returns-clause-block c = λ p i.
     (tag_extent c.args.source.now.text.now c.args.source.now.options _ c.args.start.at c.args.start.columns c.in_ok-end.«end» c.args.tree.now
     c.open_html_block.new.tree
     c.in_ok-end.ensures.line c.in_ok-end.ensures.next.0 p i (path_of c.args.source.now.options c.args.tree.now) (end_of c.args.html_end) held)
-    c.close_block-2.new.tree c.in_ok-lines.ensures.more.names c.close_block-2.ensures
+    c.close_block-2.new.tree c.in_ok-lines.ensures.more.names c.close_block-2.ensures.tree

@@ -20,4 +20,4 @@ returns-clause-block c = λ p i.
     (blank_extent c.args.source.now.text.now c.args.source.now.options _ c.args.start.at c.args.start.columns c.in_ok-next.next c.args.tree.now
     c.open_html_block.new.tree
     c.in_ok-next.ensures.line c.in_ok-next.ensures.next.0 p i (path_of c.args.source.now.options c.args.tree.now))
-    c.close_block.new.tree c.in_ok-lines.ensures.more.names c.close_block.ensures
+    c.close_block.new.tree c.in_ok-lines.ensures.more.names c.close_block.ensures.tree

@@ -21,7 +21,7 @@ lines-init c =
     let line = subst (λ (f : Forest Item).
     AppendsRaw range_text c.args.source.now.text.now (names_of c.append_line.new.allocs) c.args.remaining_space c.args.start_ix c.in_ok-next.next f
     c.append_line.new.tree)
-    c.in_ok-open_block.ensures c.in_ok-next.ensures.line in
+    c.in_ok-open_block.ensures.tree c.in_ok-next.ensures.line in
     record {
       boundary = first_boundary c.args.source.now.text.now c.args.start_ix c.in_ok-next.next c.append_line.ensures.utf8 c.requires.boundary c.requires.code e;
       from = omega arith;
@@ -38,7 +38,7 @@ lines-preserved c =
     let i = c.lines.invariant in
     let text = c.args.source.now.text.now in
     let opened : Forest Item = opened_block c.args.tree.now c.args.start_ix IndentCodeBlock in
-    let forest = subst (IsForest {T = Item}) c.in_ok-open_block.ensures c.is_forest-2.ensures in
+    let forest = subst (IsForest {T = Item}) c.in_ok-open_block.ensures.tree c.is_forest-2.ensures in
     let first = i.read (first_at text c.args.start_ix c.args.remaining_space) (first_is text c.args.start_ix c.args.remaining_space) refl in
     let goes = sym (next_rest _ _ _ _ _ _ _ _ _ c.indented_line.result first forest c.indented_line.ensures.value) ∙ c.in-Some.is in
     let read = next_read text (path_of c.args.source.now.options opened) c.lines.next _ c.in_ok-next-2.next c.in-Some.line_start c.append_line.ensures.utf8
@@ -65,7 +65,7 @@ lines-smaller c =
     let i = c.lines.invariant in
     let text = c.args.source.now.text.now in
     let opened : Forest Item = opened_block c.args.tree.now c.args.start_ix IndentCodeBlock in
-    let forest = subst (IsForest {T = Item}) c.in_ok-open_block.ensures c.is_forest-2.ensures in
+    let forest = subst (IsForest {T = Item}) c.in_ok-open_block.ensures.tree c.is_forest-2.ensures in
     let first = i.read (first_at text c.args.start_ix c.args.remaining_space) (first_is text c.args.start_ix c.args.remaining_space) refl in
     let goes = sym (next_rest _ _ _ _ _ _ _ _ _ c.indented_line.result first forest c.indented_line.ensures.value) ∙ c.in-Some.is in
     let read = next_read text (path_of c.args.source.now.options opened) c.lines.next _ c.in_ok-next-2.next c.in-Some.line_start c.append_line.ensures.utf8
@@ -86,7 +86,7 @@ pub close_block-requires : goal.close_block-requires
 close_block-requires c =
     let text = c.args.source.now.text.now in
     let opened : Forest Item = opened_block c.args.tree.now c.args.start_ix IndentCodeBlock in
-    let forest = subst (IsForest {T = Item}) c.in_ok-open_block.ensures c.is_forest-2.ensures in
+    let forest = subst (IsForest {T = Item}) c.in_ok-open_block.ensures.tree c.is_forest-2.ensures in
     let first = c.lines.invariant.read (first_at text c.args.start_ix c.args.remaining_space) (first_is text c.args.start_ix c.args.remaining_space) refl in
     let stops = sym (next_rest _ _ _ _ _ _ _ _ _ c.indented_line.result first forest c.indented_line.ensures.value) ∙ c.in_default.is in
     let all = so_far_stop _ _ _ _ _ _ _ _ _
@@ -96,10 +96,10 @@ close_block-requires c =
 pub returns-clause-block : goal.returns-clause-block
 returns-clause-block c p at o =
     let opened : Forest Item = opened_block c.args.tree.now c.args.start_ix IndentCodeBlock in
-    let forest = subst (IsForest {T = Item}) c.in_ok-open_block.ensures c.is_forest-2.ensures in
+    let forest = subst (IsForest {T = Item}) c.in_ok-open_block.ensures.tree c.is_forest-2.ensures in
     let s = c.lines.invariant.read p at o in
     let stops = sym (next_rest _ _ _ _ _ _ _ _ _ c.indented_line.result s forest c.indented_line.ensures.value) ∙ c.in_default.is in
     let all = so_far_stop _ _ _ _ _ _ _ _ _
     (opened_last opened (just_opened c.args.tree.now opened c.args.start_ix refl)) s c.cut_behind.new.tree stops c.cut_behind.ensures in
     code_added _ _ _ p c.args.tree.now opened c.cut_behind.new.tree c.args.start_ix _ _ _ refl all c.close_block.new.tree c.is_forest.ensures at.offset_is
-    c.close_block.ensures
+    c.close_block.ensures.tree

@@ -12,7 +12,7 @@ use Rattle.first_pass_tables.proofs.cells.append_table_cell.Goals as goal
 pub close_block-requires : goal.close_block-requires
 close_block-requires c =
     let g = c.args.tree.now in
-    let opened = c.in_ok-open_block.ensures in
+    let opened = c.in_ok-open_block.ensures.tree in
     let cell = c.in_ok-end.ensures.cell in
     let filled =
     appended_cell_alone cell (joins_none-fresh c.open_block.new.tree (ap (λ (f : Forest Item). f.current) opened)) ∙ ap (λ v. chained v cell.tokens) opened in
@@ -21,7 +21,7 @@ close_block-requires c =
 pub returns-clause-cell : goal.returns-clause-cell
 returns-clause-cell c =
     let g = c.args.tree.now in
-    let opened = c.in_ok-open_block.ensures in
+    let opened = c.in_ok-open_block.ensures.tree in
     let cell = c.in_ok-end.ensures.cell in
     let filled =
     appended_cell_alone cell (joins_none-fresh c.open_block.new.tree (ap (λ (f : Forest Item). f.current) opened)) ∙ ap (λ v. chained v cell.tokens) opened in
@@ -29,5 +29,5 @@ returns-clause-cell c =
       tokens = cell.tokens;
       cell = cell.cell;
       tree_is = block_closed g c.append_cell.new.tree (begun_item c.args.cell.at TableCell) cell.tokens (record { 0 = length g.nodes }) refl filled
-          c.close_block.new.tree c.in_ok-end.end c.close_block.ensures;
+          c.close_block.new.tree c.in_ok-end.end c.close_block.ensures.tree;
     }

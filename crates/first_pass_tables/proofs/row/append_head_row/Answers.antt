@@ -7,13 +7,13 @@ use Rattle.first_pass_tables.proofs.row.append_head_row.Goals as goal
 
 pub append_cells-requires-clause-fresh : goal.append_cells-requires-clause-fresh
 append_cells-requires-clause-fresh c =
-    (row_place c.args.tree.now, row_opened c.args.tree.now c.open_block.new.tree c.args.wanted.start TableHead c.in_ok-open_block.ensures)
+    (row_place c.args.tree.now, row_opened c.args.tree.now c.open_block.new.tree c.args.wanted.start TableHead c.in_ok-open_block.ensures.tree)
 
 pub close_block-requires : goal.close_block-requires
 close_block-requires c =
     row_is_open (document c.args.source.now.text.now c.args.source.now.options (names_of c.append_cells.new.allocs)) c.args.wanted.most
     (spot c.args.wanted.start c.args.table.now.braces) (spot c.in_ok-end.end c.append_cells.new.braces) c.in_ok-end.count c.saturating_sub-missing.result
-    TableHead c.args.tree.now c.open_block.new.tree c.append_cells.new.tree c.fill_row.new.tree c.in_ok-open_block.ensures c.in_ok-end.ensures.cells
+    TableHead c.args.tree.now c.open_block.new.tree c.append_cells.new.tree c.fill_row.new.tree c.in_ok-open_block.ensures.tree c.in_ok-end.ensures.cells
     c.saturating_sub-missing.ensures c.in_ok-fill_row.ensures
 
 pub returns-clause-head : goal.returns-clause-head
@@ -27,12 +27,12 @@ returns-clause-head c =
       missing_is = missing_are d c.args.wanted.most (spot c.args.wanted.start c.args.table.now.braces) (spot c.in_ok-end.end c.append_cells.new.braces)
           c.in_ok-end.count
           c.saturating_sub-missing.result TableHead c.args.tree.now
-          c.open_block.new.tree c.append_cells.new.tree c.fill_row.new.tree c.in_ok-open_block.ensures adds c.saturating_sub-missing.ensures
+          c.open_block.new.tree c.append_cells.new.tree c.fill_row.new.tree c.in_ok-open_block.ensures.tree adds c.saturating_sub-missing.ensures
           c.in_ok-fill_row.ensures;
       tree_is = row_closed d c.args.wanted.most (spot c.args.wanted.start c.args.table.now.braces) (spot c.in_ok-end.end c.append_cells.new.braces)
           c.in_ok-end.count
           c.saturating_sub-missing.result TableHead c.args.tree.now
-          c.open_block.new.tree c.append_cells.new.tree c.fill_row.new.tree c.in_ok-open_block.ensures adds c.saturating_sub-missing.ensures
+          c.open_block.new.tree c.append_cells.new.tree c.fill_row.new.tree c.in_ok-open_block.ensures.tree adds c.saturating_sub-missing.ensures
           c.in_ok-fill_row.ensures
-          c.close_block.new.tree c.close_block.ensures;
+          c.close_block.new.tree c.close_block.ensures.tree;
     }

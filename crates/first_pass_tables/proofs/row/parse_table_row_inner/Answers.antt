@@ -15,13 +15,13 @@ use Rattle.first_pass_tables.proofs.row.parse_table_row_inner.Goals as goal
 
 pub append_cells-requires-clause-fresh : goal.append_cells-requires-clause-fresh
 append_cells-requires-clause-fresh c =
-    (row_place c.args.tree.now, row_opened c.args.tree.now c.open_block.new.tree c.args.wanted.start TableRow c.in_ok-open_block.ensures)
+    (row_place c.args.tree.now, row_opened c.args.tree.now c.open_block.new.tree c.args.wanted.start TableRow c.in_ok-open_block.ensures.tree)
 
 pub close_block-requires : goal.close_block-requires
 close_block-requires c =
     row_is_open (document c.args.source.now.text.now c.args.source.now.options (names_of c.append_cells.new.allocs)) c.args.wanted.most
     (spot c.args.wanted.start c.args.table.now.braces) (spot c.in_ok-end.end c.append_cells.new.braces) c.in_ok-end.count c.saturating_sub-missing.result
-    TableRow c.args.tree.now c.open_block.new.tree c.append_cells.new.tree c.fill_row.new.tree c.in_ok-open_block.ensures c.in_ok-end.ensures.cells
+    TableRow c.args.tree.now c.open_block.new.tree c.append_cells.new.tree c.fill_row.new.tree c.in_ok-open_block.ensures.tree c.in_ok-end.ensures.cells
     c.saturating_sub-missing.ensures c.in_ok-fill_row.ensures
 
 pub drop_behind-requires : goal.drop_behind-requires
@@ -32,7 +32,7 @@ drop_behind-requires c =
     let more = row_behind d c.args.wanted.most (spot c.args.wanted.start c.args.table.now.braces) TableRow old c.open_block.new.tree c.append_cells.new.tree
     back
     (spot c.in_ok-end.end c.append_cells.new.braces, c.in_ok-end.count) c.pop.result
-    c.in_ok-open_block.ensures c.in_ok-end.ensures.cells c.pop.ensures in
+    c.in_ok-open_block.ensures.tree c.in_ok-end.ensures.cells c.pop.ensures in
     subst (λ (o : Option TreeIndex). IfSome o (λ ix. IsChild back ix)) (sym c.cur-before.ensures) (current_is_child old back c.is_forest.ensures more)
 
 pub returns-then-not-is_kept-clause-row : goal.returns-then-not-is_kept-clause-row
@@ -45,7 +45,7 @@ returns-then-not-is_kept-clause-row c =
     let more = row_behind d c.args.wanted.most (spot c.args.wanted.start c.args.table.now.braces) TableRow old c.open_block.new.tree c.append_cells.new.tree
     back
     (spot c.in_ok-end.end c.append_cells.new.braces, c.in_ok-end.count) c.pop.result
-    c.in_ok-open_block.ensures adds c.pop.ensures in
+    c.in_ok-open_block.ensures.tree adds c.pop.ensures in
     let missing_is = c.saturating_sub-missing.ensures ∙ ap (λ (n : ℕ). c.args.wanted.most - n) adds.count in
     let behind : c.is_some.result ≡ is_some old.current = c.is_some.ensures ∙ ap (λ (o : Option TreeIndex). is_some o) c.cur-before.ensures in
     let test = same_test c.is_some.result c.args.wanted.most most c.in_ok-end.count c.saturating_sub-missing.result adds.cells adds.count missing_is in
@@ -77,8 +77,8 @@ returns-clause-row c =
     (ap (λ (t : Bool). keeps_row t c.args.wanted.most most adds.cells) (sym behind) ∙ sym test ∙ sym c.is_kept.ensures.value ∙ c.if-not-is_kept.false)
     (row_closed d c.args.wanted.most (spot c.args.wanted.start c.args.table.now.braces) (spot c.in_ok-end.end c.append_cells.new.braces) c.in_ok-end.count
     c.saturating_sub-missing.result TableRow old
-    c.open_block.new.tree c.append_cells.new.tree c.fill_row.new.tree c.in_ok-open_block.ensures adds c.saturating_sub-missing.ensures c.in_ok-fill_row.ensures
-    c.close_block.new.tree c.close_block.ensures)
+    c.open_block.new.tree c.append_cells.new.tree c.fill_row.new.tree c.in_ok-open_block.ensures.tree adds c.saturating_sub-missing.ensures c.in_ok-fill_row.ensures
+    c.close_block.new.tree c.close_block.ensures.tree)
     (ap (λ (n : ℕ). c.args.table.now.missing_empty_cells + n) missing_is) c.cur.ensures (search rules)
 
 pub returns-clause-fits : goal.returns-clause-fits

@@ -22,7 +22,7 @@ returns-clause-rows c =
     (spot c.args.rows.head_start b) c.args.tree.now
     (open_table c.append_head_row.new.tree c.append_head_row.new.table.missing_empty_cells c.append_head_row.new.table.braces)) c.new.ensures
     c.in_ok-append_head_row.ensures.head)
-    (left_behind c.append_head_row.new.table.missing_empty_cells most_filled c.min.result c.min.ensures) c.in_ok-next.ensures.body c.close_block.ensures
+    (left_behind c.append_head_row.new.table.missing_empty_cells most_filled c.min.result c.min.ensures) c.in_ok-next.ensures.body c.close_block.ensures.tree
 
 pub returns-clause-fits : goal.returns-clause-fits
 returns-clause-fits c = λ from low behind.

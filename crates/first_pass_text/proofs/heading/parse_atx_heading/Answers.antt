@@ -12,23 +12,24 @@ use Rattle.first_pass_grammar.proofs.MoreNames.{extends_both}
 use Rattle.first_pass_open.specs.Between.{line_end_at}
 use Rattle.first_pass_text.proofs.OrderHeading.{heading_fits}
 use Rattle.first_pass_text.proofs.HeadingLemmas.{heading_read, heading_line_end, line_between}
-use Rattle.first_pass_open.proofs.BlockLemmas.{opened_at, opened_is, just_pushed, still_open, block_closed}
+use Rattle.first_pass_open.proofs.BlockLemmas.{opened_is, just_pushed, still_open, block_closed}
 use Rattle.first_pass_text.proofs.heading.parse_atx_heading.Goals.{then-is_some, else-is_some}
 use Rattle.first_pass_text.proofs.heading.parse_atx_heading.Goals as goal
 
 pub heading_text-requires-clause-opened : goal.heading_text-requires-clause-opened
 heading_text-requires-clause-opened c =
     let x : Item = record { start = c.args.start; «end» = 0; body = Heading c.args.atx_level c.in_ok-index.index } in
-    just_pushed c.args.tree.now c.append.new.self c.push.new.self x c.in_ok-heading_ix.heading_ix c.in_ok-append.ensures.ok c.in_ok-heading_ix.ensures.index
-    c.in_ok-heading_ix.ensures.ok
+    let ix = c.in_ok-heading_ix.heading_ix in
+    let at = c.in_ok-heading_ix.ensures.index in
+    just_pushed c.args.tree.now c.open_block.new.tree x ix at (opened_is c.args.tree.now c.open_block.new.tree x ix at c.in_ok-heading_ix.ensures.tree)
 
 pub close_block-requires : goal.close_block-requires
 close_block-requires c =
     let g = c.args.tree.now in
     let x : Item = record { start = c.args.start; «end» = 0; body = Heading c.args.atx_level c.in_ok-index.index } in
     let ix = c.in_ok-heading_ix.heading_ix in
-    let at = opened_at g c.append.new.self x ix c.in_ok-append.ensures.ok c.in_ok-heading_ix.ensures.index in
-    let opened = opened_is g c.append.new.self c.push.new.self x ix c.in_ok-append.ensures.ok c.in_ok-heading_ix.ensures.ok in
+    let at = c.in_ok-heading_ix.ensures.index in
+    let opened = opened_is g c.open_block.new.tree x ix at c.in_ok-heading_ix.ensures.tree in
     let start : ℕ = c.heading_text_start-header_start.result in
     let content : List ℕ = slice_range c.as_bytes-bytes.result.now start c.in_ok-content_end.content_end in
     let a = c.in_ok-heading_text.ensures.line content c.kept_len-kept.ensures.value in
@@ -40,8 +41,8 @@ returns-clause-block c =
     let g = c.args.tree.now in
     let x : Item = record { start = c.args.start; «end» = 0; body = Heading c.args.atx_level c.in_ok-index.index } in
     let ix = c.in_ok-heading_ix.heading_ix in
-    let at = opened_at g c.append.new.self x ix c.in_ok-append.ensures.ok c.in_ok-heading_ix.ensures.index in
-    let opened = opened_is g c.append.new.self c.push.new.self x ix c.in_ok-append.ensures.ok c.in_ok-heading_ix.ensures.ok in
+    let at = c.in_ok-heading_ix.ensures.index in
+    let opened = opened_is g c.open_block.new.tree x ix at c.in_ok-heading_ix.ensures.tree in
     let text : List ℕ = c.args.source.now.text.now in
     let options = c.args.source.now.options in
     let start : ℕ = c.heading_text_start-header_start.result in
@@ -56,7 +57,7 @@ returns-clause-block c =
     ] in
     let (chain, tree_is, heads) = heading_read text options (names_of c.name_attributes.new.allocs)
     (names_of c.heading_text.new.allocs) start c.in_ok-content_end.content_end c.if-is_some.read_to c.in_ok-content_end.attributes c.in_ok-index.index
-    c.kept_len-kept.result (take c.if-is_some.read_to text) c.push.new.self c.heading_text.new.tree
+    c.kept_len-kept.result (take c.if-is_some.read_to text) c.open_block.new.tree c.heading_text.new.tree
     (c.in_ok-content_end.ensures.content ∙ ap (λ xs. start + length (before_attributes options xs)) between)
     (c.in_ok-content_end.ensures.attributes ∙ ap (heading_attributes_of options) between)
     read refl
@@ -70,7 +71,7 @@ returns-clause-block c =
       line = λ more e. subst (λ k. IsHeading (document text options more) k c.in_ok-index.index chain c.next_line-end.result) begins
           (heads more e c.next_line-end.result ends);
       tree_is = block_closed g c.heading_text.new.tree x chain ix at
-          (tree_is ∙ ap (λ f. chained f chain) opened) c.close_block.new.tree c.next_line-end.result c.close_block.ensures;
+          (tree_is ∙ ap (λ f. chained f chain) opened) c.close_block.new.tree c.next_line-end.result c.close_block.ensures.tree;
       end_is = ends ∙ ap (line_end_at text) begins ∙ heading_line_end text c.args.start c.args.atx_level c.requires.within c.requires.heading;
     }
 
