@@ -6,7 +6,7 @@ use Rattle.first_pass_items.specs.declared.item.AlignmentIndex.{AlignmentIndex}
 use Rattle.first_pass_items.specs.declared.item.Item.{Item}
 use Rattle.first_pass_items.specs.declared.item.ItemBody.TheVariants.{Table}
 use Rattle.first_pass_lines.specs.Lines.{is_content}
-use Rattle.first_pass_tokens.specs.Pieces.{Source, text_upto}
+use Rattle.first_pass_tokens.specs.Pieces.{Inline, text_upto}
 use Rattle.first_pass_tokens.specs.LineTokens.{EndsLine, EndsCell}
 use Rattle.first_pass_tokens.specs.TreeTokens.{AppendsLine, AppendsCell}
 use Rattle.first_pass_grammar.specs.TableHeads.{headed_table}
@@ -19,7 +19,7 @@ use Rattle.first_pass.specs.Views.{allocs_of, braces_of, context_in, source_opti
 
 -- the content that begins at an offset, of a text of which nothing counts from another offset on, with the pass's brace contexts before it; a cell's or a
 -- line's
-abbrev pub content_upto : FirstPass → ℕ → Option ℕ → Bool → Source
+abbrev pub content_upto : FirstPass → ℕ → Option ℕ → Bool → Inline
 content_upto pass start end row = record {
   options = source_options pass;
   whole = source_text pass;

@@ -13,7 +13,7 @@ use Rattle.first_pass_names.specs.declared.items.Allocations.{Allocations}
 use Rattle.first_pass_names.proofs.NameLemmas.{extends_equal, extends_both}
 use Rattle.first_pass_blocks.specs.Written.{TablesAreWritten}
 use Rattle.first_pass_open.specs.declared.source.Source.{Source}
-use Rattle.first_pass_blocks.specs.declared.openers.AfterMarker.{AfterMarker}
+use Rattle.first_pass_grammar.specs.declared.kind.AfterMarker.{AfterMarker}
 use Rattle.first_pass_blocks.specs.declared.state.BlockPass.{BlockPass}
 use Rattle.first_pass_blocks.specs.Entering.{EntersLine}
 use Rattle.first_pass_blocks.specs.Positions.{Position, LineAt, InLine, LeafAt, TaskAt, TaggedAt, IsFrom, ReadyOn, GrowsTo, GrowsFrom, ReadsTo}

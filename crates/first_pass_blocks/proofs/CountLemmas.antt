@@ -43,7 +43,7 @@ use Rattle.first_pass_lists.specs.declared.reading.Reading.{Reading}
 use Rattle.first_pass_open.specs.Between.{AddsBetween, StandsBefore}
 use Rattle.first_pass_grammar.specs.Openers.{after_task}
 use Rattle.first_pass_blocks.specs.Positions.{GrowsTo}
-use Rattle.first_pass_blocks.specs.Starts.{after_told, after_at}
+use Rattle.first_pass_blocks.specs.Starts.{after_at}
 use Rattle.first_pass_blocks.proofs.OpenerLemmas.{item_opened}
 
 -- how many nodes of its own what is remembered has
@@ -357,7 +357,7 @@ mark_shorter options line r s marker x is rest some =
 pub container_count : (text : List ℕ) (line low mid e : ℕ) (q : Place) (first old new : List (ℕ × Item)) (marker : Option Item)
     → GrowsBy line low first old → own_nodes new ≤ own_nodes old + 2 → line ≤ low → low < mid → mid ≤ offset q
     → ((x : Item) → marker ≡ Some x → StandsBefore text mid (offset q) (Some x) × (mid < offset q))
-    → GrowsTo text line first new (after_at q e (after_told (after_task marker)))
+    → GrowsTo text line first new (after_at q e (after_task marker))
 container_count text line low mid e q first old new None grows two begins some later stands = omega arith
 container_count text line low mid e q first old new (Some x) grows two begins some later stands = record {
   from = mid;

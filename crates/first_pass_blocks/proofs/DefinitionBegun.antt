@@ -13,7 +13,7 @@ use Rattle.first_pass_tree.specs.declared.tree_index.TreeIndex.{TreeIndex}
 use Rattle.first_pass_tree.specs.Forest.{Forest, IsForest, IsLastAt, depths, modify, with_body_at, body_at, item_at, deeper, pushed, wrapped}
 use Rattle.first_pass_tree.proofs.BodyLemmas.{body-other, body_of}
 use Rattle.first_pass_grammar.specs.Derivation.{list_flags}
-use Rattle.first_pass_grammar.specs.Order.{Extent, extent_of, extents, is_task_marker, is_list_item, is_text_block, is_definition_list, Row, Empty, Node, laid}
+use Rattle.first_pass_grammar.specs.Order.{Extent, extent_of, extents, is_task_marker, is_list_item, is_text_block, is_definition_list, Siblings, Empty, Node, laid}
 use Rattle.first_pass_grammar.specs.OpenOrder.{laid_open, AreAt, FitsOpen, IsOrderedTo}
 use Rattle.first_pass_grammar.proofs.Orders.{laid_open-beside, laid_open-level, length-places}
 use Rattle.first_pass_grammar.proofs.RowSplits.{last_child, fits_open_titled, as_list, open_definitions, laid-deeper, extents-deeper}
@@ -69,7 +69,7 @@ places_less : (a b : ℕ) (spine : List TreeIndex) → a ≤ b → AreBefore a s
 places_less a b [] more h = tt
 places_less a b (ix ∷ spine) more h = ((let w = h.0 in omega arith), places_less a b spine more h.1)
 
-pub places_before : (root : Extent) (levels : List (Row × Extent)) (row : Row) (spine : List TreeIndex) → AreAt root levels spine
+pub places_before : (root : Extent) (levels : List (Siblings × Extent)) (row : Siblings) (spine : List TreeIndex) → AreAt root levels spine
     → AreBefore (length (laid_open root levels row)) spine
 places_before root [] row [] h = tt
 places_before root [] row (ix ∷ spine) h = absurd h
@@ -103,7 +103,7 @@ list_class None h = refl
 list_class (Some (DefinitionList flags)) h = cc
 list_class (Some b) h = refl
 
-no_open_list : (nodes : List (ℕ × Item)) (root : Extent) (levels : List (Row × Extent)) (row : Row) (spine : List TreeIndex)
+no_open_list : (nodes : List (ℕ × Item)) (root : Extent) (levels : List (Siblings × Extent)) (row : Siblings) (spine : List TreeIndex)
     → extents nodes ≡ laid_open root levels row → AreAt root levels spine → is_list (top_of nodes spine) ≡ false → open_definitions levels ≡ false
 no_open_list nodes root [] row spine is at none = refl
 no_open_list nodes root (level ∷ levels) row [] is at none = absurd at

@@ -15,7 +15,7 @@ use Rattle.first_pass_tree.specs.declared.tree_index.TreeIndex.{TreeIndex}
 use Rattle.first_pass_tree.specs.Forest.{Forest, IsForest, IsLastAt, depths, modify, with_body_at, with_end_at, body_at, item_at, at_depth, added}
 use Rattle.first_pass_tree.specs.Forest.{with_end}
 use Rattle.first_pass_tree.proofs.BodyLemmas.{body-kept, body-changed}
-use Rattle.first_pass_grammar.specs.Order.{Extent, extent_of, extents, is_task_marker, Row, laid, IsBetween, Elsewhere}
+use Rattle.first_pass_grammar.specs.Order.{Extent, extent_of, extents, is_task_marker, Siblings, laid, IsBetween, Elsewhere}
 use Rattle.first_pass_grammar.specs.Order.{InItem, Fits, FitsBetween}
 use Rattle.first_pass_grammar.specs.OpenOrder.{laid_open, AreAt, open_within, FitsOpen, item_on_top, within_top, IsOrderedTo}
 use Rattle.first_pass_grammar.proofs.Orders.{ended_at, extents-append, length-extents, extents-at_depth, laid-at_depth, laid_open-level}
@@ -61,8 +61,9 @@ ordered_to_last text f a c y forest current here plain h =
     )
 
 -- the innermost open node has another end
-reended_by : (text : List ℕ) (f : Forest Item) (a e : ℕ) (ix : TreeIndex) (rest : List TreeIndex) (root : Extent) (levels : List (Row × Extent)) (row : Row)
-    → extents f.nodes ≡ laid_open root levels row → f.spine ≡ ix ∷ rest → AreAt root levels (ix ∷ rest) → FitsOpen text a levels row → a ≤ length text
+reended_by : (text : List ℕ) (f : Forest Item) (a e : ℕ) (ix : TreeIndex) (rest : List TreeIndex) (root : Extent) (levels : List (Siblings × Extent))
+    (row : Siblings) → extents f.nodes ≡ laid_open root levels row → f.spine ≡ ix ∷ rest → AreAt root levels (ix ∷ rest) → FitsOpen text a levels row
+    → a ≤ length text
     → IsBetween text 0 (length text) root × (root.start ≡ 0) × (root.«end» ≡ length text) → IsOrderedTo text (with_end_at f ix e) a
 unfolding FitsOpen
 reended_by text f a e ix rest root [] row is spine places fits within whole = absurd places

@@ -15,7 +15,7 @@ use Rattle.first_pass_tree.specs.declared.tree_index.TreeIndex.{TreeIndex}
 use Rattle.first_pass_tree.specs.Forest.{Forest, modify, with_body_at, body_at, map_from}
 use Rattle.first_pass_tree.specs.Forest.{shallower}
 use Rattle.first_pass_tree.specs.Tight.{tight_items}
-use Rattle.first_pass_grammar.specs.Order.{Extent, extent_of, extents, Row, laid, Elsewhere}
+use Rattle.first_pass_grammar.specs.Order.{Extent, extent_of, extents, Siblings, laid, Elsewhere}
 use Rattle.first_pass_grammar.specs.Order.{Fits}
 use Rattle.first_pass_grammar.specs.OpenOrder.{laid_open, AreAt, within_top, IsOrderedTo}
 use Rattle.first_pass_grammar.proofs.Orders.{ended_at, extents-append, length-extents, laid_open-level}
@@ -87,7 +87,7 @@ end_there (n ∷ nodes) (suc k) e low = end_there nodes k e (omega arith)
 
 -- A definition list ends at an offset up to which what is before a place is in order; the node there, which is last in it, is after that offset.
 module _ (text : List ℕ) (old : Forest Item) (ix c : TreeIndex) (rest : List TreeIndex) (spine : old.spine ≡ ix ∷ rest) (place : c.0 ≡ length old.nodes)
-    (row : Row) (e next : ℕ) (o : IsOrderedTo text old e) (boundary : IsCharBoundary text e) (fits : Fits text Elsewhere e next row)
+    (row : Siblings) (e next : ℕ) (o : IsOrderedTo text old e) (boundary : IsCharBoundary text e) (fits : Fits text Elsewhere e next row)
     (within : next ≤ length text) where
   -- the extents of what is before it, once the list has that end
   abbrev pub ends_front : List (ℕ × Extent)
@@ -116,7 +116,7 @@ module _ (text : List ℕ) (old : Forest Item) (ix c : TreeIndex) (rest : List T
       (spine_closed q f ix (body_at f.nodes ix.0)) (fits-any text (within_top (closed_by old e (ix ∷ rest))) e next row fits) within shut)
 
 -- the innermost open node stands among the nodes
-open_by : (nodes : List (ℕ × Item)) (ix : TreeIndex) (rest : List TreeIndex) (root : Extent) (levels : List (Row × Extent)) (row : Row)
+open_by : (nodes : List (ℕ × Item)) (ix : TreeIndex) (rest : List TreeIndex) (root : Extent) (levels : List (Siblings × Extent)) (row : Siblings)
     → extents nodes ≡ laid_open root levels row → AreAt root levels (ix ∷ rest) → ix.0 < length nodes
 open_by nodes ix rest root [] row is places = absurd places
 open_by nodes ix rest root (level ∷ levels) row is places =

@@ -38,7 +38,7 @@ use Rattle.first_pass_lists.specs.Closing.{list_finished, loosened_top, list_kep
 use Rattle.first_pass_lists.specs.declared.list.ListMarker.{ListMarker}
 use Rattle.first_pass_lists.specs.declared.reading.Reading.{Reading}
 use Rattle.first_pass_blocks.specs.Positions.{ReadyOn, ReadyText, ReadyTagged}
-use Rattle.first_pass_blocks.specs.Starts.{marker_of, after_told, after_at, IsAfter}
+use Rattle.first_pass_blocks.specs.Starts.{marker_of, after_at, IsAfter}
 use Rattle.first_pass_blocks.specs.State.{frame_of, AreOpen, closed_in, ReadyAt}
 use Rattle.first_pass_blocks.proofs.ClosedIn.{items_no_container, items_no_definitions, level_of, open_level}
 use Rattle.first_pass_blocks.proofs.OpenLemmas.{open_path, open_below}
@@ -365,13 +365,13 @@ ready_definition d defined r p lines columns rest forest bare takes begins some 
 
 -- what stands after an item's marker where more of its line is left: blocks, or the text of a task
 pub after_opened : (marker : Option Item) (q : Reading) → ((x : Item) → marker ≡ Some x → is_task_marker x.body ≡ true) → q.empty_item ≡ None
-    → is_in_item q.tree ≡ true → IsAfter (after_told (after_task marker)) q
+    → is_in_item q.tree ≡ true → IsAfter (after_task marker) q
 after_opened None q mark none inside = none
 after_opened (Some x) q mark none inside = (mark x refl, none, inside)
 
 pub ready_after : (d : Document) (defined : Tables) (r : Reading) (p : Place) (e : ℕ) (marker : Option Item) → line_end p ≡ e
     → (r.blank ≡ false) × (now : ReadyAt d defined r.tree false (behind_task marker p) (lines_from d.text e)) × IsPlain now.frames
-    → ReadyOn d defined r (after_at p e (after_told (after_task marker)))
+    → ReadyOn d defined r (after_at p e (after_task marker))
 ready_after d defined r p e None ends (blank, ready, plain) =
     subst (λ (n : ℕ). ReadyAt d defined r.tree r.blank (Inside p) (lines_from d.text n)) (sym ends)
     (subst (λ t. ReadyAt d defined r.tree t (Inside p) (lines_from d.text e)) (sym blank) ready)

@@ -11,7 +11,7 @@ use Rattle.first_pass_items.specs.declared.item.ItemBody.TheVariants.{Definition
 use Rattle.first_pass_tree.specs.declared.tree_index.TreeIndex.{TreeIndex}
 use Rattle.first_pass_tree.specs.Forest.{Forest, empty_forest, with_end_at, body_at, modify, at_depth, appended, added}
 use Rattle.first_pass_tree.specs.Tight.{tightened, tight_run, tight_at, tight_items}
-use Rattle.first_pass_grammar.specs.Order.{Extent, is_text_block, is_task_marker, is_list_item, is_definition_list, extent_of, extents, Row, Empty, Node, laid}
+use Rattle.first_pass_grammar.specs.Order.{Extent, is_text_block, is_task_marker, is_list_item, is_definition_list, extent_of, extents, Siblings, Empty, Node, laid}
 use Rattle.first_pass_grammar.specs.Order.{IsBetween, Elsewhere, InItem, Fits, FitsBetween, IsOrdered}
 use Rattle.first_pass_grammar.specs.OpenOrder.{laid_open, AreAt, open_within, FitsOpen, item_on_top, within_top, IsOrderedTo}
 use Rattle.first_pass_grammar.proofs.Orders.{beside, ended_at, extents-append, length-extents, extents-at_depth, laid-at_depth, laid-one, laid_open-beside}
@@ -62,7 +62,7 @@ item_there (m ∷ nodes) (y ∷ front) n more zero is at = absurd (omega arith)
 item_there (m ∷ nodes) (y ∷ front) n more (suc k) is at = (let z : extents nodes ≡ front ++ n ∷ more = cc in item_there nodes front n more k z (omega arith))
 
 -- where what is added stands
-within_open : (nodes : List (ℕ × Item)) (root : Extent) (levels : List (Row × Extent)) (row : Row) (spine : List TreeIndex)
+within_open : (nodes : List (ℕ × Item)) (root : Extent) (levels : List (Siblings × Extent)) (row : Siblings) (spine : List TreeIndex)
     → extents nodes ≡ laid_open root levels row → AreAt root levels spine
     → open_within levels ≡ (if item_on_top (option_and_then (λ ix. body_at nodes ix.0) (slice_get spine 0)) then InItem else Elsewhere)
 within_open nodes root [] row [] is at = refl
@@ -74,7 +74,7 @@ within_open nodes root (level ∷ levels) row (ix ∷ spine) is at =
     (is ∙ laid_open-level root level levels row) at.0))
 
 -- more nodes in the innermost open one
-pub ordered_more : (text : List ℕ) (f g : Forest Item) (a b : ℕ) (more : Row)
+pub ordered_more : (text : List ℕ) (f g : Forest Item) (a b : ℕ) (more : Siblings)
     → extents g.nodes ≡ extents f.nodes ++ laid (suc (length f.spine)) more → g.spine ≡ f.spine → Fits text (within_top f) a b more → b ≤ length text
     → IsOrderedTo text f a → IsOrderedTo text g b
 ordered_more text f g a b more nodes spine fits within h =
@@ -135,7 +135,7 @@ ordered_begun text r a start body later within starts h =
     }
 
 -- the whole tree, where no node but the root is open
-whole_by : (text : List ℕ) (nodes : List (ℕ × Item)) (to : ℕ) (root : Extent) (levels : List (Row × Extent)) (row : Row)
+whole_by : (text : List ℕ) (nodes : List (ℕ × Item)) (to : ℕ) (root : Extent) (levels : List (Siblings × Extent)) (row : Siblings)
     → extents nodes ≡ laid_open root levels row → AreAt root levels [] → FitsOpen text to levels row → to ≤ length text
     → IsBetween text 0 (length text) root × (root.start ≡ 0) × (root.«end» ≡ length text) → IsOrdered text nodes
 whole_by text nodes to root [] row is places fits within whole =
@@ -173,8 +173,8 @@ ordered_first text tree root utf8 top tree_is =
     subst (λ (f : Forest Item). IsOrderedTo text f 0) (sym e) (first_at text utf8)
 
 -- the innermost open node closed
-closed_levels : (text : List ℕ) (f : Forest Item) (at e : ℕ) (ix : TreeIndex) (rest : List TreeIndex) (root : Extent) (levels : List (Row × Extent)) (row : Row)
-    → extents f.nodes ≡ laid_open root levels row → AreAt root levels (ix ∷ rest)
+closed_levels : (text : List ℕ) (f : Forest Item) (at e : ℕ) (ix : TreeIndex) (rest : List TreeIndex) (root : Extent) (levels : List (Siblings × Extent))
+    (row : Siblings) → extents f.nodes ≡ laid_open root levels row → AreAt root levels (ix ∷ rest)
     → FitsOpen text at levels row → IsBetween text 0 (length text) root × (root.start ≡ 0) × (root.«end» ≡ length text) → at ≤ e → e ≤ length text
     → IsCharBoundary text e → IsOrderedTo text (closed_by f e (ix ∷ rest)) e
 closed_levels text f at e ix rest root [] row is places fits whole later within ends = absurd places

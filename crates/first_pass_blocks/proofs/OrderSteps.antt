@@ -29,7 +29,7 @@ use Rattle.first_pass_lists.specs.Closing.{list_continued, definition_begun, foo
 use Rattle.first_pass_lists.specs.declared.reading.Reading.{Reading}
 use Rattle.first_pass_grammar.specs.Openers.{after_task}
 use Rattle.first_pass_blocks.specs.Positions.{line_or, OrderedUpTo, OrderedIn, OrderedText, OrderedOn}
-use Rattle.first_pass_blocks.specs.Starts.{after_told, after_at}
+use Rattle.first_pass_blocks.specs.Starts.{after_at}
 use Rattle.first_pass_blocks.specs.Ordered.{reached, AreNested, CanClose, IsOrderedAt, IsReadTo}
 use Rattle.first_pass_open.specs.Between.{AddsBetween, StandsBefore}
 use Rattle.first_pass_open.proofs.PathLemmas.{get_front}
@@ -208,7 +208,7 @@ mark_stands text options line r s from marker x u i low is rest some =
 -- an item with something after its markers
 pub ordered_container : (options : Options) (text : List ℕ) (q : Reading) (start e : ℕ) (p : Place) (marker : Option Item)
     → is_list (top_body q.tree) ≡ false → start ≤ offset p → offset p ≤ length text → IsCharBoundary text p.line → OrderedUpTo text q.tree start
-    → ((x : Item) → marker ≡ Some x → StandsBefore text start (offset p) (Some x)) → OrderedOn options text q (after_at p e (after_told (after_task marker)))
+    → ((x : Item) → marker ≡ Some x → StandsBefore text start (offset p) (Some x)) → OrderedOn options text q (after_at p e (after_task marker))
 ordered_container options text q start e p None none low high boundary o stands =
     (boundary, ordered_on text q.tree p.line start (offset p) none low high o)
 ordered_container options text q start e p (Some x) none low high boundary (o, c) stands =

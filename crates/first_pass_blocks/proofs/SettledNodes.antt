@@ -38,7 +38,9 @@ use Rattle.first_pass_grammar.specs.Kinds.{Paragraph, unindented, is_blank_rest,
 use Rattle.first_pass_grammar.specs.Leaves.{Document, around, block_with, heading_block, heading_text_at, TextLines}
 use Rattle.first_pass_grammar.specs.LinkRuns.{kind_in, Beyond, Ended, FlowsOn}
 use Rattle.first_pass_grammar.specs.LinkTables.{LinkEntry}
-use Rattle.first_pass_grammar.specs.Openers.{AfterMarker, OnLine, TaskText, LineEnds, TagAlone, Start, start_at, task_by, task_behind, after_task, tag_behind}
+use Rattle.first_pass_grammar.specs.declared.kind.AfterMarker.{AfterMarker}
+use Rattle.first_pass_grammar.specs.declared.kind.AfterMarker.TheVariants.{OnLine, TaskText, LineEnds, TagAlone}
+use Rattle.first_pass_grammar.specs.Openers.{Start, start_at, task_by, task_behind, after_task, tag_behind}
 use Rattle.first_pass_grammar.specs.Openers.{after_quote}
 use Rattle.first_pass_grammar.specs.RawLines.{range_text, range_html}
 use Rattle.first_pass_grammar.specs.Rows.{What, ALeaf, AQuote, AList, AnItem, AFootnote, ADefinitionList, ATitle, ADefinition, Row, Rows, End, OneOf, gapped}

@@ -21,7 +21,8 @@ use Rattle.first_pass_grammar.specs.Containers.{prefix, at_rest}
 use Rattle.first_pass_grammar.specs.Kinds.{item_at, definition_marker_at, is_blank_rest, quote_start}
 use Rattle.first_pass_grammar.specs.Leaves.{Document, document, around}
 use Rattle.first_pass_items.specs.OptionWords.{has, definition_list}
-use Rattle.first_pass_grammar.specs.Openers.{OnLine, LineEnds, Start, item_start, item_head, task_behind, after_task, tag_behind, quote_begun, definition_head}
+use Rattle.first_pass_grammar.specs.declared.kind.AfterMarker.TheVariants.{OnLine, LineEnds}
+use Rattle.first_pass_grammar.specs.Openers.{Start, item_start, item_head, task_behind, after_task, tag_behind, quote_begun, definition_head}
 use Rattle.first_pass_grammar.specs.Openers.{definition_start, start_at}
 use Rattle.first_pass_grammar.specs.Completion.{lines_from}
 use Rattle.first_pass_grammar.specs.Names.{Names}
@@ -38,7 +39,7 @@ use Rattle.first_pass_lists.specs.Closing.{definition_begun}
 use Rattle.first_pass_lists.specs.declared.reading.Reading.{Reading}
 use Rattle.first_pass_blocks.specs.Positions.{Position, InLine, LeafAt, IsInLine, OrderedUpTo, ReadsTo, may_define}
 use Rattle.first_pass_blocks.specs.Ordered.{IsReadTo}
-use Rattle.first_pass_blocks.specs.Starts.{after_told, start_told, start_opened, after_at, IsAfter}
+use Rattle.first_pass_blocks.specs.Starts.{start_told, start_opened, after_at, IsAfter}
 use Rattle.first_pass_blocks.specs.State.{ReadyAt}
 use Rattle.first_pass_blocks.proofs.LineLemmas.{list_finished_none, list_continued_none}
 use Rattle.first_pass_blocks.proofs.NamedLemmas.{item_named, definition_named, quote_named, child_named}
@@ -89,9 +90,9 @@ ordered_empty_definition text start e columns r low high boundary o =
 -- What is remembered once a container that begins at a place is open, and where reading has come to: of the line less is left.
 abbrev IsOpened : Source → ℕ → Reading → Place → Start → Type 0
 IsOpened source line r p s =
-    IsAfter (after_told s.after) (start_opened p.line (start_told s) (line_end p) r) × (length s.rest.left < length p.rest.left)
+    IsAfter s.after (start_opened p.line (start_told s) (line_end p) r) × (length s.rest.left < length p.rest.left)
     × IsInLine source.text.now p.line (line_end p) (at_rest p s.rest)
-    × ReadsTo source line r (start_opened p.line (start_told s) (line_end p) r) (InLine p) (after_at (at_rest p s.rest) (line_end p) (after_told s.after))
+    × ReadsTo source line r (start_opened p.line (start_told s) (line_end p) r) (InLine p) (after_at (at_rest p s.rest) (line_end p) s.after)
 
 module _ (source : Source) (r : Reading) (p : Place) (utf8 : IsUtf8 source.text.now) (at : IsPlaceOf source.text.now p) (forest : IsForest r.tree)
     (none : r.empty_item ≡ None) (line : ℕ) (below : line ≤ p.line)
@@ -140,9 +141,9 @@ module _ (source : Source) (r : Reading) (p : Place) (utf8 : IsUtf8 source.text.
 
     -- more of its line is left
     item_line : (marker : Option Item) → marker ≡ (task_behind source.options p.line behind).0 → is_blank_rest rest ≡ false
-        → IsAfter (after_told (after_task marker)) opened_item × (length rest.left < length p.rest.left)
+        → IsAfter (after_task marker) opened_item × (length rest.left < length p.rest.left)
         × IsInLine text p.line (line_end p) (at_rest p rest)
-        × ReadsTo source line r opened_item (InLine p) (after_at (at_rest p rest) (line_end p) (after_told (after_task marker)))
+        × ReadsTo source line r opened_item (InLine p) (after_at (at_rest p rest) (line_end p) (after_task marker))
     item_line marker same some =
         let under = below in
         let j = markers_keep text source.options p.line p.rest ((byte, number, columns), behind) rest utf8 is refl at in
@@ -388,9 +389,9 @@ module _ (source : Source) (r : Reading) (p : Place) (utf8 : IsUtf8 source.text.
   opened_start s new t q is told new_is q_is =
       let opens = start_opens s is in
       let here : ℕ → Type 0 = λ n.
-      IsAfter (after_told s.after) (start_opened p.line (start_told s) n r) × (length s.rest.left < length p.rest.left)
+      IsAfter s.after (start_opened p.line (start_told s) n r) × (length s.rest.left < length p.rest.left)
       × IsInLine text p.line (line_end p) (at_rest p s.rest)
-      × ReadsTo source line r (start_opened p.line (start_told s) n r) (InLine p) (after_at (at_rest p s.rest) (line_end p) (after_told s.after)) in
+      × ReadsTo source line r (start_opened p.line (start_told s) n r) (InLine p) (after_at (at_rest p s.rest) (line_end p) s.after) in
       rw (q_is, new_is, told) (subst here (sym opens.2.2) opens)
 
 -- no step

@@ -4,8 +4,9 @@ use Rattle.first_pass_items.specs.declared.item.Item.{Item}
 use Rattle.first_pass_items.specs.declared.item.BlockQuoteKind.{BlockQuoteKind}
 use Rattle.first_pass_items.specs.declared.item.ItemBody.TheVariants.{BlockQuote as BlockQuoteBody, ListItem as ListItemBody}
 use Rattle.first_pass_grammar.specs.Blocks.{Opener as ContainerOpener, QuoteMarker, ItemMarker, FootnoteMarker, DefinitionMarker}
-use Rattle.first_pass_grammar.specs.Openers.{AfterMarker as After, OnLine as AfterOnLine, TaskText as AfterTaskText, LineEnds as AfterLineEnds}
-use Rattle.first_pass_grammar.specs.Openers.{TagAlone as AfterTagAlone, Start as ContainerStart, after_task, after_quote}
+use Rattle.first_pass_grammar.specs.declared.kind.AfterMarker.{AfterMarker}
+use Rattle.first_pass_grammar.specs.declared.kind.AfterMarker.TheVariants.{OnLine, TaskText, LineEnds, TagAlone}
+use Rattle.first_pass_grammar.specs.Openers.{Start as ContainerStart, after_task}
 use Rattle.first_pass_lines.specs.Places.{Place}
 use Rattle.first_pass_grammar.specs.Order.{is_task_marker}
 use Rattle.first_pass_grammar.specs.OpenOrder.{is_in_item}
@@ -16,8 +17,6 @@ use Rattle.first_pass_open.specs.OpenBlock.{with_child}
 use Rattle.first_pass_blocks.specs.Positions.{Position, LineAt, InLine, LeafAt, TaskAt, TaggedAt}
 use Rattle.first_pass_blocks.specs.declared.openers.Opener.{Opener}
 use Rattle.first_pass_blocks.specs.declared.openers.Opener.TheVariants.{Quote, Item as ItemOpener, Definition as DefinitionOpener}
-use Rattle.first_pass_blocks.specs.declared.openers.AfterMarker.{AfterMarker}
-use Rattle.first_pass_blocks.specs.declared.openers.AfterMarker.TheVariants.{OnLine, TaskText, LineEnds, TagAlone}
 use Rattle.first_pass_blocks.specs.declared.openers.Start.{Start}
 
 -- the marker of a list item, of which these are the byte, the number and the indent
@@ -31,20 +30,11 @@ opener_told (ItemMarker byte number columns) = ItemOpener (marker_of (byte, numb
 opener_told (FootnoteMarker columns index label) = Quote None
 opener_told (DefinitionMarker columns) = DefinitionOpener columns
 
-abbrev pub after_told : After → AfterMarker
-after_told AfterOnLine = OnLine
-after_told (AfterTaskText marker) = TaskText marker
-after_told (AfterLineEnds marker) = LineEnds marker
-after_told AfterTagAlone = TagAlone
-
 abbrev pub start_told : ContainerStart → Start
-start_told s = record { opener = opener_told s.head.opener; start = s.head.start; after = after_told s.after }
+start_told s = record { opener = opener_told s.head.opener; start = s.head.start; after = s.after }
 
 abbrev pub item_after : Option Item → Bool → AfterMarker
-item_after marker is_over = after_told (if is_over then AfterLineEnds marker else after_task marker)
-
-abbrev pub quote_after : Option BlockQuoteKind → AfterMarker
-quote_after kind = after_told (after_quote kind)
+item_after marker is_over = if is_over then LineEnds marker else after_task marker
 
 -- a container is open, with the list that it needs, which starts at an offset in the line that begins at another
 abbrev pub container_opened : ℕ → ℕ → Opener → Reading → Reading

@@ -9,9 +9,10 @@ ghost use Rattle.first_pass_blocks.specs.Progress.{PassesTo};
 ghost use Rattle.first_pass_blocks.specs.Starts.{start_opened, last_at, IsAfter};
 ghost use Rattle.first_pass_blocks.specs.Views.{reading_of, source_of, source_text};
 
-use crate::openers::{AfterMarker, Opener, Start, start_at};
+use crate::openers::{Opener, Start, start_at};
 use crate::state::BlockPass;
 use bitflags::Flags;
+use first_pass_grammar::AfterMarker;
 use first_pass_items::option_set::Options;
 use first_pass_lines::lines::scan_blank_line;
 use first_pass_lines::places::next_line;

@@ -4,10 +4,11 @@ ghost use Rattle.std.specs.Prelude.{◌≡◌, Some, None, MatchOption, IsUtf8};
 ghost use Rattle.first_pass_lines.specs.Places.{IsPlaceOf};
 ghost use Rattle.first_pass_grammar.specs.Containers.{at_rest};
 ghost use Rattle.first_pass_grammar.specs.Kinds.{item_at, definition_marker_at};
-ghost use Rattle.first_pass_grammar.specs.Openers.{task_behind, tag_behind, start_at};
-ghost use Rattle.first_pass_blocks.specs.Starts.{marker_of, start_told, item_after, quote_after};
+ghost use Rattle.first_pass_grammar.specs.Openers.{task_behind, tag_behind, after_quote, start_at};
+ghost use Rattle.first_pass_blocks.specs.Starts.{marker_of, start_told, item_after};
 
 use bitflags::Flags;
+use first_pass_grammar::AfterMarker;
 use first_pass_items::item::{BlockQuoteKind, Item, ItemBody};
 use first_pass_items::option_set::Options;
 use first_pass_lines::lines::scan_blank_line;
@@ -27,19 +28,6 @@ pub(crate) enum Opener {
     Item(ListMarker),
     /// A definition's `:`, with the definition's indent.
     Definition(usize),
-}
-
-/// What stands after a container's marker on its line.
-#[derive(Clone, Copy, Drop)]
-pub(crate) enum AfterMarker {
-    /// More of the line, in which blocks continue.
-    OnLine,
-    /// The text of a task, after this marker.
-    TaskText(Item),
-    /// Nothing, or the marker of a task alone.
-    LineEnds(Option<Item>),
-    /// The tag of a block quote alone.
-    TagAlone,
 }
 
 /// A list item, a definition or a block quote that begins at a place.
@@ -91,7 +79,7 @@ pub(crate) fn start_at<'a>(
     Some(Start {
         opener: Opener::Quote(tag),
         start: place.line + quote,
-        after: quote_after(tag),
+        after: after_quote(tag),
     })
 }
 
@@ -109,8 +97,8 @@ fn item_after(task: Option<Item>, is_over: bool) -> AfterMarker
 
 // What stands after a block quote's marker, with a tag or without one.
 #[inline(always)]
-fn quote_after(tag: Option<BlockQuoteKind>) -> AfterMarker
-    ensures { result ≡ quote_after tag }
+fn after_quote(tag: Option<BlockQuoteKind>) -> AfterMarker
+    ensures { result ≡ after_quote tag }
 {
     if tag.is_some() {
         AfterMarker::TagAlone

@@ -13,7 +13,7 @@ ghost use Rattle.first_pass_grammar.specs.Names.{Names, AreNamed};
 ghost use Rattle.first_pass_names.specs.TableEntries.{tables, names_of, refdefs_of, footdefs_of};
 ghost use Rattle.first_pass_definitions.specs.Found.{AreWritten};
 ghost use Rattle.first_pass_kinds.specs.Found.{IsFoundAt};
-ghost use Rattle.first_pass_blocks.specs.declared.openers.AfterMarker.TheVariants.{TaskText};
+ghost use Rattle.first_pass_grammar.specs.declared.kind.AfterMarker.TheVariants.{TaskText};
 ghost use Rattle.first_pass_blocks.specs.State.{Ready};
 ghost use Rattle.first_pass_blocks.specs.Ordered.{IsReadTo};
 ghost use Rattle.first_pass_blocks.specs.Positions.{LineAt, TaskAt, TaggedAt};
@@ -25,9 +25,9 @@ ghost use Rattle.first_pass_blocks.specs.Views.{allocs_of, reading_of, source_op
 
 use crate::containers::{close_containers, enter_line, line_over};
 use crate::definition::RunEnd;
-use crate::openers::AfterMarker;
 use crate::state::BlockPass;
 use crate::text::parse_paragraph;
+use first_pass_grammar::AfterMarker;
 use first_pass_items::item::Item;
 use first_pass_items::option_set::Options;
 use first_pass_kinds::interrupt::scan_line_behind_tag;

@@ -10,7 +10,7 @@ use Rattle.first_pass_tree.specs.Forest.{is_escaped, cut_item}
 use Rattle.first_pass_lines.specs.Places.{Place, offset, line_end}
 use Rattle.first_pass_tokens.specs.declared.pieces.Piece.{Piece}
 use Rattle.first_pass_tokens.specs.declared.pieces.Piece.TheVariants.{Left, Begins, Token, Run}
-use Rattle.first_pass_tokens.specs.Pieces.{Source, found_at, size}
+use Rattle.first_pass_tokens.specs.Pieces.{Inline, found_at, size}
 use Rattle.first_pass_tokens.specs.Braces.{MathBraces, braces_after}
 use Rattle.first_pass_tokens.specs.LineTokens.{Spot, spot, ArePieces, add_piece, add_pieces, text_end, line_end_len, breaks_by_backslash, blanks_at_end}
 use Rattle.first_pass_tokens.specs.LineTokens.{break_of, line_break, IsLine, IsCell}
@@ -144,13 +144,13 @@ module _ (P : ItemBody → Type 0) (soft : P SoftBreak) (hard : (by_backslash : 
   some_each true x h = tt
   some_each false x h = h
 
-  line_break_each : (s : Source) (end : ℕ) → IfSome (line_break s end) (λ y. P y.body)
+  line_break_each : (s : Inline) (end : ℕ) → IfSome (line_break s end) (λ y. P y.body)
   unfolding line_break
   line_break_each s end =
       some_each (nat_le (length s.text) end) (break_of end (end + line_end_len s end) (breaks_by_backslash s end) (blanks_at_end s end))
       (break_of_each end (end + line_end_len s end) (breaks_by_backslash s end) (blanks_at_end s end))
 
-  pub break_each : {after : MathBraces} (texts : List CowStr) (s : Source) (tokens : List Item) (answer : ℕ × Option Item) → IsLine texts s tokens answer after
+  pub break_each : {after : MathBraces} (texts : List CowStr) (s : Inline) (tokens : List Item) (answer : ℕ × Option Item) → IsLine texts s tokens answer after
       → IfSome answer.1 (λ y. P y.body)
   break_each texts s tokens answer h = subst (λ (a : ℕ × Option Item). IfSome a.1 (λ y. P y.body)) (sym h.answer_is) (line_break_each s h.content_end)
 
@@ -170,7 +170,7 @@ module _ (texts : List CowStr) (P : ItemBody → Type 0) (holds : HoldsOfTokens 
       token_each P chain (token (at + dropped) n body) h (holds.markup body facts.kind within)
   piece_each text stop at (Run n opens closes) chain facts within h = tokens_each P chain (run_tokens at n opens closes) h (run_each at n opens closes)
 
-  pub pieces_each : (s : Source) (stop at : ℕ) (b : MathBraces) (ps : List Piece) (to : Spot) (chain : List Item) → ArePieces texts s at b ps to
+  pub pieces_each : (s : Inline) (stop at : ℕ) (b : MathBraces) (ps : List Piece) (to : Spot) (chain : List Item) → ArePieces texts s at b ps to
       → AreEach P chain → AreEach P (add_pieces stop at ps chain)
   pieces_each s stop at b [] to chain are h = h
   pieces_each s stop at b (p ∷ ps) to chain are h =
@@ -178,12 +178,12 @@ module _ (texts : List CowStr) (P : ItemBody → Type 0) (holds : HoldsOfTokens 
       (piece_each s.text stop at p chain (piece_of texts b s at p are.0 are.1) (piece_within texts b s at p are.1) h)
 
   -- the tokens of a line, and of a cell
-  pub line_each : {after : MathBraces} (s : Source) (tokens : List Item) (answer : ℕ × Option Item) → IsLine texts s tokens answer after → AreEach P tokens
+  pub line_each : {after : MathBraces} (s : Inline) (tokens : List Item) (answer : ℕ × Option Item) → IsLine texts s tokens answer after → AreEach P tokens
   line_each {after} s tokens answer h =
       subst (AreEach P) (sym h.tokens_are)
       (pieces_each s (text_end s h.content_end) s.start s.braces h.pieces (spot h.content_end after) [] h.division.divided tt)
 
-  pub cell_each : {after : MathBraces} (s : Source) (tokens : List Item) (stop : ℕ) → IsCell texts s tokens stop after → AreEach P tokens
+  pub cell_each : {after : MathBraces} (s : Inline) (tokens : List Item) (stop : ℕ) → IsCell texts s tokens stop after → AreEach P tokens
   cell_each {after} s tokens stop h =
       subst (AreEach P) (sym h.tokens_are)
       (pieces_each s (stop - blanks_at_end s stop) s.start s.braces h.pieces (spot stop after) [] h.division.divided tt)

@@ -3,7 +3,7 @@ use Rattle.std.proofs.Common.{◌≡◌, inl, inr, ℕ, List, [], ◌∷◌, Opt
 use Rattle.first_pass_items.specs.declared.item.HeadingIndex.{HeadingIndex}
 use Rattle.first_pass_items.specs.declared.item.Item.{Item}
 use Rattle.first_pass_lines.specs.Places.{Place, offset}
-use Rattle.first_pass_tokens.specs.Pieces.{Source}
+use Rattle.first_pass_tokens.specs.Pieces.{Inline}
 use Rattle.first_pass_tokens.specs.Braces.{MathBraces}
 use Rattle.first_pass_tokens.specs.LineTokens.{Spot, spot, IsLine}
 use Rattle.first_pass_tokens.specs.Chains.{add_tokens, close_break}
@@ -22,7 +22,7 @@ use Rattle.first_pass_grammar.proofs.ChainsAlike.{alike_reads, close_alike, brea
 use Rattle.std.proofs.lemmas.Bool.{true≢false}
 
 -- two lines of one source have tokens that read alike, one answer, and the same brace contexts after them
-one_line_read : (d : Document) (n : Names) (s : Source) (k k' : List Item) (a a' : ℕ × Option Item) (b b' : MathBraces) → IsLine d.names.texts s k a b
+one_line_read : (d : Document) (n : Names) (s : Inline) (k k' : List Item) (a a' : ℕ × Option Item) (b b' : MathBraces) → IsLine d.names.texts s k a b
     → IsLine n.texts s k' a' b' → AlikeChains d.names n k k' × (a ≡ a') × (b ≡ b')
 one_line_read d n s k k' a a' b b' i i' =
     let o = one_line d.names.texts n.texts s k k' a a' b b' i i' in

@@ -5,7 +5,7 @@ use Rattle.first_pass_items.specs.declared.item.Item.{Item}
 use Rattle.first_pass_items.specs.declared.option_set.Options.{Options}
 use Rattle.first_pass_lines.specs.Lines.{line_len}
 use Rattle.first_pass_lines.specs.Places.{Place, offset}
-use Rattle.first_pass_tokens.specs.Pieces.{Source}
+use Rattle.first_pass_tokens.specs.Pieces.{Inline}
 use Rattle.first_pass_tokens.proofs.LineFound.{line_found}
 use Rattle.first_pass_tokens.specs.Chains.{add_tokens, close_break}
 use Rattle.first_pass_tokens.specs.Braces.{MathBraces}
@@ -30,7 +30,7 @@ pub record LinesFrom (names : Names) (text : List ℕ) (options : Options) (path
   pub are : AreTextLines (document text options more) path p chain lines given
   pub shorter : length given.left ≤ length lines
 
-source_at : List ℕ → Options → Spot → Source
+source_at : List ℕ → Options → Spot → Inline
 source_at text options p = record { options = options; whole = text; text = text; start = p.at; row = false; braces = p.braces }
 
 lines_by : (names mid : Names) (text : List ℕ) (options : Options) (path : List Container) (p : Spot) (chain tokens : List Item)

@@ -12,13 +12,13 @@ use Rattle.first_pass_tree.proofs.Blocks.{at_depth-append}
 use Rattle.first_pass_tokens.specs.Order.{AreInOrder}
 use Rattle.first_pass_tokens.specs.TreeTokens.{leaves}
 use Rattle.first_pass_tokens.proofs.OrderLemmas.{order_bound}
-use Rattle.first_pass_grammar.specs.Order.{Extent, is_text_block, is_task_marker, is_list_item, extent_of, extents, Row, Empty, Node, laid, IsBetween, Within}
+use Rattle.first_pass_grammar.specs.Order.{Extent, is_text_block, is_task_marker, is_list_item, extent_of, extents, Siblings, Empty, Node, laid, IsBetween, Within}
 use Rattle.first_pass_grammar.specs.Order.{Elsewhere, InItem, InText, InFirst, is_definition_list, below, beyond, IsLead, Fits, FitsBetween}
 use Rattle.first_pass_grammar.specs.OpenOrder.{laid_open, AreAt, open_within, FitsOpen}
 use Rattle.first_pass_grammar.proofs.OwnNodes.{own_at_most}
 
 -- a row, and another after it
-abbrev pub beside : Row → Row → Row
+abbrev pub beside : Siblings → Siblings → Siblings
 beside Empty more = more
 beside (Node x kids next) more = Node x kids (beside next more)
 
@@ -40,7 +40,7 @@ extents-at_depth d [] = refl
 extents-at_depth d (n ∷ items) = ap (λ (z : List (ℕ × Extent)). (d + n.0, extent_of n.1) ∷ z) (extents-at_depth d items)
 
 -- rows side by side
-pub laid-beside : (depth : ℕ) (row more : Row) → laid depth (beside row more) ≡ laid depth row ++ laid depth more
+pub laid-beside : (depth : ℕ) (row more : Siblings) → laid depth (beside row more) ≡ laid depth row ++ laid depth more
 unfolding laid
 laid-beside depth Empty more = refl
 laid-beside depth (Node x kids next) more =
@@ -48,7 +48,7 @@ laid-beside depth (Node x kids next) more =
     ∙ ap (λ (z : List (ℕ × Extent)). (depth, x) ∷ z) (sym (append_assoc (laid (suc depth) kids) (laid depth next) (laid depth more)))
 
 -- a row at another depth
-pub laid-at_depth : (d k : ℕ) (row : Row) → at_depth d (laid k row) ≡ laid (d + k) row
+pub laid-at_depth : (d k : ℕ) (row : Siblings) → at_depth d (laid k row) ≡ laid (d + k) row
 unfolding laid
 laid-at_depth d k Empty = refl
 laid-at_depth d k (Node x kids next) =
@@ -64,7 +64,7 @@ unfolding laid
 laid-one depth x = refl
 
 -- more nodes in the innermost open one
-pub laid_open-beside : (root : Extent) (levels : List (Row × Extent)) (row more : Row)
+pub laid_open-beside : (root : Extent) (levels : List (Siblings × Extent)) (row more : Siblings)
     → laid_open root levels (beside row more) ≡ laid_open root levels row ++ laid (suc (length levels)) more
 unfolding laid_open
 laid_open-beside root [] row more = ap (λ (z : List (ℕ × Extent)). (0, root) ∷ z) (laid-beside 1 row more)
@@ -74,19 +74,19 @@ laid_open-beside root (level ∷ levels) row more =
     ∙ sym (append_assoc (laid_open root levels level.0) ((suc (length levels), level.1) ∷ laid d row) (laid d more))
 
 -- a node opened
-pub laid_open-pushed : (root x : Extent) (levels : List (Row × Extent)) (row : Row)
+pub laid_open-pushed : (root x : Extent) (levels : List (Siblings × Extent)) (row : Siblings)
     → laid_open root ((row, x) ∷ levels) Empty ≡ laid_open root levels row ++ (suc (length levels), x) ∷ []
 unfolding laid_open laid
 laid_open-pushed root x levels row = refl
 
 -- the innermost open node
-pub laid_open-level : (root : Extent) (level : Row × Extent) (levels : List (Row × Extent)) (row : Row)
+pub laid_open-level : (root : Extent) (level : Siblings × Extent) (levels : List (Siblings × Extent)) (row : Siblings)
     → laid_open root (level ∷ levels) row ≡ laid_open root levels level.0 ++ (suc (length levels), level.1) ∷ laid (suc (suc (length levels))) row
 unfolding laid_open
 laid_open-level root level levels row = refl
 
 -- the innermost open node closed
-pub laid_open-popped : (root x : Extent) (levels : List (Row × Extent)) (before row : Row)
+pub laid_open-popped : (root x : Extent) (levels : List (Siblings × Extent)) (before row : Siblings)
     → laid_open root levels (beside before (Node x row Empty)) ≡ laid_open root levels before ++ (suc (length levels), x) ∷ laid (suc (suc (length levels))) row
 unfolding laid
 laid_open-popped root x levels before row =
@@ -94,19 +94,19 @@ laid_open-popped root x levels before row =
     ∙ ap (λ (z : List (ℕ × Extent)). laid_open root levels before ++ (suc (length levels), x) ∷ z) (append-nil (laid (suc (suc (length levels))) row))
 
 -- the root with what is below it, where no other node is open
-pub laid_open-root : (root : Extent) (row : Row) → laid_open root [] row ≡ laid 0 (Node root row Empty)
+pub laid_open-root : (root : Extent) (row : Siblings) → laid_open root [] row ≡ laid 0 (Node root row Empty)
 unfolding laid_open laid
 laid_open-root root row = ap (λ (z : List (ℕ × Extent)). (0, root) ∷ z) (sym (append-nil (laid 1 row)))
 
 -- there are as many open nodes as places of them
-pub length-places : (root : Extent) (levels : List (Row × Extent)) (spine : List TreeIndex) → AreAt root levels spine → length spine ≡ length levels
+pub length-places : (root : Extent) (levels : List (Siblings × Extent)) (spine : List TreeIndex) → AreAt root levels spine → length spine ≡ length levels
 length-places root [] [] h = refl
 length-places root [] (ix ∷ spine) h = absurd h
 length-places root (level ∷ levels) [] h = absurd h
 length-places root (level ∷ levels) (ix ∷ spine) h = ap suc (length-places root levels spine h.1)
 
 -- where a row fits, there is room
-pub fits-order : (text : List ℕ) (w : Within) (from to : ℕ) (row : Row) → Fits text w from to row → from ≤ to
+pub fits-order : (text : List ℕ) (w : Within) (from to : ℕ) (row : Siblings) → Fits text w from to row → from ≤ to
 unfolding Fits
 fits-order text w from to Empty h = h
 fits-order text w from to (Node x kids next) (inl (b, k, n)) =
@@ -122,19 +122,19 @@ between-earlier text a b to x more h =
     let t : b ≤ x.start = h.behind in record { behind = omega arith; order = h.order; before = h.before; starts = h.starts; ends = h.ends }
 
 -- a row fits up to a later offset
-pub fits-later : (text : List ℕ) (w : Within) (from a b : ℕ) (row : Row) → a ≤ b → Fits text w from a row → Fits text w from b row
+pub fits-later : (text : List ℕ) (w : Within) (from a b : ℕ) (row : Siblings) → a ≤ b → Fits text w from a row → Fits text w from b row
 unfolding Fits
 fits-later text w from a b Empty more h = let t : from ≤ a = h in omega arith
 fits-later text w from a b (Node x kids next) more (inl (h, k, n)) =
     inl (between-later text from a b x more h, k, fits-later text (beyond w) x.«end» a b next more n)
 fits-later text w from a b (Node x kids next) more (inr (l, k, n)) = inr (l, k, fits-later text Elsewhere from a b next more n)
 
-any_by : (text : List ℕ) (item : Bool) (v : Within) (from to : ℕ) (row : Row) → (Fits text Elsewhere from to row → Fits text v from to row)
+any_by : (text : List ℕ) (item : Bool) (v : Within) (from to : ℕ) (row : Siblings) → (Fits text Elsewhere from to row → Fits text v from to row)
     → Fits text (if item then InItem else Elsewhere) from to row → Fits text (if item then InItem else v) from to row
 any_by text true v from to row wider h = h
 any_by text false v from to row wider h = wider h
 
-below_any : (text : List ℕ) (w : Within) (before : ℕ) (x : Extent) (from to : ℕ) (row : Row)
+below_any : (text : List ℕ) (w : Within) (before : ℕ) (x : Extent) (from to : ℕ) (row : Siblings)
     → ((v : Within) → Fits text Elsewhere from to row → Fits text v from to row)
     → Fits text (below Elsewhere before x) from to row → Fits text (below w before x) from to row
 below_any text Elsewhere before x from to row wider h = h
@@ -144,7 +144,7 @@ below_any text (InText at) before x from to row wider h = h
 below_any text (InFirst at) before x from to row wider h = any_by text x.item (if x.text_block then InText at else Elsewhere) from to row (wider _) h
 
 -- what fits elsewhere fits anywhere
-pub fits-any : (text : List ℕ) (w : Within) (from to : ℕ) (row : Row) → Fits text Elsewhere from to row → Fits text w from to row
+pub fits-any : (text : List ℕ) (w : Within) (from to : ℕ) (row : Siblings) → Fits text Elsewhere from to row → Fits text w from to row
 unfolding Fits
 fits-any text w from to Empty h = h
 fits-any text w from to (Node x kids next) (inl (b, k, n)) =
@@ -155,19 +155,19 @@ fits-any text w from to (Node x kids next) (inl (b, k, n)) =
     )
 fits-any text w from to (Node x kids next) (inr (l, k, n)) = absurd l
 
-fits-beyond : (text : List ℕ) (w : Within) (from to : ℕ) (row : Row) → Fits text (beyond w) from to row → Fits text w from to row
+fits-beyond : (text : List ℕ) (w : Within) (from to : ℕ) (row : Siblings) → Fits text (beyond w) from to row → Fits text w from to row
 fits-beyond text Elsewhere from to row h = h
 fits-beyond text InItem from to row h = h
 fits-beyond text (InText before) from to row h = fits-any text (InText before) from to row h
 fits-beyond text (InFirst before) from to row h = fits-any text (InFirst before) from to row h
 
-beyond-again : (text : List ℕ) (w : Within) (from to : ℕ) (row : Row) → Fits text (beyond w) from to row → Fits text (beyond (beyond w)) from to row
+beyond-again : (text : List ℕ) (w : Within) (from to : ℕ) (row : Siblings) → Fits text (beyond w) from to row → Fits text (beyond (beyond w)) from to row
 beyond-again text Elsewhere from to row h = h
 beyond-again text InItem from to row h = h
 beyond-again text (InText before) from to row h = h
 beyond-again text (InFirst before) from to row h = h
 
-behind-lead : (text : List ℕ) (w : Within) (at from to : ℕ) (x : Extent) (row : Row)
+behind-lead : (text : List ℕ) (w : Within) (at from to : ℕ) (x : Extent) (row : Siblings)
     → IsLead text w at x → Fits text (beyond w) from to row → Fits text Elsewhere from to row
 behind-lead text Elsewhere at from to x row l h = absurd l
 behind-lead text InItem at from to x row l h = absurd l
@@ -175,13 +175,13 @@ behind-lead text (InText before) at from to x row l h = h
 behind-lead text (InFirst before) at from to x row l h = absurd l
 
 -- a lead may stand from an earlier offset on
-fits-earlier_lead : (text : List ℕ) (a b from to : ℕ) (row : Row) → a ≤ b → Fits text (InText b) from to row → Fits text (InText a) from to row
+fits-earlier_lead : (text : List ℕ) (a b from to : ℕ) (row : Siblings) → a ≤ b → Fits text (InText b) from to row → Fits text (InText a) from to row
 unfolding Fits
 fits-earlier_lead text a b from to Empty more h = h
 fits-earlier_lead text a b from to (Node x kids next) more (inl h) = inl h
 fits-earlier_lead text a b from to (Node x kids next) more (inr (l, k, n)) = inr ((l.0, between-earlier text a b from x more l.1), k, n)
 
-lead_by : (text : List ℕ) (item lead : Bool) (a b from to : ℕ) (row : Row) → a ≤ b
+lead_by : (text : List ℕ) (item lead : Bool) (a b from to : ℕ) (row : Siblings) → a ≤ b
     → Fits text (if item then InItem else (if lead then InText b else Elsewhere)) from to row
     → Fits text (if item then InItem else (if lead then InText a else Elsewhere)) from to row
 lead_by text true lead a b from to row more h = h
@@ -189,14 +189,14 @@ lead_by text false true a b from to row more h = fits-earlier_lead text a b from
 lead_by text false false a b from to row more h = h
 
 -- the same in the title that is first in a definition list
-fits-earlier_first : (text : List ℕ) (a b from to : ℕ) (row : Row) → a ≤ b → Fits text (InFirst b) from to row → Fits text (InFirst a) from to row
+fits-earlier_first : (text : List ℕ) (a b from to : ℕ) (row : Siblings) → a ≤ b → Fits text (InFirst b) from to row → Fits text (InFirst a) from to row
 unfolding Fits
 fits-earlier_first text a b from to Empty more h = h
 fits-earlier_first text a b from to (Node x kids next) more (inl (h, k, n)) =
     inl (h, lead_by text x.item x.text_block a b x.start x.«end» kids more k, n)
 fits-earlier_first text a b from to (Node x kids next) more (inr (l, k, n)) = absurd l
 
-item_by : (text : List ℕ) (item lead first : Bool) (a b from to : ℕ) (row : Row) → a ≤ b
+item_by : (text : List ℕ) (item lead first : Bool) (a b from to : ℕ) (row : Siblings) → a ≤ b
     → Fits text (if item then InItem else (if lead then InText b else (if first then InFirst b else Elsewhere))) from to row
     → Fits text (if item then InItem else (if lead then InText a else (if first then InFirst a else Elsewhere))) from to row
 item_by text true lead first a b from to row more h = h
@@ -204,14 +204,14 @@ item_by text false true first a b from to row more h = fits-earlier_lead text a 
 item_by text false false true a b from to row more h = fits-earlier_first text a b from to row more h
 item_by text false false false a b from to row more h = h
 
-below_earlier : (text : List ℕ) (w : Within) (a b : ℕ) (x : Extent) (from to : ℕ) (row : Row) → a ≤ b
+below_earlier : (text : List ℕ) (w : Within) (a b : ℕ) (x : Extent) (from to : ℕ) (row : Siblings) → a ≤ b
     → Fits text (below w b x) from to row → Fits text (below w a x) from to row
 below_earlier text Elsewhere a b x from to row more h = h
 below_earlier text InItem a b x from to row more h = item_by text x.item x.text_block x.definitions a b from to row more h
 below_earlier text (InText at) a b x from to row more h = h
 below_earlier text (InFirst at) a b x from to row more h = h
 
-earlier_by : (text : List ℕ) (w : Within) (a b to : ℕ) (row : Row)
+earlier_by : (text : List ℕ) (w : Within) (a b to : ℕ) (row : Siblings)
     → ((x : Extent) → IsLead text w b x → ⊥) → a ≤ b → Fits text w b to row → Fits text w a to row
 unfolding Fits
 earlier_by text w a b to Empty none more h = let t : b ≤ to = h in omega arith
@@ -220,14 +220,14 @@ earlier_by text w a b to (Node x kids next) none more (inl (h, k, n)) =
 earlier_by text w a b to (Node x kids next) none more (inr (l, k, n)) = absurd (none x l)
 
 -- a row fits from an earlier offset on
-fits-earlier : (text : List ℕ) (w : Within) (a b to : ℕ) (row : Row) → a ≤ b → Fits text (beyond w) b to row → Fits text (beyond w) a to row
+fits-earlier : (text : List ℕ) (w : Within) (a b to : ℕ) (row : Siblings) → a ≤ b → Fits text (beyond w) b to row → Fits text (beyond w) a to row
 fits-earlier text Elsewhere a b to row more h = earlier_by text Elsewhere a b to row (λ x l. l) more h
 fits-earlier text InItem a b to row more h = earlier_by text InItem a b to row (λ x l. l) more h
 fits-earlier text (InText before) a b to row more h = earlier_by text Elsewhere a b to row (λ x l. l) more h
 fits-earlier text (InFirst before) a b to row more h = earlier_by text Elsewhere a b to row (λ x l. l) more h
 
 -- a row fits after another
-pub fits-beside : (text : List ℕ) (w : Within) (from mid to : ℕ) (row more : Row)
+pub fits-beside : (text : List ℕ) (w : Within) (from mid to : ℕ) (row more : Siblings)
     → Fits text w from mid row → Fits text (beyond w) mid to more → Fits text w from to (beside row more)
 unfolding Fits
 fits-beside text w from mid to Empty more h behind = let t : from ≤ mid = h in fits-beyond text w from to more (fits-earlier text w from mid to more t behind)
@@ -246,29 +246,31 @@ unfolding Fits
 fits-one text w from to x h = inl (h, h.order, h.before)
 
 -- what is open is in order up to a later offset
-pub fits_open-later : (text : List ℕ) (a b : ℕ) (levels : List (Row × Extent)) (row : Row) → a ≤ b → FitsOpen text a levels row → FitsOpen text b levels row
+pub fits_open-later : (text : List ℕ) (a b : ℕ) (levels : List (Siblings × Extent)) (row : Siblings) → a ≤ b → FitsOpen text a levels row
+    → FitsOpen text b levels row
 unfolding FitsOpen
 fits_open-later text a b [] row more h = fits-later text Elsewhere 0 a b row more h
 fits_open-later text a b (level ∷ levels) row more (before, m, h, starts, rest) =
     (before, m, fits-later text (below (open_within levels) before level.1) level.1.start a b row more h, starts, rest)
 
-beyond_by : (text : List ℕ) (item : Bool) (v : Within) (from to : ℕ) (row : Row) → (Fits text Elsewhere from to row → Fits text (beyond v) from to row)
+beyond_by : (text : List ℕ) (item : Bool) (v : Within) (from to : ℕ) (row : Siblings) → (Fits text Elsewhere from to row → Fits text (beyond v) from to row)
     → Fits text (if item then InItem else Elsewhere) from to row → Fits text (beyond (if item then InItem else v)) from to row
 beyond_by text true v from to row wider h = h
 beyond_by text false v from to row wider h = wider h
 
-beyond_text : (text : List ℕ) (lead : Bool) (at : ℕ) (v : Within) (from to : ℕ) (row : Row)
+beyond_text : (text : List ℕ) (lead : Bool) (at : ℕ) (v : Within) (from to : ℕ) (row : Siblings)
     → (Fits text Elsewhere from to row → Fits text (beyond v) from to row)
     → Fits text Elsewhere from to row → Fits text (beyond (if lead then InText at else v)) from to row
 beyond_text text true at v from to row wider h = h
 beyond_text text false at v from to row wider h = wider h
 
-beyond_first : (text : List ℕ) (first : Bool) (at from to : ℕ) (row : Row) → Fits text Elsewhere from to row
+beyond_first : (text : List ℕ) (first : Bool) (at from to : ℕ) (row : Siblings) → Fits text Elsewhere from to row
     → Fits text (beyond (if first then InFirst at else Elsewhere)) from to row
 beyond_first text true at from to row h = h
 beyond_first text false at from to row h = h
 
-beyond_below : (text : List ℕ) (w : Within) (before : ℕ) (x : Extent) (from to : ℕ) (row : Row) → Fits text (if x.item then InItem else Elsewhere) from to row
+beyond_below : (text : List ℕ) (w : Within) (before : ℕ) (x : Extent) (from to : ℕ) (row : Siblings)
+    → Fits text (if x.item then InItem else Elsewhere) from to row
     → Fits text (beyond (below w before x)) from to row
 beyond_below text Elsewhere before x from to row h = beyond_by text x.item Elsewhere from to row (λ e. e) h
 beyond_below text InItem before x from to row h =
@@ -280,7 +282,7 @@ beyond_below text (InFirst at) before x from to row h =
     beyond_by text x.item (if x.text_block then InText at else Elsewhere) from to row (beyond_text text x.text_block at Elsewhere from to row (λ e. e)) h
 
 -- more nodes in the innermost open one fit
-pub fits_open-beside : (text : List ℕ) (mid to : ℕ) (levels : List (Row × Extent)) (row more : Row)
+pub fits_open-beside : (text : List ℕ) (mid to : ℕ) (levels : List (Siblings × Extent)) (row more : Siblings)
     → FitsOpen text mid levels row → Fits text (open_within levels) mid to more
     → FitsOpen text to levels (beside row more)
 unfolding FitsOpen
@@ -295,7 +297,7 @@ fits_open-beside text mid to (level ∷ levels) row more (before, m, h, starts, 
 )
 
 -- a node that is opened fits
-pub fits_open-pushed : (text : List ℕ) (a : ℕ) (x : Extent) (levels : List (Row × Extent)) (row : Row)
+pub fits_open-pushed : (text : List ℕ) (a : ℕ) (x : Extent) (levels : List (Siblings × Extent)) (row : Siblings)
     → a ≤ x.start → IsCharBoundary text x.start → FitsOpen text a levels row → FitsOpen text x.start ((row, x) ∷ levels) Empty
 unfolding FitsOpen Fits
 fits_open-pushed text a x levels row more starts h = let t : x.start ≤ x.start = omega arith in (a, more, t, starts, h)
@@ -308,7 +310,7 @@ below_ended (InText at) before x e = refl
 below_ended (InFirst at) before x e = refl
 
 -- the innermost open node fits once it is closed
-pub fits_open-popped : (text : List ℕ) (at e : ℕ) (level : Row × Extent) (levels : List (Row × Extent)) (row : Row)
+pub fits_open-popped : (text : List ℕ) (at e : ℕ) (level : Siblings × Extent) (levels : List (Siblings × Extent)) (row : Siblings)
     → at ≤ e → IsCharBoundary text e → FitsOpen text at (level ∷ levels) row
     → FitsOpen text e levels (beside level.0 (Node (ended_at level.1 e) row Empty))
 unfolding FitsOpen Fits
@@ -381,7 +383,7 @@ pub extent-tightened : (depth : ℕ) (n : ℕ × Item) → extent_of (tightened 
 extent-tightened depth n = extent_by (n.0 == depth) n.1
 
 -- where no node but the root is open, the whole tree is in order
-pub fits-whole : (text : List ℕ) (root : Extent) (to : ℕ) (row : Row)
+pub fits-whole : (text : List ℕ) (root : Extent) (to : ℕ) (row : Siblings)
     → IsBetween text 0 (length text) root → root.start ≡ 0 → root.«end» ≡ length text → to ≤ length text → FitsOpen text to [] row
     → Fits text Elsewhere 0 (length text) (Node root row Empty)
 unfolding FitsOpen Fits
@@ -393,7 +395,7 @@ fits-whole text root to row whole start_is end_is within h =
     inl (whole, fits-any text (below Elsewhere 0 root) root.start root.«end» row inside, last)
 
 -- items side by side, nothing below them
-unfoldable pub row_of : List Item → Row
+unfoldable pub row_of : List Item → Siblings
 row_of [] = Empty
 row_of (x ∷ xs) = Node (extent_of x) Empty (row_of xs)
 

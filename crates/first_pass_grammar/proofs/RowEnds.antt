@@ -13,7 +13,7 @@ use Rattle.first_pass_lines.specs.Places.{Place, line_place, offset, line_end, I
 use Rattle.first_pass_lines.proofs.LineFacts.{line_len-eol, line_len-fits}
 use Rattle.first_pass_lines.proofs.PlaceFacts.{bytes_line_end}
 use Rattle.first_pass_tokens.specs.Braces.{MathBraces}
-use Rattle.first_pass_tokens.specs.Pieces.{Source}
+use Rattle.first_pass_tokens.specs.Pieces.{Inline}
 use Rattle.first_pass_tokens.specs.LineTokens.{Spot, spot, IsCell}
 use Rattle.first_pass_tokens.proofs.LineLemmas.{cell_ends, ended_by}
 use Rattle.first_pass_grammar.specs.Leaves.{Document}
@@ -135,7 +135,7 @@ goes_further d at before tokens on other cell =
     ]
 
 -- the content of the cell that begins at a place
-abbrev pub begun_there : Document → Spot → Source
+abbrev pub begun_there : Document → Spot → Inline
 begun_there d p = cell_content d (spot (cell_text d.text p.at) p.braces)
 
 later_by : {after : MathBraces} (d : Document) (at : ℕ) (before : MathBraces) (tokens : List Item) (stop : ℕ) (t : Bool) → (slice_index d.text at == pipe) ≡ t

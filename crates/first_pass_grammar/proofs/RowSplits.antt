@@ -5,20 +5,20 @@ use Rattle.std.proofs.lemmas.List.{map-append}
 use Rattle.std.specs.Option.{option_map}
 use Rattle.first_pass_items.specs.declared.item.Item.{Item}
 use Rattle.first_pass_tree.specs.Forest.{IsLastAt, depths, deeper, shallower, map_from}
-use Rattle.first_pass_grammar.specs.Order.{Extent, extent_of, extents, Row, Empty, Node, laid, IsBetween, Within, Elsewhere, InItem, InText, InFirst}
+use Rattle.first_pass_grammar.specs.Order.{Extent, extent_of, extents, Siblings, Empty, Node, laid, IsBetween, Within, Elsewhere, InItem, InText, InFirst}
 use Rattle.first_pass_grammar.specs.Order.{below, beyond, IsLead, Fits}
 use Rattle.first_pass_grammar.specs.OpenOrder.{laid_open, open_within, FitsOpen}
 use Rattle.first_pass_grammar.proofs.Orders.{beside, ended_at, laid_open-beside, fits-order, fits-later, below_ended}
 
 -- a row's last node, with what is below it, and those before it
-abbrev pub HasLast : Row → Type 0
-HasLast row = (before : Row) × (x : Extent) × (kids : Row) × (row ≡ beside before (Node x kids Empty))
+abbrev pub HasLast : Siblings → Type 0
+HasLast row = (before : Siblings) × (x : Extent) × (kids : Siblings) × (row ≡ beside before (Node x kids Empty))
 
-last_by : (x : Extent) (kids next : Row) → (next ≡ Empty) ⊎ HasLast next → HasLast (Node x kids next)
+last_by : (x : Extent) (kids next : Siblings) → (next ≡ Empty) ⊎ HasLast next → HasLast (Node x kids next)
 last_by x kids next (inl none) = (Empty, x, kids, ap (Node x kids) none)
 last_by x kids next (inr (before, y, more, is)) = (Node x kids before, y, more, ap (Node x kids) is)
 
-pub last_of : (row : Row) → (row ≡ Empty) ⊎ HasLast row
+pub last_of : (row : Siblings) → (row ≡ Empty) ⊎ HasLast row
 last_of Empty = inl refl
 last_of (Node x kids next) = inr (last_by x kids next (last_of next))
 
@@ -29,7 +29,7 @@ no_lead text (InText before) from x plain h = (let z : true ≡ false = sym h.0 
 no_lead text (InFirst before) from x plain h = h
 
 -- a row whose last node ends later
-pub fits_last : (text : List ℕ) (w : Within) (from to e : ℕ) (before : Row) (x : Extent) (kids : Row) → x.marker ≡ false → x.«end» ≤ e
+pub fits_last : (text : List ℕ) (w : Within) (from to e : ℕ) (before : Siblings) (x : Extent) (kids : Siblings) → x.marker ≡ false → x.«end» ≤ e
     → IsCharBoundary text e → Fits text w from to (beside before (Node x kids Empty)) → Fits text w from e (beside before (Node (ended_at x e) kids Empty))
 unfolding Fits
 fits_last text w from to e Empty x kids plain later b (inl (between, inside, room)) =
@@ -56,7 +56,7 @@ fits_last text w from to e (Node y more before) x kids plain later b (inl (betwe
 fits_last text w from to e (Node y more before) x kids plain later b (inr (first, inside, rest)) =
     inr (first, inside, fits_last text Elsewhere from to e before x kids plain later b rest)
 
-pub fits_open_last : (text : List ℕ) (to e : ℕ) (levels : List (Row × Extent)) (before : Row) (x : Extent) (kids : Row)
+pub fits_open_last : (text : List ℕ) (to e : ℕ) (levels : List (Siblings × Extent)) (before : Siblings) (x : Extent) (kids : Siblings)
     → x.marker ≡ false → x.«end» ≤ e → IsCharBoundary text e
     → FitsOpen text to levels (beside before (Node x kids Empty)) → FitsOpen text e levels (beside before (Node (ended_at x e) kids Empty))
 unfolding FitsOpen
@@ -65,7 +65,7 @@ fits_open_last text to e (level ∷ levels) before x kids plain later b (from, l
     (from, low, fits_last text (below (open_within levels) from level.1) level.1.start to e before x kids plain later b h, starts, rest)
 
 -- The nodes before a row's last fit up to an offset, and the last fits after that: where the first of the row may stand, or where another may.
-pub record FitsApart (text : List ℕ) (w : Within) (from to : ℕ) (before : Row) (x : Extent) (kids : Row) : Type 0 where
+pub record FitsApart (text : List ℕ) (w : Within) (from to : ℕ) (before : Siblings) (x : Extent) (kids : Siblings) : Type 0 where
   pub mid : ℕ
   pub front : Fits text w from mid before
   pub between : IsBetween text mid to x
@@ -88,7 +88,7 @@ lead_beyond text (InText at) from y v l (inl e) = e
 lead_beyond text (InText at) from y v l (inr e) = e
 lead_beyond text (InFirst at) from y v l h = absurd l
 
-pub fits_apart : (text : List ℕ) (w : Within) (from to : ℕ) (before : Row) (x : Extent) (kids : Row) → x.marker ≡ false
+pub fits_apart : (text : List ℕ) (w : Within) (from to : ℕ) (before : Siblings) (x : Extent) (kids : Siblings) → x.marker ≡ false
     → Fits text w from to (beside before (Node x kids Empty)) → FitsApart text w from to before x kids
 unfolding Fits
 fits_apart text w from to Empty x kids plain (inl (between, inside, room)) =
@@ -117,14 +117,14 @@ fits_apart text w from to (Node y more before) x kids plain (inr (first, inside,
     }
 
 -- a row fits up to where its last node ends
-pub fits_ends : (text : List ℕ) (w : Within) (from to : ℕ) (before : Row) (x : Extent) (kids : Row) → x.marker ≡ false
+pub fits_ends : (text : List ℕ) (w : Within) (from to : ℕ) (before : Siblings) (x : Extent) (kids : Siblings) → x.marker ≡ false
     → Fits text w from to (beside before (Node x kids Empty))
     → Fits text w from x.«end» (beside before (Node x kids Empty)) × (x.«end» ≤ to) × IsCharBoundary text x.«end»
 fits_ends text w from to before x kids plain h =
     let r = fits_apart text w from to before x kids plain h in
     (fits_last text w from to x.«end» before x kids plain (omega arith) r.between.ends h, r.between.before, r.between.ends)
 
-pub fits_open_ends : (text : List ℕ) (to : ℕ) (levels : List (Row × Extent)) (before : Row) (x : Extent) (kids : Row) → x.marker ≡ false
+pub fits_open_ends : (text : List ℕ) (to : ℕ) (levels : List (Siblings × Extent)) (before : Siblings) (x : Extent) (kids : Siblings) → x.marker ≡ false
     → FitsOpen text to levels (beside before (Node x kids Empty))
     → FitsOpen text x.«end» levels (beside before (Node x kids Empty)) × (x.«end» ≤ to) × IsCharBoundary text x.«end»
 unfolding FitsOpen
@@ -138,12 +138,12 @@ abbrev pub as_list : Extent → Extent
 as_list x = record { start = x.start; «end» = x.«end»; text_block = false; marker = false; item = false; definitions = true }
 
 -- the innermost open node is a definition list
-abbrev pub open_definitions : List (Row × Extent) → Bool
+abbrev pub open_definitions : List (Siblings × Extent) → Bool
 open_definitions [] = false
 open_definitions (level ∷ levels) = level.1.definitions
 
 -- what stands below a paragraph outside of lists may stand anywhere
-plain_by : (text : List ℕ) (w : Within) (mid from to : ℕ) (x : Extent) (kids : Row) → x.item ≡ false → (w ≡ Elsewhere) ⊎ ((at : ℕ) × (w ≡ InText at))
+plain_by : (text : List ℕ) (w : Within) (mid from to : ℕ) (x : Extent) (kids : Siblings) → x.item ≡ false → (w ≡ Elsewhere) ⊎ ((at : ℕ) × (w ≡ InText at))
     → Fits text (below w mid x) from to kids → Fits text Elsewhere from to kids
 plain_by text w mid from to x kids other (inl e) h =
     subst (λ (i : Bool). Fits text (if i then InItem else Elsewhere) from to kids) other (subst (λ v. Fits text (below v mid x) from to kids) e h)
@@ -168,7 +168,7 @@ below_plain : (item : Bool) (before : ℕ) (x : Extent) → x.item ≡ false →
 below_plain true before x other none = in_item_by x.text_block before x other none refl
 below_plain false before x other none = inl (ap (λ (i : Bool). if i then InItem else Elsewhere) other)
 
-open_plain : (levels : List (Row × Extent)) (from : ℕ) (x : Extent) → x.item ≡ false → x.definitions ≡ false
+open_plain : (levels : List (Siblings × Extent)) (from : ℕ) (x : Extent) → x.item ≡ false → x.definitions ≡ false
     → IsPlainWithin (below (open_within levels) from x)
 open_plain [] from x other none = below_plain false from x other none
 open_plain (level ∷ levels) from x other none = below_plain level.1.item from x other none
@@ -185,7 +185,7 @@ in_stands w from x v is (inr e) = e ∙ ap beyond (in_item w from x is)
 
 -- The last node of the innermost open node, a paragraph, becomes a title, the first child of a definition list that is open in its place: what is open then
 -- is in order.
-titled_in : (text : List ℕ) (to mid : ℕ) (item : Bool) (x : Extent) (kids : Row) (v : Within) → x.item ≡ false → x.text_block ≡ true
+titled_in : (text : List ℕ) (to mid : ℕ) (item : Bool) (x : Extent) (kids : Siblings) (v : Within) → x.item ≡ false → x.text_block ≡ true
     → (item ≡ true → v ≡ InItem) → (item ≡ false → IsPlainWithin v) → IsBetween text mid to x → Fits text (below v mid x) x.start x.«end» kids
     → Fits text (below (if item then InItem else Elsewhere) mid (as_list x)) x.start to (Node x kids Empty)
 unfolding Fits
@@ -207,7 +207,7 @@ titled_in text to mid false x kids v other block inner outer between h =
       between.before,
     )
 
-pub fits_open_titled : (text : List ℕ) (to : ℕ) (levels : List (Row × Extent)) (before : Row) (x : Extent) (kids : Row)
+pub fits_open_titled : (text : List ℕ) (to : ℕ) (levels : List (Siblings × Extent)) (before : Siblings) (x : Extent) (kids : Siblings)
     → x.marker ≡ false → x.item ≡ false → x.text_block ≡ true → open_definitions levels ≡ false
     → FitsOpen text to levels (beside before (Node x kids Empty)) → FitsOpen text to ((before, as_list x) ∷ levels) (Node x kids Empty)
 unfolding FitsOpen
@@ -244,7 +244,7 @@ deep-less : (d : ℕ) (ns : List (ℕ × Extent)) → AreDeep (suc d) ns → Are
 deep-less d [] h = tt
 deep-less d (n ∷ ns) h = (let a = h.0 in omega arith, deep-less d ns h.1)
 
-laid-deep : (d : ℕ) (row : Row) → AreDeep d (laid d row)
+laid-deep : (d : ℕ) (row : Siblings) → AreDeep d (laid d row)
 unfolding laid
 laid-deep d Empty = tt
 laid-deep d (Node x kids next) =
@@ -297,7 +297,7 @@ no_place (n ∷ front) d e x zero less h =
     absurd (omega arith)
 no_place (n ∷ front) d e x (suc k) less h = no_place front d e x k less (behind_first n.0 (depths (front ++ (e, x) ∷ [])) d k h)
 
-no_child : (root : Extent) (levels : List (Row × Extent)) (k : ℕ) → IsLastAt (depths (laid_open root levels Empty)) (suc (length levels)) k → ⊥
+no_child : (root : Extent) (levels : List (Siblings × Extent)) (k : ℕ) → IsLastAt (depths (laid_open root levels Empty)) (suc (length levels)) k → ⊥
 unfolding laid_open laid
 no_child root [] k h = no_place [] 1 0 root k (omega arith) h
 no_child root (level ∷ levels) k h = no_place (laid_open root levels level.0) (suc (suc (length levels))) (suc (length levels)) level.1 k (omega arith) h
@@ -319,13 +319,13 @@ extent_there (n ∷ nodes) [] d x more y is here =
 extent_there (n ∷ nodes) (m ∷ front) d x more y is here = (let f : extents nodes ≡ front ++ (d, x) ∷ more = cc in extent_there nodes front d x more y f here)
 
 -- The last child of the innermost open node: its extent, the nodes before it and those below.
-pub record LastChild (root : Extent) (levels : List (Row × Extent)) (row : Row) (place : ℕ) (x : Extent) : Type 0 where
-  pub before : Row
-  pub kids : Row
+pub record LastChild (root : Extent) (levels : List (Siblings × Extent)) (row : Siblings) (place : ℕ) (x : Extent) : Type 0 where
+  pub before : Siblings
+  pub kids : Siblings
   pub row_is : row ≡ beside before (Node x kids Empty)
   pub place_is : place ≡ length (laid_open root levels before)
 
-pub last_child : (nodes : List (ℕ × Item)) (root : Extent) (levels : List (Row × Extent)) (row : Row) (place : ℕ) (y : Item)
+pub last_child : (nodes : List (ℕ × Item)) (root : Extent) (levels : List (Siblings × Extent)) (row : Siblings) (place : ℕ) (y : Item)
     → extents nodes ≡ laid_open root levels row → IsLastAt (depths nodes) (suc (length levels)) place
     → option_map (λ (n : ℕ × Item). n.1) (slice_get nodes place) ≡ Some y → LastChild root levels row place (extent_of y)
 unfolding laid
@@ -352,7 +352,7 @@ last_child nodes root levels row place y is last here =
     ]
 
 -- a row one deeper or less deep
-pub laid-deeper : (k : ℕ) (row : Row) → map deeper (laid k row) ≡ laid (suc k) row
+pub laid-deeper : (k : ℕ) (row : Siblings) → map deeper (laid k row) ≡ laid (suc k) row
 unfolding laid
 laid-deeper k Empty = refl
 laid-deeper k (Node x kids next) =
@@ -362,7 +362,7 @@ laid-deeper k (Node x kids next) =
     ∙ ap (λ (z : List (ℕ × Extent)). (k + 1, x) ∷ (laid (suc (suc k)) kids ++ z)) (laid-deeper k next)
     ∙ ap (λ (d : ℕ). (d, x) ∷ (laid (suc (suc k)) kids ++ laid (suc k) next)) one
 
-pub laid-shallower : (k : ℕ) (row : Row) → map shallower (laid (suc k) row) ≡ laid k row
+pub laid-shallower : (k : ℕ) (row : Siblings) → map shallower (laid (suc k) row) ≡ laid k row
 unfolding laid
 laid-shallower k Empty = refl
 laid-shallower k (Node x kids next) =

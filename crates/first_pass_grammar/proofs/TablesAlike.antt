@@ -14,7 +14,7 @@ use Rattle.first_pass_attributes.specs.AttributeBlocks.{Braces}
 use Rattle.first_pass_tokens.specs.Braces.{MathBraces, no_braces}
 use Rattle.first_pass_tokens.specs.Chains.{close_break, cut}
 use Rattle.first_pass_tokens.specs.LineTokens.{Spot, spot}
-use Rattle.first_pass_tokens.specs.Pieces.{Source}
+use Rattle.first_pass_tokens.specs.Pieces.{Inline}
 use Rattle.first_pass_tokens.proofs.AlikeLemmas.{one_cell}
 use Rattle.first_pass_grammar.specs.declared.kind.Container.{Container}
 use Rattle.first_pass_grammar.specs.Names.{Names, NamesAttributes, read_nodes}
@@ -54,7 +54,7 @@ one_cells d n p [] (y ∷ ys) e f (k, h, is) (on, t, s, c, same, more) = absurd 
 one_cells d n p (x ∷ xs) [] e f (on, t, s, c, same, more) (k, h, is) = absurd (true≢false (sym (ap is_some h) ∙ on))
 one_cells d n p (x ∷ xs) (y ∷ ys) e f (on, t, s, c, is, more) (on', t', s', c', is', more') =
     let start : ℕ = cell_start d.text p.at in
-    let source : Source = cell_content d (spot (cell_text d.text p.at) p.braces) in
+    let source : Inline = cell_content d (spot (cell_text d.text p.at) p.braces) in
     let o = one_cell d.names.texts n.texts source t t' s.at s'.at s.braces s'.braces c c' in
     let next : s ≡ s' = ap (λ (z : ℕ). spot z s.braces) o.1 ∙ ap (λ (z : MathBraces). spot s'.at z) o.2 in
     let r = one_cells d n s xs ys e f more (subst (λ z. AreCells (with_names d n) z ys f) (sym next) more') in

@@ -14,7 +14,7 @@ use Rattle.first_pass_items.specs.declared.option_set.Options.{Options}
 use Rattle.first_pass_tree.specs.Forest.{block_of}
 use Rattle.first_pass_lines.specs.Lines.{is_line_end, begins, eol_len}
 use Rattle.first_pass_lines.specs.Places.{Place, offset, start_of}
-use Rattle.first_pass_tokens.specs.Pieces.{Source}
+use Rattle.first_pass_tokens.specs.Pieces.{Inline}
 use Rattle.first_pass_tokens.specs.Braces.{MathBraces, no_braces}
 use Rattle.first_pass_tokens.specs.LineTokens.{Spot, spot, ends_at, IsCell}
 use Rattle.first_pass_tokens.proofs.LineFound.{cell_found}
@@ -54,7 +54,7 @@ no_line_end text at h =
     ]
 
 -- the content of a cell that begins there
-cell_source : List ℕ → Options → Spot → Source
+cell_source : List ℕ → Options → Spot → Inline
 cell_source text options p = record { options = options; whole = text; text = text; start = p.at; row = true; braces = p.braces }
 
 none_of : (a b c e : Bool) → a ≡ false → b ≡ false → e ≡ false → (a || (b || (true && (c && e)))) ≡ false

@@ -7,7 +7,7 @@ use Rattle.first_pass_items.specs.declared.item.Item.{Item}
 use Rattle.first_pass_items.specs.declared.option_set.Options.{Options}
 use Rattle.first_pass_lines.specs.Places.{Place, offset}
 use Rattle.first_pass_tokens.specs.Chains.{add_tokens}
-use Rattle.first_pass_tokens.specs.Pieces.{Source}
+use Rattle.first_pass_tokens.specs.Pieces.{Inline}
 use Rattle.first_pass_tokens.specs.NamedTexts.{AreMore}
 use Rattle.first_pass_tokens.specs.Braces.{MathBraces, no_braces}
 use Rattle.first_pass_tokens.specs.LineTokens.{Spot, spot, IsLine, IsCell}
@@ -26,11 +26,11 @@ pub texts_later : (later names : Names) → Extends later names → AreMore late
 texts_later later names e = (e.more_texts, e.texts)
 
 -- a line and a cell
-pub line_later : {after : MathBraces} (later names : Names) (s : Source) (tokens : List Item) (answer : ℕ × Option Item) → Extends later names
+pub line_later : {after : MathBraces} (later names : Names) (s : Inline) (tokens : List Item) (answer : ℕ × Option Item) → Extends later names
     → IsLine names.texts s tokens answer after → IsLine later.texts s tokens answer after
 line_later later names s tokens answer e h = line_more (texts_later later names e) h
 
-pub cell_later : {after : MathBraces} (later names : Names) (s : Source) (tokens : List Item) (stop : ℕ) → Extends later names
+pub cell_later : {after : MathBraces} (later names : Names) (s : Inline) (tokens : List Item) (stop : ℕ) → Extends later names
     → IsCell names.texts s tokens stop after → IsCell later.texts s tokens stop after
 cell_later later names s tokens stop e h = cell_more (texts_later later names e) h
 

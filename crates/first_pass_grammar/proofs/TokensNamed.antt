@@ -11,7 +11,7 @@ use Rattle.first_pass_tokens.specs.declared.pieces.Piece.{Piece}
 use Rattle.first_pass_tokens.specs.declared.pieces.Piece.TheVariants.{Left, Begins, Token, Run}
 use Rattle.first_pass_tokens.specs.Braces.{MathBraces}
 use Rattle.first_pass_tokens.specs.NamedTexts.{Becomes}
-use Rattle.first_pass_tokens.specs.Pieces.{Source, found_at}
+use Rattle.first_pass_tokens.specs.Pieces.{Inline, found_at}
 use Rattle.first_pass_tokens.proofs.AlikeLemmas.{names_text, NamesNone, ReadyNamesNone, found_none}
 
 -- a kind that names a text names one of these
@@ -45,5 +45,5 @@ becomes_within texts b OpenBrace p none is = subst (PieceWithin texts) (sym is) 
 becomes_within texts b CloseBrace p none is = subst (PieceWithin texts) (sym is) tt
 
 -- what stands at a place names a text of these, if it names one
-pub piece_within : (texts : List CowStr) (b : MathBraces) (s : Source) (at : ℕ) (p : Piece) → Becomes texts b (found_at s at) p → PieceWithin texts p
+pub piece_within : (texts : List CowStr) (b : MathBraces) (s : Inline) (at : ℕ) (p : Piece) → Becomes texts b (found_at s at) p → PieceWithin texts p
 piece_within texts b s at p is = becomes_within texts b (found_at s at) p (found_none s at) is

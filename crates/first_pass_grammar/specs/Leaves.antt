@@ -12,7 +12,7 @@ use Rattle.first_pass_items.specs.declared.item.HeadingLevel.{HeadingLevel}
 use Rattle.first_pass_tree.specs.Forest.{block_of}
 use Rattle.first_pass_lines.specs.Lines.{is_white, line_len}
 use Rattle.first_pass_lines.specs.Places.{Place, offset}
-use Rattle.first_pass_tokens.specs.Pieces.{Source}
+use Rattle.first_pass_tokens.specs.Pieces.{Inline}
 use Rattle.first_pass_tokens.specs.Braces.{MathBraces, no_braces}
 use Rattle.first_pass_tokens.specs.LineTokens.{Spot, spot, IsLine}
 use Rattle.first_pass_tokens.specs.TreeTokens.{leaves}
@@ -33,7 +33,7 @@ abbrev pub document : List ℕ → Options → Names → Document
 document text options names = record { text = text; options = options; names = names }
 
 -- the content that begins at a place, with the brace contexts before it
-abbrev pub content_at : Document → Spot → Source
+abbrev pub content_at : Document → Spot → Inline
 content_at d p = record { options = d.options; whole = d.text; text = d.text; start = p.at; row = false; braces = p.braces }
 
 -- what the text is read in, inside the containers of a path
@@ -111,7 +111,7 @@ abbrev pub line_bytes : Document → ℕ → List ℕ
 line_bytes d start = take (line_len (drop start d.text)) (drop start d.text)
 
 -- a heading's line, whose text begins at an offset: nothing counts from its attribute block on (CommonMark 4.2, and this project)
-abbrev pub heading_content : Document → ℕ → Source
+abbrev pub heading_content : Document → ℕ → Inline
 heading_content d start = record {
   options = d.options;
   whole = d.text;

@@ -5,29 +5,29 @@ use Rattle.first_pass_items.specs.declared.item.Item.{Item}
 use Rattle.first_pass_items.specs.declared.item.ItemBody.{ItemBody}
 use Rattle.first_pass_tree.specs.declared.tree_index.TreeIndex.{TreeIndex}
 use Rattle.first_pass_tree.specs.Forest.{Forest, body_at}
-use Rattle.first_pass_grammar.specs.Order.{Extent, extents, is_list_item, Row, laid, IsBetween, Within, Elsewhere, InItem, below, Fits}
+use Rattle.first_pass_grammar.specs.Order.{Extent, extents, is_list_item, Siblings, laid, IsBetween, Within, Elsewhere, InItem, below, Fits}
 
 -- The nodes in reading order of which some are open, each in the one around it after a row: these are listed from the innermost on, and below that is
 -- another row.
-unfoldable pub laid_open : Extent → List (Row × Extent) → Row → List (ℕ × Extent)
+unfoldable pub laid_open : Extent → List (Siblings × Extent) → Siblings → List (ℕ × Extent)
 laid_open root [] row = (0, root) ∷ laid 1 row
 laid_open root (level ∷ levels) row = laid_open root levels level.0 ++ (suc (length levels), level.1) ∷ laid (suc (suc (length levels))) row
 
 -- the open nodes stand at these places
-abbrev pub AreAt : Extent → List (Row × Extent) → List TreeIndex → Type 0
+abbrev pub AreAt : Extent → List (Siblings × Extent) → List TreeIndex → Type 0
 AreAt root [] [] = Unit {0}
 AreAt root [] (ix ∷ spine) = ⊥
 AreAt root (level ∷ levels) [] = ⊥
 AreAt root (level ∷ levels) (ix ∷ spine) = (ix.0 ≡ length (laid_open root levels level.0)) × AreAt root levels spine
 
 -- where what is added to the innermost open node stands: in a list item, or elsewhere
-abbrev pub open_within : List (Row × Extent) → Within
+abbrev pub open_within : List (Siblings × Extent) → Within
 open_within [] = Elsewhere
 open_within (level ∷ levels) = if level.1.item then InItem else Elsewhere
 
 -- in each open node what is below it lies after its start and in order, up to the next open one or to an offset; before an open node stands what is up to
 -- its start
-unfoldable pub FitsOpen : List ℕ → ℕ → List (Row × Extent) → Row → Type 0
+unfoldable pub FitsOpen : List ℕ → ℕ → List (Siblings × Extent) → Siblings → Type 0
 FitsOpen text to [] row = Fits text Elsewhere 0 to row
 FitsOpen text to (level ∷ levels) row =
     (before : ℕ) × (before ≤ level.1.start) × Fits text (below (open_within levels) before level.1) level.1.start to row × IsCharBoundary text level.1.start
@@ -47,8 +47,8 @@ within_top f = if is_in_item f then InItem else Elsewhere
 -- The nodes of a tree are in order up to an offset, those that are open reaching further.
 pub record IsOrderedTo (text : List ℕ) (f : Forest Item) (to : ℕ) : Type 0 where
   pub root : Extent
-  pub levels : List (Row × Extent)
-  pub row : Row
+  pub levels : List (Siblings × Extent)
+  pub row : Siblings
   pub nodes : extents f.nodes ≡ laid_open root levels row
   pub places : AreAt root levels f.spine
   pub fits : FitsOpen text to levels row

@@ -9,18 +9,12 @@ use Rattle.first_pass_items.specs.OptionWords.{has, tasklists, gfm}
 use Rattle.first_pass_lines.specs.Rest.{Rest}
 use Rattle.first_pass_lines.specs.Places.{Place, place_at, offset}
 use Rattle.first_pass_scan.specs.Markers.{task_of, past_tag}
+pub use Rattle.first_pass_grammar.specs.declared.kind.AfterMarker.{AfterMarker}
+pub use Rattle.first_pass_grammar.specs.declared.kind.AfterMarker.TheVariants.{OnLine, TaskText, LineEnds, TagAlone}
 use Rattle.first_pass_grammar.specs.declared.kind.Container.TheVariants.{BlockQuote}
 use Rattle.first_pass_grammar.specs.Blocks.{QuoteMarker, ItemMarker, DefinitionMarker, Head}
 use Rattle.first_pass_grammar.specs.Containers.{prefix}
 use Rattle.first_pass_grammar.specs.Kinds.{is_blank_rest, quote_start, item_at, definition_marker_at}
-
--- What stands after a container's marker on its line: blocks; the text of a task, after the task's marker; nothing, or such a marker alone; or the tag of a
--- block quote (CommonMark 5.2, GFM 5.3, GitHub's alerts).
-pub data AfterMarker : Type 0 where
-  OnLine : AfterMarker
-  TaskText : Item → AfterMarker
-  LineEnds : Option Item → AfterMarker
-  TagAlone : AfterMarker
 
 -- a block quote, a list item or a definition that begins at a place: how it begins, what stands after its marker, and what is left of the line there
 pub record Start : Type 0 where

@@ -51,12 +51,12 @@ abbrev pub extents : List (ℕ × Item) → List (ℕ × Extent)
 extents nodes = map (λ n. (n.0, extent_of n.1)) nodes
 
 -- nodes side by side: the first with those below it, and those after it
-pub data Row : Type 0 where
-  Empty : Row
-  Node : Extent → Row → Row → Row
+pub data Siblings : Type 0 where
+  Empty : Siblings
+  Node : Extent → Siblings → Siblings → Siblings
 
 -- a row in reading order, each node with its depth, of which the row's own have this one
-unfoldable pub laid : ℕ → Row → List (ℕ × Extent)
+unfoldable pub laid : ℕ → Siblings → List (ℕ × Extent)
 laid depth Empty = []
 laid depth (Node x kids next) = (depth, x) ∷ (laid (suc depth) kids ++ laid depth next)
 
@@ -100,7 +100,7 @@ IsLead text (InText before) from x = (x.marker ≡ true) × IsBetween text befor
 -- The nodes of a row, which stands so, lie between two offsets, one after the other, and what is below each lies within it. Only the marker of a task that
 -- is first in a paragraph or a heading may stand before its start, within the list item around it, where the paragraph itself might (GFM 5.3, and this
 -- project).
-unfoldable pub Fits : List ℕ → Within → ℕ → ℕ → Row → Type 0
+unfoldable pub Fits : List ℕ → Within → ℕ → ℕ → Siblings → Type 0
 Fits text within from to Empty = from ≤ to
 Fits text within from to (Node x kids next) =
     (IsBetween text from to x × Fits text (below within from x) x.start x.«end» kids × Fits text (beyond within) x.«end» to next)
@@ -110,7 +110,7 @@ Fits text within from to (Node x kids next) =
 -- items of the block's own for each byte between them.
 abbrev pub FitsBetween : List ℕ → Within → ℕ → ℕ → List (ℕ × Item) → Type 0
 FitsBetween text within from to items =
-    (row : Row) × (extents items ≡ laid 0 row) × Fits text within from to row × (from < to → own_nodes items ≤ 4 * (to - from))
+    (row : Siblings) × (extents items ≡ laid 0 row) × Fits text within from to row × (from < to → own_nodes items ≤ 4 * (to - from))
 
 -- Nodes became others, at most four more of their own for each byte between two offsets.
 abbrev pub GrowsBy : ℕ → ℕ → List (ℕ × Item) → List (ℕ × Item) → Type 0
@@ -118,4 +118,4 @@ GrowsBy from to old new = own_nodes new ≤ own_nodes old + 4 * (to - from)
 
 -- The nodes of a finished tree, the root among them, lie in order between 0 and the text's length.
 abbrev pub IsOrdered : List ℕ → List (ℕ × Item) → Type 0
-IsOrdered text nodes = (row : Row) × (extents nodes ≡ laid 0 row) × Fits text Elsewhere 0 (length text) row
+IsOrdered text nodes = (row : Siblings) × (extents nodes ≡ laid 0 row) × Fits text Elsewhere 0 (length text) row

@@ -13,7 +13,7 @@ use Rattle.first_pass_items.specs.declared.item.ItemBody.TheVariants.{Table, Tab
 use Rattle.first_pass_tree.specs.Forest.{block_of}
 use Rattle.first_pass_lines.specs.Lines.{is_white, at_line_end, eol_len}
 use Rattle.first_pass_lines.specs.Places.{Place, offset, start_of}
-use Rattle.first_pass_tokens.specs.Pieces.{Source}
+use Rattle.first_pass_tokens.specs.Pieces.{Inline}
 use Rattle.first_pass_tokens.specs.Braces.{MathBraces, no_braces}
 use Rattle.first_pass_tokens.specs.LineTokens.{Spot, spot, IsCell}
 use Rattle.first_pass_grammar.specs.declared.kind.Container.{Container}
@@ -23,7 +23,7 @@ use Rattle.first_pass_grammar.specs.Kinds.{unindented, interrupts_with, footnote
 use Rattle.first_pass_grammar.specs.Leaves.{Document, around, block_with}
 
 -- the content of a cell that begins at a place, with the brace contexts before it (GFM 4.10)
-abbrev pub cell_content : Document → Spot → Source
+abbrev pub cell_content : Document → Spot → Inline
 cell_content d p = record { options = d.options; whole = d.text; text = d.text; start = p.at; row = true; braces = p.braces }
 
 -- where a cell begins: after the pipe that stands at an offset, or there where none does (GFM 4.10)

@@ -1,9 +1,9 @@
 //! The block grammar: which tree of blocks a text has. What it says stands in `specs/`, apart from
-//! any code that reads a text; here is the word for containers, which code and grammar share, and the laws.
+//! any code that reads a text; here are the words that code and grammar share, and the laws.
 #![tactic(auto)]
 
 mod kind;
 mod laws;
 
-pub use kind::Container;
+pub use kind::{AfterMarker, Container};
 pub use laws::{always_a_completion, every_text_derives, one_derivation, some_completion_derives};

@@ -116,7 +116,7 @@ past_within bs (a, past) =
 
 -- such a text stands first, or none does
 abbrev StandsFirst : (List ℕ → Type 0) → List ℕ → Type 0
-StandsFirst IsText bs = ((n : ℕ) × IsOnlyFront IsText bs n) ⊎ HasNoFront IsText bs
+StandsFirst Accepts bs = ((n : ℕ) × IsOnlyFront Accepts bs n) ⊎ HasNoFront Accepts bs
 
 -- open tags
 opening_end : (bs : List ℕ) (n a : ℕ) (o : Option ℕ) → tag_name_len bs ≡ Some n → is_raw_name (take n bs) ≡ false → a ≤ length (drop n bs)

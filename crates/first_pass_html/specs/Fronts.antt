@@ -4,14 +4,14 @@ use Rattle.std.specs.List.{concat}
 use Rattle.first_pass_html.specs.Tags.{AreAttributes, IsOpenTagEnd}
 
 -- of the fronts of the bytes the one of n bytes is such a text, and no other is (this project)
-pub record IsOnlyFront (IsText : List ℕ → Type 0) (bs : List ℕ) (n : ℕ) : Type 0 where
+pub record IsOnlyFront (Accepts : List ℕ → Type 0) (bs : List ℕ) (n : ℕ) : Type 0 where
   pub within : n ≤ length bs
-  pub is_text : IsText (take n bs)
-  pub only : (front rest : List ℕ) → bs ≡ front ++ rest → IsText front → length front ≡ n
+  pub is_text : Accepts (take n bs)
+  pub only : (front rest : List ℕ) → bs ≡ front ++ rest → Accepts front → length front ≡ n
 
 -- no front of the bytes is such a text (this project)
 abbrev pub HasNoFront : (List ℕ → Type 0) → List ℕ → Type 0
-HasNoFront IsText bs = (front rest : List ℕ) → bs ≡ front ++ rest → IsText front → ⊥
+HasNoFront Accepts bs = (front rest : List ℕ) → bs ≡ front ++ rest → Accepts front → ⊥
 
 -- attributes and the end of an open tag, before the bytes after it (CommonMark 6.6, open tag)
 pub record IsTagRest (bs : List ℕ) (behind : List ℕ) : Type 0 where

@@ -6,7 +6,7 @@ use Rattle.std.proofs.lemmas.Bool.{cases_Bool, eqb-true, and_parts, le-ltb, lt-l
 use Rattle.std.proofs.lemmas.Bool.Decides.{nat_tests}
 use Rattle.first_pass_links.specs.Escapes.{begins_escape}
 use Rattle.first_pass_links.specs.Destinations.{ends_run, closes_none, nesting_behind, run_len, longer, if_closed}
-use Rattle.first_pass_links.specs.Runs.{is_plain, IsRun, nothing, escape, plain, nested, ends_before, BeginsRun}
+use Rattle.first_pass_links.specs.Runs.{is_plain, IsBare, nothing, escape, plain, nested, ends_before, BeginsRun}
 use Rattle.first_pass_links.proofs.Destinations.{longer-longer, second, run-nil, run-end, run-escape, run-unopened, run-deep, run-byte}
 
 -- a run stands there: its length is counted
@@ -28,7 +28,7 @@ three_parts a b c (Some k) = let e : 1 + (a + (1 + (b + k))) ≡ suc (a + suc b)
 two_parts : (a : ℕ) (o : Option ℕ) → longer 1 (longer a o) ≡ longer (suc a) o
 two_parts a o = longer-longer 1 a o ∙ (let e : 1 + a ≡ suc a = omega arith in ap (λ n. longer n o) e)
 
-counts : (deepest : ℕ) (d : ℕ) (run behind : List ℕ) → IsRun d run behind → (nesting : ℕ) → d + nesting ≡ deepest
+counts : (deepest : ℕ) (d : ℕ) (run behind : List ℕ) → IsBare d run behind → (nesting : ℕ) → d + nesting ≡ deepest
     → run_len deepest nesting 0 (run ++ behind) ≡ longer (length run) (run_len deepest nesting 0 behind)
 counts deepest _ _ _ (nothing d behind) nesting e = sym (longer-none (run_len deepest nesting 0 behind))
 counts deepest _ _ _ (escape d b more behind p r) nesting e =
@@ -79,9 +79,9 @@ run_found deepest n bs h =
 
 -- a run with so many parentheses open before it, which it closes: a run before each `)`, and one after the last
 abbrev Closes : ℕ → ℕ → List ℕ → List ℕ → Type 0
-Closes zero d run behind = IsRun d run behind
+Closes zero d run behind = IsBare d run behind
 Closes (suc k) d run behind =
-    (inside : List ℕ) × (more : List ℕ) × (run ≡ inside ++ 41 ∷ more) × IsRun d inside (41 ∷ (more ++ behind)) × Closes k (suc d) more behind
+    (inside : List ℕ) × (more : List ℕ) × (run ≡ inside ++ 41 ∷ more) × IsBare d inside (41 ∷ (more ++ behind)) × Closes k (suc d) more behind
 
 closes_escape : (k d b : ℕ) (run behind : List ℕ) → is_ascii_punctuation b ≡ true → Closes k d run behind → Closes k d (92 ∷ b ∷ run) behind
 closes_escape zero d b run behind p c = escape d b run behind p c
@@ -99,7 +99,7 @@ closes_close : (k d : ℕ) (run behind : List ℕ) → Closes k (suc d) run behi
 closes_close k d run behind c = ([], run, refl, nothing d (41 ∷ (run ++ behind)), c)
 
 closes_open : (k d : ℕ) (run behind : List ℕ) → Closes (suc k) d run behind → Closes k (suc d) (40 ∷ run) behind
-closes_open zero d run behind c = subst (λ xs. IsRun (suc d) (40 ∷ xs) behind) (sym c.2) (nested d c.0 c.1 behind c.3 c.4)
+closes_open zero d run behind c = subst (λ xs. IsBare (suc d) (40 ∷ xs) behind) (sym c.2) (nested d c.0 c.1 behind c.3 c.4)
 closes_open (suc k) d run behind c =
     let r = c.4 in
     let e : 41 ∷ (c.1 ++ behind) ≡ 41 ∷ (r.0 ++ 41 ∷ (r.1 ++ behind)) =
@@ -107,7 +107,7 @@ closes_open (suc k) d run behind c =
       40 ∷ (c.0 ++ 41 ∷ r.0),
       r.1,
       ap (λ xs. 40 ∷ xs) (c.2 ∙ ap (λ xs. c.0 ++ 41 ∷ xs) r.2 ∙ sym (append_assoc c.0 (41 ∷ r.0) (41 ∷ r.1))),
-      nested d c.0 r.0 (41 ∷ (r.1 ++ behind)) (subst (IsRun d c.0) e c.3) r.3,
+      nested d c.0 r.0 (41 ∷ (r.1 ++ behind)) (subst (IsBare d c.0) e c.3) r.3,
       r.4,
     )
 

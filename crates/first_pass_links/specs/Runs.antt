@@ -11,17 +11,17 @@ is_plain b = not (ends_run b || b == left_parenthesis || b == right_parenthesis)
 
 -- A run before the bytes after it, its parentheses nested at most so deep: it has no control character and no space, and parentheses only
 -- where they are escaped or balanced (CommonMark 6.3).
-pub data IsRun : ℕ → List ℕ → List ℕ → Type 0 where
+pub data IsBare : ℕ → List ℕ → List ℕ → Type 0 where
   -- nothing
-  nothing : (deepest : ℕ) (behind : List ℕ) → IsRun deepest [] behind
+  nothing : (deepest : ℕ) (behind : List ℕ) → IsBare deepest [] behind
   -- a backslash with the ASCII punctuation that it escapes, and then a run
-  escape : (deepest b : ℕ) (more behind : List ℕ) → is_ascii_punctuation b ≡ true → IsRun deepest more behind → IsRun deepest (backslash ∷ b ∷ more) behind
+  escape : (deepest b : ℕ) (more behind : List ℕ) → is_ascii_punctuation b ≡ true → IsBare deepest more behind → IsBare deepest (backslash ∷ b ∷ more) behind
   -- a byte that stands by itself, also a backslash that escapes nothing, and then a run
   plain : (deepest b : ℕ) (more behind : List ℕ)
-      → is_plain b ≡ true → begins_escape (b ∷ (more ++ behind)) ≡ false → IsRun deepest more behind → IsRun deepest (b ∷ more) behind
+      → is_plain b ≡ true → begins_escape (b ∷ (more ++ behind)) ≡ false → IsBare deepest more behind → IsBare deepest (b ∷ more) behind
   -- a run in parentheses, nested one less deep, and then a run
-  nested : (deepest : ℕ) (inside more behind : List ℕ) → IsRun deepest inside (right_parenthesis ∷ (more ++ behind)) → IsRun (suc deepest) more behind
-      → IsRun (suc deepest) (left_parenthesis ∷ (inside ++ right_parenthesis ∷ more)) behind
+  nested : (deepest : ℕ) (inside more behind : List ℕ) → IsBare deepest inside (right_parenthesis ∷ (more ++ behind)) → IsBare (suc deepest) more behind
+      → IsBare (suc deepest) (left_parenthesis ∷ (inside ++ right_parenthesis ∷ more)) behind
 
 -- a run ends before these bytes: nothing, an ASCII control character, a space, or a `)`, which closes none as the run is balanced (CommonMark 6.3)
 abbrev pub ends_before : List ℕ → Bool
@@ -31,5 +31,5 @@ ends_before (b ∷ bs) = ends_run b || b == right_parenthesis
 -- the first n bytes are a run, and it ends there (CommonMark 6.3)
 pub record BeginsRun (deepest : ℕ) (bs : List ℕ) (n : ℕ) : Type 0 where
   pub within : n ≤ length bs
-  pub run : IsRun deepest (take n bs) (drop n bs)
+  pub run : IsBare deepest (take n bs) (drop n bs)
   pub ends : ends_before (drop n bs) ≡ true

@@ -22,7 +22,7 @@ use Rattle.first_pass_tokens.proofs.LineLemmas.{cell_ends}
 use Rattle.first_pass_tokens.proofs.OrderLemmas.{order_from, cell_in_order, cell_end_place}
 use Rattle.first_pass_grammar.specs.Counting.{own_nodes}
 use Rattle.first_pass_grammar.specs.Leaves.{Document}
-use Rattle.first_pass_grammar.specs.Order.{Extent, extent_of, extents, Row, Empty, Node, laid, IsBetween, Elsewhere, below, Fits}
+use Rattle.first_pass_grammar.specs.Order.{Extent, extent_of, extents, Siblings, Empty, Node, laid, IsBetween, Elsewhere, below, Fits}
 use Rattle.first_pass_grammar.specs.Tables.{cell_start, cell_text, cell_block, AreCells, filled, side_by_side, row_cells, row_block}
 use Rattle.first_pass_grammar.proofs.Orders.{beside, extents-append, extents-at_depth, laid-beside, laid-at_depth, fits-order, fits-later, fits-any}
 use Rattle.first_pass_grammar.proofs.Orders.{fits-beside, row_of, row_of-fits, length-block}
@@ -33,7 +33,7 @@ use Rattle.first_pass_open.proofs.PlaceLemmas.{place_end, line_start_end}
 
 -- the nodes of blocks side by side lie between two offsets in order, in no list item (this project)
 abbrev pub AreBetween : List ℕ → ℕ → ℕ → List (ℕ × Item) → Type 0
-AreBetween text from to items = (row : Row) × (extents items ≡ laid 0 row) × Fits text Elsewhere from to row
+AreBetween text from to items = (row : Siblings) × (extents items ≡ laid 0 row) × Fits text Elsewhere from to row
 
 -- no nodes, nodes after others, and in more room
 pub between-none : (text : List ℕ) (from to : ℕ) → from ≤ to → AreBetween text from to []

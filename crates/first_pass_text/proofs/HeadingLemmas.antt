@@ -13,7 +13,7 @@ use Rattle.first_pass_lines.specs.Places.{line_place}
 use Rattle.first_pass_lines.proofs.HeadingFacts.{atx_level-signs}
 use Rattle.first_pass_lines.proofs.PlaceFacts.{bytes_line_end}
 use Rattle.first_pass_tokens.specs.Chains.{add_tokens, close_break, cut}
-use Rattle.first_pass_tokens.specs.Pieces.{Source}
+use Rattle.first_pass_tokens.specs.Pieces.{Inline}
 use Rattle.first_pass_tokens.specs.TreeTokens.{chained, AppendsLine}
 use Rattle.first_pass_tokens.proofs.ChainLemmas.{with_tokens-chained, joins_none-fresh, chained-spine, childless-chained, cut_siblings-chained}
 use Rattle.first_pass_grammar.specs.Headings.{before_attributes, heading_attributes_of, text_before_attributes}
@@ -44,7 +44,7 @@ chain_kept : (kept start : ℕ) (chain : List Item) → (kept ≡ 0 → ⊥) →
 unfolding heading_chain
 chain_kept kept start chain h = let t : (kept == 0) ≡ false = grind (arith, nat_tests, h) in rw t refl
 
-module _ (texts : List CowStr) (s : Source) (kept : ℕ) (old read last : Forest Item) (answer : ℕ × Option Item) (ix : TreeIndex) (pushed : IsJustPushed old ix)
+module _ (texts : List CowStr) (s : Inline) (kept : ℕ) (old read last : Forest Item) (answer : ℕ × Option Item) (ix : TreeIndex) (pushed : IsJustPushed old ix)
     {after : MathBraces} (line : AppendsLine texts s old read answer after) (last_is : last ≡ with_closed_break read answer.1) where
   -- the chain of the line
   whole : List Item

@@ -34,7 +34,7 @@ use Rattle.first_pass_attributes.specs.AttributeBlocks.{Braces}
 use Rattle.first_pass_items.specs.Bytes.{left_brace}
 use Rattle.first_pass_items.specs.declared.item.HeadingIndex.{HeadingIndex}
 use Rattle.first_pass_items.specs.declared.option_set.Options.{Options}
-use Rattle.first_pass_tokens.specs.Pieces.{Source}
+use Rattle.first_pass_tokens.specs.Pieces.{Inline}
 use Rattle.first_pass_tokens.specs.LineTokens.{IsLine, text_end}
 use Rattle.first_pass_text.proofs.KeptBytes.{run_none, space_aside, kept_counted}
 use Rattle.first_pass_text.proofs.AttributeEnds.{before_none, braces_within, opens_with}
@@ -217,7 +217,7 @@ kept_less content n (inr (inl aside)) = (let inside = aside.0 in omega arith)
 kept_less content n (inr (inr whole)) = (let all = whole.0 in omega arith)
 
 -- the escaped texts of a whole line, its last backslash among them
-line_stands : {texts : List CowStr} {after : MathBraces} (s : Source) (tokens : List Item) (answer : ℕ × Option Item)
+line_stands : {texts : List CowStr} {after : MathBraces} (s : Inline) (tokens : List Item) (answer : ℕ × Option Item)
     → IsUtf8 s.text → IsCharBoundary s.text s.start → IsLine texts s tokens answer after
     → EscapesStand s.text s.start (close_break answer.1 (add_tokens [] tokens))
 line_stands s tokens answer utf8 boundary line =
@@ -228,7 +228,7 @@ line_stands s tokens answer utf8 boundary line =
 
 -- The chain of a heading's line without its closing sequence is in order up to an offset that is not before the line's end, and has at most as many tokens as
 -- there are bytes up to there.
-line_fits : {texts : List CowStr} {after : MathBraces} (s : Source) (tokens : List Item) (answer : ℕ × Option Item) (content : List ℕ) (next : ℕ)
+line_fits : {texts : List CowStr} {after : MathBraces} (s : Inline) (tokens : List Item) (answer : ℕ × Option Item) (content : List ℕ) (next : ℕ)
     → IsUtf8 s.text → IsCharBoundary s.text s.start → IsLine texts s tokens answer after → IsContent s.text s.start content
     → answer.0 ≤ next → s.start + length content ≤ next
     → (let chain : List Item = heading_chain (kept_len content) s.start (close_break answer.1 (add_tokens [] tokens)) in

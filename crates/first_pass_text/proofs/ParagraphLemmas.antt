@@ -14,7 +14,7 @@ use Rattle.first_pass_lines.proofs.LineFacts.{lines_at-line, lines_at-end}
 use Rattle.first_pass_lines.proofs.PlaceFacts.{line_end_boundary}
 use Rattle.first_pass_names.specs.TableEntries.{no_names}
 use Rattle.first_pass_grammar.specs.declared.kind.Container.{Container}
-use Rattle.first_pass_tokens.specs.Pieces.{Source}
+use Rattle.first_pass_tokens.specs.Pieces.{Inline}
 use Rattle.first_pass_tokens.specs.LineTokens.{IsLine, EndsLine, IsBreak}
 use Rattle.first_pass_tokens.specs.Chains.{text_token, add_text, add_token, add_tokens, close_break, is_backslash_break}
 use Rattle.first_pass_tokens.specs.TreeTokens.{chained, with_tokens, JoinsNone, AppendsLine}
@@ -306,7 +306,7 @@ break_fits d ix n (Some x) small ends =
     omega arith
 
 -- the content of a line from a place on
-abbrev pub line_source : Options → List ℕ → Spot → Source
+abbrev pub line_source : Options → List ℕ → Spot → Inline
 line_source options text p = record { options = options; whole = text; text = text; start = p.at; row = false; braces = p.braces }
 
 -- the same source, where the text and the options are still those

@@ -155,7 +155,8 @@ pub record StandsOpen (text : List ℕ) (options : Options) (names : Names) (sta
   pub boundary : IsCharBoundary text end.next
 
 pub stands_open : (text : List ℕ) (options : Options) (names : Names) (start : ℕ) (marker : Option Item) (g p m r : Forest Item) (ix : TreeIndex)
-    (end : TextEnd) → IsForest g → ix.0 ≡ length g.nodes → p ≡ opened_block g start Paragraph → m ≡ with_child p marker → IfSome marker (λ y. is_text y.body ≡ false)
+    (end : TextEnd) → IsForest g → ix.0 ≡ length g.nodes → p ≡ opened_block g start Paragraph → m ≡ with_child p marker
+    → IfSome marker (λ y. is_text y.body ≡ false)
     → AppendsLines (document text options names) start m r end → StandsOpen text options names start marker g r ix end
 stands_open text options names start marker g p m r ix end forest at p_is m_is plain read =
     let x : Item = opened_item start in

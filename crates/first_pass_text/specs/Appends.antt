@@ -9,7 +9,7 @@ use Rattle.first_pass_lines.specs.Lines.{level_number}
 use Rattle.first_pass_tokens.specs.Chains.{is_backslash_break, add_tokens, close_break}
 use Rattle.first_pass_tokens.specs.Braces.{MathBraces, no_braces}
 use Rattle.first_pass_tokens.specs.LineTokens.{spot, IsLine}
-use Rattle.first_pass_tokens.specs.Pieces.{Source}
+use Rattle.first_pass_tokens.specs.Pieces.{Inline}
 use Rattle.first_pass_tokens.specs.TreeTokens.{chained}
 use Rattle.first_pass_grammar.specs.Leaves.{Document, document, IsHeading, kept_len, heading_chain, heading_text_at, heading_block, text_lines, AreTextLines}
 use Rattle.first_pass_grammar.specs.Names.{Names, Extends}
@@ -41,7 +41,7 @@ pub record AppendsLines (d : Document) (start : ℕ) (old new : Forest Item) (en
 
 -- The tokens of an ATX heading's line, which is read so and of which this is the text, stand in the innermost open node, without the closing sequence; each
 -- text that they name is among these.
-pub record AppendsHeading (texts : List CowStr) (s : Source) (content : List ℕ) (old new : Forest Item) : Type 0 where
+pub record AppendsHeading (texts : List CowStr) (s : Inline) (content : List ℕ) (old new : Forest Item) : Type 0 where
   pub tokens : List Item
   pub answer : ℕ × Option Item
   pub after : MathBraces

@@ -23,7 +23,7 @@ use Rattle.first_pass_tokens.specs.Alike.{text_among, BodiesAlike, ItemsAlike, A
 use Rattle.first_pass_tokens.specs.Chains.{text_token, token, run_tokens, touches, add_token, add_tokens, add_text}
 use Rattle.first_pass_tokens.specs.Braces.{MathBraces, dollar_context, braces_after}
 use Rattle.first_pass_tokens.specs.NamedTexts.{NamesAmong, Becomes}
-use Rattle.first_pass_tokens.specs.Pieces.{Source, found_at, special_found, reference_found, dash_found, dollar_found, special_piece, backslash_piece}
+use Rattle.first_pass_tokens.specs.Pieces.{Inline, found_at, special_found, reference_found, dash_found, dollar_found, special_piece, backslash_piece}
 use Rattle.first_pass_tokens.specs.Pieces.{backslash_piece_in, backquote_piece, is_delimiter, is_quote, is_too_long, run_in, run_size, run_piece}
 use Rattle.first_pass_tokens.specs.Pieces.{delimiter_piece, quote_piece, dot_piece, dash_piece, bracket_piece, run_at, size}
 use Rattle.first_pass_tokens.specs.LineTokens.{Spot, spot, ends_at, ArePieces, IsDivision, IsLine, IsCell, add_piece, add_pieces, text_end, blanks_at_end}
@@ -79,7 +79,7 @@ dash_none text at =
     cond_both (run_at text at == 2) (Token 0 2 (SynthesizeChar 0x2013)) _ NamesNone (λ h. refl)
     (λ h. cond_both (run_at text at == 3) (Token 0 3 (SynthesizeChar 0x2014)) (Left (run_at text at)) NamesNone (λ k. refl) (λ k. tt))
 
-special_none : (s : Source) (at : ℕ) → NamesNone (special_piece s at)
+special_none : (s : Inline) (at : ℕ) → NamesNone (special_piece s at)
 unfolding special_piece backquote_piece delimiter_piece quote_piece dot_piece
 special_none s at =
     let b = slice_index s.text at in
@@ -96,7 +96,7 @@ reference_none : (o : Option (ℕ × ℕ)) → ReadyNamesNone (option_map_or (λ
 reference_none (Some e) = tt
 reference_none None = tt
 
-pub found_none : (s : Source) (at : ℕ) → ReadyNamesNone (found_at s at)
+pub found_none : (s : Inline) (at : ℕ) → ReadyNamesNone (found_at s at)
 unfolding found_at special_found reference_found dash_found dollar_found
 found_none s at =
     let b = slice_index s.text at in
@@ -217,11 +217,11 @@ module _ (texts others : List CowStr) where
   pieces_alike stop at b CloseBrace p q none h k = rw (h, k) (piece_same stop at (Left 1) tt)
 
   -- a content has one division, but for the indices
-  record OneWay (s : Source) (at : ℕ) (ps qs : List Piece) (to stop : Spot) : Type 0 where
+  record OneWay (s : Inline) (at : ℕ) (ps qs : List Piece) (to stop : Spot) : Type 0 where
     ends : to ≡ stop
     gives : (cut : ℕ) (xs us : List Item) → AreAlike texts others xs us → AreAlike texts others (add_pieces cut at ps xs) (add_pieces cut at qs us)
 
-  one_way : (s : Source) (at : ℕ) (b : MathBraces) (ps : List Piece) (to : Spot) (qs : List Piece) (stop : Spot)
+  one_way : (s : Inline) (at : ℕ) (b : MathBraces) (ps : List Piece) (to : Spot) (qs : List Piece) (stop : Spot)
       → ArePieces texts s at b ps to → ends_at s to.at ≡ true
       → ArePieces others s at b qs stop → ends_at s stop.at ≡ true → OneWay s at ps qs to stop
   one_way s at b [] to [] stop h f k g = record { ends = sym h ∙ k; gives = λ cut xs us are. are }
@@ -240,11 +240,11 @@ module _ (texts others : List CowStr) where
             (rest.gives cut (add_piece cut at p xs) (add_piece cut at q us) ((first cut).gives xs us are));
       }
 
-  one_division : (s : Source) (ps qs : List Piece) (to stop : Spot) → IsDivision texts s ps to → IsDivision others s qs stop → OneWay s s.start ps qs to stop
+  one_division : (s : Inline) (ps qs : List Piece) (to stop : Spot) → IsDivision texts s ps to → IsDivision others s qs stop → OneWay s s.start ps qs to stop
   one_division s ps qs to stop h k = one_way s s.start s.braces ps to qs stop h.divided h.ended k.divided k.ended
 
   -- a line has one list of tokens but for the indices, and one answer
-  pub one_line : (s : Source) (tokens more : List Item) (a b : ℕ × Option Item) (c d : MathBraces) → IsLine texts s tokens a c → IsLine others s more b d
+  pub one_line : (s : Inline) (tokens more : List Item) (a b : ℕ × Option Item) (c d : MathBraces) → IsLine texts s tokens a c → IsLine others s more b d
       → AreAlike texts others tokens more × (a ≡ b) × (c ≡ d)
   one_line s tokens more a b c d h k =
       let same = one_division s h.pieces k.pieces (spot h.content_end c) (spot k.content_end d) h.division k.division in
@@ -257,7 +257,7 @@ module _ (texts others : List CowStr) where
       )
 
   -- a cell has one list of tokens but for the indices, and one end
-  pub one_cell : (s : Source) (tokens more : List Item) (a b : ℕ) (c d : MathBraces) → IsCell texts s tokens a c → IsCell others s more b d
+  pub one_cell : (s : Inline) (tokens more : List Item) (a b : ℕ) (c d : MathBraces) → IsCell texts s tokens a c → IsCell others s more b d
       → AreAlike texts others tokens more × (a ≡ b) × (c ≡ d)
   one_cell s tokens more a b c d h k =
       let same = one_division s h.pieces k.pieces (spot a c) (spot b d) h.division k.division in

@@ -11,7 +11,7 @@ use Rattle.first_pass_tree.specs.declared.tree_index.TreeIndex.{TreeIndex}
 use Rattle.first_pass_tree.specs.Forest.{Forest, is_text, is_escaped, cut_item, modify, joins_at, with_end, appended}
 use Rattle.first_pass_tokens.specs.declared.pieces.Piece.{Piece}
 use Rattle.first_pass_tokens.specs.declared.pieces.Piece.TheVariants.{Left, Begins, Token, Run}
-use Rattle.first_pass_tokens.specs.Pieces.{Source, found_at, size}
+use Rattle.first_pass_tokens.specs.Pieces.{Inline, found_at, size}
 use Rattle.first_pass_tokens.specs.Chains.{text_token, token, run_tokens, touches, add_token, add_tokens, add_text, is_backslash_break, close_break, cut}
 use Rattle.first_pass_tokens.specs.LineTokens.{Spot, spot, ArePieces, IsLine, IsCell, add_piece, add_pieces, text_end, line_end_len, blanks_at_end}
 use Rattle.first_pass_tokens.specs.TreeTokens.{with_token, with_tokens, AppendsLine, AppendsCell}
@@ -62,7 +62,7 @@ bytes_piece text stop at (Begins dropped escaped) chain facts h = bytes_text (at
 bytes_piece text stop at (Token dropped n body) chain facts h = bytes_add chain (token (at + dropped) n body) (omega (arith, facts.some)) h
 bytes_piece text stop at (Run n opens closes) chain facts h = bytes_adds chain (run_tokens at n opens closes) (run_has_bytes at n opens closes) h
 
-bytes_pieces : (texts : List CowStr) (s : Source) (stop at : ℕ) (b : MathBraces) (ps : List Piece) (to : Spot) (chain : List Item)
+bytes_pieces : (texts : List CowStr) (s : Inline) (stop at : ℕ) (b : MathBraces) (ps : List Piece) (to : Spot) (chain : List Item)
     → ArePieces texts s at b ps to → HaveBytes chain
     → HaveBytes (add_pieces stop at ps chain)
 bytes_pieces texts s stop at b [] to chain are h = h
@@ -83,13 +83,13 @@ bytes_append [] ys h k = k
 bytes_append (x ∷ xs) ys h k = (h.0, bytes_append xs ys h.1 k)
 
 -- the tokens of a cell
-pub cell_has_bytes : {texts : List CowStr} {s : Source} {tokens : List Item} {end : ℕ} {after : MathBraces} → IsCell texts s tokens end after → HaveBytes tokens
+pub cell_has_bytes : {texts : List CowStr} {s : Inline} {tokens : List Item} {end : ℕ} {after : MathBraces} → IsCell texts s tokens end after → HaveBytes tokens
 cell_has_bytes {texts} {s} {tokens} {end} {after} cell =
     subst HaveBytes (sym cell.tokens_are)
     (bytes_pieces texts s (end - blanks_at_end s end) s.start s.braces cell.pieces (spot end after) [] cell.division.divided tt)
 
 -- the tokens of a line
-pub line_has_bytes : {texts : List CowStr} {s : Source} {tokens : List Item} {answer : ℕ × Option Item} {after : MathBraces}
+pub line_has_bytes : {texts : List CowStr} {s : Inline} {tokens : List Item} {answer : ℕ × Option Item} {after : MathBraces}
     → IsLine texts s tokens answer after → HaveBytes tokens
 line_has_bytes {texts} {s} {tokens} {answer} {after} line =
     subst HaveBytes (sym line.tokens_are)
@@ -135,7 +135,7 @@ few_piece stop at (Begins dropped escaped) chain some =
 few_piece stop at (Token dropped n body) chain some = (let few = few_add chain (token (at + dropped) n body) in omega arith)
 few_piece stop at (Run n opens closes) chain some = few_run at n opens closes chain
 
-few_by_pieces : (texts : List CowStr) (s : Source) (stop at : ℕ) (b : MathBraces) (ps : List Piece) (to : Spot) (chain : List Item)
+few_by_pieces : (texts : List CowStr) (s : Inline) (stop at : ℕ) (b : MathBraces) (ps : List Piece) (to : Spot) (chain : List Item)
     → ArePieces texts s at b ps to
     → length (add_pieces stop at ps chain) + at ≤ length chain + to.at
 few_by_pieces texts s stop at b [] to chain is = (let same : at ≡ to.at = ap (λ (t : Spot). t.at) is in omega arith)
@@ -146,12 +146,12 @@ few_by_pieces texts s stop at b (p ∷ ps) to chain is =
     omega arith
 
 -- a content has at most as many tokens as bytes
-few_in_content : (texts : List CowStr) (s : Source) (pieces : List Piece) (to : Spot) (stop : ℕ) → ArePieces texts s s.start s.braces pieces to
+few_in_content : (texts : List CowStr) (s : Inline) (pieces : List Piece) (to : Spot) (stop : ℕ) → ArePieces texts s s.start s.braces pieces to
     → length (add_pieces stop s.start pieces []) + s.start ≤ to.at
 few_in_content texts s pieces to stop are = (let few = few_by_pieces texts s stop s.start s.braces pieces to [] are in omega arith)
 
 -- A cell has at most as many tokens as bytes.
-pub few_in_cell : {texts : List CowStr} {s : Source} {tokens : List Item} {end : ℕ} {after : MathBraces}
+pub few_in_cell : {texts : List CowStr} {s : Inline} {tokens : List Item} {end : ℕ} {after : MathBraces}
     → IsCell texts s tokens end after → length tokens + s.start ≤ end
 few_in_cell {texts} {s} {tokens} {end} {after} cell =
     let few = few_in_content texts s cell.pieces (spot end after) (end - blanks_at_end s end) cell.division.divided in
@@ -159,7 +159,7 @@ few_in_cell {texts} {s} {tokens} {end} {after} cell =
     omega arith
 
 -- A line has at most as many tokens as bytes.
-pub few_in_line : {texts : List CowStr} {s : Source} {tokens : List Item} {answer : ℕ × Option Item} {after : MathBraces}
+pub few_in_line : {texts : List CowStr} {s : Inline} {tokens : List Item} {answer : ℕ × Option Item} {after : MathBraces}
     → IsLine texts s tokens answer after → length tokens + s.start ≤ answer.0
 few_in_line {texts} {s} {tokens} {answer} {after} line =
     let end = line.content_end in
@@ -192,7 +192,7 @@ few_tokens f (x ∷ xs) =
     omega arith
 
 -- what is appended of a line has at most as many nodes as bytes
-pub few_of_line : {texts : List CowStr} {s : Source} {old new : Forest Item} {answer : ℕ × Option Item} {after : MathBraces}
+pub few_of_line : {texts : List CowStr} {s : Inline} {old new : Forest Item} {answer : ℕ × Option Item} {after : MathBraces}
     → AppendsLine texts s old new answer after → length new.nodes ≤ length old.nodes + (answer.0 - s.start)
 few_of_line {texts} {s} {old} {new} {answer} line =
     let few = few_in_line line.line in
@@ -201,7 +201,7 @@ few_of_line {texts} {s} {old} {new} {answer} line =
     omega arith
 
 -- and so has what is appended of a cell
-pub few_of_cell : {texts : List CowStr} {s : Source} {old new : Forest Item} {end : ℕ} {after : MathBraces}
+pub few_of_cell : {texts : List CowStr} {s : Inline} {old new : Forest Item} {end : ℕ} {after : MathBraces}
     → AppendsCell texts s old new end after → length new.nodes ≤ length old.nodes + (end - s.start)
 few_of_cell {texts} {s} {old} {new} {end} cell =
     let few = few_in_cell cell.cell in

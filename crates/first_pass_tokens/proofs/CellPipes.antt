@@ -10,7 +10,7 @@ use Rattle.first_pass_items.specs.declared.item.ItemBody.TheVariants.{MaybeEmpha
 use Rattle.first_pass_items.specs.declared.item.ItemBody.TheVariants.{MaybeHtml, MaybeLinkOpen, MaybeLinkClose, MaybeImage}
 use Rattle.first_pass_tokens.specs.declared.pieces.Piece.{Piece}
 use Rattle.first_pass_tokens.specs.declared.pieces.Piece.TheVariants.{Left, Begins, Token, Run}
-use Rattle.first_pass_tokens.specs.Pieces.{Source, found_at, size}
+use Rattle.first_pass_tokens.specs.Pieces.{Inline, found_at, size}
 use Rattle.first_pass_tokens.specs.NamedTexts.{Becomes}
 use Rattle.first_pass_tokens.specs.LineTokens.{Spot, spot, ends_at, ArePieces, IsCell}
 use Rattle.first_pass_tokens.specs.MarkupBytes.{StandsOver, PipesAreEscaped, smart_char}
@@ -74,7 +74,7 @@ pipe_inside text at (Begins dropped escaped) k facts other low high pipe =
 pipe_inside text at (Token dropped n body) k facts other low high pipe =
     absurd (markup_no_pipe text (at + dropped) n body k facts.kind facts.over (omega (arith, facts.few)) (omega arith) pipe)
 
-module _ (s : Source) (row : s.row ≡ true) (on : has s.options tables ≡ true) where
+module _ (s : Inline) (row : s.row ≡ true) (on : has s.options tables ≡ true) where
   pipe_in : (texts : List CowStr) (b : MathBraces) (at : ℕ) (p : Piece)
       → ends_at s at ≡ false → Becomes texts b (found_at s at) p → (k : ℕ) → at ≤ k → k < at + size p → slice_index s.text k ≡ 124
       → (at < k) × (slice_index s.text (k - 1) ≡ 92)

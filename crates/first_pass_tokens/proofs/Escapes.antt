@@ -11,7 +11,7 @@ use Rattle.first_pass_items.specs.declared.item.ItemBody.TheVariants.{MaybeEmpha
 use Rattle.first_pass_tree.specs.Forest.{is_escaped, cut_item}
 use Rattle.first_pass_tokens.specs.declared.pieces.Piece.{Piece}
 use Rattle.first_pass_tokens.specs.declared.pieces.Piece.TheVariants.{Left, Begins, Token, Run}
-use Rattle.first_pass_tokens.specs.Pieces.{Source, found_at, size}
+use Rattle.first_pass_tokens.specs.Pieces.{Inline, found_at, size}
 use Rattle.first_pass_tokens.specs.Chains.{text_token, token, run_tokens, touches, add_token, add_tokens, add_text, is_backslash_break, close_break, cut}
 use Rattle.first_pass_tokens.specs.LineTokens.{Spot, spot, ArePieces, IsLine, add_piece, add_pieces, text_end}
 use Rattle.first_pass_tokens.specs.Order.{AreInOrder, HaveBytes}
@@ -128,7 +128,7 @@ escapes_piece text from stop at (Token dropped n body) chain facts h k =
     escapes_add text from at chain (token (at + dropped) n body) h k (λ e. absurd (false≢true (sym (markup_unescaped body facts.kind) ∙ e)))
 escapes_piece text from stop at (Run n opens closes) chain facts h k = escapes_run text from at n opens closes chain h k
 
-escapes_pieces : (texts : List CowStr) (s : Source) (from stop at : ℕ) (b : MathBraces) (ps : List Piece) (to : Spot) (chain : List Item)
+escapes_pieces : (texts : List CowStr) (s : Inline) (from stop at : ℕ) (b : MathBraces) (ps : List Piece) (to : Spot) (chain : List Item)
     → ArePieces texts s at b ps to → EndsBy from at chain → EscapesStand s.text from chain
     → EscapesStand s.text from (add_pieces stop at ps chain)
 escapes_pieces texts s from stop at b [] to chain are h k = k
@@ -137,7 +137,7 @@ escapes_pieces texts s from stop at b (p ∷ ps) to chain are h k =
     (escapes_piece s.text from stop at p chain (piece_of texts b s at p are.0 are.1) h k)
 
 -- The escaped texts of a line stand after their backslashes.
-pub line_escapes : {texts : List CowStr} {s : Source} {tokens : List Item} {answer : ℕ × Option Item} {after : MathBraces}
+pub line_escapes : {texts : List CowStr} {s : Inline} {tokens : List Item} {answer : ℕ × Option Item} {after : MathBraces}
     → IsLine texts s tokens answer after → EscapesStand s.text s.start tokens
 line_escapes {texts} {s} {tokens} {answer} {after} line =
     subst (EscapesStand s.text s.start) (sym line.tokens_are)

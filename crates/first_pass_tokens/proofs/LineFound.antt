@@ -13,7 +13,7 @@ use Rattle.first_pass_tokens.specs.declared.pieces.Piece.{Piece}
 use Rattle.first_pass_tokens.specs.declared.pieces.Piece.TheVariants.{Left, Token}
 use Rattle.first_pass_tokens.specs.NamedTexts.{dashes, IsNamingToken, Becomes, AreMore}
 use Rattle.first_pass_tokens.specs.Braces.{MathBraces, dollar_context, braces_after}
-use Rattle.first_pass_tokens.specs.Pieces.{Source, found_at, size}
+use Rattle.first_pass_tokens.specs.Pieces.{Inline, found_at, size}
 use Rattle.first_pass_tokens.proofs.PieceFacts.{becomes_facts, found_facts}
 use Rattle.first_pass_tokens.proofs.LineLemmas.{piece_some}
 use Rattle.first_pass_tokens.proofs.NamedTexts.{more_none, more_both, among_last, becomes_more}
@@ -60,11 +60,11 @@ found_piece texts b (Dollar opens closes) = record {
 found_piece texts b OpenBrace = record { named = texts; more = more_none texts; piece = Left 1; becomes = refl }
 found_piece texts b CloseBrace = record { named = texts; more = more_none texts; piece = Left 1; becomes = refl }
 
-piece_sized : (texts : List CowStr) (b : MathBraces) (s : Source) (at : ℕ) (p : Piece) → at < length s.text → Becomes texts b (found_at s at) p → 0 < size p
+piece_sized : (texts : List CowStr) (b : MathBraces) (s : Inline) (at : ℕ) (p : Piece) → at < length s.text → Becomes texts b (found_at s at) p → 0 < size p
 piece_sized texts b s at p within is = piece_some s.text at p (becomes_facts texts b s.text at (found_at s at) p (found_facts s at within) is)
 
 -- the pieces of a content from a place on
-record Division (texts : List CowStr) (s : Source) (at : ℕ) (b : MathBraces) : Type 0 where
+record Division (texts : List CowStr) (s : Inline) (at : ℕ) (b : MathBraces) : Type 0 where
   named : List CowStr
   more : AreMore named texts
   pieces : List Piece
@@ -72,14 +72,14 @@ record Division (texts : List CowStr) (s : Source) (at : ℕ) (b : MathBraces) :
   divided : ArePieces named s at b pieces to
   ended : ends_at s to.at ≡ true
 
-past_text : (s : Source) (at : ℕ) → length s.text ≤ at → ends_at s at ≡ true
+past_text : (s : Inline) (at : ℕ) → length s.text ≤ at → ends_at s at ≡ true
 unfolding ends_at
 past_text s at h = or_left _ _ (le-leb (length s.text) at h)
 
-ended_here : (texts : List CowStr) (s : Source) (at : ℕ) (b : MathBraces) → ends_at s at ≡ true → Division texts s at b
+ended_here : (texts : List CowStr) (s : Inline) (at : ℕ) (b : MathBraces) → ends_at s at ≡ true → Division texts s at b
 ended_here texts s at b h = record { named = texts; more = more_none texts; pieces = []; to = spot at b; divided = refl; ended = h }
 
-division_by : (texts : List CowStr) (s : Source) (at : ℕ) (b : MathBraces) (t : Bool) → ends_at s at ≡ t → (first : FoundPiece texts b (found_at s at))
+division_by : (texts : List CowStr) (s : Inline) (at : ℕ) (b : MathBraces) (t : Bool) → ends_at s at ≡ t → (first : FoundPiece texts b (found_at s at))
     → (ends_at s at ≡ false → Division first.named s (at + size first.piece) (braces_after (found_at s at) b)) → Division texts s at b
 division_by texts s at b true h first f = ended_here texts s at b h
 division_by texts s at b false h first f =
@@ -93,7 +93,7 @@ division_by texts s at b false h first f =
       ended = further.ended;
     }
 
-division_at : (texts : List CowStr) (s : Source) (at : ℕ) (b : MathBraces) (most : ℕ)
+division_at : (texts : List CowStr) (s : Inline) (at : ℕ) (b : MathBraces) (most : ℕ)
     → length s.text ≤ at + suc most → (at < length s.text) ⊎ (length s.text ≤ at)
     → ((named : List CowStr) (next : ℕ) (later : MathBraces) → length s.text ≤ next + most → Division named s next later) → Division texts s at b
 division_at texts s at b most h (inl within) f =
@@ -102,13 +102,13 @@ division_at texts s at b most h (inl within) f =
     division_by texts s at b (ends_at s at) refl first (λ on. f first.named (at + size first.piece) (braces_after (found_at s at) b) (omega arith))
 division_at texts s at b most h (inr past) f = ended_here texts s at b (past_text s at past)
 
-division : (texts : List CowStr) (s : Source) (most at : ℕ) (b : MathBraces) → length s.text ≤ at + most → Division texts s at b
+division : (texts : List CowStr) (s : Inline) (most at : ℕ) (b : MathBraces) → length s.text ≤ at + most → Division texts s at b
 division texts s zero at b h = ended_here texts s at b (past_text s at (omega arith))
 division texts s (suc most) at b h =
     division_at texts s at b most h (cases_lt at (length s.text)) (λ named next later k. division named s most next later k)
 
 -- the tokens of a line, and texts with those that they name
-pub record FoundLine (texts : List CowStr) (s : Source) : Type 0 where
+pub record FoundLine (texts : List CowStr) (s : Inline) : Type 0 where
   pub named : List CowStr
   pub more : AreMore named texts
   pub tokens : List Item
@@ -116,7 +116,7 @@ pub record FoundLine (texts : List CowStr) (s : Source) : Type 0 where
   pub after : MathBraces
   pub line : IsLine named s tokens answer after
 
-pub line_found : (texts : List CowStr) (s : Source) → s.row ≡ false → FoundLine texts s
+pub line_found : (texts : List CowStr) (s : Inline) → s.row ≡ false → FoundLine texts s
 line_found texts s plain =
     let d = division texts s (length s.text) s.start s.braces (omega arith) in
     record {
@@ -136,7 +136,7 @@ line_found texts s plain =
     }
 
 -- the tokens of a cell, and texts with those that they name
-pub record FoundCell (texts : List CowStr) (s : Source) : Type 0 where
+pub record FoundCell (texts : List CowStr) (s : Inline) : Type 0 where
   pub named : List CowStr
   pub more : AreMore named texts
   pub tokens : List Item
@@ -144,7 +144,7 @@ pub record FoundCell (texts : List CowStr) (s : Source) : Type 0 where
   pub after : MathBraces
   pub cell : IsCell named s tokens end after
 
-pub cell_found : (texts : List CowStr) (s : Source) → FoundCell texts s
+pub cell_found : (texts : List CowStr) (s : Inline) → FoundCell texts s
 cell_found texts s =
     let d = division texts s (length s.text) s.start s.braces (omega arith) in
     record {

@@ -17,7 +17,7 @@ use Rattle.first_pass_tokens.specs.declared.pieces.Piece.TheVariants.{Left, Begi
 use Rattle.first_pass_items.specs.declared.cow_str.CowStr.{CowStr}
 use Rattle.first_pass_tokens.specs.Braces.{MathBraces, braces_after}
 use Rattle.first_pass_tokens.specs.NamedTexts.{Becomes}
-use Rattle.first_pass_tokens.specs.Pieces.{Source, found_at, size}
+use Rattle.first_pass_tokens.specs.Pieces.{Inline, found_at, size}
 use Rattle.first_pass_tokens.specs.LineTokens.{Spot, spot, text_end, ends_at, ends_cell, ArePieces, IsDivision, IsLine, IsCell, IsBreak, EndsLine, EndsCell}
 use Rattle.first_pass_tokens.specs.LineTokens.{add_piece, add_pieces, line_end_len, line_break, breaks_by_backslash, backslashes_at_end, blanks_at_end}
 use Rattle.first_pass_tokens.specs.TreeTokens.{AppendsLine, AppendsCell, with_tokens, chained, JoinsNone}
@@ -26,7 +26,7 @@ use Rattle.first_pass_tokens.proofs.PieceFacts.{IsPieceAt, found_facts, becomes_
 use Rattle.first_pass_tokens.proofs.ChainLemmas.{add_token-apart, add_tokens-apart, add_text-apart, add_tokens-none, with_tokens-chained}
 
 -- one more piece
-pub are_more : (texts : List CowStr) (s : Source) (at : ℕ) (b : MathBraces) (ps : List Piece) (mid : Spot) (q : Piece) → ArePieces texts s at b ps mid
+pub are_more : (texts : List CowStr) (s : Inline) (at : ℕ) (b : MathBraces) (ps : List Piece) (mid : Spot) (q : Piece) → ArePieces texts s at b ps mid
     → ends_at s mid.at ≡ false → Becomes texts mid.braces (found_at s mid.at) q
     → ArePieces texts s at b (ps ++ q ∷ []) (spot (mid.at + size q) (braces_after (found_at s mid.at) mid.braces))
 are_more texts s at b [] mid q same on is =
@@ -35,19 +35,19 @@ are_more texts s at b [] mid q same on is =
 are_more texts s at b (p ∷ ps) mid q h on is =
     (h.0, h.1, are_more texts s (at + size p) (braces_after (found_at s at) b) ps mid q h.2 on is)
 
-pub add_pieces_more : (texts : List CowStr) (s : Source) (stop at : ℕ) (b : MathBraces) (ps : List Piece) (mid : Spot) (chain : List Item) (p : Piece)
+pub add_pieces_more : (texts : List CowStr) (s : Inline) (stop at : ℕ) (b : MathBraces) (ps : List Piece) (mid : Spot) (chain : List Item) (p : Piece)
     → ArePieces texts s at b ps mid → add_pieces stop at (ps ++ p ∷ []) chain ≡ add_piece stop mid.at p (add_pieces stop at ps chain)
 add_pieces_more texts s stop at b [] mid chain p same = ap (λ (t : Spot). add_piece stop t.at p chain) same
 add_pieces_more texts s stop at b (q ∷ ps) mid chain p h =
     add_pieces_more texts s stop (at + size q) (braces_after (found_at s at) b) ps mid (add_piece stop at q chain) p h.2
 
 -- pieces continue after the place where they begin
-pub pieces_reach : (texts : List CowStr) (s : Source) (at : ℕ) (b : MathBraces) (ps : List Piece) (to : Spot) → ArePieces texts s at b ps to → at ≤ to.at
+pub pieces_reach : (texts : List CowStr) (s : Inline) (at : ℕ) (b : MathBraces) (ps : List Piece) (to : Spot) → ArePieces texts s at b ps to → at ≤ to.at
 pieces_reach texts s at b [] to is = (let same : at ≡ to.at = ap (λ (t : Spot). t.at) is in omega arith)
 pieces_reach texts s at b (p ∷ ps) to h = (let more = pieces_reach texts s (at + size p) (braces_after (found_at s at) b) ps to h.2 in omega arith)
 
 -- where no content ends
-not_ended_cell : (s : Source) (at : ℕ) → ends_at s at ≡ false
+not_ended_cell : (s : Inline) (at : ℕ) → ends_at s at ≡ false
     → (at < length s.text) × (is_line_end (slice_index s.text at) ≡ false) × (ends_cell s (slice_index s.text at) ≡ false)
 unfolding ends_at
 not_ended_cell s at on =
@@ -56,11 +56,11 @@ not_ended_cell s at on =
     let byte = or_parts (is_line_end b) (ends_cell s b) parts.1 in
     (leb-false (length s.text) at parts.0, byte.0, byte.1)
 
-pub not_ended : (s : Source) (at : ℕ) → ends_at s at ≡ false → (at < length s.text) × (is_line_end (slice_index s.text at) ≡ false)
+pub not_ended : (s : Inline) (at : ℕ) → ends_at s at ≡ false → (at < length s.text) × (is_line_end (slice_index s.text at) ≡ false)
 not_ended s at on = (let h = not_ended_cell s at on in (h.0, h.1))
 
 -- with tables no pipe stands there in a row
-pub not_ended_pipe : (s : Source) (at : ℕ) → s.row ≡ true → has s.options tables ≡ true → ends_at s at ≡ false → (slice_index s.text at == 124) ≡ false
+pub not_ended_pipe : (s : Inline) (at : ℕ) → s.row ≡ true → has s.options tables ≡ true → ends_at s at ≡ false → (slice_index s.text at == 124) ≡ false
 not_ended_pipe s at row on runs =
     let b = slice_index s.text at in
     elim (and_cases s.row (has s.options tables && b == 124) (not_ended_cell s at runs).2) [
@@ -69,7 +69,7 @@ not_ended_pipe s at row on runs =
     ]
 
 -- the piece at a place of a content
-pub piece_of : (texts : List CowStr) (b : MathBraces) (s : Source) (at : ℕ) (p : Piece) → ends_at s at ≡ false → Becomes texts b (found_at s at) p
+pub piece_of : (texts : List CowStr) (b : MathBraces) (s : Inline) (at : ℕ) (p : Piece) → ends_at s at ≡ false → Becomes texts b (found_at s at) p
     → IsPieceAt s.text at p
 piece_of texts b s at p on is = becomes_facts texts b s.text at (found_at s at) p (found_facts s at (not_ended s at on).0) is
 
@@ -85,7 +85,7 @@ pub record IsInLine (text : List ℕ) (at : ℕ) (p : Piece) : Type 0 where
   pub fits : at + size p ≤ length text
   pub plain : (k : ℕ) → at ≤ k → k < at + size p → is_line_end (slice_index text k) ≡ false
 
-piece_in_line : (s : Source) (at : ℕ) (p : Piece) → ends_at s at ≡ false → IsPieceAt s.text at p → IsInLine s.text at p
+piece_in_line : (s : Inline) (at : ℕ) (p : Piece) → ends_at s at ≡ false → IsPieceAt s.text at p → IsInLine s.text at p
 piece_in_line s at (Left n) on facts =
     let here = not_ended s at on in
     record { fits = facts.fits; plain = λ k low high. ap is_line_end (facts.same k low high) ∙ here.1 }
@@ -111,7 +111,7 @@ pub record IsContent (text : List ℕ) (start end : ℕ) : Type 0 where
   pub within : end ≤ length text
   pub plain : (k : ℕ) → start ≤ k → k < end → is_line_end (slice_index text k) ≡ false
 
-content_from : (texts : List CowStr) (s : Source) (at : ℕ) (b : MathBraces) (ps : List Piece) (to : Spot)
+content_from : (texts : List CowStr) (s : Inline) (at : ℕ) (b : MathBraces) (ps : List Piece) (to : Spot)
     → at ≤ length s.text → ArePieces texts s at b ps to → IsContent s.text at to.at
 content_from texts s at b [] to within is =
     let same : at ≡ to.at = ap (λ (t : Spot). t.at) is in
@@ -125,12 +125,12 @@ content_from texts s at b (p ∷ ps) to within h =
       plain = λ k low high. elim (cases_lt k (at + size p)) [ inl inside ↦ first.plain k low inside | inr behind ↦ rest.plain k behind high ];
     }
 
-pub content_of : {texts : List CowStr} {s : Source} {ps : List Piece} {to : Spot} → s.start ≤ length s.text → IsDivision texts s ps to
+pub content_of : {texts : List CowStr} {s : Inline} {ps : List Piece} {to : Spot} → s.start ≤ length s.text → IsDivision texts s ps to
     → IsContent s.text s.start to.at
 content_of {texts} {s} {ps} {to} within d = content_from texts s s.start s.braces ps to within d.divided
 
 -- where a content ends
-pub ended_by : (s : Source) (end : ℕ) → ends_at s end ≡ true
+pub ended_by : (s : Inline) (end : ℕ) → ends_at s end ≡ true
     → (length s.text ≤ end) ⊎ ((is_line_end (slice_index s.text end) ≡ true) ⊎ (ends_cell s (slice_index s.text end) ≡ true))
 unfolding ends_at
 ended_by s end h =
@@ -141,7 +141,7 @@ ended_by s end h =
     ]
 
 -- the same of a line
-line_ended_by : (s : Source) (end : ℕ) → s.row ≡ false → ends_at s end ≡ true → (length s.text ≤ end) ⊎ (is_line_end (slice_index s.text end) ≡ true)
+line_ended_by : (s : Inline) (end : ℕ) → s.row ≡ false → ends_at s end ≡ true → (length s.text ≤ end) ⊎ (is_line_end (slice_index s.text end) ≡ true)
 line_ended_by s end plain h =
     elim (ended_by s end h) [
       | inl text ↦ inl text
@@ -166,7 +166,7 @@ begins_drop text at =
       | inr past ↦ at_drop_all (begins 10) text at past ∙ ap (λ (b : ℕ). b == 10) (sym (get_or_past text at 0 past))
     ]
 
-line_end_at : (s : Source) (end : ℕ) → s.row ≡ false → ends_at s end ≡ true → unwrap_or (eol_len (drop end s.text)) 0 ≡ line_end_len s end
+line_end_at : (s : Inline) (end : ℕ) → s.row ≡ false → ends_at s end ≡ true → unwrap_or (eol_len (drop end s.text)) 0 ≡ line_end_len s end
 unfolding line_end_len
 line_end_at s end plain h =
     elim (cases_lt end (length s.text)) [
@@ -182,7 +182,7 @@ line_end_at s end plain h =
       | inr past ↦ at_drop_all (λ (bs : List ℕ). unwrap_or (eol_len bs) 0) s.text end past ∙ sym (cond-true _ _ _ (le-leb (length s.text) end past))
     ]
 
-content_len : (s : Source) (end : ℕ) → s.row ≡ false → IsContent s.text s.start end → ends_at s end ≡ true
+content_len : (s : Inline) (end : ℕ) → s.row ≡ false → IsContent s.text s.start end → ends_at s end ≡ true
     → prefix_len is_content (drop s.start s.text) ≡ end - s.start
 content_len s end plain c ended =
     let order = c.order in
@@ -196,7 +196,7 @@ content_len s end plain c ended =
     ∙ elim (line_ended_by s end plain ended) [ inl past ↦ absurd (omega arith) | inr line ↦ not_from_true _ line ])
 
 -- a line goes up to the end of its content, and takes its line end
-line_place : (s : Source) (end : ℕ) → s.row ≡ false → IsContent s.text s.start end → ends_at s end ≡ true
+line_place : (s : Inline) (end : ℕ) → s.row ≡ false → IsContent s.text s.start end → ends_at s end ≡ true
     → end + line_end_len s end ≡ s.start + line_len (drop s.start s.text)
 unfolding line_len
 line_place s end plain c ended =
@@ -210,7 +210,7 @@ line_place s end plain c ended =
     omega arith
 
 -- a line end lies in the text, and is not empty
-line_end_fits : (s : Source) (end : ℕ) → end ≤ length s.text → end + line_end_len s end ≤ length s.text
+line_end_fits : (s : Inline) (end : ℕ) → end ≤ length s.text → end + line_end_len s end ≤ length s.text
 unfolding line_end_len
 line_end_fits s end within =
     cond_both (nat_le (length s.text) end) 0 _ (λ (n : ℕ). end + n ≤ length s.text) (λ b. omega arith)
@@ -223,7 +223,7 @@ line_end_fits s end within =
     ])
     (λ one. omega arith))
 
-line_end_some : (s : Source) (end : ℕ) → end < length s.text → 0 < line_end_len s end
+line_end_some : (s : Inline) (end : ℕ) → end < length s.text → 0 < line_end_len s end
 unfolding line_end_len
 line_end_some s end within =
     cond_both (nat_le (length s.text) end) 0 _ (λ (n : ℕ). 0 < n) (λ b. let past = leb-true (length s.text) end b in absurd (omega arith))
@@ -273,7 +273,7 @@ end_bounded p text start begin end low high within stops =
     omega arith
 
 -- a break lies in its line, and ends with it
-break_in_line : (s : Source) (end : ℕ) → s.start ≤ end → end ≤ length s.text → IfSome (line_break s end) (λ x. IsBreak s.start (end + line_end_len s end) x)
+break_in_line : (s : Inline) (end : ℕ) → s.start ≤ end → end ≤ length s.text → IfSome (line_break s end) (λ x. IsBreak s.start (end + line_end_len s end) x)
 unfolding line_break breaks_by_backslash backslashes_at_end blanks_at_end
 break_in_line s end order within =
     let next = end + line_end_len s end in
@@ -292,7 +292,7 @@ break_in_line s end order within =
     (λ soft. record { from = order; before = omega arith; to = refl; kind = refl })))
 
 -- where a line ends
-pub ends_line : {texts : List CowStr} {s : Source} {tokens : List Item} {answer : ℕ × Option Item} {after : MathBraces}
+pub ends_line : {texts : List CowStr} {s : Inline} {tokens : List Item} {answer : ℕ × Option Item} {after : MathBraces}
     → s.start ≤ length s.text → IsLine texts s tokens answer after → EndsLine s answer
 ends_line {texts} {s} {tokens} {answer} {after} within line =
     let end = line.content_end in
@@ -309,13 +309,13 @@ ends_line {texts} {s} {tokens} {answer} {after} within line =
     })
 
 -- the same of what a call returns
-pub ends_line-if : (texts : List CowStr) (after : MathBraces) (s : Source) (old new : Forest Item) (r : Result (ℕ × Option Item) AllocError)
+pub ends_line-if : (texts : List CowStr) (after : MathBraces) (s : Inline) (old new : Forest Item) (r : Result (ℕ × Option Item) AllocError)
     → s.start ≤ length s.text → IfOk r (λ a. AppendsLine texts s old new a after) → IfOk r (λ a. EndsLine s a)
 ends_line-if texts after s old new (Ok a) within h = ends_line within h.line
 ends_line-if texts after s old new (Err e) within h = tt
 
 -- where a cell ends
-content_reach : (s : Source) (end : ℕ) → IsContent s.text s.start end → end ≤ s.start + prefix_len is_content (drop s.start s.text)
+content_reach : (s : Inline) (end : ℕ) → IsContent s.text s.start end → end ≤ s.start + prefix_len is_content (drop s.start s.text)
 content_reach s end c =
     let order = c.order in
     let within = c.within in
@@ -329,7 +329,7 @@ content_reach s end c =
       | inr whole ↦ omega arith
     ]
 
-begun : (texts : List CowStr) (s : Source) (at : ℕ) (b : MathBraces) (ps : List Piece) (to : Spot)
+begun : (texts : List CowStr) (s : Inline) (at : ℕ) (b : MathBraces) (ps : List Piece) (to : Spot)
     → ArePieces texts s at b ps to → ends_at s to.at ≡ true → ends_at s at ≡ false → at < to.at
 begun texts s at b [] to same ended on = absurd (false≢true (sym on ∙ ap (λ (t : Spot). ends_at s t.at) same ∙ ended))
 begun texts s at b (p ∷ ps) to h ended on =
@@ -337,7 +337,7 @@ begun texts s at b (p ∷ ps) to h ended on =
     let rest = pieces_reach texts s (at + size p) (braces_after (found_at s at) b) ps to h.2 in
     omega arith
 
-pub cell_ends : {texts : List CowStr} {s : Source} {tokens : List Item} {end : ℕ} {after : MathBraces}
+pub cell_ends : {texts : List CowStr} {s : Inline} {tokens : List Item} {end : ℕ} {after : MathBraces}
     → s.start ≤ length s.text → IsCell texts s tokens end after → EndsCell s end
 cell_ends {texts} {s} {tokens} {end} {after} within cell =
     let c = content_of within cell.division in
@@ -360,31 +360,31 @@ add_pieces-apart stop at (Token dropped n body ∷ ps) chain h =
 add_pieces-apart stop at (Run n opens closes ∷ ps) chain h =
     add_pieces-apart stop (at + n) ps _ (add_tokens-apart chain (run_tokens at n opens closes) h)
 
-pub cell_apart : {texts : List CowStr} {s : Source} {tokens : List Item} {end : ℕ} {after : MathBraces} → IsCell texts s tokens end after → AreApart tokens
+pub cell_apart : {texts : List CowStr} {s : Inline} {tokens : List Item} {end : ℕ} {after : MathBraces} → IsCell texts s tokens end after → AreApart tokens
 cell_apart {texts} {s} {tokens} {end} {after} cell =
     subst AreApart (sym cell.tokens_are) (add_pieces-apart (end - blanks_at_end s end) s.start cell.pieces [] tt)
 
-pub line_apart : {texts : List CowStr} {s : Source} {tokens : List Item} {answer : ℕ × Option Item} {after : MathBraces}
+pub line_apart : {texts : List CowStr} {s : Inline} {tokens : List Item} {answer : ℕ × Option Item} {after : MathBraces}
     → IsLine texts s tokens answer after → AreApart tokens
 line_apart {texts} {s} line = subst AreApart (sym line.tokens_are) (add_pieces-apart (text_end s line.content_end) s.start line.pieces [] tt)
 
 -- the tokens of a line alone
-pub line_alone : {texts : List CowStr} {s : Source} {tokens : List Item} {answer : ℕ × Option Item} {after : MathBraces}
+pub line_alone : {texts : List CowStr} {s : Inline} {tokens : List Item} {answer : ℕ × Option Item} {after : MathBraces}
     → IsLine texts s tokens answer after → add_tokens [] tokens ≡ tokens
 line_alone {texts} {s} {tokens} line = add_tokens-none tokens (line_apart line)
 
 -- a cell appended after a chain
-pub appended_cell : {texts : List CowStr} {s : Source} {old new : Forest Item} {end : ℕ} {after : MathBraces} (f : Forest Item) (chain : List Item)
+pub appended_cell : {texts : List CowStr} {s : Inline} {old new : Forest Item} {end : ℕ} {after : MathBraces} (f : Forest Item) (chain : List Item)
     (h : AppendsCell texts s old new end after)
     → old ≡ chained f chain → JoinsNone f → new ≡ chained f (add_tokens chain h.tokens)
 appended_cell f chain h is none = h.tree_is ∙ ap (λ (g : Forest Item). with_tokens g h.tokens) is ∙ with_tokens-chained f chain h.tokens none
 
 -- a cell appended where no text can be joined
-pub appended_cell_alone : {texts : List CowStr} {s : Source} {old new : Forest Item} {end : ℕ} {after : MathBraces} (h : AppendsCell texts s old new end after)
+pub appended_cell_alone : {texts : List CowStr} {s : Inline} {old new : Forest Item} {end : ℕ} {after : MathBraces} (h : AppendsCell texts s old new end after)
     → JoinsNone old → new ≡ chained old h.tokens
 appended_cell_alone {texts} {s} {old} h none = appended_cell old [] h refl none ∙ ap (chained old) (add_tokens-none h.tokens (cell_apart h.cell))
 
 -- a line appended after a chain
-pub appended_line : {texts : List CowStr} {s : Source} {old new : Forest Item} {answer : ℕ × Option Item} {after : MathBraces} (f : Forest Item)
+pub appended_line : {texts : List CowStr} {s : Inline} {old new : Forest Item} {answer : ℕ × Option Item} {after : MathBraces} (f : Forest Item)
     (chain : List Item) (h : AppendsLine texts s old new answer after) → old ≡ chained f chain → JoinsNone f → new ≡ chained f (add_tokens chain h.tokens)
 appended_line f chain h is none = h.tree_is ∙ ap (λ (g : Forest Item). with_tokens g h.tokens) is ∙ with_tokens-chained f chain h.tokens none

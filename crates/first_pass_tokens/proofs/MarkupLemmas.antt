@@ -10,7 +10,7 @@ use Rattle.first_pass_items.specs.declared.item.ItemBody.TheVariants.{Text, Mayb
 use Rattle.first_pass_tree.specs.Forest.{is_text}
 use Rattle.first_pass_tokens.specs.declared.pieces.Piece.{Piece}
 use Rattle.first_pass_tokens.specs.declared.pieces.Piece.TheVariants.{Left, Begins, Token, Run}
-use Rattle.first_pass_tokens.specs.Pieces.{Source, found_at, is_delimiter, run_at, size}
+use Rattle.first_pass_tokens.specs.Pieces.{Inline, found_at, is_delimiter, run_at, size}
 use Rattle.first_pass_tokens.specs.MarkupBytes.{StandsOver, StandOver, HasNoBackquote, TextsHaveNoBackquote}
 use Rattle.first_pass_tokens.specs.Chains.{text_token, token, run_tokens, touches, add_token, add_tokens, add_text}
 use Rattle.first_pass_tokens.specs.LineTokens.{Spot, spot, ArePieces, IsLine, IsCell, add_piece, add_pieces, text_end, blanks_at_end}
@@ -63,7 +63,7 @@ over_piece text stop at (Token dropped n body) chain facts h = over_add text cha
 over_piece text stop at (Run n opens closes) chain facts h =
     over_adds text chain (run_tokens at n opens closes) h (run_over text at n opens closes (λ some. (facts.all, facts.delimiter)))
 
-over_pieces : (texts : List CowStr) (s : Source) (stop at : ℕ) (b : MathBraces) (ps : List Piece) (to : Spot) (chain : List Item)
+over_pieces : (texts : List CowStr) (s : Inline) (stop at : ℕ) (b : MathBraces) (ps : List Piece) (to : Spot) (chain : List Item)
     → ArePieces texts s at b ps to → StandOver s.text chain
     → StandOver s.text (add_pieces stop at ps chain)
 over_pieces texts s stop at b [] to chain are h = h
@@ -72,14 +72,14 @@ over_pieces texts s stop at b (p ∷ ps) to chain are h =
     (over_piece s.text stop at p chain (piece_of texts b s at p are.0 are.1) h)
 
 -- the tokens of a cell
-pub cell_over : {texts : List CowStr} {s : Source} {tokens : List Item} {end : ℕ} {after : MathBraces}
+pub cell_over : {texts : List CowStr} {s : Inline} {tokens : List Item} {end : ℕ} {after : MathBraces}
     → IsCell texts s tokens end after → StandOver s.text tokens
 cell_over {texts} {s} {tokens} {end} {after} cell =
     subst (StandOver s.text) (sym cell.tokens_are)
     (over_pieces texts s (end - blanks_at_end s end) s.start s.braces cell.pieces (spot end after) [] cell.division.divided tt)
 
 -- the tokens of a line
-pub line_over : {texts : List CowStr} {s : Source} {tokens : List Item} {answer : ℕ × Option Item} {after : MathBraces}
+pub line_over : {texts : List CowStr} {s : Inline} {tokens : List Item} {answer : ℕ × Option Item} {after : MathBraces}
     → IsLine texts s tokens answer after → StandOver s.text tokens
 line_over {texts} {s} {tokens} {answer} {after} line =
     subst (StandOver s.text) (sym line.tokens_are)
@@ -129,7 +129,7 @@ spare_piece text stop at (Begins dropped escaped) chain facts h =
 spare_piece text stop at (Token dropped n body) chain facts h =
     spare_add text chain (token (at + dropped) n body) (λ is. absurd (false≢true (sym (markup_plain body facts.kind) ∙ is))) h
 
-spare_pieces : (texts : List CowStr) (s : Source) (stop at : ℕ) (b : MathBraces) (ps : List Piece) (to : Spot) (chain : List Item)
+spare_pieces : (texts : List CowStr) (s : Inline) (stop at : ℕ) (b : MathBraces) (ps : List Piece) (to : Spot) (chain : List Item)
     → ArePieces texts s at b ps to → TextsHaveNoBackquote s.text chain
     → TextsHaveNoBackquote s.text (add_pieces stop at ps chain)
 spare_pieces texts s stop at b [] to chain are h = h
@@ -138,14 +138,14 @@ spare_pieces texts s stop at b (p ∷ ps) to chain are h =
     (spare_piece s.text stop at p chain (piece_of texts b s at p are.0 are.1) h)
 
 -- the texts of a cell
-pub cell_spares : {texts : List CowStr} {s : Source} {tokens : List Item} {end : ℕ} {after : MathBraces}
+pub cell_spares : {texts : List CowStr} {s : Inline} {tokens : List Item} {end : ℕ} {after : MathBraces}
     → IsCell texts s tokens end after → TextsHaveNoBackquote s.text tokens
 cell_spares {texts} {s} {tokens} {end} {after} cell =
     subst (TextsHaveNoBackquote s.text) (sym cell.tokens_are)
     (spare_pieces texts s (end - blanks_at_end s end) s.start s.braces cell.pieces (spot end after) [] cell.division.divided tt)
 
 -- the texts of a line
-pub line_spares : {texts : List CowStr} {s : Source} {tokens : List Item} {answer : ℕ × Option Item} {after : MathBraces}
+pub line_spares : {texts : List CowStr} {s : Inline} {tokens : List Item} {answer : ℕ × Option Item} {after : MathBraces}
     → IsLine texts s tokens answer after → TextsHaveNoBackquote s.text tokens
 line_spares {texts} {s} {tokens} {answer} {after} line =
     subst (TextsHaveNoBackquote s.text) (sym line.tokens_are)

@@ -9,7 +9,7 @@ use Rattle.first_pass_tree.specs.Forest.{Forest}
 use Rattle.first_pass_tokens.specs.declared.pieces.Found.{Found}
 use Rattle.first_pass_tokens.specs.declared.pieces.Found.TheVariants.{Ready, Reference, Dashes, Dollar, OpenBrace, CloseBrace}
 use Rattle.first_pass_tokens.specs.declared.pieces.Piece.{Piece}
-use Rattle.first_pass_tokens.specs.Pieces.{Source, found_at, size}
+use Rattle.first_pass_tokens.specs.Pieces.{Inline, found_at, size}
 use Rattle.first_pass_tokens.specs.NamedTexts.{NamesAmong, Becomes, AreMore}
 use Rattle.first_pass_tokens.specs.LineTokens.{Spot, ArePieces, IsDivision, IsLine, IsCell}
 use Rattle.first_pass_tokens.specs.TreeTokens.{AppendsLine, AppendsCell}
@@ -43,7 +43,7 @@ becomes_more new old b (Dollar opens closes) p more is = is
 becomes_more new old b OpenBrace p more is = is
 becomes_more new old b CloseBrace p more is = is
 
-pub pieces_more : (new old : List CowStr) (s : Source) (at : ℕ) (b : MathBraces) (ps : List Piece) (to : Spot) → AreMore new old → ArePieces old s at b ps to
+pub pieces_more : (new old : List CowStr) (s : Inline) (at : ℕ) (b : MathBraces) (ps : List Piece) (to : Spot) → AreMore new old → ArePieces old s at b ps to
     → ArePieces new s at b ps to
 pieces_more new old s at b [] to more h = h
 pieces_more new old s at b (p ∷ ps) to more h = (
@@ -52,11 +52,11 @@ pieces_more new old s at b (p ∷ ps) to more h = (
   pieces_more new old s (at + size p) (braces_after (found_at s at) b) ps to more h.2,
 )
 
-division_more : {new old : List CowStr} {s : Source} {ps : List Piece} {to : Spot} → AreMore new old → IsDivision old s ps to → IsDivision new s ps to
+division_more : {new old : List CowStr} {s : Inline} {ps : List Piece} {to : Spot} → AreMore new old → IsDivision old s ps to → IsDivision new s ps to
 division_more {new} {old} {s} {ps} {to} more d = record { divided = pieces_more new old s s.start s.braces ps to more d.divided; ended = d.ended }
 
 -- a line stays one while more is named, and so does a cell
-pub line_more : {new old : List CowStr} {s : Source} {tokens : List Item} {answer : ℕ × Option Item} {after : MathBraces}
+pub line_more : {new old : List CowStr} {s : Inline} {tokens : List Item} {answer : ℕ × Option Item} {after : MathBraces}
     → AreMore new old → IsLine old s tokens answer after
     → IsLine new s tokens answer after
 line_more more line = record {
@@ -68,14 +68,14 @@ line_more more line = record {
   answer_is = line.answer_is;
 }
 
-pub cell_more : {new old : List CowStr} {s : Source} {tokens : List Item} {end : ℕ} {after : MathBraces}
+pub cell_more : {new old : List CowStr} {s : Inline} {tokens : List Item} {end : ℕ} {after : MathBraces}
     → AreMore new old → IsCell old s tokens end after → IsCell new s tokens end after
 cell_more more cell = record { pieces = cell.pieces; division = division_more more cell.division; tokens_are = cell.tokens_are }
 
-pub appends_line_more : {new old : List CowStr} {s : Source} {before later : Forest Item} {answer : ℕ × Option Item} {after : MathBraces} → AreMore new old
+pub appends_line_more : {new old : List CowStr} {s : Inline} {before later : Forest Item} {answer : ℕ × Option Item} {after : MathBraces} → AreMore new old
     → AppendsLine old s before later answer after → AppendsLine new s before later answer after
 appends_line_more more h = record { tokens = h.tokens; line = line_more more h.line; tree_is = h.tree_is }
 
-pub appends_cell_more : {new old : List CowStr} {s : Source} {before later : Forest Item} {end : ℕ} {after : MathBraces} → AreMore new old
+pub appends_cell_more : {new old : List CowStr} {s : Inline} {before later : Forest Item} {end : ℕ} {after : MathBraces} → AreMore new old
     → AppendsCell old s before later end after → AppendsCell new s before later end after
 appends_cell_more more h = record { tokens = h.tokens; cell = cell_more more h.cell; tree_is = h.tree_is }

@@ -16,13 +16,13 @@ use Rattle.first_pass_lines.specs.Lines.{is_line_end, is_white}
 use Rattle.first_pass_lines.proofs.PlaceFacts.{line_end_boundary}
 use Rattle.first_pass_tokens.specs.declared.pieces.Piece.{Piece}
 use Rattle.first_pass_tokens.specs.declared.pieces.Piece.TheVariants.{Left, Begins, Token, Run}
-use Rattle.first_pass_tokens.specs.Pieces.{Source, found_at}
+use Rattle.first_pass_tokens.specs.Pieces.{Inline, found_at}
 use Rattle.first_pass_tokens.specs.LineTokens.{Spot, spot, ends_at, ends_cell, ArePieces, IsLine, IsCell, EndsLine, add_pieces, text_end, breaks_by_backslash}
 use Rattle.first_pass_tokens.specs.LineTokens.{backslashes_at_end, blanks_at_end, line_end_len, break_of, line_break}
 use Rattle.first_pass_tokens.specs.Chains.{text_token, token, run_tokens, touches, add_token, add_tokens, add_text, is_backslash_break, close_break}
 use Rattle.first_pass_tokens.specs.Order.{AreInOrder}
 use Rattle.first_pass_tokens.proofs.ChainLemmas.{add_text-none}
-use Rattle.first_pass_tokens.proofs.PieceFacts.{IsVisible, IsEscape, IsMarkup, IsRun, delimiter_other, at_byte, visible_solid}
+use Rattle.first_pass_tokens.proofs.PieceFacts.{IsVisible, IsEscape, IsMarkup, IsDelimiterRun, delimiter_other, at_byte, visible_solid}
 use Rattle.first_pass_tokens.proofs.LineLemmas.{piece_of, pieces_reach, ended_by, content_of, ends_line}
 use Rattle.first_pass_tokens.proofs.SoFar.{IsTextEnd, add_text_grows, line_text_end, cell_text_end}
 
@@ -72,7 +72,7 @@ order_text text from mid a b escaped chain h behind order starts ends =
     (λ none. order_to text from mid b chain h (omega arith))
 
 -- a chain in order, the text that grows after it, and pieces; texts stop at an offset
-module _ (s : Source) (utf8 : IsUtf8 s.text) (stop : ℕ) (to : Spot) (from : ℕ) (stops : IsCharBoundary s.text stop) (last_text : IsTextEnd s to.at stop) where
+module _ (s : Inline) (utf8 : IsUtf8 s.text) (stop : ℕ) (to : Spot) (from : ℕ) (stops : IsCharBoundary s.text stop) (last_text : IsTextEnd s to.at stop) where
   -- a visible byte stands between two characters
   place_before : (at : ℕ) → IsVisible (slice_index s.text at) → IsCharBoundary s.text at
   place_before at h = IsCharBoundary-before_ascii s.text at (at_byte s.text at (omega (arith, h.0))) (omega (arith, h.1))
@@ -144,7 +144,7 @@ module _ (s : Source) (utf8 : IsUtf8 s.text) (stop : ℕ) (to : Spot) (from : �
       (order_add s.text from at (add_text begin at escaped chain) (token (at + dropped) n body)
       (order_text s.text from begin begin at escaped chain h (omega arith) upto starts here) (omega arith) (omega arith) first last)))
   pieces_in_order texts at b (Run n opens closes ∷ ps) begin escaped chain pieces low upto mark ahead starts h =
-      let facts : IsRun s.text at n = piece_of texts b s at (Run n opens closes) pieces.0 pieces.1 in
+      let facts : IsDelimiterRun s.text at n = piece_of texts b s at (Run n opens closes) pieces.0 pieces.1 in
       let reach = pieces_reach texts s (at + n) (braces_after (found_at s at) b) ps to pieces.2 in
       let byte = facts.bytes (at + n - 1) (omega (arith, facts.some)) (omega (arith, facts.some)) in
       let same = facts.same (at + n - 1) (omega (arith, facts.some)) (omega (arith, facts.some)) in
@@ -218,7 +218,7 @@ content_last p text start end order within some =
 line_end_small : (b : ℕ) → is_line_end b ≡ true → b < 128
 line_end_small b h = grind (arith, nat_tests, h)
 
-cell_end_small : (s : Source) (b : ℕ) → ends_cell s b ≡ true → b < 128
+cell_end_small : (s : Inline) (b : ℕ) → ends_cell s b ≡ true → b < 128
 cell_end_small s b h = (let pipe = eqb-true b 124 (and_parts (has s.options tables) (b == 124) (and_parts s.row _ h).1).1 in omega arith)
 
 white_small : (b : ℕ) → is_white b ≡ true → b < 128
@@ -229,7 +229,7 @@ abbrev IsPlaceFrom : List ℕ → ℕ → ℕ → Type 0
 IsPlaceFrom text start at = (start ≤ at) × IsCharBoundary text at
 
 -- a content ends between two characters
-pub content_boundary : (s : Source) (end : ℕ) → end ≤ length s.text → ends_at s end ≡ true → IsCharBoundary s.text end
+pub content_boundary : (s : Inline) (end : ℕ) → end ≤ length s.text → ends_at s end ≡ true → IsCharBoundary s.text end
 content_boundary s end within ended =
     elim (cases_lt end (length s.text)) [
       | inl more ↦ elim (ended_by s end ended) [
@@ -241,7 +241,7 @@ content_boundary s end within ended =
     ]
 
 -- the last byte of a content that ends with a backslash
-backslash_last : (s : Source) (end : ℕ)
+backslash_last : (s : Inline) (end : ℕ)
     → s.start ≤ end → end ≤ length s.text → breaks_by_backslash s end ≡ true → (s.start ≤ end - 1) × (0 < end) × (slice_index s.text (end - 1) ≡ 92)
 unfolding breaks_by_backslash backslashes_at_end
 backslash_last s end order within breaks =
@@ -250,7 +250,7 @@ backslash_last s end order within breaks =
     let last = content_last (λ b. b == 92) s.text s.start end order within (omega arith) in
     (last.0, last.1, eqb-true (slice_index s.text (end - 1)) 92 last.2)
 
-blanks_by : (s : Source) (end n : ℕ)
+blanks_by : (s : Inline) (end n : ℕ)
     → n ≡ blanks_at_end s end → s.start ≤ end → end ≤ length s.text → IsCharBoundary s.text end → IsPlaceFrom s.text s.start (end - n)
 unfolding blanks_at_end
 blanks_by s end zero is order within boundary =
@@ -262,7 +262,7 @@ blanks_by s end (suc n) is order within boundary =
     (omega (arith, f.0), IsCharBoundary-before_ascii s.text (end - blanks_at_end s end) (omega (arith, f.0)) (white_small _ f.1))
 
 -- where the last text of a content ends
-text_end_place : (s : Source) (end : ℕ) → s.start ≤ end → end ≤ length s.text → IsCharBoundary s.text end → IsPlaceFrom s.text s.start (text_end s end)
+text_end_place : (s : Inline) (end : ℕ) → s.start ≤ end → end ≤ length s.text → IsCharBoundary s.text end → IsPlaceFrom s.text s.start (text_end s end)
 unfolding text_end
 text_end_place s end order within boundary =
     cond_both (breaks_by_backslash s end) (end - 1) (end - blanks_at_end s end) (IsPlaceFrom s.text s.start)
@@ -279,7 +279,7 @@ pub record StandsBehind (text : List ℕ) (at next : ℕ) (x : Item) : Type 0 wh
   pub ends : IsCharBoundary text x.«end»
   pub backslash : is_backslash_break x.body ≡ true → (x.start + 1 ≤ next) × IsCharBoundary text (x.start + 1)
 
-break_by : (s : Source) (end next : ℕ) (breaks : Bool)
+break_by : (s : Inline) (end next : ℕ) (breaks : Bool)
     → breaks_by_backslash s end ≡ breaks → s.start ≤ end → end ≤ length s.text → end ≤ next → IsCharBoundary s.text end → IsCharBoundary s.text next
     → IsCharBoundary s.text (if breaks then end - 1 else end - blanks_at_end s end)
     → StandsBehind s.text (if breaks then end - 1 else end - blanks_at_end s end) next (break_of end next breaks (blanks_at_end s end))
@@ -299,7 +299,7 @@ break_by s end next false is order within later boundary ends starts =
     (λ hard. record { from = omega arith; order = omega arith; to = refl; starts = starts; ends = ends; backslash = λ b. absurd (false≢true b) })
     (λ soft. record { from = omega arith; order = later; to = refl; starts = boundary; ends = ends; backslash = λ b. absurd (false≢true b) })
 
-break_stands : (s : Source) (end next : ℕ) → next ≡ end + line_end_len s end → s.start ≤ end → end ≤ length s.text → IsCharBoundary s.text end
+break_stands : (s : Inline) (end next : ℕ) → next ≡ end + line_end_len s end → s.start ≤ end → end ≤ length s.text → IsCharBoundary s.text end
     → IsCharBoundary s.text next → IfSome (line_break s end) (StandsBehind s.text (text_end s end) next)
 unfolding line_break text_end
 break_stands s end next is order within boundary ends =
@@ -308,7 +308,7 @@ break_stands s end next is order within boundary ends =
     (break_by s end next (breaks_by_backslash s end) refl order within (omega arith) boundary ends (text_end_place s end order within boundary).1))
 
 -- a line ends between two characters
-pub line_end_place : {s : Source} {answer : ℕ × Option Item}
+pub line_end_place : {s : Inline} {answer : ℕ × Option Item}
     → IsUtf8 s.text → IsCharBoundary s.text s.start → EndsLine s answer → IsCharBoundary s.text answer.0
 line_end_place {s} {answer} utf8 boundary ends =
     let within : answer.0 ≤ length s.text = ends.within in
@@ -319,14 +319,14 @@ line_end_place {s} {answer} utf8 boundary ends =
     ]
 
 -- The tokens of a line are in order from its start up to an offset, after which its break stands, and the line ends between two characters.
-pub record LineInOrder (s : Source) (stop : ℕ) (tokens : List Item) (answer : ℕ × Option Item) : Type 0 where
+pub record LineInOrder (s : Inline) (stop : ℕ) (tokens : List Item) (answer : ℕ × Option Item) : Type 0 where
   pub tokens_fit : AreInOrder s.text s.start stop tokens
   pub before : stop ≤ answer.0
   pub ends : IsCharBoundary s.text answer.0
   pub break_fits : IfSome answer.1 (StandsBehind s.text stop answer.0)
 
 -- the tokens of a content whose texts stop at an offset
-content_in_order : (texts : List CowStr) (s : Source) (pieces : List Piece) (to : Spot) (stop : ℕ)
+content_in_order : (texts : List CowStr) (s : Inline) (pieces : List Piece) (to : Spot) (stop : ℕ)
     → IsUtf8 s.text → IsCharBoundary s.text s.start → ArePieces texts s s.start s.braces pieces to
     → IsTextEnd s to.at stop → IsPlaceFrom s.text s.start stop → AreInOrder s.text s.start stop (add_pieces stop s.start pieces [])
 content_in_order texts s pieces to stop utf8 boundary are last_text place =
@@ -336,7 +336,7 @@ content_in_order texts s pieces to stop utf8 boundary are last_text place =
     (omega arith) (omega arith) (inr refl) place.0 boundary (omega arith))
 
 -- The tokens of a cell are in order from its start up to its end, which stands between two characters.
-pub cell_in_order : {texts : List CowStr} {s : Source} {tokens : List Item} {end : ℕ} {after : MathBraces}
+pub cell_in_order : {texts : List CowStr} {s : Inline} {tokens : List Item} {end : ℕ} {after : MathBraces}
     → IsUtf8 s.text → IsCharBoundary s.text s.start → s.start ≤ length s.text → IsCell texts s tokens end after
     → AreInOrder s.text s.start end tokens
 cell_in_order {texts} {s} {tokens} {end} {after} utf8 boundary within cell =
@@ -348,12 +348,12 @@ cell_in_order {texts} {s} {tokens} {end} {after} utf8 boundary within cell =
     (content_in_order texts s cell.pieces (spot end after) stop utf8 boundary cell.division.divided (cell_text_end s end c.within)
     (blanks_by s end (blanks_at_end s end) refl c.order c.within finish)) (omega arith))
 
-pub cell_end_place : {texts : List CowStr} {s : Source} {tokens : List Item} {end : ℕ} {after : MathBraces}
+pub cell_end_place : {texts : List CowStr} {s : Inline} {tokens : List Item} {end : ℕ} {after : MathBraces}
     → s.start ≤ length s.text → IsCell texts s tokens end after → IsCharBoundary s.text end
 cell_end_place {texts} {s} {tokens} {end} {after} within cell = content_boundary s end (content_of within cell.division).within cell.division.ended
 
 -- the tokens and the break of a line
-pub line_in_order : {texts : List CowStr} {s : Source} {tokens : List Item} {answer : ℕ × Option Item} {after : MathBraces}
+pub line_in_order : {texts : List CowStr} {s : Inline} {tokens : List Item} {answer : ℕ × Option Item} {after : MathBraces}
     → IsUtf8 s.text → IsCharBoundary s.text s.start → s.start ≤ length s.text → (line : IsLine texts s tokens answer after)
     → LineInOrder s (text_end s line.content_end) tokens answer
 line_in_order {texts} {s} {tokens} {answer} {after} utf8 boundary within line =
@@ -376,7 +376,7 @@ line_in_order {texts} {s} {tokens} {answer} {after} utf8 boundary within line =
     }
 
 -- the break alone: it begins where the line's tokens end or after that, and ends with the line
-pub break_in_order : {texts : List CowStr} {s : Source} {tokens : List Item} {answer : ℕ × Option Item} {after : MathBraces}
+pub break_in_order : {texts : List CowStr} {s : Inline} {tokens : List Item} {answer : ℕ × Option Item} {after : MathBraces}
     → IsUtf8 s.text → IsCharBoundary s.text s.start → s.start ≤ length s.text → (line : IsLine texts s tokens answer after)
     → IfSome answer.1 (StandsBehind s.text (text_end s line.content_end) answer.0)
 break_in_order utf8 boundary within line = (line_in_order utf8 boundary within line).break_fits
@@ -393,7 +393,7 @@ order_closed text from at next (Some x) chain h later behind =
     (λ b. order_to text from at next chain h later)
 
 -- the chain of a line alone
-pub closed_line_in_order : {texts : List CowStr} {s : Source} {tokens : List Item} {next : ℕ} {break : Option Item} {after : MathBraces}
+pub closed_line_in_order : {texts : List CowStr} {s : Inline} {tokens : List Item} {next : ℕ} {break : Option Item} {after : MathBraces}
     → IsUtf8 s.text → IsCharBoundary s.text s.start → s.start ≤ length s.text → IsLine texts s tokens (next, break) after
     → AreInOrder s.text s.start next (close_break break (add_tokens [] tokens))
 closed_line_in_order {texts} {s} {tokens} {next} {break} utf8 boundary within line =

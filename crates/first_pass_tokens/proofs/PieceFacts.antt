@@ -27,7 +27,7 @@ use Rattle.first_pass_tokens.specs.declared.pieces.Piece.TheVariants.{Left, Begi
 use Rattle.first_pass_tokens.specs.MarkupBytes.{AreBackquotes, StandsOver, smart_char}
 use Rattle.first_pass_tokens.specs.Braces.{MathBraces, dollar_context}
 use Rattle.first_pass_tokens.specs.NamedTexts.{Becomes}
-use Rattle.first_pass_tokens.specs.Pieces.{Source, found_at, special_found, reference_found, dash_found, dollar_found, special_piece, backslash_piece}
+use Rattle.first_pass_tokens.specs.Pieces.{Inline, found_at, special_found, reference_found, dash_found, dollar_found, special_piece, backslash_piece}
 use Rattle.first_pass_tokens.specs.Pieces.{backslash_piece_in, backquote_piece, is_delimiter, is_too_long, run_in, run_size, is_quote, quote_piece, dot_piece}
 use Rattle.first_pass_tokens.specs.Pieces.{dash_piece, run_piece, delimiter_piece, bracket_piece, run_at}
 use Rattle.first_pass_tokens.proofs.ReferenceBytes.{is_reference_byte, reference_at}
@@ -88,7 +88,7 @@ pub record IsLeft (text : List ℕ) (at n : ℕ) : Type 0 where
   pub other : (slice_index text at == 96) ≡ false
 
 -- a run of delimiters
-pub record IsRun (text : List ℕ) (at n : ℕ) : Type 0 where
+pub record IsDelimiterRun (text : List ℕ) (at n : ℕ) : Type 0 where
   pub some : 0 < n
   pub all : n ≡ run_at text at
   pub bytes : AreVisible text at n
@@ -98,7 +98,7 @@ pub record IsRun (text : List ℕ) (at n : ℕ) : Type 0 where
 -- the bytes of a piece
 abbrev pub IsPieceAt : List ℕ → ℕ → Piece → Type 0
 IsPieceAt text at (Left n) = IsLeft text at n
-IsPieceAt text at (Run n opens closes) = IsRun text at n
+IsPieceAt text at (Run n opens closes) = IsDelimiterRun text at n
 IsPieceAt text at (Begins dropped escaped) = IsEscape text at dropped
 IsPieceAt text at (Token dropped n body) = IsMarkup text at dropped n body
 
@@ -420,12 +420,12 @@ three_alike text at b here next last k low high =
     ]
 
 -- the piece at a delimiter
-delimiter_facts : (s : Source) (at : ℕ) → at < length s.text → is_delimiter (slice_index s.text at) ≡ true → IsPieceAt s.text at (delimiter_piece s at)
+delimiter_facts : (s : Inline) (at : ℕ) → at < length s.text → is_delimiter (slice_index s.text at) ≡ true → IsPieceAt s.text at (delimiter_piece s at)
 unfolding delimiter_piece run_in
 delimiter_facts s at within delimiter = run_piece_facts s.text at within (run_some s.text at within) delimiter _ (delimiter_size s.text at delimiter)
 
 -- the piece at a quote
-quote_facts : (s : Source) (at : ℕ) → at < length s.text → is_quote (slice_index s.text at) ≡ true → IsPieceAt s.text at (quote_piece s at)
+quote_facts : (s : Inline) (at : ℕ) → at < length s.text → is_quote (slice_index s.text at) ≡ true → IsPieceAt s.text at (quote_piece s at)
 unfolding quote_piece run_in
 quote_facts s at within quote =
     let b = slice_index s.text at in
@@ -487,7 +487,7 @@ dash_facts text at within is =
     }))
 
 -- the piece at a special byte that is no ampersand and no hyphen
-special_facts : (s : Source) (at : ℕ) → at < length s.text → IsPieceAt s.text at (special_piece s at)
+special_facts : (s : Inline) (at : ℕ) → at < length s.text → IsPieceAt s.text at (special_piece s at)
 unfolding special_piece
 special_facts s at within =
     let holds : Piece → Type 0 = IsPieceAt s.text at in
@@ -530,7 +530,7 @@ dashes_facts text at within is =
     cond_both (nat_lt 3 (run_at text at)) (Dashes (run_at text at)) (Ready (dash_piece text at)) (IsFoundAt text at)
     (λ many. (refl, ltb-true 3 (run_at text at) many, is)) (λ few. dash_facts text at within is)
 
-special_found_facts : (s : Source) (at : ℕ) → at < length s.text → IsFoundAt s.text at (special_found s at)
+special_found_facts : (s : Inline) (at : ℕ) → at < length s.text → IsFoundAt s.text at (special_found s at)
 unfolding special_found reference_found dollar_found
 special_found_facts s at within =
     let holds : Found → Type 0 = IsFoundAt s.text at in
@@ -543,7 +543,7 @@ special_found_facts s at within =
     (λ h₅. special_facts s at within)))))
 
 -- what stands at a place of the text
-pub found_facts : (s : Source) (at : ℕ) → at < length s.text → IsFoundAt s.text at (found_at s at)
+pub found_facts : (s : Inline) (at : ℕ) → at < length s.text → IsFoundAt s.text at (found_at s at)
 unfolding found_at
 found_facts s at within =
     cond_both (is_special s.options (slice_index s.text at)) (special_found s at) (Ready (Left 1)) (IsFoundAt s.text at)

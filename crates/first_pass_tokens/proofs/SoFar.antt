@@ -12,19 +12,19 @@ use Rattle.first_pass_items.specs.declared.option_set.Options.{Options}
 use Rattle.first_pass_tree.specs.Forest.{Forest, appended, with_text}
 use Rattle.first_pass_lines.specs.Lines.{is_white}
 use Rattle.first_pass_walk.specs.Walk.{is_special, begins_token, begins_cell}
-use Rattle.first_pass_tokens.specs.declared.line.Pending.{Pending}
+use Rattle.first_pass_tokens.specs.declared.line.HeldText.{HeldText}
 use Rattle.first_pass_tokens.specs.declared.pieces.Piece.{Piece}
 use Rattle.first_pass_tokens.specs.declared.pieces.Piece.TheVariants.{Left, Begins, Token, Run}
 use Rattle.first_pass_tokens.specs.Chains.{token, run_tokens, add_token, add_tokens, add_text}
 use Rattle.first_pass_tokens.specs.declared.pieces.Found.{Found}
 use Rattle.first_pass_tokens.specs.declared.pieces.Found.TheVariants.{Ready, Reference, Dashes, Dollar, OpenBrace, CloseBrace}
 use Rattle.first_pass_tokens.specs.NamedTexts.{Becomes, AreMore}
-use Rattle.first_pass_tokens.specs.Pieces.{Source, found_at, special_found, size, EndsSolid, FoundSolid}
+use Rattle.first_pass_tokens.specs.Pieces.{Inline, found_at, special_found, size, EndsSolid, FoundSolid}
 use Rattle.first_pass_tokens.specs.LineTokens.{Spot, spot, ends_at, ArePieces, add_piece, add_pieces, text_end, breaks_by_backslash, backslashes_at_end}
 use Rattle.first_pass_tokens.specs.LineTokens.{blanks_at_end, line_end_len, line_break}
 use Rattle.first_pass_tokens.specs.TreeTokens.{with_tokens, AppendsLine, AppendsCell}
-use Rattle.first_pass_tokens.specs.Pending.{pending_after, tree_after, IsReadTo}
-use Rattle.first_pass_tokens.proofs.PieceFacts.{IsPieceAt, IsMarkup, IsRun, delimiter_other, markup_plain, visible_solid, off}
+use Rattle.first_pass_tokens.specs.HeldText.{held_after, tree_after, IsReadTo}
+use Rattle.first_pass_tokens.proofs.PieceFacts.{IsPieceAt, IsMarkup, IsDelimiterRun, delimiter_other, markup_plain, visible_solid, off}
 use Rattle.first_pass_tokens.proofs.ChainLemmas.{add_text-none, add_text-joined, with_tokens-text, with_tokens-add, with_tokens-adds, with_token-plain}
 use Rattle.first_pass_tokens.proofs.NamedTexts.{pieces_more}
 use Rattle.first_pass_tokens.proofs.LineLemmas.{are_more, add_pieces_more, end_bounded, piece_of}
@@ -35,7 +35,7 @@ BeginsText text start begin at =
     (begin ≡ start) ⊎ ((0 < begin) × (is_white (slice_index text (begin - 1)) ≡ false) × ((begin < at) ⊎ ((slice_index text (begin - 1) == 92) ≡ false)))
 
 -- The content is read up to a place: the chain then, and a text that is not appended yet.
-pub record SoFar (texts : List CowStr) (z : Source) (chain : List Item) (pending : Pending) (at : ℕ) (b : MathBraces) : Type 0 where
+pub record SoFar (texts : List CowStr) (z : Inline) (chain : List Item) (pending : HeldText) (at : ℕ) (b : MathBraces) : Type 0 where
   pub pieces : List Piece
   pub divided : ArePieces texts z z.start z.braces pieces (spot at b)
   pub from : z.start ≤ pending.begin
@@ -46,7 +46,7 @@ pub record SoFar (texts : List CowStr) (z : Source) (chain : List Item) (pending
   pub shown : (stop : ℕ) → pending.begin ≤ stop → add_pieces stop z.start pieces [] ≡ add_text pending.begin (min at stop) pending.escaped chain
 
 -- the chain after a piece
-abbrev pub chain_after : ℕ → Piece → Pending → List Item → List Item
+abbrev pub chain_after : ℕ → Piece → HeldText → List Item → List Item
 chain_after at (Left n) p chain = chain
 chain_after at (Begins dropped escaped) p chain = add_text p.begin at p.escaped chain
 chain_after at (Token dropped n body) p chain = add_token (add_text p.begin at p.escaped chain) (token (at + dropped) n body)
@@ -66,7 +66,7 @@ unfolding is_special
 plain_cell options b plain = (or_parts (begins_cell options b) _ (or_parts (begins_token b) _ plain).1).0
 
 -- a byte that is not special is a piece by itself, and ends no content
-plain_piece : (z : Source) (at : ℕ)
+plain_piece : (z : Inline) (at : ℕ)
     → at < length z.text → is_special z.options (slice_index z.text at) ≡ false → (ends_at z at ≡ false) × (found_at z at ≡ Ready (Left 1))
 unfolding ends_at found_at
 plain_piece z at within plain =
@@ -76,11 +76,11 @@ plain_piece z at within plain =
     (or_from _ _ (lt-leb (length z.text) at within) (or_from _ _ line cell), cond-false _ _ _ plain)
 
 -- what stands at a special byte
-pub found_special : (z : Source) (at : ℕ) → is_special z.options (slice_index z.text at) ≡ true → special_found z at ≡ found_at z at
+pub found_special : (z : Inline) (at : ℕ) → is_special z.options (slice_index z.text at) ≡ true → special_found z at ≡ found_at z at
 unfolding found_at
 found_special z at special = sym (cond-true _ _ _ special)
 
-pub so_far_start : {texts : List CowStr} (z : Source)
+pub so_far_start : {texts : List CowStr} (z : Inline)
     → z.start ≤ length z.text → SoFar texts z [] (record { begin = z.start; escaped = false }) z.start z.braces
 so_far_start z within = record {
   pieces = [];
@@ -128,7 +128,7 @@ shown_here begin at stop escaped chain order =
     let here : min at stop ≡ at = omega arith in
     ap (λ (x : ℕ). add_text begin x escaped chain) here
 
-module _ {texts : List CowStr} (z : Source) (chain : List Item) (pending : Pending) (at : ℕ) (b : MathBraces) (s : SoFar texts z chain pending at b)
+module _ {texts : List CowStr} (z : Inline) (chain : List Item) (pending : HeldText) (at : ℕ) (b : MathBraces) (s : SoFar texts z chain pending at b)
     (on : ends_at z at ≡ false) where
   divided_on : (p : Piece) → Becomes texts b (found_at z at) p
       → ArePieces texts z z.start z.braces (s.pieces ++ p ∷ []) (spot (at + size p) (braces_after (found_at z at) b))
@@ -145,7 +145,7 @@ module _ {texts : List CowStr} (z : Source) (chain : List Item) (pending : Pendi
 
   -- one more piece
   pub so_far_piece : (p : Piece) → Becomes texts b (found_at z at) p → at + size p ≤ length z.text → EndsSolid z.text at p
-      → SoFar texts z (chain_after at p pending chain) (pending_after at p pending) (at + size p) (braces_after (found_at z at) b)
+      → SoFar texts z (chain_after at p pending chain) (held_after at p pending) (at + size p) (braces_after (found_at z at) b)
   so_far_piece (Left n) is fits ends = record {
     pieces = s.pieces ++ Left n ∷ [];
     divided = divided_on (Left n) is;
@@ -182,7 +182,7 @@ module _ {texts : List CowStr} (z : Source) (chain : List Item) (pending : Pendi
             ∙ sym (add_text-none (at + dropped + n) (min (at + (dropped + n)) stop) false _ (omega arith));
       }
   so_far_piece (Run n opens closes) is fits ends =
-      let facts : IsRun z.text at n = piece_of texts b z at (Run n opens closes) on is in
+      let facts : IsDelimiterRun z.text at n = piece_of texts b z at (Run n opens closes) on is in
       record {
         pieces = s.pieces ++ Run n opens closes ∷ [];
         divided = divided_on (Run n opens closes) is;
@@ -203,7 +203,7 @@ module _ {texts : List CowStr} (z : Source) (chain : List Item) (pending : Pendi
       }
 
 -- n bytes that are single pieces
-so_far_bytes : {texts : List CowStr} (z : Source) (chain : List Item) (pending : Pending) (n at : ℕ) (b : MathBraces)
+so_far_bytes : {texts : List CowStr} (z : Inline) (chain : List Item) (pending : HeldText) (n at : ℕ) (b : MathBraces)
     → SoFar texts z chain pending at b → at + n ≤ length z.text
     → ((k : ℕ) → at ≤ k → k < at + n → (ends_at z k ≡ false) × (found_at z k ≡ Ready (Left 1))) → SoFar texts z chain pending (at + n) b
 so_far_bytes {texts} z chain pending zero at b s fits single =
@@ -219,7 +219,7 @@ so_far_bytes {texts} z chain pending (suc n) at b s fits single =
     subst (λ (k : ℕ). SoFar texts z chain pending k b) here rest
 
 -- up to a place that no special byte stands before
-so_far_upto : {texts : List CowStr} (z : Source) (chain : List Item) (pending : Pending) (at to : ℕ) (b : MathBraces)
+so_far_upto : {texts : List CowStr} (z : Inline) (chain : List Item) (pending : HeldText) (at to : ℕ) (b : MathBraces)
     → SoFar texts z chain pending at b → at ≤ to
     → to ≤ length z.text → ((k : ℕ) → at ≤ k → k < to → is_special z.options (slice_index z.text k) ≡ false) → SoFar texts z chain pending to b
 so_far_upto {texts} z chain pending at to b s order within plain =
@@ -228,7 +228,7 @@ so_far_upto {texts} z chain pending at to b s order within plain =
     (so_far_bytes z chain pending (to - at) at b s (omega arith) (λ k low high. plain_piece z k (omega arith) (plain k low (omega arith))))
 
 -- the text that is left begins before the white space at the end
-begins_before_white : (z : Source) (begin end : ℕ) → z.start ≤ begin → begin ≤ end → end ≤ length z.text
+begins_before_white : (z : Inline) (begin end : ℕ) → z.start ≤ begin → begin ≤ end → end ≤ length z.text
     → BeginsText z.text z.start begin end → begin ≤ end - blanks_at_end z end
 unfolding blanks_at_end
 begins_before_white z begin end low high within begins =
@@ -237,7 +237,7 @@ begins_before_white z begin end low high within begins =
     omega arith
 
 -- and before the backslash that breaks a line
-begins_before_break : (z : Source) (begin end : ℕ) → z.start ≤ begin → begin ≤ end → end ≤ length z.text
+begins_before_break : (z : Inline) (begin end : ℕ) → z.start ≤ begin → begin ≤ end → end ≤ length z.text
     → BeginsText z.text z.start begin end → begin ≤ text_end z end
 unfolding text_end breaks_by_backslash backslashes_at_end
 begins_before_break z begin end low high within begins =
@@ -262,32 +262,32 @@ begins_before_break z begin end low high within begins =
     ]
 
 -- the last text of a content ends in it
-text_end_within : (z : Source) (end : ℕ) → text_end z end ≤ end
+text_end_within : (z : Inline) (end : ℕ) → text_end z end ≤ end
 unfolding text_end
 text_end_within z end = cond_both (breaks_by_backslash z end) (end - 1) (end - blanks_at_end z end) (λ (x : ℕ). x ≤ end) (λ b. omega arith) (λ b. omega arith)
 
 -- an offset where the last text of a content may end: a text of it that is pending begins there or before
-pub record IsTextEnd (z : Source) (end stop : ℕ) : Type 0 where
+pub record IsTextEnd (z : Inline) (end stop : ℕ) : Type 0 where
   pub short : stop ≤ end
   pub behind : (begin : ℕ) → z.start ≤ begin → begin ≤ end → BeginsText z.text z.start begin end → begin ≤ stop
 
-pub line_text_end : (z : Source) (end : ℕ) → end ≤ length z.text → IsTextEnd z end (text_end z end)
+pub line_text_end : (z : Inline) (end : ℕ) → end ≤ length z.text → IsTextEnd z end (text_end z end)
 line_text_end z end within = record { short = text_end_within z end; behind = λ begin low high begins. begins_before_break z begin end low high within begins }
 
-pub cell_text_end : (z : Source) (end : ℕ) → end ≤ length z.text → IsTextEnd z end (end - blanks_at_end z end)
+pub cell_text_end : (z : Inline) (end : ℕ) → end ≤ length z.text → IsTextEnd z end (end - blanks_at_end z end)
 cell_text_end z end within = record { short = omega arith; behind = λ begin low high begins. begins_before_white z begin end low high within begins }
 
 -- The content is read up to a place, and its tokens up to there are in the tree, but for a text that is not appended yet.
-pub record IsRead (texts : List CowStr) (z : Source) (old tree : Forest Item) (pending : Pending) (to : Spot) : Type 0 where
+pub record IsRead (texts : List CowStr) (z : Inline) (old tree : Forest Item) (pending : HeldText) (to : Spot) : Type 0 where
   pub tokens : List Item
   pub read : SoFar texts z tokens pending to.at to.braces
   pub tree_is : tree ≡ with_tokens old tokens
 
-pub read_start : {texts : List CowStr} (z : Source) (old : Forest Item) → z.start ≤ length z.text
+pub read_start : {texts : List CowStr} (z : Inline) (old : Forest Item) → z.start ≤ length z.text
     → IsRead texts z old old (record { begin = z.start; escaped = false }) (spot z.start z.braces)
 read_start z old within = record { tokens = []; read = so_far_start z within; tree_is = refl }
 
-pub read_upto : {texts : List CowStr} {z : Source} {old tree : Forest Item} {pending : Pending} (at to : ℕ) (b : MathBraces)
+pub read_upto : {texts : List CowStr} {z : Inline} {old tree : Forest Item} {pending : HeldText} (at to : ℕ) (b : MathBraces)
     → IsRead texts z old tree pending (spot at b)
     → at ≤ to → to ≤ length z.text → ((k : ℕ) → at ≤ k → k < to → is_special z.options (slice_index z.text k) ≡ false)
     → IsRead texts z old tree pending (spot to b)
@@ -295,7 +295,7 @@ read_upto {texts} {z} {old} {tree} {pending} at to b r order within plain =
     record { tokens = r.tokens; read = so_far_upto z r.tokens pending at to b r.read order within plain; tree_is = r.tree_is }
 
 -- the same, while more is named
-pub read_more : {new old : List CowStr} {z : Source} {before tree : Forest Item} {pending : Pending} {to : Spot}
+pub read_more : {new old : List CowStr} {z : Inline} {before tree : Forest Item} {pending : HeldText} {to : Spot}
     → AreMore new old → IsRead old z before tree pending to
     → IsRead new z before tree pending to
 read_more {new} {old} {z} {before} {tree} {pending} {to} more r =
@@ -327,7 +327,7 @@ becomes_solid texts b text at OpenBrace p is solid = subst (EndsSolid text at) (
 becomes_solid texts b text at CloseBrace p is solid = subst (EndsSolid text at) (sym is) (omega arith)
 
 -- the tree after a piece has the chain after it
-tree_is_after : (text : List ℕ) (old tree : Forest Item) (chain : List Item) (pending : Pending) (at : ℕ) (p : Piece) → IsPieceAt text at p
+tree_is_after : (text : List ℕ) (old tree : Forest Item) (chain : List Item) (pending : HeldText) (at : ℕ) (p : Piece) → IsPieceAt text at p
     → pending.begin ≤ at → tree ≡ with_tokens old chain → tree_after at p pending tree ≡ with_tokens old (chain_after at p pending chain)
 tree_is_after text old tree chain pending at (Left n) facts order same = same
 tree_is_after text old tree chain pending at (Begins dropped escaped) facts order same =
@@ -347,10 +347,10 @@ tree_is_after text old tree chain pending at (Run n opens closes) facts order sa
     ap (λ (f : Forest Item). with_tokens f (run_tokens at n opens closes)) before
     ∙ sym (with_tokens-adds old (add_text pending.begin at pending.escaped chain) (run_tokens at n opens closes))
 
-pub read_piece : {texts : List CowStr} {z : Source} {old tree new : Forest Item} {pending next : Pending} {at : ℕ} {b : MathBraces} {to : Spot} (p : Piece)
+pub read_piece : {texts : List CowStr} {z : Inline} {old tree new : Forest Item} {pending next : HeldText} {at : ℕ} {b : MathBraces} {to : Spot} (p : Piece)
     → IsRead texts z old tree pending (spot at b) → ends_at z at ≡ false → Becomes texts b (found_at z at) p → at + size p ≤ length z.text
     → EndsSolid z.text at p
-    → new ≡ tree_after at p pending tree → next ≡ pending_after at p pending → to ≡ spot (at + size p) (braces_after (found_at z at) b)
+    → new ≡ tree_after at p pending tree → next ≡ held_after at p pending → to ≡ spot (at + size p) (braces_after (found_at z at) b)
     → IsRead texts z old new next to
 read_piece {texts} {z} {old} {tree} {new} {pending} {next} {at} {b} p r on is fits ends tree_new next_is to_is =
     rw (next_is, to_is) (record {
@@ -360,7 +360,7 @@ read_piece {texts} {z} {old} {tree} {new} {pending} {next} {at} {b} p r on is fi
     })
 
 -- the whole content
-pub read_all : {texts : List CowStr} (z : Source) (old tree : Forest Item) (pending : Pending) (to : Spot) → IsRead texts z old tree pending to
+pub read_all : {texts : List CowStr} (z : Inline) (old tree : Forest Item) (pending : HeldText) (to : Spot) → IsRead texts z old tree pending to
     → ends_at z to.at ≡ true → IsReadTo texts z old tree to pending
 read_all z old tree pending to r ended =
     let s = r.read in
@@ -378,7 +378,7 @@ read_all z old tree pending to r ended =
     }
 
 -- a line whose content is read, once the text that is pending is appended
-read_line : {texts : List CowStr} (z : Source) (old tree new : Forest Item) (pending : Pending) (end : ℕ) (after : MathBraces) → z.row ≡ false
+read_line : {texts : List CowStr} (z : Inline) (old tree new : Forest Item) (pending : HeldText) (end : ℕ) (after : MathBraces) → z.row ≡ false
     → IsReadTo texts z old tree (spot end after) pending → new ≡ with_text tree pending.begin (text_end z end) pending.escaped
     → AppendsLine texts z old new (end + line_end_len z end, line_break z end) after
 read_line z old tree new pending end after plain r new_is = record {
@@ -388,7 +388,7 @@ read_line z old tree new pending end after plain r new_is = record {
 }
 
 -- the same of what a line's end returns
-pub read_ended : {texts : List CowStr} (z : Source) (old tree new : Forest Item) (pending : Pending) (end : ℕ) (after : MathBraces)
+pub read_ended : {texts : List CowStr} (z : Inline) (old tree new : Forest Item) (pending : HeldText) (end : ℕ) (after : MathBraces)
     (r : Result (ℕ × Option Item) AllocError)
     → z.row ≡ false → IsReadTo texts z old tree (spot end after) pending
     → OnOk r ((b : MathBraces) → new ≡ with_text tree pending.begin (text_end (record z { braces = b }) end) pending.escaped)
@@ -401,7 +401,7 @@ read_ended {texts} z old tree new pending end after (Ok a) plain read new_is is 
 read_ended z old tree new pending end after (Err e) plain read new_is is = tt
 
 -- a cell whose content is read, once the text that is pending is appended
-pub read_cell : {texts : List CowStr} (z : Source) (old tree new : Forest Item) (pending : Pending) (end : ℕ) (after : MathBraces)
+pub read_cell : {texts : List CowStr} (z : Inline) (old tree new : Forest Item) (pending : HeldText) (end : ℕ) (after : MathBraces)
     → IsReadTo texts z old tree (spot end after) pending → new ≡ with_text tree pending.begin (end - blanks_at_end z end) pending.escaped
     → AppendsCell texts z old new end after
 read_cell z old tree new pending end after r new_is = record {
@@ -410,6 +410,6 @@ read_cell z old tree new pending end after r new_is = record {
   tree_is = new_is ∙ r.appended (end - blanks_at_end z end) r.before_white (omega arith);
 }
 
-pub ended_by_text : (z : Source) → ends_at z (length z.text) ≡ true
+pub ended_by_text : (z : Inline) → ends_at z (length z.text) ≡ true
 unfolding ends_at
 ended_by_text z = or_left _ _ (le-leb (length z.text) (length z.text) (omega arith))

@@ -7,4 +7,4 @@ pub mod Chains
 pub mod LineTokens
 pub mod Order
 pub mod TreeTokens
-pub mod Pending
+pub mod HeldText

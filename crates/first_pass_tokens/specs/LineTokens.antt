@@ -12,16 +12,16 @@ use Rattle.first_pass_tokens.specs.declared.pieces.Piece.{Piece}
 use Rattle.first_pass_tokens.specs.declared.pieces.Piece.TheVariants.{Left, Begins, Token, Run}
 use Rattle.first_pass_tokens.specs.Chains.{token, run_tokens, add_token, add_tokens, add_text}
 use Rattle.first_pass_items.specs.declared.cow_str.CowStr.{CowStr}
-use Rattle.first_pass_tokens.specs.Pieces.{Source, found_at, size}
+use Rattle.first_pass_tokens.specs.Pieces.{Inline, found_at, size}
 use Rattle.first_pass_tokens.specs.Braces.{MathBraces, braces_after}
 use Rattle.first_pass_tokens.specs.NamedTexts.{Becomes}
 
 -- with tables, a pipe ends the content of a cell (GFM 4.10)
-abbrev pub ends_cell : Source → ℕ → Bool
+abbrev pub ends_cell : Inline → ℕ → Bool
 ends_cell s b = s.row && (has s.options tables && b == pipe)
 
 -- a line end stands there, or the text ends (CommonMark 2.1), or a pipe ends a cell: one that is escaped stands inside a piece (GFM 4.10)
-unfoldable pub ends_at : Source → ℕ → Bool
+unfoldable pub ends_at : Inline → ℕ → Bool
 ends_at s at = nat_le (length s.text) at || (is_line_end (slice_index s.text at) || ends_cell s (slice_index s.text at))
 
 -- a place, with the brace contexts before it (this project)
@@ -34,13 +34,13 @@ spot at braces = record { at = at; braces = braces }
 
 -- the pieces of a content from one place up to another: each is that of what stands at its place, its text among these, and the next one begins after it, with
 -- the brace contexts after it (this project)
-abbrev pub ArePieces : List CowStr → Source → ℕ → MathBraces → List Piece → Spot → Type 0
+abbrev pub ArePieces : List CowStr → Inline → ℕ → MathBraces → List Piece → Spot → Type 0
 ArePieces texts s at braces [] to = spot at braces ≡ to
 ArePieces texts s at braces (p ∷ ps) to =
     (ends_at s at ≡ false) × Becomes texts braces (found_at s at) p × ArePieces texts s (at + size p) (braces_after (found_at s at) braces) ps to
 
 -- the content up to the end of its line, divided into its pieces, their texts among these (this project)
-pub record IsDivision (texts : List CowStr) (s : Source) (pieces : List Piece) (to : Spot) : Type 0 where
+pub record IsDivision (texts : List CowStr) (s : Inline) (pieces : List Piece) (to : Spot) : Type 0 where
   pub divided : ArePieces texts s s.start s.braces pieces to
   pub ended : ends_at s to.at ≡ true
 
@@ -57,25 +57,25 @@ add_pieces stop at [] chain = chain
 add_pieces stop at (p ∷ ps) chain = add_pieces stop (at + size p) ps (add_piece stop at p chain)
 
 -- how many bytes the line end at a place has: none where the text ends, two for `\r\n` (CommonMark 2.1)
-unfoldable pub line_end_len : Source → ℕ → ℕ
+unfoldable pub line_end_len : Inline → ℕ → ℕ
 line_end_len s end =
     if nat_le (length s.text) end then 0
     else (if slice_index s.text end == carriage_return && slice_index s.text (end + 1) == line_feed then 2 else 1)
 
 -- how many bytes at the content's end are white space (CommonMark 6.7, 6.8)
-unfoldable pub blanks_at_end : Source → ℕ → ℕ
+unfoldable pub blanks_at_end : Inline → ℕ → ℕ
 blanks_at_end s end = suffix_len is_white (slice_range s.text s.start end)
 
 -- how many bytes at the content's end are backslashes (CommonMark 2.4)
-unfoldable pub backslashes_at_end : Source → ℕ → ℕ
+unfoldable pub backslashes_at_end : Inline → ℕ → ℕ
 backslashes_at_end s end = suffix_len (λ b. b == backslash) (slice_range s.text s.start end)
 
 -- a backslash that none before it escapes stands before the line end, and bytes after the line end (CommonMark 6.7)
-unfoldable pub breaks_by_backslash : Source → ℕ → Bool
+unfoldable pub breaks_by_backslash : Inline → ℕ → Bool
 breaks_by_backslash s end = (backslashes_at_end s end % 2 == 1) && nat_lt (end + line_end_len s end) (length s.text)
 
 -- where the last text of the content ends: before that backslash, or before the white space (CommonMark 6.7, 6.8)
-unfoldable pub text_end : Source → ℕ → ℕ
+unfoldable pub text_end : Inline → ℕ → ℕ
 text_end s end = if breaks_by_backslash s end then end - 1 else end - blanks_at_end s end
 
 -- the break from the end of a content up to an offset: hard by the last backslash of the content, hard by two or more bytes of white space at its end, or soft
@@ -87,14 +87,14 @@ break_of end next by_backslash blanks =
     else record { start = end; «end» = next; body = SoftBreak })
 
 -- the break after the content; none where the text ends without a line end (CommonMark 6.7, 6.8)
-unfoldable pub line_break : Source → ℕ → Option Item
+unfoldable pub line_break : Inline → ℕ → Option Item
 line_break s end =
     if nat_le (length s.text) end then None
     else Some (break_of end (end + line_end_len s end) (breaks_by_backslash s end) (blanks_at_end s end))
 
 -- The tokens of the line whose content begins there, which is no cell's, each text that they name among these; and the answer: where the line ends, after its
 -- line end, and its break; and the brace contexts after it (CommonMark 2.4, 2.5, 6.1 to 6.8).
-pub record IsLine (texts : List CowStr) (s : Source) (tokens : List Item) (answer : ℕ × Option Item) (after : MathBraces) : Type 0 where
+pub record IsLine (texts : List CowStr) (s : Inline) (tokens : List Item) (answer : ℕ × Option Item) (after : MathBraces) : Type 0 where
   pub no_cell : s.row ≡ false
   pub pieces : List Piece
   pub content_end : ℕ
@@ -104,7 +104,7 @@ pub record IsLine (texts : List CowStr) (s : Source) (tokens : List Item) (answe
 
 -- The tokens of the cell whose content begins there, each text that they name among these; and where the content ends: at a pipe that is not escaped, or with
 -- its line, with the brace contexts there. White space at its end is in no text, and no break is after it (GFM 4.10).
-pub record IsCell (texts : List CowStr) (s : Source) (tokens : List Item) (end : ℕ) (after : MathBraces) : Type 0 where
+pub record IsCell (texts : List CowStr) (s : Inline) (tokens : List Item) (end : ℕ) (after : MathBraces) : Type 0 where
   pub pieces : List Piece
   pub division : IsDivision texts s pieces (spot end after)
   pub tokens_are : tokens ≡ add_pieces (end - blanks_at_end s end) s.start pieces []
@@ -123,7 +123,7 @@ pub record IsBreak (start next : ℕ) (x : Item) : Type 0 where
   pub kind : is_break x.body ≡ true
 
 -- where a line ends, and its break: after the first line end from the content's start on, or with the text (CommonMark 2.1, 6.7, 6.8)
-pub record EndsLine (s : Source) (answer : ℕ × Option Item) : Type 0 where
+pub record EndsLine (s : Inline) (answer : ℕ × Option Item) : Type 0 where
   pub within : answer.0 ≤ length s.text
   pub from : s.start ≤ answer.0
   pub later : s.start < length s.text → s.start < answer.0
@@ -131,7 +131,7 @@ pub record EndsLine (s : Source) (answer : ℕ × Option Item) : Type 0 where
   pub broken : IfSome answer.1 (λ x. IsBreak s.start answer.0 x)
 
 -- where the content of a cell ends: at a pipe that is not escaped or with its line, and after its first byte unless it is empty (GFM 4.10)
-pub record EndsCell (s : Source) (end : ℕ) : Type 0 where
+pub record EndsCell (s : Inline) (end : ℕ) : Type 0 where
   pub from : s.start ≤ end
   pub within : end ≤ length s.text
   pub in_line : end ≤ s.start + prefix_len is_content (drop s.start s.text)

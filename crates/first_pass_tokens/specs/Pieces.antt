@@ -21,9 +21,9 @@ use Rattle.first_pass_tokens.specs.declared.pieces.Piece.TheVariants.{Left, Begi
 use Rattle.first_pass_tokens.specs.declared.pieces.Content.{Content}
 use Rattle.first_pass_tokens.specs.Braces.{MathBraces}
 
--- a content: the options that it is read under, the whole text that it stands in, that text up to where no content is left, where it begins, whether it is
+-- inline content: the options that it is read under, the whole text that it stands in, that text up to where no content is left, where it begins, whether it is
 -- that of a cell in a table's row, and the brace contexts before it (this project)
-pub record Source : Type 0 where
+pub record Inline : Type 0 where
   pub options : Options
   pub whole : List ℕ
   pub text : List ℕ
@@ -37,11 +37,11 @@ text_upto text None = text
 text_upto text (Some e) = take e text
 
 -- the content, where this much of its text is left to it, after these brace contexts (this project)
-abbrev pub content_in : List ℕ → Content → MathBraces → Source
+abbrev pub content_in : List ℕ → Content → MathBraces → Inline
 content_in text c braces = record { options = c.options; whole = c.whole.now; text = text; start = c.start; row = c.row; braces = braces }
 
 -- the content, after these brace contexts (this project)
-abbrev pub source : Content → MathBraces → Source
+abbrev pub source : Content → MathBraces → Inline
 source c braces = content_in (text_upto c.whole.now c.«end») c braces
 
 -- how many bytes like the one at a place stand there in a row (CommonMark 6.1, backtick string)
@@ -78,12 +78,12 @@ abbrev pub is_quote : ℕ → Bool
 is_quote b = b == quotation_mark || b == apostrophe
 
 -- the character before a place of a content, if it is not its first (this project)
-unfoldable pub char_before : Source → ℕ → Option ℕ
+unfoldable pub char_before : Inline → ℕ → Option ℕ
 char_before s at = if nat_lt s.start at then last_char (take at s.whole) else None
 
 -- the delimiter run of so many bytes at a place of a content: before it stands what the content has there, after it what the whole text has
 -- (CommonMark 6.2, delimiter run)
-unfoldable pub run_in : Source → ℕ → ℕ → DelimiterRun
+unfoldable pub run_in : Inline → ℕ → ℕ → DelimiterRun
 run_in s at size = record {
   delimiter = slice_index s.text at;
   size = size;
@@ -106,7 +106,7 @@ unfoldable pub run_size : List ℕ → ℕ → ℕ
 run_size text at = if is_quote (slice_index text at) then 1 else run_at text at
 
 -- at a delimiter: the run of all that stand there in a row (CommonMark 6.2)
-unfoldable pub delimiter_piece : Source → ℕ → Piece
+unfoldable pub delimiter_piece : Inline → ℕ → Piece
 delimiter_piece s at = run_piece (run_in s at (run_size s.text at))
 
 -- a quote: a run of one, which can open and close as it stands (this project)
@@ -114,7 +114,7 @@ abbrev pub quote_token : DelimiterRun → Piece
 quote_token r = Token 0 1 (MaybeSmartQuote r.delimiter (can_open r) (can_close r))
 
 -- at a quote (this project)
-unfoldable pub quote_piece : Source → ℕ → Piece
+unfoldable pub quote_piece : Inline → ℕ → Piece
 quote_piece s at = quote_token (run_in s at (run_size s.text at))
 
 -- at a full stop: three of them are a horizontal ellipsis, U+2026 (this project)
@@ -139,7 +139,7 @@ bracket_piece text at =
 
 -- at any other special byte: the first case that fits, else the byte is left over (CommonMark 2.4, 6.1 to 6.6; smart punctuation:
 -- this project)
-unfoldable pub special_piece : Source → ℕ → Piece
+unfoldable pub special_piece : Inline → ℕ → Piece
 special_piece s at =
     if slice_index s.text at == backslash then backslash_piece_in s.row s.text at
     else (if slice_index s.text at == backquote then backquote_piece s.text at
@@ -162,11 +162,11 @@ is_solid_at text at = nat_lt at (length text) && not (is_ascii_white (slice_inde
 
 -- at a dollar sign: it can open where no white space follows, and close where none stands before it in the content, up to where no content is left
 -- (math; this project)
-unfoldable pub dollar_found : Source → ℕ → Found
+unfoldable pub dollar_found : Inline → ℕ → Found
 dollar_found s at = Dollar (is_solid_at s.text (at + 1)) (nat_lt s.start at && is_solid_at s.text (at - 1))
 
 -- what stands at a special byte (CommonMark 2.4, 2.5, 6.1 to 6.6; smart punctuation and math: this project)
-unfoldable pub special_found : Source → ℕ → Found
+unfoldable pub special_found : Inline → ℕ → Found
 special_found s at =
     if slice_index s.text at == ampersand then reference_found s.text at
     else (if slice_index s.text at == hyphen then dash_found s.text at
@@ -176,7 +176,7 @@ special_found s at =
     else Ready (special_piece s at)))))
 
 -- what stands at a place: a byte that is not special is left over (CommonMark 6, textual content)
-unfoldable pub found_at : Source → ℕ → Found
+unfoldable pub found_at : Inline → ℕ → Found
 found_at s at = if is_special s.options (slice_index s.text at) then special_found s at else Ready (Left 1)
 
 -- how many bytes a piece takes (this project)

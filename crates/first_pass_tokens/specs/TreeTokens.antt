@@ -4,7 +4,7 @@ use Rattle.first_pass_items.specs.declared.cow_str.CowStr.{CowStr}
 use Rattle.first_pass_items.specs.declared.item.Item.{Item}
 use Rattle.first_pass_tree.specs.Forest.{Forest, appended, is_text, joins_at, with_end}
 use Rattle.first_pass_tokens.specs.Braces.{MathBraces}
-use Rattle.first_pass_tokens.specs.Pieces.{Source}
+use Rattle.first_pass_tokens.specs.Pieces.{Inline}
 use Rattle.first_pass_tokens.specs.LineTokens.{IsLine, IsCell}
 
 -- the tree with a token after its nodes: a text is joined to the current node, where that is a text that ends where it begins (this project)
@@ -31,14 +31,14 @@ JoinsNone f = (at : ℕ) → joins_at f at f.current ≡ false
 
 -- the new tree is the old one with the tokens of the line whose content begins there, each text that they name among these, and these are the brace contexts
 -- after it (CommonMark 2.4, 2.5, 6.1 to 6.8)
-pub record AppendsLine (texts : List CowStr) (s : Source) (old new : Forest Item) (answer : ℕ × Option Item) (after : MathBraces) : Type 0 where
+pub record AppendsLine (texts : List CowStr) (s : Inline) (old new : Forest Item) (answer : ℕ × Option Item) (after : MathBraces) : Type 0 where
   pub tokens : List Item
   pub line : IsLine texts s tokens answer after
   pub tree_is : new ≡ with_tokens old tokens
 
 -- the new tree is the old one with the tokens of the cell whose content begins there, each text that they name among these, and these are the brace contexts
 -- after it (GFM 4.10)
-pub record AppendsCell (texts : List CowStr) (s : Source) (old new : Forest Item) (end : ℕ) (after : MathBraces) : Type 0 where
+pub record AppendsCell (texts : List CowStr) (s : Inline) (old new : Forest Item) (end : ℕ) (after : MathBraces) : Type 0 where
   pub tokens : List Item
   pub cell : IsCell texts s tokens end after
   pub tree_is : new ≡ with_tokens old tokens

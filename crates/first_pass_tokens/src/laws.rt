@@ -7,7 +7,7 @@ ghost use Rattle.first_pass_items.specs.declared.item.Item.{Item};
 ghost use Rattle.first_pass_lines.specs.Lines.{is_line_end};
 ghost use Rattle.first_pass_tokens.specs.declared.pieces.Piece.{Piece};
 ghost use Rattle.first_pass_tokens.specs.Braces.{MathBraces};
-ghost use Rattle.first_pass_tokens.specs.Pieces.{Source};
+ghost use Rattle.first_pass_tokens.specs.Pieces.{Inline};
 ghost use Rattle.first_pass_tokens.specs.Alike.{AreAlike};
 ghost use Rattle.first_pass_tokens.specs.Chains.{AreApart};
 ghost use Rattle.first_pass_tokens.specs.LineTokens.{Spot, IsLine, IsCell, IsDivision};
@@ -16,7 +16,7 @@ ghost use Rattle.first_pass_tokens.specs.MarkupBytes.{StandOver, TextsHaveNoBack
 /// A line has one list of tokens, but for the indices of the texts that they name, and one answer, and
 /// one list of brace contexts is left.
 pub fn one_line()
-    ensures { (texts more : List CowStr) (s : Source) (tokens others : List Item) (a b : ℕ × Option Item)
+    ensures { (texts more : List CowStr) (s : Inline) (tokens others : List Item) (a b : ℕ × Option Item)
         (c d : MathBraces) → IsLine texts s tokens a c → IsLine more s others b d
         → AreAlike texts more tokens others × (a ≡ b) × (c ≡ d) }
 {}
@@ -24,30 +24,30 @@ pub fn one_line()
 /// A cell has one list of tokens, but for the indices of the texts that they name, and one end, and one
 /// list of brace contexts is left.
 pub fn one_cell()
-    ensures { (texts more : List CowStr) (s : Source) (tokens others : List Item) (a b : ℕ) (c d : MathBraces)
+    ensures { (texts more : List CowStr) (s : Inline) (tokens others : List Item) (a b : ℕ) (c d : MathBraces)
         → IsCell texts s tokens a c → IsCell more s others b d → AreAlike texts more tokens others × (a ≡ b) × (c ≡ d) }
 {}
 
 /// With tables each pipe in the content of a cell stands directly after a backslash (GFM 4.10).
 pub fn cell_has_no_other_pipe()
-    ensures { (texts : List CowStr) (s : Source) (tokens : List Item) (end : ℕ) (after : MathBraces)
+    ensures { (texts : List CowStr) (s : Inline) (tokens : List Item) (end : ℕ) (after : MathBraces)
         → s.row ≡ true → has s.options tables ≡ true
         → IsCell texts s tokens end after → PipesAreEscaped s.text s.start end }
 {}
 
 /// No line end stands in the content of a line or a cell.
 pub fn content_has_no_line_end()
-    ensures { (texts : List CowStr) (s : Source) (pieces : List Piece) (to : Spot) → s.start ≤ length s.text
+    ensures { (texts : List CowStr) (s : Inline) (pieces : List Piece) (to : Spot) → s.start ≤ length s.text
         → IsDivision texts s pieces to
         → (k : ℕ) → s.start ≤ k → k < to.at → is_line_end (slice_index s.text k) ≡ false }
 {}
 
 /// No token of a line or a cell touches the one before it: texts that touch are one text.
 pub fn line_is_joined()
-    ensures line { (texts : List CowStr) (s : Source) (tokens : List Item) (answer : ℕ × Option Item)
+    ensures line { (texts : List CowStr) (s : Inline) (tokens : List Item) (answer : ℕ × Option Item)
         (after : MathBraces) → IsLine texts s tokens answer after
         → AreApart tokens }
-    ensures cell { (texts : List CowStr) (s : Source) (tokens : List Item) (end : ℕ) (after : MathBraces)
+    ensures cell { (texts : List CowStr) (s : Inline) (tokens : List Item) (end : ℕ) (after : MathBraces)
         → IsCell texts s tokens end after → AreApart tokens }
 {}
 
@@ -55,18 +55,18 @@ pub fn line_is_joined()
 /// after a backslash where it says so (CommonMark 6.1); a delimiter (6.2); `<` (6.5, 6.6); `![`, `[` or `]` (6.3,
 /// 6.4); a quote, or the bytes that its character stands for.
 pub fn markup_has_its_bytes()
-    ensures line { (texts : List CowStr) (s : Source) (tokens : List Item) (answer : ℕ × Option Item)
+    ensures line { (texts : List CowStr) (s : Inline) (tokens : List Item) (answer : ℕ × Option Item)
         (after : MathBraces) → IsLine texts s tokens answer after
         → StandOver s.text tokens }
-    ensures cell { (texts : List CowStr) (s : Source) (tokens : List Item) (end : ℕ) (after : MathBraces)
+    ensures cell { (texts : List CowStr) (s : Inline) (tokens : List Item) (end : ℕ) (after : MathBraces)
         → IsCell texts s tokens end after → StandOver s.text tokens }
 {}
 
 /// No text of a line or a cell has a backquote: none is left over, escaped or not (CommonMark 6.1).
 pub fn texts_have_no_backquote()
-    ensures line { (texts : List CowStr) (s : Source) (tokens : List Item) (answer : ℕ × Option Item)
+    ensures line { (texts : List CowStr) (s : Inline) (tokens : List Item) (answer : ℕ × Option Item)
         (after : MathBraces) → IsLine texts s tokens answer after
         → TextsHaveNoBackquote s.text tokens }
-    ensures cell { (texts : List CowStr) (s : Source) (tokens : List Item) (end : ℕ) (after : MathBraces)
+    ensures cell { (texts : List CowStr) (s : Inline) (tokens : List Item) (end : ℕ) (after : MathBraces)
         → IsCell texts s tokens end after → TextsHaveNoBackquote s.text tokens }
 {}

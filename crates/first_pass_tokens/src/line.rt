@@ -12,7 +12,7 @@ ghost use Rattle.first_pass_tokens.specs.Pieces.{source, content_in, text_upto, 
 ghost use Rattle.first_pass_tokens.specs.LineTokens.{spot, line_end_len, text_end, break_of, line_break, ends_at, EndsLine, EndsCell};
 ghost use Rattle.first_pass_tokens.specs.TreeTokens.{with_tokens, AppendsLine, AppendsCell};
 ghost use Rattle.first_pass_tokens.specs.Chains.{run_tokens};
-ghost use Rattle.first_pass_tokens.specs.Pending.{pending_after, tree_after, IsReadTo};
+ghost use Rattle.first_pass_tokens.specs.HeldText.{held_after, tree_after, IsReadTo};
 
 use crate::braces::BraceContexts;
 use crate::named::named_piece;
@@ -90,7 +90,7 @@ pub fn append_cell(
 
 // A text that began at an offset and may continue, and is not in the tree yet.
 #[derive(Clone, Copy, Drop)]
-struct Pending {
+struct HeldText {
     begin: usize,
     escaped: bool,
 }
@@ -117,7 +117,7 @@ fn append_pieces(
     tree: &mut Tree<Item>,
     texts: &mut Vec<CowStr<'_>>,
     braces: &mut BraceContexts,
-) -> Result<(usize, Pending), AllocError>
+) -> Result<(usize, HeldText), AllocError>
     requires utf8 { IsUtf8 content.whole.now }
     requires front { text.now ≡ text_upto content.whole.now content.«end» }
     requires within { content.start ≤ length text.now }
@@ -129,7 +129,7 @@ fn append_pieces(
     ensures order { IfOk result (λ answer. content.entry.start ≤ answer.0) }
     ensures within { IfOk result (λ answer. answer.0 ≤ length text.now) }
 {
-    let mut pending = Pending {
+    let mut pending = HeldText {
         begin: content.start,
         escaped: false,
     };
@@ -162,19 +162,19 @@ fn ends_at(text: &[u8], content: Content<'_>, at: usize) -> bool
 #[inline(always)]
 fn append_piece(
     tree: &mut Tree<Item>,
-    pending: &mut Pending,
+    pending: &mut HeldText,
     at: usize,
     piece: Piece,
 ) -> Result<(), AllocError>
     requires { at + size piece < 2 ^ 64 }
     ensures tree { OnOk result (tree.new ≡ tree_after at piece pending.old tree.old) }
-    ensures pending { OnOk result (pending.new ≡ pending_after at piece pending.old) }
+    ensures pending { OnOk result (pending.new ≡ held_after at piece pending.old) }
 {
     match piece {
         Piece::Left(_) => {}
         Piece::Begins(dropped, escaped) => {
             tree.append_text(pending.begin, at, pending.escaped)?;
-            *pending = Pending {
+            *pending = HeldText {
                 begin: at + dropped,
                 escaped,
             };
@@ -184,7 +184,7 @@ fn append_piece(
             let start = at + dropped;
             let end = start + n;
             tree.append(Item { start, end, body })?;
-            *pending = Pending {
+            *pending = HeldText {
                 begin: end,
                 escaped: false,
             };
@@ -192,7 +192,7 @@ fn append_piece(
         Piece::Run(n, opens, closes) => {
             tree.append_text(pending.begin, at, pending.escaped)?;
             append_run(tree, at, n, opens, closes)?;
-            *pending = Pending {
+            *pending = HeldText {
                 begin: at + n,
                 escaped: false,
             };
@@ -233,7 +233,7 @@ fn end_line(
     text: &[u8],
     content: Content<'_>,
     end: usize,
-    pending: Pending,
+    pending: HeldText,
     tree: &mut Tree<Item>,
 ) -> Result<(usize, Option<Item>), AllocError>
     requires order { content.start ≤ end }

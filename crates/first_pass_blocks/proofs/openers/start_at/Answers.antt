@@ -6,14 +6,14 @@ use Rattle.first_pass_lines.specs.Rest.{Rest, after_columns}
 use Rattle.first_pass_lines.specs.Places.{Place, place_at, offset}
 use Rattle.first_pass_grammar.specs.Containers.{prefix}
 use Rattle.first_pass_grammar.specs.Kinds.{item_at, definition_marker_at, is_blank_rest, quote_start}
-use Rattle.first_pass_grammar.specs.Openers.{task_behind}
+use Rattle.first_pass_grammar.specs.Openers.{task_behind, after_quote}
 use Rattle.first_pass_grammar.specs.declared.kind.Container.TheVariants.{BlockQuote}
 use Rattle.first_pass_grammar.proofs.OpenerFacts.{marker_where, start_item, start_definition, start_quote, start_none}
 use Rattle.first_pass_open.proofs.PlaceLemmas.{item_keeps, quote_absent}
 use Rattle.first_pass_blocks.specs.declared.openers.Opener.TheVariants.{Quote, Item as ItemOpener, Definition as DefinitionOpener}
-use Rattle.first_pass_blocks.specs.declared.openers.AfterMarker.{AfterMarker}
+use Rattle.first_pass_grammar.specs.declared.kind.AfterMarker.{AfterMarker}
 use Rattle.first_pass_blocks.specs.declared.openers.Start.{Start}
-use Rattle.first_pass_blocks.specs.Starts.{item_after, quote_after}
+use Rattle.first_pass_blocks.specs.Starts.{item_after}
 use Rattle.first_pass_blocks.proofs.OpenerLemmas.{item_found, item_absent}
 use Rattle.first_pass_blocks.proofs.StartFound.{definition_found, IsUntaken, untaken_then, untaken_else, same_place, matches, matches_none, quote_here}
 use Rattle.first_pass_blocks.proofs.openers.start_at.Goals as goal
@@ -110,9 +110,9 @@ returns c =
     c.scan_quote.ensures in
     let start : Option BlockQuoteKind → ℕ → AfterMarker → Option Start = λ kind n after. Some (record { opener = Quote kind; start = n; after = after }) in
     rw (← c.place.view_is) (matches _ _ _ _ (start_quote options c.args.may_define p inside item.0 none.0 quote.0) (
-      ap (start c.scan_tag-tag.result (here.line + c.in_ok-quote.quote)) c.quote_after.ensures
-          ∙ ap (λ (n : ℕ). start c.scan_tag-tag.result (here.line + n) (quote_after c.scan_tag-tag.result)) quote.1
-          ∙ ap (λ (q : Place). start c.scan_tag-tag.result (q.line + (after_columns 3 p.rest).taken) (quote_after c.scan_tag-tag.result)) none.1
-          ∙ ap (λ (kind : Option BlockQuoteKind). start kind (quote_start p) (quote_after kind)) c.scan_tag-tag.ensures,
+      ap (start c.scan_tag-tag.result (here.line + c.in_ok-quote.quote)) c.after_quote.ensures
+          ∙ ap (λ (n : ℕ). start c.scan_tag-tag.result (here.line + n) (after_quote c.scan_tag-tag.result)) quote.1
+          ∙ ap (λ (q : Place). start c.scan_tag-tag.result (q.line + (after_columns 3 p.rest).taken) (after_quote c.scan_tag-tag.result)) none.1
+          ∙ ap (λ (kind : Option BlockQuoteKind). start kind (quote_start p) (after_quote kind)) c.scan_tag-tag.ensures,
       ap (λ (q : Place). place_at q.line inside) none.1,
     ))

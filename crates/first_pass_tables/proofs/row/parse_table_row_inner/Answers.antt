@@ -77,8 +77,8 @@ returns-clause-row c =
     (ap (λ (t : Bool). keeps_row t c.args.wanted.most most adds.cells) (sym behind) ∙ sym test ∙ sym c.is_kept.ensures.value ∙ c.if-not-is_kept.false)
     (row_closed d c.args.wanted.most (spot c.args.wanted.start c.args.table.now.braces) (spot c.in_ok-end.end c.append_cells.new.braces) c.in_ok-end.count
     c.saturating_sub-missing.result TableRow old
-    c.open_block.new.tree c.append_cells.new.tree c.fill_row.new.tree c.in_ok-open_block.ensures.tree adds c.saturating_sub-missing.ensures c.in_ok-fill_row.ensures
-    c.close_block.new.tree c.close_block.ensures.tree)
+    c.open_block.new.tree c.append_cells.new.tree c.fill_row.new.tree c.in_ok-open_block.ensures.tree adds c.saturating_sub-missing.ensures
+    c.in_ok-fill_row.ensures c.close_block.new.tree c.close_block.ensures.tree)
     (ap (λ (n : ℕ). c.args.table.now.missing_empty_cells + n) missing_is) c.cur.ensures (search rules)
 
 pub returns-clause-fits : goal.returns-clause-fits

@@ -5,7 +5,7 @@ use Rattle.first_pass_tree.specs.Forest.{Forest}
 use Rattle.first_pass_tokens.specs.declared.pieces.Content.{Content}
 use Rattle.first_pass_tokens.specs.TreeTokens.{AppendsLine}
 use Rattle.first_pass_tokens.specs.Braces.{MathBraces, no_braces}
-use Rattle.first_pass_tokens.specs.Pieces.{Source, source}
+use Rattle.first_pass_tokens.specs.Pieces.{Inline, source}
 use Rattle.first_pass_names.specs.TableEntries.{names_of}
 use Rattle.first_pass_text.proofs.HeadingLemmas.{heading_open, heading_empty, heading_cut}
 use Rattle.first_pass_text.proofs.heading.heading_text.Goals as goal
@@ -19,14 +19,14 @@ begun {texts} content {braces} {after} {old} {new} {answer} none line =
 
 pub drop_children-requires : goal.drop_children-requires
 drop_children-requires c =
-    let s : Source = source c.args.content no_braces in
+    let s : Inline = source c.args.content no_braces in
     heading_open (names_of c.append_line.new.self).texts s c.args.kept c.args.tree.now c.append_line.new.tree c.append_last_backslash.new.tree
     (c.in_ok-line_break.field-0-0, c.in_ok-line_break.line_break) c.args.node_ix c.requires.opened
     (begun c.args.content c.new-braces.ensures c.in_ok-line_break.ensures.line) c.in_ok-append_last_backslash.ensures
 
 pub returns-then-kept-eq0-clause-line : goal.returns-then-kept-eq0-clause-line
 returns-then-kept-eq0-clause-line c =
-    let s : Source = source c.args.content no_braces in
+    let s : Inline = source c.args.content no_braces in
     heading_empty (names_of c.append_line.new.self).texts s c.args.kept c.args.tree.now c.append_line.new.tree c.append_last_backslash.new.tree
     (c.in_ok-line_break.field-0-0, c.in_ok-line_break.line_break) c.args.node_ix c.requires.opened
     (begun c.args.content c.new-braces.ensures c.in_ok-line_break.ensures.line) c.in_ok-append_last_backslash.ensures c.drop_children.new.self
@@ -34,7 +34,7 @@ returns-then-kept-eq0-clause-line c =
 
 pub returns-clause-line : goal.returns-clause-line
 returns-clause-line c =
-    let s : Source = source c.args.content no_braces in
+    let s : Inline = source c.args.content no_braces in
     heading_cut (names_of c.append_line.new.self).texts s c.args.kept c.args.tree.now c.append_line.new.tree c.append_last_backslash.new.tree
     (c.in_ok-line_break.field-0-0, c.in_ok-line_break.line_break) c.args.node_ix c.requires.opened
     (begun c.args.content c.new-braces.ensures c.in_ok-line_break.ensures.line) c.in_ok-append_last_backslash.ensures c.truncate_siblings.new.self

@@ -24,7 +24,8 @@ returns-in_default-clause-block c =
     (names_of c.append_text_lines.new.allocs) c.args.start_ix c.args.tasklist_marker c.args.tree.now c.open_block.new.tree c.append_item.new.tree
     c.append_text_lines.new.tree c.in_ok-node_ix.node_ix c.in_ok-end.end c.is_forest.ensures c.in_ok-node_ix.ensures.index c.in_ok-node_ix.ensures.tree
     c.in_ok-append_item.ensures c.requires.marker c.in_ok-end.ensures.lines in
-    closed_paragraph t c.append_last_backslash.new.tree c.close_block.new.tree c.in_ok-append_last_backslash.ensures (sym c.in_default.is) c.close_block.ensures.tree
+    closed_paragraph t c.append_last_backslash.new.tree c.close_block.new.tree c.in_ok-append_last_backslash.ensures (sym c.in_default.is)
+    c.close_block.ensures.tree
 
 pub returns-in_default-clause-fits : goal.returns-in_default-clause-fits
 returns-in_default-clause-fits c =

@@ -1,5 +1,5 @@
 use Rattle.std.proofs.Common.{◌+◌, length, sym, ◌∙◌, ap, subst, arith}
-use Rattle.first_pass_tokens.specs.Pieces.{Source, content_in, size}
+use Rattle.first_pass_tokens.specs.Pieces.{Inline, content_in, size}
 use Rattle.first_pass_tokens.specs.Braces.{braces_after}
 use Rattle.first_pass_tokens.specs.LineTokens.{spot}
 use Rattle.first_pass_tokens.specs.NamedTexts.{Becomes}
@@ -33,7 +33,7 @@ loop-at-init c = record {
 
 pub loop-at-preserved : goal.loop-at-preserved
 loop-at-preserved c =
-    let z : Source = content_in c.args.text.now c.args.content c.args.braces.now in
+    let z : Inline = content_in c.args.text.now c.args.content c.args.braces.now in
     let at = c.in-Some.at in
     let texts = c.named_piece.new.texts.items in
     let found = c.in-Some.ensures.found in
@@ -60,7 +60,7 @@ returns-then-ends_at-clause-read c =
 
 pub returns-clause-read : goal.returns-clause-read
 returns-clause-read c =
-    let z : Source = content_in c.args.text.now c.args.content c.args.braces.now in
+    let z : Inline = content_in c.args.text.now c.args.content c.args.braces.now in
     read_all z _ _ _ (spot (length c.args.text.now) c.loop-at.braces) (upto_end (goal.at.returns-clause-read c).In_default) (ended_by_text z)
 
 pub special_found-found-requires-clause-front : goal.special_found-found-requires-clause-front

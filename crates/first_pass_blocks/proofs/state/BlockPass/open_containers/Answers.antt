@@ -8,8 +8,8 @@ use Rattle.first_pass_grammar.specs.Openers.{Start as ContainerStart, start_at}
 use Rattle.first_pass_open.specs.Path.{context_of}
 use Rattle.first_pass_open.specs.declared.source.Source.{Source}
 use Rattle.first_pass_lists.specs.declared.reading.Reading.{Reading}
-use Rattle.first_pass_blocks.specs.declared.openers.AfterMarker.{AfterMarker}
-use Rattle.first_pass_blocks.specs.declared.openers.AfterMarker.TheVariants.{OnLine, TaskText, LineEnds, TagAlone}
+use Rattle.first_pass_grammar.specs.declared.kind.AfterMarker.{AfterMarker}
+use Rattle.first_pass_grammar.specs.declared.kind.AfterMarker.TheVariants.{OnLine, TaskText, LineEnds, TagAlone}
 use Rattle.first_pass_blocks.specs.declared.openers.Start.{Start}
 use Rattle.first_pass_blocks.specs.declared.state.BlockPass.{BlockPass}
 use Rattle.first_pass_blocks.specs.FootnoteHeads.{StaysSame, TriesFootnote}

@@ -4,8 +4,8 @@ use Rattle.first_pass_lines.specs.Places.{Place, line_end, IsPlaceOf}
 use Rattle.first_pass_open.specs.declared.source.Source.{Source}
 use Rattle.first_pass_open.proofs.PlaceLemmas.{place_end}
 use Rattle.first_pass_lists.specs.declared.reading.Reading.{Reading}
-use Rattle.first_pass_blocks.specs.declared.openers.AfterMarker.{AfterMarker}
-use Rattle.first_pass_blocks.specs.declared.openers.AfterMarker.TheVariants.{OnLine, TaskText, TagAlone}
+use Rattle.first_pass_grammar.specs.declared.kind.AfterMarker.{AfterMarker}
+use Rattle.first_pass_grammar.specs.declared.kind.AfterMarker.TheVariants.{OnLine, TaskText, TagAlone}
 use Rattle.first_pass_blocks.specs.declared.state.BlockPass.{BlockPass}
 use Rattle.first_pass_blocks.specs.Entering.{EntersLine}
 use Rattle.first_pass_blocks.specs.Positions.{LineAt, InLine, LeafAt, TaskAt, TaggedAt}

@@ -5,22 +5,22 @@ use Rattle.first_pass_items.specs.declared.item.Item.{Item}
 use Rattle.first_pass_tree.specs.Forest.{Forest, appended, with_text}
 use Rattle.first_pass_tokens.specs.declared.pieces.Piece.{Piece}
 use Rattle.first_pass_tokens.specs.declared.pieces.Piece.TheVariants.{Left, Begins, Token, Run}
-use Rattle.first_pass_tokens.specs.declared.line.Pending.{Pending}
-use Rattle.first_pass_tokens.specs.Pieces.{Source}
+use Rattle.first_pass_tokens.specs.declared.line.HeldText.{HeldText}
+use Rattle.first_pass_tokens.specs.Pieces.{Inline}
 use Rattle.first_pass_tokens.specs.LineTokens.{Spot, IsDivision, add_pieces, text_end, blanks_at_end}
 use Rattle.first_pass_tokens.specs.TreeTokens.{with_tokens}
 use Rattle.first_pass_tokens.specs.Chains.{token, run_tokens}
 
 -- the text that is pending after a piece: bytes that are left over belong to the one before, a piece that begins a text leaves that one,
 -- and after a token another one begins (this project)
-abbrev pub pending_after : ℕ → Piece → Pending → Pending
-pending_after at (Left n) p = p
-pending_after at (Begins dropped escaped) p = record { begin = at + dropped; escaped = escaped }
-pending_after at (Token dropped n body) p = record { begin = at + dropped + n; escaped = false }
-pending_after at (Run n opens closes) p = record { begin = at + n; escaped = false }
+abbrev pub held_after : ℕ → Piece → HeldText → HeldText
+held_after at (Left n) p = p
+held_after at (Begins dropped escaped) p = record { begin = at + dropped; escaped = escaped }
+held_after at (Token dropped n body) p = record { begin = at + dropped + n; escaped = false }
+held_after at (Run n opens closes) p = record { begin = at + n; escaped = false }
 
 -- the tree after a piece: a piece that begins a text ends the one that was pending, and so does a token (this project)
-abbrev pub tree_after : ℕ → Piece → Pending → Forest Item → Forest Item
+abbrev pub tree_after : ℕ → Piece → HeldText → Forest Item → Forest Item
 tree_after at (Left n) p f = f
 tree_after at (Begins dropped escaped) p f = with_text f p.begin at p.escaped
 tree_after at (Token dropped n body) p f = appended (with_text f p.begin at p.escaped) (token (at + dropped) n body)
@@ -28,7 +28,7 @@ tree_after at (Run n opens closes) p f = with_tokens (with_text f p.begin at p.e
 
 -- A content is read up to its end, where a text is pending. Up to whatever offset that text continues, the tree then has the content's tokens up to there; and
 -- it begins before the white space at the content's end, and before the backslash that breaks a line there (this project).
-pub record IsReadTo (texts : List CowStr) (s : Source) (old new : Forest Item) (to : Spot) (p : Pending) : Type 0 where
+pub record IsReadTo (texts : List CowStr) (s : Inline) (old new : Forest Item) (to : Spot) (p : HeldText) : Type 0 where
   pub pieces : List Piece
   pub division : IsDivision texts s pieces to
   pub before_break : p.begin ≤ text_end s to.at
