@@ -11,8 +11,7 @@ const TEXT: &[u8] = b"# a\nb\\\nc";
 
 /// Asserts what is written for a text by a clock that says this.
 fn assert_printed(
-    rt: &impl Abort,
-    alloc: Global,
+    rt: &(impl Abort + AllocGlobal),
     words: &[&str],
     told: &[u128],
     text: &[u8],
@@ -20,9 +19,9 @@ fn assert_printed(
 ) -> Result<(), Fail> {
     let mut clock = Told { left: told };
     let mut input = Source::new(text, 3, 0);
-    let mut output = Sink::new(alloc, 20, 0);
-    let answer = time(alloc, words, &mut clock, &mut input, &mut output)?;
-    let line = String::from_utf8_lossy(alloc, output.bytes.as_slice())?;
+    let mut output = Sink::new(rt.alloc(), 20, 0);
+    let answer = time(rt.alloc(), words, &mut clock, &mut input, &mut output)?;
+    let line = String::from_utf8_lossy(rt.alloc(), output.bytes.as_slice())?;
     assert!(rt;
         answer == Ok(()) && line.as_str() == want,
         "{words:?}: {line}"
@@ -87,7 +86,7 @@ fn as_many_runs_as_are_asked_for(rt: HostRuntime) -> Result<(), Fail> {
         ),
     ];
     for (runs, told, want) in cases {
-        assert_printed(&rt, rt.alloc(), &["0", runs], told, TEXT, want)?;
+        assert_printed(&rt, &["0", runs], told, TEXT, want)?;
     }
     Ok(())
 }
@@ -128,17 +127,17 @@ fn five_runs_and_a_second(rt: HostRuntime) -> Result<(), Fail> {
     ];
     let of_five = "8 bytes, 7 nodes, best of 5 runs: 300.000 ms, 0.0 MB/s\n";
     let of_six = "8 bytes, 7 nodes, best of 6 runs: 0.000 ms, 8000.0 MB/s\n";
-    assert_printed(&rt, rt.alloc(), &[], five, TEXT, of_five)?;
-    assert_printed(&rt, rt.alloc(), &["0"], six, TEXT, of_six)
+    assert_printed(&rt, &[], five, TEXT, of_five)?;
+    assert_printed(&rt, &["0"], six, TEXT, of_six)
 }
 
 #[test]
 fn options_make_a_difference(rt: HostRuntime) -> Result<(), Fail> {
     let text = b"+++\na\n+++\n";
     let of_three = "10 bytes, 3 nodes, best of 1 runs: 0.000 ms, 1000.0 MB/s\n";
-    assert_printed(&rt, rt.alloc(), &["256", "1"], &[0, 10], text, of_three)?;
+    assert_printed(&rt, &["256", "1"], &[0, 10], text, of_three)?;
     let of_seven = "10 bytes, 7 nodes, best of 1 runs: 0.000 ms, 1000.0 MB/s\n";
-    assert_printed(&rt, rt.alloc(), &["0", "1"], &[0, 10], text, of_seven)
+    assert_printed(&rt, &["0", "1"], &[0, 10], text, of_seven)
 }
 
 #[test]
