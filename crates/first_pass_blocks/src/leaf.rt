@@ -103,7 +103,7 @@ impl<'a> BlockPass<'a> {
         Ok(next)
     }
 
-    // Appends the HTML block that ends so, after so many columns, which is found at the offset `at`.
+    // Appends the HTML block with this end, after so many columns, which is found at the offset `at`.
     fn append_html(&mut self, end: HtmlEnd, columns: usize, at: usize) -> Result<usize, AllocError>
         requires { (p : Place) × IsFoundIn self.old p (HtmlToEnd end) columns at }
         ensures { IfOk result (λ next. (p : Place) → IsFoundIn self.old p (HtmlToEnd end) columns at
