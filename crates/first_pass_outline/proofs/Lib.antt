@@ -1,0 +1,4 @@
+mod HeadingBlocks
+mod HeadingRows
+mod OrderedEntries
+mod Outlines

@@ -1,0 +1,34 @@
+-- The outline of a text (this project).
+use Rattle.std.specs.Prelude.{◌≡◌, ℕ, ◌≤◌, List, [], ◌∷◌, IsCharBoundary}
+use Rattle.first_pass_items.specs.declared.item.Item.{Item}
+use Rattle.first_pass_items.specs.declared.option_set.Options.{Options}
+use Rattle.first_pass_grammar.specs.Derivation.{Derives, Tables}
+use Rattle.first_pass_grammar.specs.Leaves.{document}
+use Rattle.first_pass_grammar.specs.Names.{Names, read_nodes}
+use Rattle.first_pass_outline.specs.Outline.{Entry, outline_of}
+
+-- the outline of a forest that the block grammar derives from a text under options
+pub record IsOutline (options : Options) (text : List ℕ) (entries : List Entry) : Type 0 where
+  pub names : Names
+  pub forest : List (ℕ × Item)
+  pub tables : Tables
+  pub derived : Derives (document text options names) forest tables
+  pub entries_are : entries ≡ outline_of (read_nodes names forest)
+
+-- the outline of each forest that the block grammar derives from a text under options, whatever is named then
+abbrev pub IsOnlyOutline : Options → List ℕ → List Entry → Type 0
+IsOnlyOutline options text entries =
+    (names : Names) (forest : List (ℕ × Item)) (tables : Tables) → Derives (document text options names) forest tables
+    → entries ≡ outline_of (read_nodes names forest)
+
+-- a range that begins at an offset or after it, and begins and ends between two characters of a text
+pub record IsRangeFrom (text : List ℕ) (from start «end» : ℕ) : Type 0 where
+  pub behind : from ≤ start
+  pub order : start ≤ «end»
+  pub starts : IsCharBoundary text start
+  pub ends : IsCharBoundary text «end»
+
+-- entries lie between two offsets of a text, one after the other
+unfoldable pub LieBetween : List ℕ → ℕ → ℕ → List Entry → Type 0
+LieBetween text from to [] = from ≤ to
+LieBetween text from to (e ∷ entries) = IsRangeFrom text from e.start e.«end» × LieBetween text e.«end» to entries

@@ -1,0 +1,65 @@
+//! The outline of a tree, and of a text.
+
+ghost use Rattle.std.specs.Option.{option_map, option_and_then};
+ghost use Rattle.std.specs.Prelude.{◌≡◌, IfOk, map};
+ghost use Rattle.first_pass_grammar.specs.Names.{AttributesAt, named, read, read_nodes};
+ghost use Rattle.first_pass_names.specs.TableEntries.{names_of};
+ghost use Rattle.first_pass_outline.specs.Outline.{entry_of, id_in, outline_of};
+ghost use Rattle.first_pass_outline.specs.Entries.{entry_in};
+
+use first_pass_items::item::{HeadingIndex, HeadingLevel, Item, ItemBody};
+use first_pass_names::items::Allocations;
+use first_pass_tree::forest::Tree;
+use std::alloc::{AllocError, Global};
+use std::ops::Range;
+
+/// An entry of an outline: a heading, with its level, its id if its attributes give one, which is borrowed from the
+/// text, and its range in bytes of the text.
+#[derive(Drop)]
+pub struct OutlineEntry<'a> {
+    pub level: HeadingLevel,
+    pub id: Option<&'a str>,
+    pub range: Range<usize>,
+}
+
+/// The outline of a tree: an entry for each heading, wherever it stands, in reading order. A heading has no id where
+/// it has no attributes, where these give none, and where `allocs` has no entry for its index. The one error is that a
+/// request for memory was refused.
+pub fn outline<'a>(
+    alloc: Global,
+    tree: &Tree<Item>,
+    allocs: &Allocations<'a>,
+) -> Result<Vec<OutlineEntry<'a>>, AllocError>
+    ensures { IfOk result (λ entries. map entry_in entries.items
+        ≡ outline_of (read_nodes (names_of allocs.now) tree.now.nodes)) }
+{
+    let mut entries = Vec::new(alloc);
+    for node in tree.nodes() {
+        if let Some(entry) = entry_of(node.1, allocs) {
+            entries.push(entry)?;
+        }
+    }
+    Ok(entries)
+}
+
+// The entry of a node, if it is a heading.
+fn entry_of<'a>(item: Item, allocs: &Allocations<'a>) -> Option<OutlineEntry<'a>>
+    ensures { option_map entry_in result ≡ entry_of (read (names_of allocs.now) item) }
+{
+    match item.body {
+        ItemBody::Heading(level, index) => Some(OutlineEntry {
+            level,
+            id: id_of(index, allocs),
+            range: item.start..item.end,
+        }),
+        _ => None,
+    }
+}
+
+// The id of a heading, if its index names attributes that give one.
+fn id_of<'a>(index: Option<HeadingIndex>, allocs: &Allocations<'a>) -> Option<&'a str>
+    ensures { option_map (λ id. id.now) result
+        ≡ option_and_then id_in (option_and_then (named (names_of allocs.now)) (option_map AttributesAt index)) }
+{
+    allocs.attributes_at(index?)?.id
+}
