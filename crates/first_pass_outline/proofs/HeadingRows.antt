@@ -1,6 +1,6 @@
 -- In a derived tree no heading stands below a heading.
-use Rattle.std.proofs.Common.{◌≡◌, ◌⊎◌, inl, inr, ℕ, suc, ◌+◌, ◌<◌, ◌≤◌, ◌==◌, Bool, true, false, List, [], ◌∷◌, ◌++◌, length, map, Option, Some, None, refl, sym, ap}
-use Rattle.std.proofs.Common.{subst, ◌∙◌, if◌then◌else◌, arith, append_assoc, append-nil}
+use Rattle.std.proofs.Common.{◌≡◌, ◌⊎◌, inl, inr, ℕ, suc, ◌+◌, ◌<◌, ◌≤◌, ◌==◌, Bool, true, false, List, [], ◌∷◌, ◌++◌, length, map, Option, Some, None, refl}
+use Rattle.std.proofs.Common.{sym, ap, subst, ◌∙◌, if◌then◌else◌, arith, append_assoc, append-nil}
 use Rattle.std.specs.Option.{option_map, option_map_or}
 use Rattle.first_pass_items.specs.declared.item.Item.{Item}
 use Rattle.first_pass_items.specs.declared.item.ItemBody.{ItemBody}
@@ -12,12 +12,12 @@ use Rattle.first_pass_grammar.specs.Before.{Before, nothing, after_blank, after_
 use Rattle.first_pass_grammar.specs.Blocks.{LeafBlock, BlankLine, Block, Opener, QuoteMarker, ItemMarker, FootnoteMarker, DefinitionMarker, opened, Skeleton}
 use Rattle.first_pass_grammar.specs.Blocks.{Nil, Then, Node}
 use Rattle.first_pass_grammar.specs.Containers.{is_quote}
-use Rattle.first_pass_grammar.specs.Derivation.{as_title, block_items, row_items, tight_in, items_of, Tables, root_of, Derives}
+use Rattle.first_pass_grammar.specs.Derivation.{as_title, row_items, tight_in, items_of, Tables, Derives}
 use Rattle.first_pass_grammar.specs.Leaves.{Document}
 use Rattle.first_pass_grammar.specs.Rows.{What, ALeaf, AQuote, AList, AnItem, AFootnote, ADefinitionList, ATitle, ADefinition, Row, Rows, End, OneOf, gapped}
-use Rattle.first_pass_grammar.specs.Rows.{is_loose, Joins, ItemsOf, DefinitionsTo, end_of, is_list_of, items_behind, list_behind, what_of, row_of, container_row}
-use Rattle.first_pass_grammar.specs.Rows.{row_of_leaf, Definitions, definitions_of_row, apart_after, is_untitled, is_run_row, definitions_first, titled, gap_before}
-use Rattle.first_pass_grammar.specs.Rows.{rows_of}
+use Rattle.first_pass_grammar.specs.Rows.{is_loose, Joins, ItemsOf, DefinitionsTo, end_of, is_list_of, items_behind, list_behind, what_of, row_of}
+use Rattle.first_pass_grammar.specs.Rows.{row_of_leaf, Definitions, definitions_of_row, apart_after, is_untitled, is_run_row, definitions_first, titled}
+use Rattle.first_pass_grammar.specs.Rows.{container_row, gap_before, rows_of}
 use Rattle.first_pass_grammar.specs.Skeleton.{Line, level, Lines}
 use Rattle.first_pass_grammar.specs.WholeTables.{AreEachNode}
 use Rattle.first_pass_grammar.proofs.TableItems.{deeper_nodes}
@@ -202,7 +202,7 @@ row_inside depth tight loose t start (AQuote kind e) inner more own by k = (inl 
 row_inside depth tight loose t start (AList byte number e) inner more own by k = (inl refl, k)
 row_inside depth tight loose t start (AnItem columns e) inner more own by k = (inl refl, k)
 row_inside depth tight loose t start (AFootnote index e) inner more own by k = (inl refl, k)
-row_inside depth tight loose t start (ADefinitionList titled e) inner more own by k = (inl refl, k)
+row_inside depth tight loose t start (ADefinitionList there e) inner more own by k = (inl refl, k)
 row_inside depth tight loose t start (ATitle block) inner more own by k =
     title_inside depth block.items (items_of (suc depth) t inner ++ more) own.0 k
 row_inside depth tight loose t start (ADefinition columns e) inner more own by k = (inl refl, k)
@@ -231,7 +231,7 @@ row_begins depth tight loose t start (AQuote kind e) inner more own by = omega a
 row_begins depth tight loose t start (AList byte number e) inner more own by = omega arith
 row_begins depth tight loose t start (AnItem columns e) inner more own by = omega arith
 row_begins depth tight loose t start (AFootnote index e) inner more own by = omega arith
-row_begins depth tight loose t start (ADefinitionList titled e) inner more own by = omega arith
+row_begins depth tight loose t start (ADefinitionList there e) inner more own by = omega arith
 row_begins depth tight loose t start (ATitle block) End more own by = title_begins depth block.items more own.0 by
 row_begins depth tight loose t start (ATitle block) (OneOf row inner next) more own by = absurd own.1
 row_begins depth tight loose t start (ADefinition columns e) inner more own by = omega arith

@@ -1,3 +1,4 @@
+mod EntryLines
 mod HeadingBlocks
 mod HeadingRows
 mod OrderedEntries

@@ -1,6 +1,6 @@
 -- The entries of a derived tree lie one after the other.
-use Rattle.std.proofs.Common.{◌≡◌, ◌⊎◌, inl, inr, ℕ, suc, ◌≤◌, Bool, true, false, List, [], ◌∷◌, ◌++◌, length, map, Option, Some, None, refl, sym, ap}
-use Rattle.std.proofs.Common.{subst, ◌∙◌, if◌then◌else◌, arith, IsCharBoundary}
+use Rattle.std.proofs.Common.{◌≡◌, ◌⊎◌, inl, inr, ℕ, suc, ◌≤◌, Bool, true, false, List, [], ◌∷◌, ◌++◌, length, Option, Some, None, refl, sym, ap}
+use Rattle.std.proofs.Common.{subst, ◌∙◌, if◌then◌else◌, arith}
 use Rattle.std.specs.List.{cons_option}
 use Rattle.std.specs.Option.{option_map, option_and_then}
 use Rattle.first_pass_items.specs.declared.item.HeadingLevel.{HeadingLevel}
@@ -10,8 +10,8 @@ use Rattle.first_pass_items.specs.declared.item.ItemBody.TheVariants.{Heading}
 use Rattle.first_pass_grammar.specs.Derivation.{Tables, Derives}
 use Rattle.first_pass_grammar.specs.Leaves.{Document}
 use Rattle.first_pass_grammar.specs.Names.{Names, kind_alone, read}
-use Rattle.first_pass_grammar.specs.Order.{Extent, extent_of, extents, Row, Empty, Node, laid, IsBetween, Within, Elsewhere, InItem, InText, InFirst}
-use Rattle.first_pass_grammar.specs.Order.{below, beyond, IsLead, Fits, IsOrdered}
+use Rattle.first_pass_grammar.specs.Order.{Extent, extent_of, extents, Siblings, Empty, Node, laid, IsBetween, Within, Elsewhere, InItem, InText, InFirst}
+use Rattle.first_pass_grammar.specs.Order.{below, beyond, Fits, IsOrdered}
 use Rattle.first_pass_grammar.specs.WholeTables.{AreEachNode}
 use Rattle.first_pass_outline.specs.Outline.{Entry, level_of, id_in}
 use Rattle.first_pass_outline.specs.TextOutline.{IsRangeFrom, LieBetween}
@@ -78,7 +78,7 @@ deep_both : (depth : ℕ) (xs ys : List (ℕ × Extent)) → AreDeep depth xs �
 deep_both depth [] ys h k = k
 deep_both depth (x ∷ xs) ys h k = (h.0, deep_both depth xs ys h.1 k)
 
-laid_deep : (least depth : ℕ) (row : Row) → least ≤ depth → AreDeep least (laid depth row)
+laid_deep : (least depth : ℕ) (row : Siblings) → least ≤ depth → AreDeep least (laid depth row)
 unfolding laid
 laid_deep least depth Empty le = tt
 laid_deep least depth (Node x kids next) le =
@@ -167,7 +167,7 @@ range_from text least from to x le h =
     record { behind = (let a = h.behind in omega arith); order = h.order; starts = h.starts; ends = h.ends }
 
 module _ (names : Names) (text : List ℕ) where
-  node_entries : (least to depth : ℕ) (x : Extent) (n : ℕ × Item) (nodes kids next : List (ℕ × Item)) → (n.0, extent_of n.1) ≡ (depth, x)
+  node_entries : (least to depth : ℕ) (x : Extent) (n : ℕ × Item) (nodes kids next : List (ℕ × Item)) → ◌≡◌ {A = ℕ × Extent} (n.0, extent_of n.1) (depth, x)
       → nodes ≡ kids ++ next → AreDeep (suc depth) kids → NodeFits text least to x (entries_of names kids) (entries_of names next)
       → NoneInside (n ∷ nodes) → LieBetween text least to (entries_of names (n ∷ nodes))
   node_entries least to depth x n nodes kids next first is deep fits none =
@@ -179,7 +179,7 @@ module _ (names : Names) (text : List ℕ) where
       (node_by names text (level_of n.1.body) least to n kids next refl own.range own.inner own.after leaf)
 
   -- the entries of a row
-  row_entries : (within : Within) (from to : ℕ) (row : Row) (depth : ℕ) (nodes : List (ℕ × Item)) → reach within from ≤ from
+  row_entries : (within : Within) (from to : ℕ) (row : Siblings) (depth : ℕ) (nodes : List (ℕ × Item)) → reach within from ≤ from
       → Fits text within from to row → extents nodes ≡ laid depth row → NoneInside nodes
       → LieBetween text (reach within from) to (entries_of names nodes)
   unfolding Fits laid LieBetween
@@ -187,7 +187,7 @@ module _ (names : Names) (text : List ℕ) where
   row_entries within from to Empty depth (n ∷ nodes) back fits e none = cc
   row_entries within from to (Node x kids next) depth [] back fits e none = cc
   row_entries within from to (Node x kids next) depth (n ∷ nodes) back (inl (between, inner, after)) e none =
-      let first : (n.0, extent_of n.1) ≡ (depth, x) = cc in
+      let first : ◌≡◌ {A = ℕ × Extent} (n.0, extent_of n.1) (depth, x) = cc in
       let rest : extents nodes ≡ laid (suc depth) kids ++ laid depth next = cc in
       let (ks, ns, is, a, b) = split_nodes nodes (laid (suc depth) kids) (laid depth next) rest in
       let apart : NoneInside (ks ++ ns) = subst NoneInside is none.1 in
@@ -207,7 +207,7 @@ module _ (names : Names) (text : List ℕ) where
   row_entries InItem from to (Node x kids next) depth (n ∷ nodes) back (inr (lead, inner, after)) e none = absurd lead
   row_entries (InFirst before) from to (Node x kids next) depth (n ∷ nodes) back (inr (lead, inner, after)) e none = absurd lead
   row_entries (InText before) from to (Node x kids next) depth (n ∷ nodes) back (inr (lead, inner, after)) e none =
-      let first : (n.0, extent_of n.1) ≡ (depth, x) = cc in
+      let first : ◌≡◌ {A = ℕ × Extent} (n.0, extent_of n.1) (depth, x) = cc in
       let rest : extents nodes ≡ laid (suc depth) kids ++ laid depth next = cc in
       let (ks, ns, is, a, b) = split_nodes nodes (laid (suc depth) kids) (laid depth next) rest in
       let apart : NoneInside (ks ++ ns) = subst NoneInside is none.1 in

@@ -1,5 +1,4 @@
 -- What a contract sees of the entries of an outline.
-use Rattle.std.specs.Prelude.{ℕ}
 use Rattle.std.specs.Option.{option_map}
 use Rattle.first_pass_outline.specs.Outline.{Entry}
 use Rattle.first_pass_outline.specs.declared.outline.OutlineEntry.{OutlineEntry}

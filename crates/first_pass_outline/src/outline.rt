@@ -1,13 +1,16 @@
 //! The outline of a tree, and of a text.
 
 ghost use Rattle.std.specs.Option.{option_map, option_and_then};
-ghost use Rattle.std.specs.Prelude.{◌≡◌, IfOk, map};
+ghost use Rattle.std.specs.Prelude.{◌≡◌, IfOk, length, map};
 ghost use Rattle.first_pass_grammar.specs.Names.{AttributesAt, named, read, read_nodes};
 ghost use Rattle.first_pass_names.specs.TableEntries.{names_of};
 ghost use Rattle.first_pass_outline.specs.Outline.{entry_of, id_in, outline_of};
 ghost use Rattle.first_pass_outline.specs.Entries.{entry_in};
+ghost use Rattle.first_pass_outline.specs.TextOutline.{IsOnlyOutline, IsOutline, LieBetween};
 
+use first_pass_blocks::pass::run_first_pass;
 use first_pass_items::item::{HeadingIndex, HeadingLevel, Item, ItemBody};
+use first_pass_items::option_set::Options;
 use first_pass_names::items::Allocations;
 use first_pass_tree::forest::Tree;
 use std::alloc::{AllocError, Global};
@@ -39,6 +42,24 @@ pub fn outline<'a>(
             entries.push(entry)?;
         }
     }
+    Ok(entries)
+}
+
+/// The outline of a text under options: that of the one tree that the block grammar derives from it, as nodes are
+/// read through their indices. The entries lie one after the other, and each begins and ends between two characters.
+/// The one error is that a request for memory was refused.
+pub fn outline_text<'a>(
+    alloc: Global,
+    text: &'a str,
+    options: Options,
+) -> Result<Vec<OutlineEntry<'a>>, AllocError>
+    ensures derived { IfOk result (λ entries. IsOutline options text.now (map entry_in entries.items)) }
+    ensures only { IfOk result (λ entries. IsOnlyOutline options text.now (map entry_in entries.items)) }
+    ensures order { IfOk result (λ entries.
+        LieBetween text.now 0 (length text.now) (map entry_in entries.items)) }
+{
+    let (tree, allocs) = run_first_pass(alloc, text, options)?;
+    let entries = outline(alloc, &tree, &allocs)?;
     Ok(entries)
 }
 

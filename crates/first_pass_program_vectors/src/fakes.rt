@@ -1,6 +1,7 @@
 //! A clock, a reader and a writer over memory that can fail.
 
 use first_pass_host::fault::BlocksFault;
+use first_pass_outline::run::{OutlineFault, outline_run};
 use first_pass_program::bench::bench_run;
 use first_pass_program::run::blocks_run;
 use first_pass_timing::clock::TimeSource;
@@ -142,6 +143,17 @@ pub fn run(
 ) -> Result<Result<(), BlocksFault>, AllocError> {
     let list = words_of(alloc, words)?;
     Ok(blocks_run(alloc, list.as_slice(), source, sink))
+}
+
+/// The same of `outline`.
+pub fn list(
+    alloc: Global,
+    words: &[&str],
+    source: &mut Source<'_>,
+    sink: &mut Sink,
+) -> Result<Result<(), OutlineFault>, AllocError> {
+    let list = words_of(alloc, words)?;
+    Ok(outline_run(alloc, list.as_slice(), source, sink))
 }
 
 /// The same of `bench`.

@@ -1,4 +1,4 @@
-//! The work of both programs, each fault of a run, and the printed form of nodes that are made without a text.
+//! The work of the programs, each fault of a run, and the printed form of nodes that are made without a text.
 #![tactic(auto)]
 
 #[cfg(test)]
@@ -7,5 +7,7 @@ mod bench;
 mod fakes;
 #[cfg(test)]
 mod faults;
+#[cfg(test)]
+mod outline;
 #[cfg(test)]
 mod table_lines;

@@ -1,0 +1,76 @@
+//! The lines of an outline, written.
+
+ghost use Rattle.std.specs.Option.{option_map};
+ghost use Rattle.std.specs.Prelude.{◌≡◌, ◌++◌, map, OnOk, OnErr, IfErr};
+ghost use Rattle.std.specs.List.{flat_map};
+ghost use Rattle.std.specs.Io.KnownBytes.{Appends};
+ghost use Rattle.first_pass_host.specs.Streams.{AppendsFront, IsWriteFault};
+ghost use Rattle.first_pass_outline.specs.Entries.{entry_in};
+ghost use Rattle.first_pass_outline.specs.Lines.{entry_line, id_text};
+
+use crate::outline::OutlineEntry;
+use first_pass_host::fault::BlocksFault;
+use first_pass_host::output::write_whole;
+use first_pass_lines::lines::level_number;
+use first_pass_printed::node::append_number;
+use std::alloc::{AllocError, Global};
+use std::io::Write;
+
+/// How many printed bytes are held back before they are written.
+const PIECE: usize = 8192;
+
+/// Appends the line of an entry: its level as a digit, its range after a space, and its id, if it has one, after a
+/// space and `#`. The one error is that a request for memory was refused.
+///
+/// The id stands as it does in the text, and can be read back: it is one word of an attribute block, in which no
+/// space, tab, form feed or line end stands, so all between the `#` and the end of the line is the id.
+pub fn append_entry(line: &mut Vec<u8>, entry: &OutlineEntry<'_>) -> Result<(), AllocError>
+    ensures { OnOk result (line.new.items ≡ line.old.items ++ entry_line (entry_in entry.now)) }
+{
+    append_number(line, level_number(entry.level))?;
+    line.push(b' ')?;
+    append_number(line, entry.range.start)?;
+    line.extend_from_slice(b"..")?;
+    append_number(line, entry.range.end)?;
+    append_id(line, entry.id)?;
+    line.push(b'\n')?;
+    Ok(())
+}
+
+/// Appends a space, `#` and an id, if there is one.
+fn append_id(line: &mut Vec<u8>, id: Option<&str>) -> Result<(), AllocError>
+    ensures { OnOk result (line.new.items ≡ line.old.items ++ id_text (option_map (λ id. id.now) id.entry)) }
+{
+    match id {
+        None => Ok(()),
+        Some(id) => {
+            line.extend_from_slice(b" #")?;
+            line.extend_from_slice(id.as_bytes())?;
+            Ok(())
+        }
+    }
+}
+
+/// Writes the lines of entries, in their order. A fault is `WriteFailed`, or `OutOfMemory` where a request was
+/// refused; a beginning of the lines may be written then.
+pub fn write_entries<W: Write>(
+    alloc: Global,
+    entries: &[OutlineEntry<'_>],
+    output: &mut W,
+) -> Result<(), BlocksFault>
+    ensures ok { OnOk result (Appends (W.contents output.old) (W.contents output.new)
+        (flat_map entry_line (map entry_in entries.now))) }
+    ensures front { OnErr result (AppendsFront (W.contents output.old) (W.contents output.new)
+        (flat_map entry_line (map entry_in entries.now))) }
+    ensures fault { IfErr result IsWriteFault }
+{
+    let mut held = Vec::new(alloc);
+    for entry in entries {
+        append_entry(&mut held, entry)?;
+        if PIECE <= held.len() {
+            write_whole(output, held.as_slice())?;
+            held.clear();
+        }
+    }
+    write_whole(output, held.as_slice())
+}

@@ -1,0 +1,60 @@
+//! The work of the program `outline`.
+
+ghost use Rattle.std.specs.Prelude.{◌≡◌, ℕ, OnOk, IfErr, Err};
+ghost use Rattle.first_pass_host.specs.declared.fault.BlocksFault.TheVariants.{BadOptions};
+ghost use Rattle.first_pass_host.specs.OptionWord.{StandFor};
+ghost use Rattle.first_pass_host.specs.Streams.{stream_between};
+ghost use Rattle.first_pass_run.specs.Runs.{WritesWhole, Leaves};
+ghost use Rattle.first_pass_outline.specs.Lines.{IsListed};
+
+use crate::lines::write_entries;
+use crate::outline::outline_text;
+/// Why a run of the program `outline` ended without its whole output.
+pub use first_pass_host::fault::BlocksFault as OutlineFault;
+use first_pass_items::option_set::Options;
+use first_pass_run::report::{Report, run_report};
+use std::alloc::Global;
+use std::io::{Read, Write};
+
+/// The outline of a text, a heading a line in reading order.
+struct ListedOutline;
+
+impl Report for ListedOutline {
+    ghost says = { λ _ options text output. IsListed options text output };
+
+    fn write_report<W: Write>(
+        &self,
+        alloc: Global,
+        text: &str,
+        options: Options,
+        output: &mut W,
+    ) -> Result<(), OutlineFault> {
+        let entries = outline_text(alloc, text, options)?;
+        write_entries(alloc, entries.as_slice(), output)
+    }
+}
+
+/// Reads the input to its end and writes the outline of its text, a line for each heading in reading order (see
+/// `append_entry`). `words` are those after the program's name (see `parse_options`).
+///
+/// Faults are found in this order: the options, before the first read and without memory; the reads;
+/// UTF-8 of the whole input; the pass; the writes. `OutOfMemory` comes at the request that was refused.
+/// What was written at a fault is nothing, or a beginning of the whole output. Reader and writer are lent,
+/// so that what they hold at the end can be said.
+pub fn outline_run<R: Read, W: Write>(
+    alloc: Global,
+    words: &[String],
+    input: &mut R,
+    output: &mut W,
+) -> Result<(), OutlineFault>
+    ensures ok { OnOk result (WritesWhole IsListed words.now
+        (stream_between (R.remaining input.old) (R.remaining input.new))
+        (stream_between (W.contents output.old) (W.contents output.new))) }
+    ensures fault { IfErr result (λ fault. Leaves IsListed fault words.now
+        (stream_between (R.remaining input.old) (R.remaining input.new))
+        (stream_between (W.contents output.old) (W.contents output.new))) }
+    ensures bad_options { ((bits : ℕ) → StandFor words.now bits → ⊥) → result ≡ Err BadOptions }
+    ensures options { (bits : ℕ) → StandFor words.now bits → result ≡ Err BadOptions → ⊥ }
+{
+    run_report(&ListedOutline, alloc, words, input, output)
+}

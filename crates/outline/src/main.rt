@@ -1,0 +1,25 @@
+//! `outline [BITS]`: prints the outline of a Markdown text on standard input, its headings. BITS is the
+//! decimal value of the options, 0 if absent.
+#![tactic(auto)]
+
+use first_pass_host::words::words_of;
+use first_pass_outline::run::{OutlineFault, outline_run};
+use std::alloc::Global;
+use std::process::ExitCode;
+
+fn run(rt: &HostRuntime) -> Result<(), OutlineFault> {
+    let words = words_of(rt)?;
+    let mut input = rt.stdin();
+    let mut output = rt.stdout();
+    outline_run(rt.alloc(), words.as_slice(), &mut input, &mut output)
+}
+
+fn main(rt: HostRuntime) -> ExitCode {
+    match run(&rt) {
+        Ok(()) => ExitCode::SUCCESS,
+        Err(fault) => {
+            let _ = eprintln!(rt; "{}", fault.message());
+            ExitCode::from(fault.status())
+        }
+    }
+}
