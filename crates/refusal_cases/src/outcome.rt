@@ -25,6 +25,16 @@ pub enum Outcome {
 }
 
 impl Outcome {
+    /// What calls came to when one more is refused, by whether all is as before. One request of a run is refused, so a
+    /// second call that is refused has invented that.
+    pub fn refused(self, is_kept: bool) -> Outcome {
+        match self {
+            Outcome::Usual if is_kept => Outcome::Refused,
+            Outcome::Usual => Outcome::Changed,
+            _ => Outcome::Differs,
+        }
+    }
+
     /// The word by which it is told.
     pub fn word(self) -> &'static str {
         match self {

@@ -9,8 +9,17 @@ use first_pass_names::items::{Allocations, HeadingAttributes};
 use std::alloc::{AllocError, Global};
 use std::ops::DerefStr;
 
-/// What is put into the tables one after the other, in the order of labels.
-const WORDS: [&str; 12] = ["a", "b", "c", "d", "e", "f", "g", "h", "i", "j", "k", "l"];
+/// What is put into the tables one after the other, in the order of labels: more than a table of labels has room for
+/// at its first request, so that it is refused another when it has entries.
+const WORDS: [&str; 17] = [
+    "a", "b", "c", "d", "e", "f", "g", "h", "i", "j", "k", "l", "m", "n", "o", "p", "q",
+];
+
+/// How many texts, alignments and attributes are named.
+const TIMES: usize = 12;
+
+/// The alignments of a table of one column.
+const COLUMNS: [Alignment; 1] = [Alignment::Center];
 
 /// Makes a call of this name; `None` where it is another one. An error where a request of the test was refused.
 pub fn call_tables(alloc: Global, call: &str) -> Option<Result<Outcome, AllocError>> {
@@ -25,22 +34,69 @@ pub fn call_tables(alloc: Global, call: &str) -> Option<Result<Outcome, AllocErr
     }
 }
 
-/// Whether the tables name the first words, so many of them, and define so many of them as links and as footnotes.
-fn has(allocs: &Allocations<'_>, texts: usize, links: usize, footnotes: usize) -> bool {
+/// How many entries there are in tables, made of the first words.
+#[derive(Clone, Copy)]
+struct Counts {
+    texts: usize,
+    alignments: usize,
+    headings: usize,
+    links: usize,
+    footnotes: usize,
+}
+
+/// No entry.
+const NONE: Counts = Counts {
+    texts: 0,
+    alignments: 0,
+    headings: 0,
+    links: 0,
+    footnotes: 0,
+};
+
+/// Whether tables have so many entries, made of the first words: texts, alignments of one column each, attributes with
+/// ids alone, definitions of links that lead there, and of footnotes.
+fn has(allocs: &Allocations<'_>, counts: Counts) -> bool {
     for at in 0..WORDS.len() {
-        let want = if at < texts { WORDS[at] } else { "" };
-        if allocs.text_at(CowIndex(at)) != want {
+        let text = if at < counts.texts { WORDS[at] } else { "" };
+        let columns: &[Alignment] = if at < counts.alignments {
+            &COLUMNS
+        } else {
+            &[]
+        };
+        let is_kept = allocs.text_at(CowIndex(at)) == text
+            && allocs.alignments_at(AlignmentIndex(at)) == columns
+            && has_heading(allocs, at, at < counts.headings);
+        if !is_kept {
             return false;
         }
     }
-    has_links(allocs, links) && has_footnotes(allocs, footnotes)
+    has_links(allocs, counts.links) && has_footnotes(allocs, counts.footnotes)
+}
+
+/// Whether there are attributes at this place, a word as their id, if that is wanted, or else none.
+fn has_heading(allocs: &Allocations<'_>, at: usize, is_wanted: bool) -> bool {
+    match allocs.attributes_at(HeadingIndex(at)) {
+        Some(given) => {
+            is_wanted
+                && given.id == WORDS.get(at).copied()
+                && given.classes.is_empty()
+                && given.attrs.is_empty()
+        }
+        None => !is_wanted,
+    }
 }
 
 fn has_links(allocs: &Allocations<'_>, count: usize) -> bool {
     let mut at = 0;
     for (label, link) in allocs.refdefs().iter() {
         let is_wanted = match WORDS.get(at) {
-            Some(word) => label.label() == *word && link.dest.deref() == *word,
+            Some(word) => {
+                label.label() == *word
+                    && label.folding() == *word
+                    && link.dest.deref() == *word
+                    && link.title.is_none()
+                    && link.span == (0..0)
+            }
             None => false,
         };
         if !is_wanted {
@@ -54,7 +110,11 @@ fn has_links(allocs: &Allocations<'_>, count: usize) -> bool {
 fn has_footnotes(allocs: &Allocations<'_>, count: usize) -> bool {
     let mut at = 0;
     for (label, footnote) in allocs.footdefs().iter() {
-        if WORDS.get(at) != Some(&label.label()) || footnote.use_count != 0 {
+        let is_wanted = match WORDS.get(at) {
+            Some(word) => label.label() == *word && label.folding() == *word,
+            None => false,
+        };
+        if !is_wanted || footnote.use_count != 0 {
             return false;
         }
         at = at.saturating_add(1);
@@ -65,67 +125,49 @@ fn has_footnotes(allocs: &Allocations<'_>, count: usize) -> bool {
 fn allocate_cow(alloc: Global) -> Result<Outcome, AllocError> {
     let mut allocs = Allocations::new(alloc);
     let mut outcome = Outcome::Usual;
-    for count in 0..WORDS.len() {
-        let mut answer = allocs.allocate_cow(CowStr::Borrowed(WORDS[count]));
+    for texts in 0..TIMES {
+        let mut answer = allocs.allocate_cow(CowStr::Borrowed(WORDS[texts]));
         if answer.is_err() {
-            if !has(&allocs, count, 0, 0) {
-                return Ok(Outcome::Changed);
+            outcome = outcome.refused(has(&allocs, Counts { texts, ..NONE }));
+            if outcome != Outcome::Refused {
+                return Ok(outcome);
             }
-            answer = allocs.allocate_cow(CowStr::Borrowed(WORDS[count]));
-            outcome = Outcome::Refused;
+            answer = allocs.allocate_cow(CowStr::Borrowed(WORDS[texts]));
         }
-        if answer? != CowIndex(count) || !has(&allocs, count + 1, 0, 0) {
+        let after = Counts {
+            texts: texts + 1,
+            ..NONE
+        };
+        if answer != Ok(CowIndex(texts)) || !has(&allocs, after) {
             return Ok(Outcome::Differs);
         }
     }
     Ok(outcome)
-}
-
-/// Whether nodes can name this many alignments, one column each.
-fn has_alignments(allocs: &Allocations<'_>, count: usize) -> bool {
-    for at in 0..WORDS.len() {
-        let columns = allocs.alignments_at(AlignmentIndex(at)).len();
-        if columns != usize::from(at < count) {
-            return false;
-        }
-    }
-    has(allocs, 0, 0, 0)
 }
 
 fn allocate_alignment(alloc: Global) -> Result<Outcome, AllocError> {
     let mut allocs = Allocations::new(alloc);
     let mut outcome = Outcome::Usual;
-    for count in 0..WORDS.len() {
+    for alignments in 0..TIMES {
         let column = vec![in alloc; Alignment::Center]?;
         let mut answer = allocs.allocate_alignment(column);
         if answer.is_err() {
-            if !has_alignments(&allocs, count) {
-                return Ok(Outcome::Changed);
+            outcome = outcome.refused(has(&allocs, Counts { alignments, ..NONE }));
+            if outcome != Outcome::Refused {
+                return Ok(outcome);
             }
             let column = vec![in alloc; Alignment::Center]?;
             answer = allocs.allocate_alignment(column);
-            outcome = Outcome::Refused;
         }
-        if answer? != AlignmentIndex(count) || !has_alignments(&allocs, count + 1) {
+        let after = Counts {
+            alignments: alignments + 1,
+            ..NONE
+        };
+        if answer != Ok(AlignmentIndex(alignments)) || !has(&allocs, after) {
             return Ok(Outcome::Differs);
         }
     }
     Ok(outcome)
-}
-
-/// Whether nodes can name this many attributes, the first words as ids.
-fn has_headings(allocs: &Allocations<'_>, count: usize) -> bool {
-    for at in 0..WORDS.len() {
-        let id = match allocs.attributes_at(HeadingIndex(at)) {
-            Some(given) => given.id,
-            None => None,
-        };
-        let want = if at < count { Some(WORDS[at]) } else { None };
-        if id != want {
-            return false;
-        }
-    }
-    has(allocs, 0, 0, 0)
 }
 
 fn with_id<'a>(alloc: Global, id: &'a str) -> HeadingAttributes<'a> {
@@ -139,16 +181,20 @@ fn with_id<'a>(alloc: Global, id: &'a str) -> HeadingAttributes<'a> {
 fn allocate_heading(alloc: Global) -> Result<Outcome, AllocError> {
     let mut allocs = Allocations::new(alloc);
     let mut outcome = Outcome::Usual;
-    for count in 0..WORDS.len() {
-        let mut answer = allocs.allocate_heading(with_id(alloc, WORDS[count]));
+    for headings in 0..TIMES {
+        let mut answer = allocs.allocate_heading(with_id(alloc, WORDS[headings]));
         if answer.is_err() {
-            if !has_headings(&allocs, count) {
-                return Ok(Outcome::Changed);
+            outcome = outcome.refused(has(&allocs, Counts { headings, ..NONE }));
+            if outcome != Outcome::Refused {
+                return Ok(outcome);
             }
-            answer = allocs.allocate_heading(with_id(alloc, WORDS[count]));
-            outcome = Outcome::Refused;
+            answer = allocs.allocate_heading(with_id(alloc, WORDS[headings]));
         }
-        if answer? != HeadingIndex(count) || !has_headings(&allocs, count + 1) {
+        let after = Counts {
+            headings: headings + 1,
+            ..NONE
+        };
+        if answer != Ok(HeadingIndex(headings)) || !has(&allocs, after) {
             return Ok(Outcome::Differs);
         }
     }
@@ -167,20 +213,34 @@ fn link<'a>(dest: &'a str) -> LinkDef<'a> {
     }
 }
 
+// Defines a word as a link that leads there. The key of its label may be refused, too.
+fn define_word(
+    alloc: Global,
+    allocs: &mut Allocations<'_>,
+    word: &'static str,
+) -> Result<(), AllocError> {
+    let label = key(alloc, word)?;
+    allocs.define_link(label, link(word))
+}
+
 fn define_link(alloc: Global) -> Result<Outcome, AllocError> {
     let mut allocs = Allocations::new(alloc);
     let mut outcome = Outcome::Usual;
-    for count in 0..WORDS.len() {
-        let word = WORDS[count];
-        let label = key(alloc, word)?;
-        if allocs.define_link(label, link(word)).is_err() {
-            if !has(&allocs, 0, count, 0) {
-                return Ok(Outcome::Changed);
+    for links in 0..WORDS.len() {
+        let word = WORDS[links];
+        let mut answer = define_word(alloc, &mut allocs, word);
+        if answer.is_err() {
+            outcome = outcome.refused(has(&allocs, Counts { links, ..NONE }));
+            if outcome != Outcome::Refused {
+                return Ok(outcome);
             }
-            allocs.define_link(key(alloc, word)?, link(word))?;
-            outcome = Outcome::Refused;
+            answer = define_word(alloc, &mut allocs, word);
         }
-        if !has(&allocs, 0, count + 1, 0) {
+        let after = Counts {
+            links: links + 1,
+            ..NONE
+        };
+        if answer.is_err() || !has(&allocs, after) {
             return Ok(Outcome::Differs);
         }
     }
@@ -190,16 +250,21 @@ fn define_link(alloc: Global) -> Result<Outcome, AllocError> {
 fn define_footnote(alloc: Global) -> Result<Outcome, AllocError> {
     let mut allocs = Allocations::new(alloc);
     let mut outcome = Outcome::Usual;
-    for count in 0..WORDS.len() {
-        let label = CowStr::Borrowed(WORDS[count]);
-        if allocs.define_footnote(alloc, &label).is_err() {
-            if !has(&allocs, 0, 0, count) {
-                return Ok(Outcome::Changed);
+    for footnotes in 0..WORDS.len() {
+        let label = CowStr::Borrowed(WORDS[footnotes]);
+        let mut answer = allocs.define_footnote(alloc, &label);
+        if answer.is_err() {
+            outcome = outcome.refused(has(&allocs, Counts { footnotes, ..NONE }));
+            if outcome != Outcome::Refused {
+                return Ok(outcome);
             }
-            allocs.define_footnote(alloc, &label)?;
-            outcome = Outcome::Refused;
+            answer = allocs.define_footnote(alloc, &label);
         }
-        if !has(&allocs, 0, 0, count + 1) {
+        let after = Counts {
+            footnotes: footnotes + 1,
+            ..NONE
+        };
+        if answer.is_err() || !has(&allocs, after) {
             return Ok(Outcome::Differs);
         }
     }
@@ -218,6 +283,18 @@ fn finds(allocs: &Allocations<'_>) -> Result<bool, AllocError> {
     }
 }
 
+// Whether the one link is that of a label, and leads to `x`.
+fn has_only(allocs: &Allocations<'_>, wanted: &str) -> bool {
+    let mut count: usize = 0;
+    for (label, link) in allocs.refdefs().iter() {
+        if label.label() != wanted || link.dest.deref() != "x" {
+            return false;
+        }
+        count = count.saturating_add(1);
+    }
+    count == 1
+}
+
 fn get(alloc: Global) -> Result<Outcome, AllocError> {
     let mut allocs = Allocations::new(alloc);
     let long = "A Label Of More Than Twenty-Two Bytes";
@@ -225,10 +302,13 @@ fn get(alloc: Global) -> Result<Outcome, AllocError> {
     let (found, outcome) = match finds(&allocs) {
         Ok(found) => (found, Outcome::Usual),
         Err(_) => {
-            if allocs.refdefs().iter().count() != 1 {
+            if !has_only(&allocs, long) {
                 return Ok(Outcome::Changed);
             }
-            (finds(&allocs)?, Outcome::Refused)
+            match finds(&allocs) {
+                Ok(found) => (found, Outcome::Refused),
+                Err(_) => return Ok(Outcome::Differs),
+            }
         }
     };
     Ok(if found { outcome } else { Outcome::Differs })

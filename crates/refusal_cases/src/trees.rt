@@ -42,6 +42,45 @@ impl Seen {
             && self.open.as_slice() == tree.walk_spine()
             && self.current == tree.cur()
     }
+
+    /// Whether a tree is as it was seen, but for a last node below the root, which is current.
+    fn has_appended(&self, tree: &Tree<Item>, item: Item) -> bool {
+        let count = self.nodes.len();
+        tree.node_count() == count.saturating_add(1)
+            && tree.nodes().starts_with(self.nodes.as_slice())
+            && tree.nodes().last() == Some(&(1, item))
+            && tree.walk_spine() == self.open.as_slice()
+            && tree.cur() == Some(TreeIndex(count))
+    }
+
+    /// Whether a tree is as it was seen, but for the current node, this one, which is open.
+    fn has_pushed(&self, tree: &Tree<Item>, opened: TreeIndex) -> bool {
+        tree.nodes() == self.nodes.as_slice()
+            && tree.spine_len() == self.open.len().saturating_add(1)
+            && tree.walk_spine().starts_with(self.open.as_slice())
+            && tree.peek_up() == Some(opened)
+            && tree.cur().is_none()
+    }
+
+    /// Whether a tree is as it was seen, but for a node below the first, and the others below that one.
+    fn has_created(&self, tree: &Tree<Item>, item: Item) -> bool {
+        if tree.node_count() != self.nodes.len().saturating_add(1)
+            || tree.nodes().get(2) != Some(&(2, item))
+            || tree.walk_spine() != self.open.as_slice()
+            || tree.cur() != self.current
+        {
+            return false;
+        }
+        for (at, (depth, kept)) in self.nodes.as_slice().iter().enumerate() {
+            let deeper = usize::from(2 <= at);
+            let place = at.saturating_add(deeper);
+            let wanted = (depth.saturating_add(deeper), *kept);
+            if tree.nodes().get(place) != Some(&wanted) {
+                return false;
+            }
+        }
+        true
+    }
 }
 
 /// Makes a call of this name; `None` where it is another one. An error where a request of the test was refused.
@@ -70,13 +109,15 @@ fn append(alloc: Global) -> Result<Outcome, AllocError> {
     for start in 0..TIMES {
         seen.look(&tree)?;
         if tree.append(block(start)).is_err() {
-            if !seen.is_kept(&tree) {
-                return Ok(Outcome::Changed);
+            outcome = outcome.refused(seen.is_kept(&tree));
+            if outcome != Outcome::Refused {
+                return Ok(outcome);
             }
-            tree.append(block(start))?;
-            outcome = Outcome::Refused;
+            if tree.append(block(start)).is_err() {
+                return Ok(Outcome::Differs);
+            }
         }
-        if tree.node_count() != start + 2 || tree.nodes().last() != Some(&(1, block(start))) {
+        if !seen.has_appended(&tree, block(start)) {
             return Ok(Outcome::Differs);
         }
     }
@@ -92,18 +133,18 @@ fn append_text(alloc: Global) -> Result<Outcome, AllocError> {
         let (start, end) = (3 * count, 3 * count + 2);
         seen.look(&tree)?;
         if tree.append_text(start, end, false).is_err() {
-            if !seen.is_kept(&tree) {
-                return Ok(Outcome::Changed);
+            outcome = outcome.refused(seen.is_kept(&tree));
+            if outcome != Outcome::Refused {
+                return Ok(outcome);
             }
-            tree.append_text(start, end, false)?;
-            outcome = Outcome::Refused;
+            if tree.append_text(start, end, false).is_err() {
+                return Ok(Outcome::Differs);
+            }
         }
         let body = ItemBody::Text {
             backslash_escaped: false,
         };
-        if tree.node_count() != count + 2
-            || tree.nodes().last() != Some(&(1, Item { start, end, body }))
-        {
+        if !seen.has_appended(&tree, Item { start, end, body }) {
             return Ok(Outcome::Differs);
         }
     }
@@ -118,13 +159,15 @@ fn push(alloc: Global) -> Result<Outcome, AllocError> {
         let last = tree.append(block(start))?;
         seen.look(&tree)?;
         if tree.push().is_err() {
-            if !seen.is_kept(&tree) {
-                return Ok(Outcome::Changed);
+            outcome = outcome.refused(seen.is_kept(&tree));
+            if outcome != Outcome::Refused {
+                return Ok(outcome);
             }
-            tree.push()?;
-            outcome = Outcome::Refused;
+            if tree.push().is_err() {
+                return Ok(Outcome::Differs);
+            }
         }
-        if tree.spine_len() != start + 1 || tree.peek_up() != Some(last) || tree.cur().is_some() {
+        if !seen.has_pushed(&tree, last) {
             return Ok(Outcome::Differs);
         }
     }
@@ -143,13 +186,15 @@ fn create_node(alloc: Global) -> Result<Outcome, AllocError> {
         }
         seen.look(&tree)?;
         if tree.create_node(block(start)).is_err() {
-            if !seen.is_kept(&tree) {
-                return Ok(Outcome::Changed);
+            outcome = outcome.refused(seen.is_kept(&tree));
+            if outcome != Outcome::Refused {
+                return Ok(outcome);
             }
-            tree.create_node(block(start))?;
-            outcome = Outcome::Refused;
+            if tree.create_node(block(start)).is_err() {
+                return Ok(Outcome::Differs);
+            }
         }
-        if tree.node_count() != start + 2 || tree.nodes().get(2) != Some(&(2, block(start))) {
+        if !seen.has_created(&tree, block(start)) {
             return Ok(Outcome::Differs);
         }
     }
