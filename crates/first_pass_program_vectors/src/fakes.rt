@@ -4,6 +4,7 @@ use first_pass_host::fault::BlocksFault;
 use first_pass_outline::run::{OutlineFault, outline_run};
 use first_pass_program::bench::bench_run;
 use first_pass_program::run::blocks_run;
+use first_pass_references::run::links_run;
 use first_pass_timing::clock::TimeSource;
 use std::alloc::{AllocError, Global};
 use std::io;
@@ -154,6 +155,17 @@ pub fn list(
 ) -> Result<Result<(), OutlineFault>, AllocError> {
     let list = words_of(alloc, words)?;
     Ok(outline_run(alloc, list.as_slice(), source, sink))
+}
+
+/// The same of `links`.
+pub fn list_links(
+    alloc: Global,
+    words: &[&str],
+    source: &mut Source<'_>,
+    sink: &mut Sink,
+) -> Result<Result<(), BlocksFault>, AllocError> {
+    let list = words_of(alloc, words)?;
+    Ok(links_run(alloc, list.as_slice(), source, sink))
 }
 
 /// The same of `bench`.

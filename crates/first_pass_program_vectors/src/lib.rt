@@ -8,6 +8,8 @@ mod fakes;
 #[cfg(test)]
 mod faults;
 #[cfg(test)]
+mod links;
+#[cfg(test)]
 mod outline;
 #[cfg(test)]
 mod table_lines;

@@ -1,0 +1,96 @@
+//! What `links` writes of texts, and its faults.
+
+use crate::fakes::{Sink, Source, list_links};
+use first_pass_host::fault::BlocksFault;
+use std::alloc::Global;
+use std::process::Abort;
+use std::test::Fail;
+
+/// Asserts what is written of texts under options.
+fn assert_listed(
+    rt: &impl Abort,
+    alloc: Global,
+    options: &str,
+    cases: &[(&[u8], &[u8])],
+) -> Result<(), Fail> {
+    for (text, lines) in cases {
+        let mut sink = Sink::new(alloc, 20, 0);
+        let answer = list_links(alloc, &[options], &mut Source::new(text, 3, 0), &mut sink)?;
+        assert!(rt;
+            answer == Ok(()) && *sink.bytes.as_slice() == **lines,
+            "{text:?}"
+        );
+    }
+    Ok(())
+}
+
+#[test]
+fn references_are_listed(rt: HostRuntime) -> Result<(), Fail> {
+    let cases: &[(&[u8], &[u8])] = &[
+        // The label of the first of two definitions, in another case.
+        (
+            b"[a]: /1 \"b\"\n[A]: /2\n\n[A] [b]\n",
+            b"definition [a]: /1 \"b\" 0..11\nreference /1 21..24\n",
+        ),
+        // An image, and the second pair of a full reference.
+        (
+            b"![a] [t][A]\n\n[a]: /x\n",
+            b"definition [a]: /x 13..20\nreference /x 0..4\nreference /x 8..11\n",
+        ),
+        // Brackets around others.
+        (
+            b"[[a] ]\n\n[a]: /x\n",
+            b"definition [a]: /x 8..15\nreference /x 1..4\n",
+        ),
+        // Brackets of two blocks.
+        (b"# [a\n]\n\n[a]: /x\n", b"definition [a]: /x 8..15\n"),
+    ];
+    assert_listed(&rt, rt.alloc(), "0", cases)
+}
+
+#[test]
+fn labels_are_read(rt: HostRuntime) -> Result<(), Fail> {
+    let cases: &[(&[u8], &[u8])] = &[
+        // Over two lines of a quote, and with an escaped bracket first in the second one.
+        (
+            b"> [a\n> b]\n\n[a b]: /x\n",
+            b"definition [a b]: /x 11..20\nreference /x 2..9\n",
+        ),
+        (
+            b"> [a\n> \\]]\n\n[a \\]]: /x\n",
+            b"definition [a \\]]: /x 12..22\nreference /x 2..10\n",
+        ),
+        // A backslash that makes a line break.
+        (
+            b"[a\\\nb]\n\n[a\\ b]: /x\n",
+            b"definition [a\\ b]: /x 8..18\nreference /x 0..6\n",
+        ),
+    ];
+    assert_listed(&rt, rt.alloc(), "0", cases)?;
+    // A pipe in a cell.
+    let cell: &[(&[u8], &[u8])] = &[(
+        b"|[a\\|b]|\n|-|\n\n[a|b]: /x\n",
+        b"definition [a|b]: /x 14..23\nreference /x 1..7\n",
+    )];
+    assert_listed(&rt, rt.alloc(), "2", cell)?;
+    let footnote: &[(&[u8], &[u8])] = &[(
+        b"[a]: /x\n\n[^n]: [a]",
+        b"definition [a]: /x 0..7\nfootnote [^n] 9..18\nreference /x 15..18\n",
+    )];
+    assert_listed(&rt, rt.alloc(), "4", footnote)
+}
+
+#[test]
+fn links_have_faults(rt: HostRuntime) -> Result<(), Fail> {
+    let cases: &[(&str, &[u8], BlocksFault)] = &[
+        ("x", b"[a]: /x\n", BlocksFault::BadOptions),
+        ("0", b"\xff", BlocksFault::NotUtf8),
+        ("0", b"[a]: /x\n", BlocksFault::WriteFailed),
+    ];
+    for (word, text, fault) in cases {
+        let mut sink = Sink::new(rt.alloc(), 20, 1);
+        let answer = list_links(rt.alloc(), &[word], &mut Source::new(text, 3, 0), &mut sink)?;
+        assert!(rt; answer == Err(*fault) && sink.bytes.is_empty(), "{text:?}");
+    }
+    Ok(())
+}

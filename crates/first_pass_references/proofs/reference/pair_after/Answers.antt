@@ -1,0 +1,20 @@
+use Rattle.std.proofs.Common.{◌≡◌, ℕ, ◌<◌, ◌≤◌, List, length, take, slice_get, get_or, Option, Some, None, IfSome, MatchOption, Bor, refl, sym, ap, ◌∙◌}
+use Rattle.std.specs.Option.{option_copied}
+use Rattle.std.specs.List.{HoldsAt}
+use Rattle.std.proofs.lemmas.Option.{slice_get_past, slice_get_read}
+use Rattle.first_pass_items.specs.declared.item.Item.{Item}
+use Rattle.first_pass_references.specs.Pairs.{closed_by}
+use Rattle.first_pass_references.proofs.reference.pair_after.Goals as goal
+
+-- what `get` gives is what stands there
+got : (nodes : List (ℕ × Item)) (i : ℕ) (r : Option (Bor (ℕ × Item))) → IfSome r (λ x. x.now ≡ get_or nodes i x.now)
+    → MatchOption r (length nodes ≤ i) (λ x. (i < length nodes) × HoldsAt (λ y. x.now ≡ y) nodes i) → option_copied r ≡ slice_get nodes i
+got nodes i None read beyond = sym (slice_get_past nodes i beyond)
+got nodes i (Some x) read within = sym (slice_get_read nodes (length nodes) i x.now refl within.0 read)
+
+pub returns : goal.returns
+returns c =
+    let nodes = c.args.nodes.now in
+    let next = got nodes c.inside_count-count.result c.get.result c.get.ensures.lookup.1 c.get.ensures.lookup.3 in
+    c.closed_by.ensures ∙ ap (closed_by c.args.depth (take c.inside_count-count.result nodes)) next
+    ∙ ap (λ n. closed_by c.args.depth (take n nodes) (slice_get nodes n)) c.inside_count-count.ensures.value
