@@ -1,2 +1,2 @@
-mod Lines
+pub mod Lines
 mod LinkLines

@@ -95,8 +95,8 @@ fn append_named(
     }
 }
 
-/// The attributes of a heading that it names by this index, if it has one.
-fn attributes_at<'a, 'b>(
+/// The attributes of a heading that it names by this index; `None` where it has no index, or one that names none.
+pub fn attributes_at<'a, 'b>(
     allocs: &'b Allocations<'a>,
     ix: Option<HeadingIndex>,
 ) -> Option<&'b HeadingAttributes<'a>>
@@ -302,7 +302,8 @@ fn append_character(line: &mut Vec<u8>, character: char) -> Result<(), AllocErro
     append_word(line, character.encode_utf8(&mut buffer))
 }
 
-fn flag_name(flag: bool) -> &'static str
+/// `true` or `false`.
+pub fn flag_name(flag: bool) -> &'static str
     ensures { result.now ≡ flag_name flag }
 {
     if flag { "true" } else { "false" }
@@ -319,7 +320,8 @@ fn list_name(flags: ListFlags) -> &'static str
     }
 }
 
-fn quote_name(kind: BlockQuoteKind) -> &'static str
+/// The kind of a block quote, as `Note` or `Caution`.
+pub fn quote_name(kind: BlockQuoteKind) -> &'static str
     ensures { result.now ≡ quote_name kind }
 {
     match kind {
@@ -331,7 +333,8 @@ fn quote_name(kind: BlockQuoteKind) -> &'static str
     }
 }
 
-fn metadata_name(kind: MetadataBlockKind) -> &'static str
+/// The kind of a metadata block: `YamlStyle` or `PlusesStyle`.
+pub fn metadata_name(kind: MetadataBlockKind) -> &'static str
     ensures { result.now ≡ metadata_name kind }
 {
     match kind {

@@ -1,6 +1,7 @@
 //! A clock, a reader and a writer over memory that can fail.
 
 use first_pass_host::fault::BlocksFault;
+use first_pass_json::run::tree_run;
 use first_pass_outline::run::{OutlineFault, outline_run};
 use first_pass_program::bench::bench_run;
 use first_pass_program::run::blocks_run;
@@ -166,6 +167,17 @@ pub fn list_links(
 ) -> Result<Result<(), BlocksFault>, AllocError> {
     let list = words_of(alloc, words)?;
     Ok(links_run(alloc, list.as_slice(), source, sink))
+}
+
+/// The same of `tree`.
+pub fn write_tree(
+    alloc: Global,
+    words: &[&str],
+    source: &mut Source<'_>,
+    sink: &mut Sink,
+) -> Result<Result<(), BlocksFault>, AllocError> {
+    let list = words_of(alloc, words)?;
+    Ok(tree_run(alloc, list.as_slice(), source, sink))
 }
 
 /// The same of `bench`.

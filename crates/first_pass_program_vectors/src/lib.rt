@@ -13,3 +13,5 @@ mod links;
 mod outline;
 #[cfg(test)]
 mod table_lines;
+#[cfg(test)]
+mod tree;

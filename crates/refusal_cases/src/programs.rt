@@ -6,6 +6,7 @@ use first_pass_blocks::pass::run_first_pass;
 use first_pass_host::fault::BlocksFault;
 use first_pass_host::option_word::parse_options;
 use first_pass_host::words::words_of;
+use first_pass_json::run::tree_run;
 use first_pass_printed::links::append_link;
 use first_pass_printed::node::append_node;
 use first_pass_program::bench::bench_run;
@@ -64,7 +65,7 @@ fn call_once(rt: &HostRuntime, case: &Case<'_>) -> Option<Outcome> {
     match case.call {
         "parse" => Some(parse(rt.alloc(), case).unwrap_or(Outcome::Elsewhere)),
         "words" => Some(take_words(rt, case)),
-        "blocks" | "bench" => Some(run(rt.alloc(), case).unwrap_or(Outcome::Elsewhere)),
+        "blocks" | "tree" | "bench" => Some(run(rt.alloc(), case).unwrap_or(Outcome::Elsewhere)),
         _ => None,
     }
 }
@@ -107,10 +108,10 @@ fn run(alloc: Global, case: &Case<'_>) -> Result<Outcome, AllocError> {
     };
     let words = case.words.as_slice();
     let mut input = case.text.as_bytes();
-    let answer = if case.call == "blocks" {
-        blocks_run(alloc, words, &mut input, &mut page)
-    } else {
-        bench_run(&mut Ticks { nanos: 0 }, alloc, words, &mut input, &mut page)
+    let answer = match case.call {
+        "blocks" => blocks_run(alloc, words, &mut input, &mut page),
+        "tree" => tree_run(alloc, words, &mut input, &mut page),
+        _ => bench_run(&mut Ticks { nanos: 0 }, alloc, words, &mut input, &mut page),
     };
     let wanted = case.wanted.as_bytes();
     let written = page.bytes.as_slice();

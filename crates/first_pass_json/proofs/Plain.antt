@@ -1,0 +1,12 @@
+-- A character that stands for itself in a JSON string.
+use Rattle.std.proofs.Common.{◌≡◌, ℕ, ◌≤◌, [], ◌∷◌, ◌++◌, encode_utf8, sym, ap, ◌∙◌, arith}
+use Rattle.std.proofs.lemmas.Str.{encode_ascii}
+use Rattle.json.specs.Print.{quoted}
+use Rattle.first_pass_json.specs.JsonValues.{json_string}
+use Rattle.json.proofs.Printed.Strings.{escape_byte_plain}
+
+-- a visible character of ASCII that is no quotation mark and no backslash
+pub plain_character : (b : ℕ) → 33 ≤ b → b ≤ 126 → (b ≡ 34 → ⊥) → (b ≡ 92 → ⊥) → 34 ∷ b ∷ 34 ∷ [] ≡ json_string (encode_utf8 b)
+unfolding json_string
+plain_character b low high no_quote no_backslash =
+    sym (ap quoted (encode_ascii b (omega arith)) ∙ ap (λ l. 34 ∷ ((l ++ []) ++ 34 ∷ [])) (escape_byte_plain b no_quote no_backslash (omega arith)))

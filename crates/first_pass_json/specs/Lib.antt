@@ -1,0 +1,5 @@
+pub mod Held
+pub mod JsonLines
+pub mod JsonValues
+pub mod Members
+pub mod Told

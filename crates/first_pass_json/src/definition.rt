@@ -1,0 +1,65 @@
+//! The lines of link definitions and of footnotes' labels.
+
+ghost use Rattle.std.specs.Option.{option_map};
+ghost use Rattle.std.specs.Prelude.{◌≡◌, ◌++◌, OnOk, codes};
+ghost use Rattle.first_pass_items.specs.CowText.{text_of};
+ghost use Rattle.first_pass_names.specs.TableEntries.{link_entry};
+ghost use Rattle.first_pass_json.specs.JsonLines.{definition_line, footnote_line, link_members};
+ghost use Rattle.first_pass_json.specs.JsonValues.{text_or_null};
+
+use crate::node::append_range;
+use crate::values::{append_string, append_string_after};
+use first_pass_items::cow_str::CowStr;
+use first_pass_labels::label_key::LabelKey;
+use first_pass_labels::label_table::LinkDef;
+use std::alloc::AllocError;
+use std::ops::DerefStr;
+
+/// Appends the line of a link definition: its label as it is spelled, where it leads, its title or `null`, and its
+/// range (CommonMark 4.7). The one error is that a request for memory was refused.
+pub fn append_definition(
+    line: &mut Vec<u8>,
+    label: &LabelKey<'_>,
+    definition: &LinkDef<'_>,
+) -> Result<(), AllocError>
+    ensures { OnOk result (line.new.items
+        ≡ line.old.items ++ definition_line (link_entry (label.now, definition.now))) }
+{
+    line.push(b'{')?;
+    append_link(line, label, definition)?;
+    append_range(line, definition.span.start, definition.span.end)?;
+    line.extend_from_slice(b"}\n")
+}
+
+/// Appends what a link definition says.
+fn append_link(
+    line: &mut Vec<u8>,
+    label: &LabelKey<'_>,
+    definition: &LinkDef<'_>,
+) -> Result<(), AllocError>
+    ensures { OnOk result (line.new.items ≡ line.old.items ++ link_members (link_entry (label.now, definition.now))) }
+{
+    append_string_after(line, b"\"definition\":", label.label())?;
+    append_string_after(line, b",\"destination\":", definition.dest.deref())?;
+    append_title(line, &definition.title)
+}
+
+/// Appends a title, or `null` where there is none.
+fn append_title(line: &mut Vec<u8>, title: &Option<CowStr<'_>>) -> Result<(), AllocError>
+    ensures { OnOk result (line.new.items
+        ≡ line.old.items ++ codes ",\"title\":" ++ text_or_null (option_map text_of title.now)) }
+{
+    line.extend_from_slice(b",\"title\":")?;
+    match title {
+        None => line.extend_from_slice(b"null"),
+        Some(text) => append_string(line, text.deref()),
+    }
+}
+
+/// Appends the line of a footnote's label. The one error is that a request for memory was refused.
+pub fn append_footnote(line: &mut Vec<u8>, label: &LabelKey<'_>) -> Result<(), AllocError>
+    ensures { OnOk result (line.new.items ≡ line.old.items ++ footnote_line (text_of label.now)) }
+{
+    append_string_after(line, b"{\"footnote\":", label.label())?;
+    line.extend_from_slice(b"}\n")
+}

@@ -1,0 +1,135 @@
+//! The members of a heading.
+
+ghost use Rattle.std.specs.Option.{option_map};
+ghost use Rattle.std.specs.Prelude.{◌≡◌, ◌++◌, OnOk, map, unwrap_or};
+ghost use Rattle.first_pass_attributes.specs.Attributes.{attributes_in, no_attributes, pair_in};
+ghost use Rattle.first_pass_json.specs.JsonValues.{after_commas, array, json_string, with_commas};
+ghost use Rattle.first_pass_json.specs.Members.{attribute_members, heading_members, pair};
+
+use crate::values::{append_number_after, append_string, append_string_or_null};
+use first_pass_attributes::attrs::HeadingAttributes;
+use first_pass_items::item::HeadingLevel;
+use first_pass_lines::lines::level_number;
+use std::alloc::AllocError;
+
+/// Appends the members of a heading: its level, its id, its classes and its keys. Without attributes it has no id, no
+/// class and no key.
+pub fn append_heading(
+    line: &mut Vec<u8>,
+    level: HeadingLevel,
+    attributes: Option<&HeadingAttributes<'_>>,
+) -> Result<(), AllocError>
+    ensures { OnOk result (line.new.items ≡ line.old.items
+        ++ heading_members level (unwrap_or (option_map (λ h. attributes_in h.now) attributes.entry) no_attributes)) }
+{
+    append_number_after(line, b",\"level\":", level_number(level))?;
+    match attributes {
+        None => append_no_attributes(line),
+        Some(given) => append_attributes(line, given),
+    }
+}
+
+/// Appends the members of attributes where there are none.
+#[tactic(auto, unfolding(crate::specs::Members::attribute_members))]
+fn append_no_attributes(line: &mut Vec<u8>) -> Result<(), AllocError>
+    ensures { OnOk result (line.new.items ≡ line.old.items ++ attribute_members no_attributes) }
+{
+    line.extend_from_slice(b",\"id\":null,\"classes\":[],\"attributes\":[]")
+}
+
+/// Appends the members of attributes.
+#[tactic(auto, unfolding(crate::specs::Members::attribute_members))]
+fn append_attributes(line: &mut Vec<u8>, given: &HeadingAttributes<'_>) -> Result<(), AllocError>
+    ensures { OnOk result (line.new.items ≡ line.old.items ++ attribute_members (attributes_in given.now)) }
+{
+    line.extend_from_slice(b",\"id\":")?;
+    append_string_or_null(line, given.id)?;
+    line.extend_from_slice(b",\"classes\":")?;
+    append_classes(line, &given.classes)?;
+    line.extend_from_slice(b",\"attributes\":")?;
+    append_pairs(line, &given.attrs)
+}
+
+/// Appends classes as an array.
+fn append_classes(line: &mut Vec<u8>, classes: &[&str]) -> Result<(), AllocError>
+    ensures { OnOk result (line.new.items ≡ line.old.items ++ array json_string (map (λ class. class.now) classes.now)) }
+{
+    line.push(b'[')?;
+    append_strings(line, classes)?;
+    line.push(b']')?;
+    Ok(())
+}
+
+/// Appends classes, a comma between two.
+fn append_strings(line: &mut Vec<u8>, classes: &[&str]) -> Result<(), AllocError>
+    ensures { OnOk result (line.new.items
+        ≡ line.old.items ++ with_commas json_string (map (λ class. class.now) classes.now)) }
+{
+    match classes.split_first() {
+        None => Ok(()),
+        Some((first, others)) => {
+            append_string(line, *first)?;
+            append_further_strings(line, others)
+        }
+    }
+}
+
+/// Appends classes, a comma before each.
+#[tactic(auto, unfolding(crate::specs::JsonValues::after_commas))]
+fn append_further_strings(line: &mut Vec<u8>, classes: &[&str]) -> Result<(), AllocError>
+    ensures { OnOk result (line.new.items
+        ≡ line.old.items ++ after_commas json_string (map (λ class. class.now) classes.now)) }
+{
+    for class in classes {
+        line.push(b',')?;
+        append_string(line, *class)?;
+    }
+    Ok(())
+}
+
+/// Appends keys with their values as an array.
+fn append_pairs(line: &mut Vec<u8>, pairs: &[(&str, Option<&str>)]) -> Result<(), AllocError>
+    ensures { OnOk result (line.new.items ≡ line.old.items ++ array pair (map pair_in pairs.now)) }
+{
+    line.push(b'[')?;
+    append_keys(line, pairs)?;
+    line.push(b']')?;
+    Ok(())
+}
+
+/// Appends keys with their values, a comma between two.
+fn append_keys(line: &mut Vec<u8>, pairs: &[(&str, Option<&str>)]) -> Result<(), AllocError>
+    ensures { OnOk result (line.new.items ≡ line.old.items ++ with_commas pair (map pair_in pairs.now)) }
+{
+    match pairs.split_first() {
+        None => Ok(()),
+        Some((first, others)) => {
+            append_pair(line, *first)?;
+            append_further_keys(line, others)
+        }
+    }
+}
+
+/// Appends keys with their values, a comma before each.
+#[tactic(auto, unfolding(crate::specs::JsonValues::after_commas))]
+fn append_further_keys(line: &mut Vec<u8>, pairs: &[(&str, Option<&str>)]) -> Result<(), AllocError>
+    ensures { OnOk result (line.new.items ≡ line.old.items ++ after_commas pair (map pair_in pairs.now)) }
+{
+    for pair in pairs {
+        line.push(b',')?;
+        append_pair(line, *pair)?;
+    }
+    Ok(())
+}
+
+/// Appends a key with its value as an array of both, with `null` where it has no value.
+fn append_pair(line: &mut Vec<u8>, attribute: (&str, Option<&str>)) -> Result<(), AllocError>
+    ensures { OnOk result (line.new.items ≡ line.old.items ++ pair (pair_in attribute.entry)) }
+{
+    line.push(b'[')?;
+    append_string(line, attribute.0)?;
+    line.push(b',')?;
+    append_string_or_null(line, attribute.1)?;
+    line.push(b']')?;
+    Ok(())
+}

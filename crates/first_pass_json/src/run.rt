@@ -1,0 +1,59 @@
+//! The work of the program `tree`.
+
+ghost use Rattle.std.specs.Prelude.{◌≡◌, ℕ, OnOk, IfErr, Err};
+ghost use Rattle.first_pass_host.specs.declared.fault.BlocksFault.TheVariants.{BadOptions};
+ghost use Rattle.first_pass_host.specs.OptionWord.{StandFor};
+ghost use Rattle.first_pass_host.specs.Streams.{stream_between};
+ghost use Rattle.first_pass_run.specs.Runs.{WritesWhole, Leaves};
+ghost use Rattle.first_pass_json.specs.Told.{IsTold};
+
+use crate::written::write_json;
+use first_pass_blocks::pass::run_first_pass;
+use first_pass_host::fault::BlocksFault;
+use first_pass_items::option_set::Options;
+use first_pass_run::report::{Report, run_report};
+use std::alloc::Global;
+use std::io::{Read, Write};
+
+/// The tree of a text's blocks and its tables as lines of JSON.
+struct JsonTree;
+
+impl Report for JsonTree {
+    ghost says = { λ _ options text output. IsTold options text output };
+
+    fn write_report<W: Write>(
+        &self,
+        alloc: Global,
+        text: &str,
+        options: Options,
+        output: &mut W,
+    ) -> Result<(), BlocksFault> {
+        let (tree, allocs) = run_first_pass(alloc, text, options)?;
+        write_json(alloc, tree.nodes(), &allocs, output)
+    }
+}
+
+/// Reads the input to its end and writes a line of JSON for each node of the tree of its blocks, in reading order, then
+/// one for each of its link definitions, and one for each of its footnotes' labels, both in the byte order of the
+/// foldings of their labels. `words` are those after the program's name (see `parse_options`).
+///
+/// Faults are found in this order: the options, before the first read and without memory; the reads;
+/// UTF-8 of the whole input; the pass; the writes. `OutOfMemory` comes at the request that was refused.
+/// What was written at a fault is nothing, or a beginning of the whole output. Reader and writer are lent,
+/// so that what they hold at the end can be said.
+pub fn tree_run<R: Read, W: Write>(
+    alloc: Global,
+    words: &[String],
+    input: &mut R,
+    output: &mut W,
+) -> Result<(), BlocksFault>
+    ensures ok { OnOk result (WritesWhole IsTold words.now (stream_between (R.remaining input.old) (R.remaining input.new))
+        (stream_between (W.contents output.old) (W.contents output.new))) }
+    ensures fault { IfErr result (λ fault. Leaves IsTold fault words.now
+        (stream_between (R.remaining input.old) (R.remaining input.new))
+        (stream_between (W.contents output.old) (W.contents output.new))) }
+    ensures bad_options { ((bits : ℕ) → StandFor words.now bits → ⊥) → result ≡ Err BadOptions }
+    ensures options { (bits : ℕ) → StandFor words.now bits → result ≡ Err BadOptions → ⊥ }
+{
+    run_report(&JsonTree, alloc, words, input, output)
+}

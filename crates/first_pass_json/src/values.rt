@@ -1,0 +1,90 @@
+//! Values as they stand in lines of JSON.
+
+ghost use Rattle.std.specs.Option.{option_map};
+ghost use Rattle.std.specs.Prelude.{◌≡◌, ◌++◌, OnOk, encode_utf8};
+ghost use Rattle.first_pass_json.specs.JsonValues.{boolean, json_string, text_or_null, word};
+ghost use Rattle.first_pass_json.specs.Members.{character_of};
+
+use first_pass_printed::node::{append_number, flag_name};
+use itoa::Integer;
+use std::alloc::AllocError;
+
+/// Appends a text in quotation marks, escaped as JSON asks for. The one error is that a request for memory was
+/// refused.
+pub fn append_string(line: &mut Vec<u8>, text: &str) -> Result<(), AllocError>
+    ensures { OnOk result (line.new.items ≡ line.old.items ++ json_string text.now) }
+{
+    let alloc = *line.allocator();
+    match serde_json::to_vec(alloc, &text) {
+        Ok(string) => line.extend_from_slice(string.as_slice()),
+        Err(_) => Err(AllocError),
+    }
+}
+
+/// Appends a text so, or `null` where there is none.
+pub fn append_string_or_null(line: &mut Vec<u8>, text: Option<&str>) -> Result<(), AllocError>
+    ensures { OnOk result (line.new.items ≡ line.old.items ++ text_or_null (option_map (λ t. t.now) text.entry)) }
+{
+    match text {
+        None => line.extend_from_slice(b"null"),
+        Some(text) => append_string(line, text),
+    }
+}
+
+/// Appends a character so.
+pub fn append_character(line: &mut Vec<u8>, character: char) -> Result<(), AllocError>
+    ensures { OnOk result (line.new.items ≡ line.old.items ++ json_string (encode_utf8 character)) }
+{
+    let mut buffer = [0; 4];
+    append_string(line, character.encode_utf8(&mut buffer))
+}
+
+/// Appends the character so that a byte stands for.
+#[tactic(auto, using(crate::proofs::Plain::plain_character))]
+pub fn append_byte(line: &mut Vec<u8>, byte: u8) -> Result<(), AllocError>
+    ensures { OnOk result (line.new.items ≡ line.old.items ++ character_of byte) }
+{
+    if byte.is_ascii_graphic() && byte != b'"' && byte != b'\\' {
+        line.extend_from_slice(&[b'"', byte, b'"'])
+    } else {
+        append_character(line, char::from(byte))
+    }
+}
+
+/// Appends a word of letters in quotation marks.
+pub fn append_word(line: &mut Vec<u8>, letters: &str) -> Result<(), AllocError>
+    ensures { OnOk result (line.new.items ≡ line.old.items ++ word letters.now) }
+{
+    line.push(b'"')?;
+    line.extend_from_slice(letters.as_bytes())?;
+    line.push(b'"')?;
+    Ok(())
+}
+
+/// Appends the name of a member, as it stands before its value, and a number.
+pub fn append_number_after<I: Integer>(
+    line: &mut Vec<u8>,
+    name: &[u8],
+    number: I,
+) -> Result<(), AllocError>
+    ensures { OnOk result (line.new.items ≡ line.old.items ++ name.now ++ I.text number) }
+{
+    line.extend_from_slice(name)?;
+    append_number(line, number)
+}
+
+/// Appends the name of a member so, and a truth value.
+pub fn append_flag_after(line: &mut Vec<u8>, name: &[u8], flag: bool) -> Result<(), AllocError>
+    ensures { OnOk result (line.new.items ≡ line.old.items ++ name.now ++ boolean flag) }
+{
+    line.extend_from_slice(name)?;
+    line.extend_from_slice(flag_name(flag).as_bytes())
+}
+
+/// Appends the name of a member so, and a text.
+pub fn append_string_after(line: &mut Vec<u8>, name: &[u8], text: &str) -> Result<(), AllocError>
+    ensures { OnOk result (line.new.items ≡ line.old.items ++ name.now ++ json_string text.now) }
+{
+    line.extend_from_slice(name)?;
+    append_string(line, text)
+}

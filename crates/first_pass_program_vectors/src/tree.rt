@@ -1,0 +1,89 @@
+//! What `tree` writes of texts, and each fault of a run of it.
+
+use crate::fakes::{Sink, Source, write_tree};
+use first_pass_host::fault::BlocksFault;
+use std::alloc::Global;
+use std::process::Abort;
+use std::test::Fail;
+
+const WHOLE: usize = usize::MAX;
+
+/// Asserts which lines are written of a text.
+fn assert_lines(
+    rt: &impl Abort,
+    alloc: Global,
+    words: &[&str],
+    text: &str,
+    want: &str,
+) -> Result<(), Fail> {
+    let mut input = Source::new(text.as_bytes(), WHOLE, 0);
+    let mut output = Sink::new(alloc, WHOLE, 0);
+    let answer = write_tree(alloc, words, &mut input, &mut output)?;
+    let came = String::from_utf8_lossy(alloc, output.bytes.as_slice())?;
+    assert!(rt; answer == Ok(()) && came.as_str() == want, "{text}: {came}");
+    Ok(())
+}
+
+// An info string with a quotation mark, a backslash, a control character and one that is not ASCII.
+#[test]
+fn texts_are_escaped(rt: HostRuntime) -> Result<(), Fail> {
+    let want = "{\"kind\":\"Root\",\"depth\":0,\"start\":0,\"end\":16}\n\
+        {\"kind\":\"BlockQuote\",\"depth\":1,\"start\":0,\"end\":16,\"quote\":null}\n\
+        {\"kind\":\"FencedCodeBlock\",\"depth\":2,\"start\":2,\"end\":16,\"info\":\"\\\"\\\\\\u0001é\"}\n\
+        {\"kind\":\"Text\",\"depth\":3,\"start\":15,\"end\":16,\"escaped\":false}\n";
+    assert_lines(&rt, rt.alloc(), &[], "> ~~~ \"\\\\\u{1}é\n> a", want)
+}
+
+#[test]
+fn a_heading_without_attributes_has_their_members(rt: HostRuntime) -> Result<(), Fail> {
+    let want = "{\"kind\":\"Root\",\"depth\":0,\"start\":0,\"end\":31}\n\
+        {\"kind\":\"Heading\",\"depth\":1,\"start\":0,\"end\":4,\"level\":1,\
+        \"id\":null,\"classes\":[],\"attributes\":[]}\n\
+        {\"kind\":\"Text\",\"depth\":2,\"start\":2,\"end\":3,\"escaped\":false}\n\
+        {\"kind\":\"Heading\",\"depth\":1,\"start\":4,\"end\":28,\"level\":2,\
+        \"id\":\"x\",\"classes\":[\"c\",\"d\"],\"attributes\":[[\"k\",\"v\\\"\"],[\"nn\",null]]}\n\
+        {\"kind\":\"Text\",\"depth\":2,\"start\":7,\"end\":8,\"escaped\":false}\n";
+    assert_lines(
+        &rt,
+        rt.alloc(),
+        &["64"],
+        "# a\n## b {#x .c .d k=v\" nn}\n   ",
+        want,
+    )
+}
+
+// Two definitions that `blocks` prints alike, and a footnote after them.
+#[test]
+fn definitions_and_footnotes_come_last(rt: HostRuntime) -> Result<(), Fail> {
+    let text = "[a]: </b \"x\">\n[b]: /b \"x\"\n\n[^F]: - c\n";
+    let want = "{\"kind\":\"Root\",\"depth\":0,\"start\":0,\"end\":37}\n\
+        {\"kind\":\"FootnoteDefinition\",\"depth\":1,\"start\":27,\"end\":37,\"label\":\"F\"}\n\
+        {\"kind\":\"List\",\"depth\":2,\"start\":33,\"end\":37,\"tight\":true,\"byte\":\"-\",\"number\":0}\n\
+        {\"kind\":\"ListItem\",\"depth\":3,\"start\":33,\"end\":37,\"columns\":2}\n\
+        {\"kind\":\"TightParagraph\",\"depth\":4,\"start\":35,\"end\":37}\n\
+        {\"kind\":\"Text\",\"depth\":5,\"start\":35,\"end\":36,\"escaped\":false}\n\
+        {\"definition\":\"a\",\"destination\":\"/b \\\"x\\\"\",\"title\":null,\"start\":0,\"end\":13}\n\
+        {\"definition\":\"b\",\"destination\":\"/b\",\"title\":\"x\",\"start\":14,\"end\":25}\n\
+        {\"footnote\":\"F\"}\n";
+    assert_lines(&rt, rt.alloc(), &["4"], text, want)
+}
+
+#[test]
+fn each_fault_of_a_run(rt: HostRuntime) -> Result<(), Fail> {
+    let faults: &[(&[&str], &[u8], usize, BlocksFault)] = &[
+        (&["1"], b"\xff", 1, BlocksFault::BadOptions),
+        (&["0"], b"\xff", 0, BlocksFault::NotUtf8),
+        (&["0"], b"a", 1, BlocksFault::ReadFailed),
+        (&["0"], b"a", 0, BlocksFault::WriteFailed),
+    ];
+    for (words, text, fails_at, fault) in faults {
+        let mut input = Source::new(text, WHOLE, *fails_at);
+        let mut output = Sink::new(rt.alloc(), WHOLE, 1);
+        let answer = write_tree(rt.alloc(), words, &mut input, &mut output)?;
+        assert!(rt;
+            answer == Err(*fault) && output.bytes.is_empty(),
+            "{words:?}"
+        );
+    }
+    Ok(())
+}
