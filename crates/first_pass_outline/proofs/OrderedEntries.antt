@@ -225,5 +225,5 @@ module _ (names : Names) (text : List ℕ) where
 -- the entries of a derived tree
 pub derived_between : (d : Document) (nodes : List (ℕ × Item)) (tables : Tables) → Derives d nodes tables → IsOrdered d.text nodes
     → LieBetween d.text 0 (length d.text) (entries_of d.names nodes)
-derived_between d nodes tables derives (row, e, fits) =
-    row_entries d.names d.text Elsewhere 0 (length d.text) row 0 nodes (omega arith) fits e (derived_inside d nodes tables derives)
+derived_between d nodes tables derives (whole, e, fits) =
+    row_entries d.names d.text Elsewhere 0 (length d.text) whole 0 nodes (omega arith) fits e (derived_inside d nodes tables derives)
