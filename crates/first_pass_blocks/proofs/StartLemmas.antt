@@ -39,7 +39,8 @@ use Rattle.first_pass_lists.specs.Closing.{definition_begun}
 use Rattle.first_pass_lists.specs.declared.reading.Reading.{Reading}
 use Rattle.first_pass_blocks.specs.Positions.{Position, InLine, LeafAt, IsInLine, OrderedUpTo, ReadsTo, may_define}
 use Rattle.first_pass_blocks.specs.Ordered.{IsReadTo}
-use Rattle.first_pass_blocks.specs.Starts.{start_told, start_opened, after_at, IsAfter}
+use Rattle.first_pass_blocks.specs.Starts.{TellsStart, start_opened, after_at, IsAfter}
+use Rattle.first_pass_blocks.proofs.StartFound.{start_told, start_is}
 use Rattle.first_pass_blocks.specs.State.{ReadyAt}
 use Rattle.first_pass_blocks.proofs.LineLemmas.{list_finished_none, list_continued_none}
 use Rattle.first_pass_blocks.proofs.NamedLemmas.{item_named, definition_named, quote_named, child_named}
@@ -382,7 +383,7 @@ module _ (source : Source) (r : Reading) (p : Place) (utf8 : IsUtf8 source.text.
 
   -- the same in the words of the calls that open it
   pub opened_start : (s : Start) (new : Place) (t : ToldStart) (q : Reading) → start_at source.options may p ≡ Some s
-      → t ≡ start_told s
+      → TellsStart s t
       → new ≡ at_rest p s.rest → q ≡ start_opened new.line t (line_end new) r
       → IsAfter t.after q × (length new.rest.left < length p.rest.left) × IsInLine text p.line (line_end p) new
       × ReadsTo source line r q (InLine p) (after_at new (line_end p) t.after)
@@ -392,7 +393,7 @@ module _ (source : Source) (r : Reading) (p : Place) (utf8 : IsUtf8 source.text.
       IsAfter s.after (start_opened p.line (start_told s) n r) × (length s.rest.left < length p.rest.left)
       × IsInLine text p.line (line_end p) (at_rest p s.rest)
       × ReadsTo source line r (start_opened p.line (start_told s) n r) (InLine p) (after_at (at_rest p s.rest) (line_end p) s.after) in
-      rw (q_is, new_is, told) (subst here (sym opens.2.2) opens)
+      rw (q_is, new_is, start_is s t told) (subst here (sym opens.2.2) opens)
 
 -- no step
 pub reads_none : (source : Source) (line : ℕ) (r : Reading) (p : Position) → ReadsTo source line r r p p

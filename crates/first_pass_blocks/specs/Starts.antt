@@ -1,7 +1,6 @@
 -- A container that begins at a place, as the pass tells it, and what the pass remembers once it is open (private functions alone cite this).
 use Rattle.std.specs.Prelude.{◌≡◌, ℕ, Bool, true, Option, Some, None, if◌then◌else◌}
 use Rattle.first_pass_items.specs.declared.item.Item.{Item}
-use Rattle.first_pass_items.specs.declared.item.BlockQuoteKind.{BlockQuoteKind}
 use Rattle.first_pass_items.specs.declared.item.ItemBody.TheVariants.{BlockQuote as BlockQuoteBody, ListItem as ListItemBody}
 use Rattle.first_pass_grammar.specs.Blocks.{Opener as ContainerOpener, QuoteMarker, ItemMarker, FootnoteMarker, DefinitionMarker}
 use Rattle.first_pass_grammar.specs.declared.kind.AfterMarker.{AfterMarker}
@@ -23,15 +22,18 @@ use Rattle.first_pass_blocks.specs.declared.openers.Start.{Start}
 abbrev pub marker_of : ℕ × ℕ × ℕ → ListMarker
 marker_of m = record { byte = m.0; number = m.1; indent = m.2 }
 
--- the grammar's words in the pass's; a footnote definition is none of these, and is opened apart
-abbrev pub opener_told : ContainerOpener → Opener
-opener_told (QuoteMarker kind) = Quote kind
-opener_told (ItemMarker byte number columns) = ItemOpener (marker_of (byte, number, columns))
-opener_told (FootnoteMarker columns index label) = Quote None
-opener_told (DefinitionMarker columns) = DefinitionOpener columns
+-- the pass's word for what opens a container is the grammar's; a footnote definition has none there, and is opened apart
+abbrev pub TellsOpener : ContainerOpener → Opener → Type 0
+TellsOpener (QuoteMarker kind) o = o ≡ Quote kind
+TellsOpener (ItemMarker byte number columns) o = o ≡ ItemOpener (marker_of (byte, number, columns))
+TellsOpener (FootnoteMarker columns index label) o = ⊥
+TellsOpener (DefinitionMarker columns) o = o ≡ DefinitionOpener columns
 
-abbrev pub start_told : ContainerStart → Start
-start_told s = record { opener = opener_told s.head.opener; start = s.head.start; after = s.after }
+-- what begins at a place, as the pass tells it, is what the grammar says
+pub record TellsStart (s : ContainerStart) (t : Start) : Type 0 where
+  pub opener : TellsOpener s.head.opener t.opener
+  pub start : t.start ≡ s.head.start
+  pub after : t.after ≡ s.after
 
 abbrev pub item_after : Option Item → Bool → AfterMarker
 item_after marker is_over = if is_over then LineEnds marker else after_task marker

@@ -1,11 +1,11 @@
 //! Which list item, definition or block quote begins at a place (CommonMark 5.1, 5.2, and this project).
 
-ghost use Rattle.std.specs.Prelude.{◌≡◌, Some, None, MatchOption, IsUtf8};
+ghost use Rattle.std.specs.Prelude.{◌≡◌, Some, None, MatchOption, IsSomeAnd, IsUtf8};
 ghost use Rattle.first_pass_lines.specs.Places.{IsPlaceOf};
 ghost use Rattle.first_pass_grammar.specs.Containers.{at_rest};
 ghost use Rattle.first_pass_grammar.specs.Kinds.{item_at, definition_marker_at};
 ghost use Rattle.first_pass_grammar.specs.Openers.{task_behind, tag_behind, after_quote, start_at};
-ghost use Rattle.first_pass_blocks.specs.Starts.{marker_of, start_told, item_after};
+ghost use Rattle.first_pass_blocks.specs.Starts.{marker_of, item_after, TellsStart};
 
 use bitflags::Flags;
 use first_pass_grammar::AfterMarker;
@@ -51,7 +51,7 @@ pub(crate) fn start_at<'a>(
     requires place { IsPlaceOf source.now.text.now place.old }
     ensures { MatchOption (start_at source.now.options may_define place.old)
         ((result ≡ None) × (place.new ≡ place.old))
-        (λ s. (result ≡ Some (start_told s)) × (place.new ≡ at_rest place.old s.rest)) }
+        (λ s. IsSomeAnd result (TellsStart s) × (place.new ≡ at_rest place.old s.rest)) }
 {
     source.is_short();
     let before = place.offset();

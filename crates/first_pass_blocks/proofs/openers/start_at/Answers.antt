@@ -1,4 +1,4 @@
-use Rattle.std.proofs.Common.{◌≡◌, ℕ, ◌+◌, Bool, List, Option, Some, None, is_some, refl, sym, ap, ◌∙◌, if◌then◌else◌}
+use Rattle.std.proofs.Common.{◌≡◌, ℕ, ◌+◌, Bool, List, Option, Some, None, IsSomeAnd, is_some, refl, sym, ap, subst, ◌∙◌, if◌then◌else◌}
 use Rattle.first_pass_items.specs.declared.item.Item.{Item}
 use Rattle.first_pass_items.specs.declared.item.BlockQuoteKind.{BlockQuoteKind}
 use Rattle.first_pass_lines.specs.Lines.{blank_len}
@@ -6,18 +6,22 @@ use Rattle.first_pass_lines.specs.Rest.{Rest, after_columns}
 use Rattle.first_pass_lines.specs.Places.{Place, place_at, offset}
 use Rattle.first_pass_grammar.specs.Containers.{prefix}
 use Rattle.first_pass_grammar.specs.Kinds.{item_at, definition_marker_at, is_blank_rest, quote_start}
-use Rattle.first_pass_grammar.specs.Openers.{task_behind, after_quote}
+use Rattle.first_pass_grammar.specs.Openers.{Start as ContainerStart, item_start, definition_start, quote_begun, task_behind, tag_behind, after_quote}
 use Rattle.first_pass_grammar.specs.declared.kind.Container.TheVariants.{BlockQuote}
 use Rattle.first_pass_grammar.proofs.OpenerFacts.{marker_where, start_item, start_definition, start_quote, start_none}
 use Rattle.first_pass_open.proofs.PlaceLemmas.{item_keeps, quote_absent}
 use Rattle.first_pass_blocks.specs.declared.openers.Opener.TheVariants.{Quote, Item as ItemOpener, Definition as DefinitionOpener}
 use Rattle.first_pass_grammar.specs.declared.kind.AfterMarker.{AfterMarker}
 use Rattle.first_pass_blocks.specs.declared.openers.Start.{Start}
-use Rattle.first_pass_blocks.specs.Starts.{item_after}
+use Rattle.first_pass_blocks.specs.Starts.{item_after, TellsStart}
 use Rattle.first_pass_blocks.proofs.OpenerLemmas.{item_found, item_absent}
 use Rattle.first_pass_blocks.proofs.StartFound.{definition_found, IsUntaken, untaken_then, untaken_else, same_place, matches, matches_none, quote_here}
 use Rattle.first_pass_blocks.proofs.openers.start_at.Goals as goal
 use Rattle.first_pass_blocks.proofs.openers.start_at.Goals.{In-Some, then-may_define+in_default-scan_definition, else-may_define}
+
+-- a start that is told as it is
+tells : (s : ContainerStart) (r : Option Start) (t : Start) → r ≡ Some t → TellsStart s t → IsSomeAnd r (TellsStart s)
+tells s r t is h = subst (λ (f : Option Start). IsSomeAnd f (TellsStart s)) (sym is) h
 
 -- the item that begins there
 taken : (c : In-Some)
@@ -44,7 +48,9 @@ returns-in-Some c =
     rw (← c.place.view_is) (matches _ _ _ _
     (start_item options c.args.may_define p ((marker.byte, marker.number, marker.indent), c.scan_item.new.line_start)
     (taken (goal.at.returns-in-Some c).In-Some)) (
-      ap (λ (n : ℕ). start n c.item_after.result) (c.offset-before.ensures ∙ ap offset (sym c.place.view_is)) ∙ ap (start (offset p)) after,
+      tells (item_start p (marker.byte, marker.number, marker.indent) task) _ _
+          (ap (λ (n : ℕ). start n c.item_after.result) (c.offset-before.ensures ∙ ap offset (sym c.place.view_is)) ∙ ap (start (offset p)) after)
+          (record { opener = refl; start = refl; after = refl }),
       c.scan_task-task.ensures.place,
     ))
 
@@ -64,8 +70,10 @@ returns-in-Some-scan_definition c =
     ∙ ap (λ (bs : List ℕ). is_some (blank_len bs)) c.left-in-Some-scan_definition.ensures in
     let after = c.item_after-in-Some-scan_definition.ensures ∙ ap (item_after None) over in
     rw (← c.place.view_is) (matches _ _ _ _ (start_definition options c.args.may_define p (indent, behind) item.0 marker) (
-      ap (λ (n : ℕ). start n c.item_after-in-Some-scan_definition.result) (c.offset-before.ensures ∙ ap offset (sym c.place.view_is))
-          ∙ ap (start (offset p)) after,
+      tells (definition_start p (indent, behind)) _ _
+          (ap (λ (n : ℕ). start n c.item_after-in-Some-scan_definition.result) (c.offset-before.ensures ∙ ap offset (sym c.place.view_is))
+          ∙ ap (start (offset p)) after)
+          (record { opener = refl; start = refl; after = refl }),
       refl,
     ))
 
@@ -110,9 +118,11 @@ returns c =
     c.scan_quote.ensures in
     let start : Option BlockQuoteKind → ℕ → AfterMarker → Option Start = λ kind n after. Some (record { opener = Quote kind; start = n; after = after }) in
     rw (← c.place.view_is) (matches _ _ _ _ (start_quote options c.args.may_define p inside item.0 none.0 quote.0) (
-      ap (start c.scan_tag-tag.result (here.line + c.in_ok-quote.quote)) c.after_quote.ensures
+      tells (quote_begun p (tag_behind options inside) inside) _ _ (
+          ap (start c.scan_tag-tag.result (here.line + c.in_ok-quote.quote)) c.after_quote.ensures
           ∙ ap (λ (n : ℕ). start c.scan_tag-tag.result (here.line + n) (after_quote c.scan_tag-tag.result)) quote.1
           ∙ ap (λ (q : Place). start c.scan_tag-tag.result (q.line + (after_columns 3 p.rest).taken) (after_quote c.scan_tag-tag.result)) none.1
-          ∙ ap (λ (kind : Option BlockQuoteKind). start kind (quote_start p) (after_quote kind)) c.scan_tag-tag.ensures,
+          ∙ ap (λ (kind : Option BlockQuoteKind). start kind (quote_start p) (after_quote kind)) c.scan_tag-tag.ensures)
+          (record { opener = refl; start = refl; after = refl }),
       ap (λ (q : Place). place_at q.line inside) none.1,
     ))

@@ -1,4 +1,4 @@
-use Rattle.std.proofs.Common.{◌≡◌, ℕ, ◌<◌, ◌≤◌, Bool, true, false, List, length, Option, Some, None, MatchOption, IsUtf8, refl, sym, ap, subst, ◌∙◌, arith}
+use Rattle.std.proofs.Common.{◌≡◌, ℕ, ◌<◌, ◌≤◌, Bool, true, false, List, length, Option, Some, None, MatchOption, IsSomeAnd, IsUtf8, refl, sym, ap, subst, ◌∙◌, arith}
 use Rattle.first_pass_lines.specs.Places.{Place, offset, line_end, IsPlaceOf}
 use Rattle.first_pass_lines.proofs.PlaceFacts.{place_length}
 use Rattle.first_pass_tree.specs.Forest.{IsForest, in_table}
@@ -15,7 +15,7 @@ use Rattle.first_pass_blocks.specs.declared.state.BlockPass.{BlockPass}
 use Rattle.first_pass_blocks.specs.FootnoteHeads.{StaysSame, TriesFootnote}
 use Rattle.first_pass_blocks.specs.Positions.{Position, InLine, LeafAt, IsFrom, ReadsTo, may_define}
 use Rattle.first_pass_blocks.specs.Progress.{PassesTo}
-use Rattle.first_pass_blocks.specs.Starts.{start_told, after_at, last_at, IsAfter}
+use Rattle.first_pass_blocks.specs.Starts.{TellsStart, after_at, last_at, IsAfter}
 use Rattle.first_pass_blocks.specs.Views.{allocs_of, reading_of, source_of, tree_of}
 use Rattle.first_pass_blocks.proofs.BlockRead.{passes_reading, passes_both}
 use Rattle.first_pass_blocks.proofs.StartLemmas.{start_opens, no_start, opened_start, reads_none}
@@ -123,7 +123,7 @@ may_in over pass = may_define over.options (tree_of pass)
 
 -- no container begins any more
 absent : (over : Source) (now : BlockPass) (may : Bool) (p new : Place) (r : Option Start) → source_of now ≡ over → may ≡ may_in (source_of now) now → r ≡ None
-    → MatchOption (start_at (source_of now).options may p) ((r ≡ None) × (new ≡ p)) (λ s. (r ≡ Some (start_told s)) × (new ≡ at_rest p s.rest))
+    → MatchOption (start_at (source_of now).options may p) ((r ≡ None) × (new ≡ p)) (λ s. IsSomeAnd r (TellsStart s) × (new ≡ at_rest p s.rest))
     → (start_at over.options (may_in over now) p ≡ None) × (new ≡ p)
 absent over now may p new r same told is says =
     let missing = start_missing _ r p new is says in (
@@ -166,12 +166,12 @@ returns-in_default-clause-opened c =
 record Found (over : Source) (now : BlockPass) (p new : Place) (told : Start) : Type 0 where
   start : ContainerStart
   begins : start_at over.options (may_in over now) p ≡ Some start
-  told_is : told ≡ start_told start
+  told_is : TellsStart start told
   new_is : new ≡ at_rest p start.rest
 
 found : (over : Source) (now : BlockPass) (may : Bool) (p new : Place) (r : Option Start) (told : Start) → source_of now ≡ over
     → may ≡ may_in (source_of now) now → r ≡ Some told
-    → MatchOption (start_at (source_of now).options may p) ((r ≡ None) × (new ≡ p)) (λ s. (r ≡ Some (start_told s)) × (new ≡ at_rest p s.rest))
+    → MatchOption (start_at (source_of now).options may p) ((r ≡ None) × (new ≡ p)) (λ s. IsSomeAnd r (TellsStart s) × (new ≡ at_rest p s.rest))
     → Found over now p new told
 found over now may p new r told same may_is is says =
     let f = start_found _ r told p new is says in
