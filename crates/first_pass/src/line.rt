@@ -168,11 +168,11 @@ impl<'a> FirstPass<'a> {
         let pass = &self.pass;
         let found = scan_headed_line(&pass.source, &pass.reading.tree, line)?;
         let (next, line_break) = self.append_content(start, end)?;
-        let Some(alignments) = found else {
+        let Some(head) = found else {
             return Ok((next, line_break));
         };
         let pass = &mut self.pass;
-        let index = pass.allocs.allocate_alignment(alignments)?;
+        let index = pass.allocs.allocate_alignment(head.alignments)?;
         let table = Item {
             start: start + content_len(line),
             end: next_line(bytes, next),

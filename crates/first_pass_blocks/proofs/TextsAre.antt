@@ -10,6 +10,8 @@ use Rattle.first_pass_items.specs.declared.option_set.Options.{Options}
 use Rattle.first_pass_tree.specs.declared.tree_index.TreeIndex.{TreeIndex}
 use Rattle.first_pass_tree.specs.Forest.{Forest, added, block_of, appended, popped}
 use Rattle.first_pass_tree.proofs.Blocks.{block-built}
+use Rattle.std.proofs.Math.Seq.{drop-drop}
+use Rattle.first_pass_kinds.specs.TableHeads.{head_len}
 use Rattle.first_pass_lines.specs.Lines.{line_len}
 use Rattle.first_pass_lines.specs.Places.{Place, offset, line_end, line_place, start_of, IsPlaceOf}
 use Rattle.first_pass_lines.proofs.LineFacts.{lines_at-line, lines_at-end}
@@ -94,10 +96,12 @@ pub line_bounds : (text : List ℕ) (start : ℕ) → IsUtf8 text → IsCharBoun
 line_bounds text start utf8 boundary =
     subst (IsCharBoundary text) (line_start_end text start) (place_end text (line_place start (drop start text)) utf8 (line_is_place text start boundary))
 
-pub body_at : (text bytes : List ℕ) (start mid body : ℕ)
-    → bytes ≡ text → mid ≡ start + line_len (drop start bytes) → body ≡ mid + line_len (drop mid bytes) → body ≡ line_end_at text (line_end_at text start)
-body_at text bytes start mid body same mid_is body_is =
-    body_is ∙ ap (λ bs. mid + line_len (drop mid bs)) same ∙ ap (line_end_at text) (mid_is ∙ ap (λ bs. start + line_len (drop start bs)) same)
+pub body_at : (text : List ℕ) (start len : ℕ) → len ≡ head_len (drop start text) → start + len ≡ line_end_at text (line_end_at text start)
+body_at text start len is =
+    let n : ℕ = line_len (drop start text) in
+    let after : drop n (drop start text) ≡ drop (start + n) text = drop-drop n start text in
+    let both : start + len ≡ start + (n + line_len (drop (start + n) text)) = ap (λ k. start + k) (is ∙ ap (λ bs. n + line_len bs) after) in
+    omega (arith, both)
 
 -- a table that was added
 module _ (text : List ℕ) (options : Options) (names : Names) (start body next : ℕ) (ix : AlignmentIndex) (alignments : List Alignment) (old new : Forest Item)

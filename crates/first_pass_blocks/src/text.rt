@@ -1,19 +1,19 @@
 //! What stands for a text where no other block begins: a paragraph, a heading that is underlined, or the table that
 //! its first line heads (CommonMark 4.3, 4.8, GFM 4.10).
 
-ghost use Rattle.std.specs.Prelude.{◌≡◌, ◌≤◌, false, ℕ, drop, Option, Some, IfOk, IfSome, OnOk, IsCharBoundary};
+ghost use Rattle.std.specs.Prelude.{◌≡◌, ◌≤◌, ◌+◌, false, ℕ, length, drop, Option, Some, IfOk, IfSome, OnOk, IsUtf8, IsCharBoundary};
 ghost use Rattle.first_pass_items.specs.declared.item.Item.{Item};
 ghost use Rattle.first_pass_tree.specs.Forest.{is_text};
 ghost use Rattle.first_pass_names.specs.TableEntries.{names_of, NamesMore};
 ghost use Rattle.first_pass_grammar.specs.Leaves.{document};
 ghost use Rattle.first_pass_grammar.specs.TableHeads.{headed_table};
+ghost use Rattle.first_pass_kinds.specs.TableHeads.{head_len};
 ghost use Rattle.first_pass_open.specs.Path.{context_of};
 ghost use Rattle.first_pass_open.specs.Between.{AddsBetween, IsInItem, StandsBefore};
 ghost use Rattle.first_pass_blocks.specs.TextsAdded.{AddsText};
 
-use first_pass_items::item::{Alignment, Item, ItemBody};
-use first_pass_kinds::table_start::scan_headed_table;
-use first_pass_lines::places::next_line;
+use first_pass_items::item::{Item, ItemBody};
+use first_pass_kinds::table_start::{HeadedTable, scan_headed_table};
 use first_pass_names::items::Allocations;
 use first_pass_open::open_block::open_block;
 use first_pass_open::source::Source;
@@ -22,7 +22,7 @@ use first_pass_text::paragraph;
 use first_pass_tree::forest::Tree;
 use std::alloc::AllocError;
 
-// Appends the table of these alignments, whose header row begins at the offset `start`, to the innermost open node.
+// Appends the table whose header row begins at the offset `start`, and which it heads, to the innermost open node.
 // Returns the offset at which the line begins that ends the table, or the text's length. The alignments and the texts
 // that tokens name are put among `allocs`.
 fn append_table(
@@ -30,11 +30,14 @@ fn append_table(
     tree: &mut Tree<Item>,
     allocs: &mut Allocations<'_>,
     start: usize,
-    alignments: Vec<Alignment>,
+    table: HeadedTable,
 ) -> Result<usize, AllocError>
+    requires utf8 { IsUtf8 source.now.text.now }
     requires boundary { IsCharBoundary source.now.text.now start }
     requires headed { headed_table (context_of source.now.options tree.old) (drop start source.now.text.now)
-        ≡ Some alignments.items }
+        ≡ Some table.alignments.items }
+    requires head { table.head_len ≡ head_len (drop start source.now.text.now) }
+    requires within { start + table.head_len ≤ length source.now.text.now }
     ensures more { OnOk result (NamesMore allocs.old allocs.new) }
     ensures block { IfOk result (λ next. (marker : Option Item)
         → AddsText (document source.now.text.now source.now.options (names_of allocs.new)) start marker tree.old
@@ -43,16 +46,13 @@ fn append_table(
         → AddsBetween source.now.text.now from next tree.old tree.new) }
 {
     tree.is_forest();
-    let columns = alignments.len();
-    let index = allocs.allocate_alignment(alignments)?;
-    open_block(tree, start, ItemBody::Table(index))?;
-    let bytes = source.text.as_bytes();
-    let body = next_line(bytes, next_line(bytes, start));
     let rows = TableRows {
-        columns,
+        columns: table.alignments.len(),
         head_start: start,
-        body_start: body,
+        body_start: start + table.head_len,
     };
+    let index = allocs.allocate_alignment(table.alignments)?;
+    open_block(tree, start, ItemBody::Table(index))?;
     let next = parse_table(source, tree, allocs, rows)?;
     Ok(next)
 }
@@ -80,8 +80,8 @@ pub fn parse_paragraph<'a>(
         → AddsBetween source.now.text.now from next tree.old tree.new) }
 {
     match scan_headed_table(source, tree, start_ix)? {
-        Some(alignments) => {
-            let next = append_table(source, tree, allocs, start_ix, alignments)?;
+        Some(table) => {
+            let next = append_table(source, tree, allocs, start_ix, table)?;
             Ok(next)
         }
         None => {

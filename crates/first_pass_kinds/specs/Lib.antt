@@ -2,3 +2,4 @@ pub mod Found
 pub mod Memory
 pub mod NextLines
 pub mod Rests
+pub mod TableHeads

@@ -1,4 +1,4 @@
-use Rattle.std.proofs.Common.{IsUtf8, IsCharBoundary, length, subst, sym, ◌∙◌}
+use Rattle.std.proofs.Common.{◌+◌, IsCharBoundary, length, subst, sym, ◌∙◌}
 use Rattle.first_pass_items.specs.declared.item.Item.{Item}
 use Rattle.first_pass_tree.specs.Forest.{Forest}
 use Rattle.first_pass_grammar.specs.Names.{Names, Extends, NamesAlignments}
@@ -13,9 +13,8 @@ use Rattle.first_pass_blocks.proofs.text.append_table.Goals as goal
 pub parse_table-requires-clause-body : goal.parse_table-requires-clause-body
 parse_table-requires-clause-body c =
     let text = c.args.source.now.text.now in
-    let body_is = body_at text c.as_bytes-bytes.result.now c.args.start c.next_line.result c.next_line-body.result c.as_bytes-bytes.ensures.value
-    c.next_line.ensures.value c.next_line-body.ensures.value in
-    let utf8 = subst IsUtf8 c.as_bytes-bytes.ensures.value c.as_bytes-bytes.ensures.utf8 in
+    let body_is = body_at text c.args.start c.args.table.head_len c.requires.head in
+    let utf8 = c.requires.utf8 in
     subst (IsCharBoundary text) (sym body_is) (line_bounds text _ utf8 (line_bounds text c.args.start utf8 c.requires.boundary))
 
 pub parse_table-requires-clause-open : goal.parse_table-requires-clause-open
@@ -27,10 +26,10 @@ grown_table c = c.in_ok-next.ensures.more.names
 
 -- later names name its alignments
 named_yet : (c : goal.In_ok-next) (more : Names) → Extends more (names_of c.parse_table.new.allocs)
-    → NamesAlignments more c.in_ok-index.index c.args.alignments.items
+    → NamesAlignments more c.in_ok-index.index c.args.table.alignments.items
 named_yet c more e =
     let named = names_of c.allocate_alignment.new.self in
-    alignments_last (names_of c.args.allocs.now) named more c.in_ok-index.index c.args.alignments.items c.in_ok-index.ensures.index c.in_ok-index.ensures.names
+    alignments_last (names_of c.args.allocs.now) named more c.in_ok-index.index c.args.table.alignments.items c.in_ok-index.ensures.index c.in_ok-index.ensures.names
     (extends_both more (names_of c.parse_table.new.allocs) named e (grown_table c))
 
 pub returns-clause-more : goal.returns-clause-more
@@ -38,46 +37,44 @@ returns-clause-more c =
     let named = names_of c.allocate_alignment.new.self in
     record {
       names = extends_both (names_of c.parse_table.new.allocs) named (names_of c.args.allocs.now) c.in_ok-next.ensures.more.names
-          (extends_alignments (names_of c.args.allocs.now) named c.args.alignments.items c.in_ok-index.ensures.names);
+          (extends_alignments (names_of c.args.allocs.now) named c.args.table.alignments.items c.in_ok-index.ensures.names);
       entries = c.in_ok-next.ensures.more.entries ∙ c.in_ok-index.ensures.entries;
     }
 
 pub returns-clause-block : goal.returns-clause-block
 returns-clause-block c = λ marker.
     let text = c.args.source.now.text.now in
-    let body_is = body_at text c.as_bytes-bytes.result.now c.args.start c.next_line.result c.next_line-body.result c.as_bytes-bytes.ensures.value
-    c.next_line.ensures.value c.next_line-body.ensures.value in
+    let body_is = body_at text c.args.start c.args.table.head_len c.requires.head in
     let old = c.args.tree.now in
     let names = names_of c.parse_table.new.allocs in
     let ix = c.in_ok-index.index in
-    let alignments = c.args.alignments.items in
+    let alignments = c.args.table.alignments.items in
     let opened = c.in_ok-open_block.ensures.tree in
     let rows = subst (λ (f : Forest Item). AppendsRows (document text c.args.source.now.options names) (length alignments) c.args.start
-    c.next_line-body.result f
+    (c.args.start + c.args.table.head_len) f
     c.parse_table.new.tree c.in_ok-next.next) opened
-    (subst (λ n. AppendsRows (document text c.args.source.now.options names) n c.args.start c.next_line-body.result c.open_block.new.tree c.parse_table.new.tree
-    c.in_ok-next.next) (c.len-columns.ensures ∙ c.args.alignments.ok.0) c.in_ok-next.ensures.rows) in
+    (subst (λ n. AppendsRows (document text c.args.source.now.options names) n c.args.start (c.args.start + c.args.table.head_len) c.open_block.new.tree c.parse_table.new.tree
+    c.in_ok-next.next) (c.len.ensures ∙ c.args.table.alignments.ok.0) c.in_ok-next.ensures.rows) in
     let there = open_are_in old.nodes old.spine c.is_forest.ensures.opened in
-    table_text text c.args.source.now.options names c.args.start c.next_line-body.result c.in_ok-next.next ix alignments old c.parse_table.new.tree rows there
+    table_text text c.args.source.now.options names c.args.start (c.args.start + c.args.table.head_len) c.in_ok-next.next ix alignments old c.parse_table.new.tree rows there
     (named_yet c) body_is c.requires.headed marker
 
 pub returns-clause-fits : goal.returns-clause-fits
 returns-clause-fits c = λ from low.
     let text = c.args.source.now.text.now in
-    let body_is = body_at text c.as_bytes-bytes.result.now c.args.start c.next_line.result c.next_line-body.result c.as_bytes-bytes.ensures.value
-    c.next_line.ensures.value c.next_line-body.ensures.value in
-    let utf8 = subst IsUtf8 c.as_bytes-bytes.ensures.value c.as_bytes-bytes.ensures.utf8 in
+    let body_is = body_at text c.args.start c.args.table.head_len c.requires.head in
+    let utf8 = c.requires.utf8 in
     let old = c.args.tree.now in
     let names = names_of c.parse_table.new.allocs in
     let ix = c.in_ok-index.index in
-    let alignments = c.args.alignments.items in
+    let alignments = c.args.table.alignments.items in
     let opened = c.in_ok-open_block.ensures.tree in
     let rows = subst (λ (f : Forest Item). AppendsRows (document text c.args.source.now.options names) (length alignments) c.args.start
-    c.next_line-body.result f
+    (c.args.start + c.args.table.head_len) f
     c.parse_table.new.tree c.in_ok-next.next) opened
-    (subst (λ n. AppendsRows (document text c.args.source.now.options names) n c.args.start c.next_line-body.result c.open_block.new.tree c.parse_table.new.tree
-    c.in_ok-next.next) (c.len-columns.ensures ∙ c.args.alignments.ok.0) c.in_ok-next.ensures.rows) in
+    (subst (λ n. AppendsRows (document text c.args.source.now.options names) n c.args.start (c.args.start + c.args.table.head_len) c.open_block.new.tree c.parse_table.new.tree
+    c.in_ok-next.next) (c.len.ensures ∙ c.args.table.alignments.ok.0) c.in_ok-next.ensures.rows) in
     let there = open_are_in old.nodes old.spine c.is_forest.ensures.opened in
-    table_between text c.args.source.now.options names c.args.start c.next_line-body.result c.in_ok-next.next ix alignments old c.parse_table.new.tree rows
+    table_between text c.args.source.now.options names c.args.start (c.args.start + c.args.table.head_len) c.in_ok-next.next ix alignments old c.parse_table.new.tree rows
     there
     (named_yet c) body_is c.requires.headed (extends_none names) utf8 c.requires.boundary from low

@@ -8,4 +8,4 @@ pub returns-in_ok-next-in-None-clause-block : goal.returns-in_ok-next-in-None-cl
 returns-in_ok-next-in-None-clause-block c =
     plain_text_added c.args.source.now.text.now c.args.source.now.options
     (names_of c.parse_paragraph.new.allocs) c.args.start_ix c.args.tasklist_marker c.args.tree.now c.parse_paragraph.new.tree c.in_ok-next-in-None.next
-    (sym c.in_ok-alignments.ensures ∙ ap (option_map (λ v. v.items)) c.in-None.is) c.in_ok-next-in-None.ensures.block
+    (sym c.in_ok-table.ensures.value ∙ ap (option_map (λ t. t.alignments.items)) c.in-None.is) c.in_ok-next-in-None.ensures.block

@@ -17,7 +17,7 @@ returns-clause-kept c =
       more = record {
         names = extends_both (names_of c.allocate_alignment.new.self) (names_of (allocs_of c.append_content.new.self)) (names_of (allocs_of c.args.self.now))
             (extends_alignments (names_of (allocs_of c.append_content.new.self)) (names_of c.allocate_alignment.new.self)
-            c.in-Some.alignments.items c.in_ok-index.ensures.names) e.more.names;
+            c.in-Some.head.alignments.items c.in_ok-index.ensures.names) e.more.names;
         entries = c.in_ok-index.ensures.entries ∙ e.more.entries;
       };
     }
