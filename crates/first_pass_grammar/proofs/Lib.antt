@@ -7,6 +7,8 @@ pub mod Completions
 pub mod ContainerSteps
 pub mod CountedRows
 pub mod DefinitionSteps
+pub mod EachLeaf
+pub mod EachRow
 pub mod EachToken
 pub mod EarlierNodes
 pub mod Extending

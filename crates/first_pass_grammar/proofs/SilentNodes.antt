@@ -16,9 +16,9 @@ use Rattle.first_pass_grammar.specs.Completion.{ended, flagged, with_title, titl
 use Rattle.first_pass_grammar.specs.Completion.{DefinitionClosed, TitleAt, Pending, NoList, OneList, OneTitle, not_apart, closed_with, after_paragraph}
 use Rattle.first_pass_grammar.specs.Completion.{after_closed, after_title, rendered, closed_as, definitions_open}
 use Rattle.first_pass_grammar.specs.WholeTables.{Mark, shown, marks, TableRows, table_marks, AreWholeTables}
+use Rattle.first_pass_grammar.proofs.EachRow.{HoldsOfFirst, first_rows, items_rows, list_rows}
 use Rattle.first_pass_grammar.proofs.TableMarks.{marks-append}
-use Rattle.first_pass_grammar.proofs.WholeForests.{table_marks-append, whole_both, tight_shows, marks-tightened, WholeRows, items_whole, list_whole}
-use Rattle.first_pass_grammar.proofs.WholeForests.{WholeFirst, first_whole, forest_whole}
+use Rattle.first_pass_grammar.proofs.WholeForests.{table_marks-append, whole_both, tight_shows, marks-tightened, WholeRows, forest_whole}
 use Rattle.first_pass_grammar.specs.WholeTables.{AreEachNode, ShowsNothing, SilentClosed, SilentFrom}
 
 -- a node stands at a place, and shows nothing
@@ -256,7 +256,7 @@ more_behind names nodes closed more same (tables, e, full) = (
 
 -- definitions that are taken in, with the rows beside them
 closed_shows : (names : Names) (depth : ℕ) (nodes now : List (ℕ × Item)) (place : ℕ) (loose : Bool) (ds : Definitions) → marks names now ≡ marks names nodes
-    → IsSilent now place → WholeFirst names (Some ds) → ShowsMore names nodes (closed_with depth now place loose ds)
+    → IsSilent now place → HoldsOfFirst (AreWholeTables names) (Some ds) → ShowsMore names nodes (closed_with depth now place loose ds)
 closed_shows names depth nodes now place loose ds same silent h =
     more_behind names nodes (list_closed now place (suc (suc depth)) loose ds.«end») _
     (marks_closed names now place (suc (suc depth)) loose ds.«end» silent ∙ same)
@@ -264,7 +264,7 @@ closed_shows names depth nodes now place loose ds same silent h =
     (forest_whole names (suc depth) (not loose) ds.items h.0) (forest_whole names depth false ds.beside h.1))
 
 paragraph_shows : (names : Names) (depth : ℕ) (nodes now : List (ℕ × Item)) (place : ℕ) (o : Option Definitions) (rows : Rows)
-    → marks names now ≡ marks names nodes → SilentFrom now place → WholeFirst names o → WholeRows names rows
+    → marks names now ≡ marks names nodes → SilentFrom now place → HoldsOfFirst (AreWholeTables names) o → WholeRows names rows
     → ShowsMore names nodes (after_paragraph depth now place o rows)
 paragraph_shows names depth nodes now place None rows same silent f h =
     more_behind names nodes now (items_of depth false rows) same (forest_whole names depth false rows h)
@@ -277,24 +277,24 @@ after_shows : (names : Names) (depth : ℕ) (nodes : List (ℕ × Item)) (closed
 after_shows names depth nodes OtherClosed rows silent h =
     more_behind names nodes nodes (items_of depth false rows) refl (forest_whole names depth false rows h)
 after_shows names depth nodes (ParagraphAt place) rows silent h =
-    paragraph_shows names depth nodes nodes place (definitions_first rows) rows refl silent (first_whole names rows h) h
+    paragraph_shows names depth nodes nodes place (definitions_first rows) rows refl silent (first_rows (AreWholeTables names) rows h) h
 after_shows names depth nodes (DefinitionClosed e blanks) rows silent h =
     more_behind names nodes nodes (items_of depth false rows) refl (forest_whole names depth false rows h)
 after_shows names depth nodes (TitleAt e place) rows silent h =
     more_behind names nodes nodes (items_of depth false rows) refl (forest_whole names depth false rows h)
 
 -- a possible title's list, with the title or without it
-apart_by : (names : Names) (t : Bool) (ds : Definitions) → WholeFirst names (Some ds)
-    → WholeFirst names (if◌then◌else◌ {A = Option Definitions} t None (Some ds))
+apart_by : (names : Names) (t : Bool) (ds : Definitions) → HoldsOfFirst (AreWholeTables names) (Some ds)
+    → HoldsOfFirst (AreWholeTables names) (if◌then◌else◌ {A = Option Definitions} t None (Some ds))
 apart_by names true ds h = tt
 apart_by names false ds h = h
 
-unless_apart : (names : Names) (o : Option Definitions) → WholeFirst names o → WholeFirst names (not_apart o)
+unless_apart : (names : Names) (o : Option Definitions) → HoldsOfFirst (AreWholeTables names) o → HoldsOfFirst (AreWholeTables names) (not_apart o)
 unless_apart names None h = tt
 unless_apart names (Some ds) h = apart_by names ds.apart ds h
 
 title_shows : (names : Names) (depth : ℕ) (nodes : List (ℕ × Item)) (place title e : ℕ) (loose : Bool) (o : Option Definitions) (rows : Rows)
-    → IsSilent nodes place → SilentFrom nodes title → WholeFirst names o → WholeRows names rows
+    → IsSilent nodes place → SilentFrom nodes title → HoldsOfFirst (AreWholeTables names) o → WholeRows names rows
     → ShowsMore names nodes (after_title depth nodes (place, title, e) loose o rows)
 title_shows names depth nodes place title e loose (Some ds) rows silent from f h =
     closed_shows names depth nodes (title_taken nodes title) place (loose || is_loose ds.items) ds (marks_taken names nodes title from)
@@ -304,7 +304,7 @@ title_shows names depth nodes place title e loose None rows silent from f h =
     let still = from_closed nodes place (suc (suc depth)) loose e title from in
     paragraph_shows names depth nodes (title_left closed title) title (definitions_first rows) rows
     (marks_left names closed title still ∙ marks_closed names nodes place (suc (suc depth)) loose e silent) (from_left closed title title still)
-    (first_whole names rows h) h
+    (first_rows (AreWholeTables names) rows h) h
 
 pub rendered_shows : (names : Names) (depth last : ℕ) (nodes : List (ℕ × Item)) (list : Pending) (rows : Rows) → SilentList nodes list → WholeRows names rows
     → ShowsMore names nodes (rendered depth last nodes list rows)
@@ -315,11 +315,11 @@ rendered_shows names depth last nodes (OneList place joins loose) rows silent h 
     more_behind names nodes (list_closed nodes place (suc (suc depth)) now (list_until joins last rows)) _
     (marks_closed names nodes place (suc (suc depth)) now (list_until joins last rows) silent)
     (whole_both names (items_of (suc depth) (not now) (items_behind joins rows)) (items_of depth false (list_behind joins rows))
-    (forest_whole names (suc depth) (not now) (items_behind joins rows) (items_whole names joins rows h))
-    (forest_whole names depth false (list_behind joins rows) (list_whole names joins rows h)))
+    (forest_whole names (suc depth) (not now) (items_behind joins rows) (items_rows (AreWholeTables names) joins rows h))
+    (forest_whole names depth false (list_behind joins rows) (list_rows (AreWholeTables names) joins rows h)))
 rendered_shows names depth last nodes (OneTitle place title e loose) rows silent h =
     title_shows names depth nodes place title e loose (not_apart (definitions_first rows)) rows silent.0 silent.1
-    (unless_apart names (definitions_first rows) (first_whole names rows h)) h
+    (unless_apart names (definitions_first rows) (first_rows (AreWholeTables names) rows h)) h
 
 -- the nodes still open show nothing then
 silent_with : (depth : ℕ) (nodes : List (ℕ × Item)) (place : ℕ) (loose : Bool) (ds : Definitions) (i : ℕ) → IsSilent nodes i

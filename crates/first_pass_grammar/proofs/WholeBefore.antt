@@ -15,6 +15,7 @@ use Rattle.first_pass_grammar.specs.Completion.{ended, Pending, OneList, Standin
 use Rattle.first_pass_grammar.specs.Completion.{InList, InDefinitions, definitions_open, containers_of, loosened, container_closed, Becomes, Completion}
 use Rattle.first_pass_grammar.specs.Containers.{is_quote}
 use Rattle.first_pass_grammar.specs.WholeTables.{Mark, ATable, ARow, ACell, shown, marks, RowCells, row_marks, TableRows, table_marks, AreFull, AreWholeTables}
+use Rattle.first_pass_grammar.proofs.EachRow.{each_row}
 use Rattle.first_pass_grammar.proofs.Finishes.{containers-loosened}
 use Rattle.first_pass_grammar.proofs.HeadCells.{heads_are_full}
 use Rattle.first_pass_grammar.proofs.MoreNames.{alignments_kept}
@@ -22,7 +23,7 @@ use Rattle.first_pass_grammar.proofs.PlacesKept.{AreAt}
 use Rattle.first_pass_grammar.proofs.SilentNodes.{IsSilent, AreSilent, SilentList, ShowsMore, more_both, marks_ended, rendered_shows, silent_rendered}
 use Rattle.first_pass_grammar.proofs.SilentNodes.{silent_place, silent_as, silent_definitions}
 use Rattle.first_pass_grammar.proofs.WholeBlocks.{HeadsAreFull, PlainFrom, sequence_whole}
-use Rattle.first_pass_grammar.proofs.WholeForests.{rows_whole, WholeRows, derived_whole}
+use Rattle.first_pass_grammar.proofs.WholeForests.{WholeRows, derived_whole}
 
 -- the nodes still open show nothing where a container is closed
 silent_places : (depth last place e : ℕ) (nodes : List (ℕ × Item)) (list : Pending) (rows : Rows) (places : List ℕ) → SilentList nodes list
@@ -47,7 +48,7 @@ module _ (d : Document) (full : HeadsAreFull d) where
   becomes_shows [] [] w [] from lines forest tables plain at silent list are becomes = absurd are
   becomes_shows [] [] w (f ∷ []) from lines forest tables plain at silent list (sequence, ends) (is, told) =
       let blocks = (sequence_whole d full f.blocks (level [] w.before) from lines (Lines []) plain at sequence).0 in
-      let rows = rows_whole d.names false w.before f.«end» f.blocks blocks in
+      let rows = each_row (AreWholeTables d.names) false w.before f.«end» f.blocks blocks in
       subst (ShowsMore d.names w.nodes) (sym is) (rendered_shows d.names 1 f.«end» w.nodes w.list (rows_on false w f) list rows)
   becomes_shows [] [] w (f ∷ g ∷ more) from lines forest tables plain at silent list are becomes = absurd are
   becomes_shows [] (place ∷ places) w further from lines forest tables plain at silent list are becomes = absurd becomes
@@ -68,7 +69,7 @@ module _ (d : Document) (full : HeadsAreFull d) where
       let depth : ℕ = suc (length (place ∷ places)) in
       let now : Standing = container_closed c depth place w f rows in
       let blocks = sequence_whole d full f.blocks (level (c ∷ containers_of frames) w.before) from lines left plain at sequence in
-      let whole = rows_whole d.names (is_quote c) w.before f.«end» f.blocks blocks.0 in
+      let whole = each_row (AreWholeTables d.names) (is_quote c) w.before f.«end» f.blocks blocks.0 in
       let here = container_shows d.names depth place w f rows list silent.0 whole in
       let still = silent_places depth f.«end» place f.«end» w.nodes w.list rows places list silent.1 in
       more_both d.names w.nodes now.nodes forest here

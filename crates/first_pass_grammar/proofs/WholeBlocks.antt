@@ -29,7 +29,7 @@ use Rattle.first_pass_grammar.specs.RawLines.{range_text, range_html}
 use Rattle.first_pass_grammar.specs.TableHeads.{headed_table}
 use Rattle.first_pass_grammar.specs.Tables.{filled, Taken, most_filled, IsTable}
 use Rattle.first_pass_grammar.specs.Texts.{IsPlainText, IsText, IsUnderlined, text_children, heading_children, plain_text, underline_first}
-use Rattle.first_pass_grammar.specs.Blocks.{Leaf, BlankLine, Block, opened, Skeleton, Nil, Then, Node}
+use Rattle.first_pass_grammar.specs.Blocks.{opened, Skeleton, Nil, Then, Node}
 use Rattle.first_pass_grammar.specs.Skeleton.{OpensBeyond, OpensRun, From, Line, Blanks, At, May, Anything, ALeafAlone, TextOf, MarkAlone, behind_marker}
 use Rattle.first_pass_grammar.specs.Skeleton.{Opening, OpensLeaf, OpensNode, OpensText, OpensAs, OpensBlockAt, next_is_blank}
 use Rattle.first_pass_grammar.specs.Openers.{task_by, task_behind}
@@ -38,6 +38,7 @@ use Rattle.first_pass_grammar.specs.Openers.{tag_behind}
 use Rattle.first_pass_grammar.specs.Skeleton.{may_define, OpensAt, Level, Left, Lines, InLine, onward, level_in, level_after_leaf, level_after, behind_first, IsFirst}
 use Rattle.first_pass_grammar.specs.Skeleton.{IsSequence}
 use Rattle.first_pass_grammar.specs.WholeTables.{Mark, marks, table_marks, AreFull, AreWholeTables}
+use Rattle.first_pass_grammar.proofs.EachLeaf.{HoldsOfLeaf, HoldsOfEachLeaf}
 use Rattle.first_pass_grammar.proofs.EachToken.{AreEach, heading_each, range_text_each, range_html_each, raw_lines_each, lines_each, children_each}
 use Rattle.first_pass_grammar.proofs.EachToken.{heading_children_each}
 use Rattle.first_pass_grammar.proofs.PlacesKept.{IsAt, AreAt, at_unindented, at_front, at_taken, at_quote, at_item, at_marker, extent_at, tag_left_at, code_at}
@@ -65,11 +66,7 @@ HeadsAreFull d =
     (path : List Container) (p : Place) (alignments : List Alignment) (lines : List Place) (t : Taken) → IsAt d.text p
     → headed_table (around d path) p.rest.left ≡ Some alignments → (h : IsTable d path p alignments lines t) → filled (length alignments) h.cells ≤ most_filled
 
--- what a leaf shows, and what stands where blocks continue
-abbrev pub WholeLeaf : Names → Leaf → Type 0
-WholeLeaf names BlankLine = Unit {0}
-WholeLeaf names (Block b) = AreWholeTables names b.items
-
+-- what stands where blocks continue shows nothing
 abbrev pub PlainMay : May → Type 0
 PlainMay Anything = Unit {0}
 PlainMay ALeafAlone = Unit {0}
@@ -86,7 +83,7 @@ abbrev pub LeftAt : List ℕ → Left → Type 0
 LeftAt text left = PlainFrom text (onward left).0 × AreAt text (onward left).1
 
 abbrev pub WholeOpening : Document → Opening → Type 0
-WholeOpening d (OpensLeaf leaf there left) = WholeLeaf d.names leaf × PlainFrom d.text there × AreAt d.text left
+WholeOpening d (OpensLeaf leaf there left) = HoldsOfLeaf (AreWholeTables d.names) leaf × PlainFrom d.text there × AreAt d.text left
 WholeOpening d (OpensNode head inside behind) = PlainFrom d.text inside × AreAt d.text behind
 
 abbrev pub ShownBy : Option Item → Type 0
@@ -343,14 +340,9 @@ module _ (d : Document) (full : HeadsAreFull d) where
   behind_first_plain (At p (MarkAlone marker blanks)) there k = marker_plain blanks
 
 -- each block of a sequence shows whole tables, or nothing
-unfoldable pub WholeSkeleton : Names → Skeleton → Type 0
-WholeSkeleton names Nil = Unit {0}
-WholeSkeleton names (Then leaf next) = WholeLeaf names leaf × WholeSkeleton names next
-WholeSkeleton names (Node head e kids next) = WholeSkeleton names kids × WholeSkeleton names next
-
 pub sequence_whole : (d : Document) (full : HeadsAreFull d) (s : Skeleton) (l : Level) (from : From) (lines : List Place) (left : Left)
-    → PlainFrom d.text from → AreAt d.text lines → IsSequence d s l from lines left → WholeSkeleton d.names s × LeftAt d.text left
-unfolding IsSequence WholeSkeleton
+    → PlainFrom d.text from → AreAt d.text lines → IsSequence d s l from lines left → HoldsOfEachLeaf (AreWholeTables d.names) s × LeftAt d.text left
+unfolding IsSequence HoldsOfEachLeaf
 sequence_whole d full Nil l from lines left plain h ends = (tt, left_at d full l from lines left plain h (leaves_at d.options l from lines left ends))
 sequence_whole d full (Then leaf next) l from lines left plain h (there, mid, first, more) =
     let one = first_whole d full l from lines (OpensLeaf leaf there mid) plain h first in
