@@ -1,125 +1,60 @@
 -- In a derived tree no heading stands below a heading.
-use Rattle.std.proofs.Common.{◌≡◌, ◌⊎◌, inl, inr, ℕ, suc, ◌+◌, ◌<◌, ◌≤◌, ◌==◌, Bool, true, false, List, [], ◌∷◌, ◌++◌, length, map, Option, Some, None, refl}
+use Rattle.std.proofs.Common.{◌≡◌, ◌⊎◌, inl, inr, ℕ, suc, ◌+◌, ◌<◌, ◌≤◌, Bool, true, false, List, [], ◌∷◌, ◌++◌, length, map, None, refl}
 use Rattle.std.proofs.Common.{sym, ap, subst, ◌∙◌, if◌then◌else◌, arith, append_assoc, append-nil}
-use Rattle.std.specs.Option.{option_map, option_map_or}
+use Rattle.std.proofs.lemmas.Bool.{true≢false}
+use Rattle.first_pass_items.specs.declared.cow_str.CowStr.{CowStr}
 use Rattle.first_pass_items.specs.declared.item.Item.{Item}
 use Rattle.first_pass_items.specs.declared.item.ItemBody.{ItemBody}
-use Rattle.first_pass_items.specs.declared.item.ItemBody.TheVariants.{Paragraph as ParagraphBody}
+use Rattle.first_pass_items.specs.declared.item.ItemBody.TheVariants.{Paragraph, Heading}
 use Rattle.first_pass_tree.specs.Forest.{at_depth}
 use Rattle.first_pass_tree.specs.Tight.{tight_body, tightened}
-use Rattle.first_pass_lines.specs.Places.{lines_at}
-use Rattle.first_pass_grammar.specs.Before.{Before, nothing, after_blank, after_block, begins_paragraph}
-use Rattle.first_pass_grammar.specs.Blocks.{LeafBlock, BlankLine, Block, Opener, QuoteMarker, ItemMarker, FootnoteMarker, DefinitionMarker, opened, Skeleton}
-use Rattle.first_pass_grammar.specs.Blocks.{Nil, Then, Node}
-use Rattle.first_pass_grammar.specs.Containers.{is_quote}
+use Rattle.first_pass_tokens.proofs.PieceFacts.{is_markup}
+use Rattle.first_pass_grammar.specs.Before.{nothing}
 use Rattle.first_pass_grammar.specs.Derivation.{as_title, row_items, tight_in, items_of, Tables, Derives}
 use Rattle.first_pass_grammar.specs.Leaves.{Document}
-use Rattle.first_pass_grammar.specs.Rows.{What, ALeaf, AQuote, AList, AnItem, AFootnote, ADefinitionList, ATitle, ADefinition, Row, Rows, End, OneOf, gapped}
-use Rattle.first_pass_grammar.specs.Rows.{is_loose, Joins, ItemsOf, DefinitionsTo, end_of, is_list_of, items_behind, list_behind, what_of, row_of}
-use Rattle.first_pass_grammar.specs.Rows.{row_of_leaf, Definitions, definitions_of_row, apart_after, is_untitled, is_run_row, definitions_first, titled}
-use Rattle.first_pass_grammar.specs.Rows.{container_row, gap_before, rows_of}
-use Rattle.first_pass_grammar.specs.Skeleton.{Line, level, Lines}
+use Rattle.first_pass_grammar.specs.Rows.{What, ALeaf, AQuote, AList, AnItem, AFootnote, ADefinitionList, ATitle, ADefinition, Rows, End, OneOf, is_loose}
+use Rattle.first_pass_grammar.specs.Rows.{rows_of}
 use Rattle.first_pass_grammar.specs.WholeTables.{AreEachNode}
+use Rattle.first_pass_grammar.proofs.EachLeaf.{HoldsOfBlocks, HoldsInBlocks, IsBlockOf}
+use Rattle.first_pass_grammar.proofs.EachRow.{HoldsOfRow, HoldsOfEachRow, derived_rows, tight_nodes}
 use Rattle.first_pass_grammar.proofs.TableItems.{deeper_nodes}
-use Rattle.first_pass_outline.proofs.HeadingBlocks.{IsNoHeading, HasOneHeading, LeavesHaveOne, sequence_one}
+use Rattle.first_pass_grammar.proofs.TokensNamed.{NamesWithin}
+use Rattle.first_pass_outline.specs.Outline.{level_of}
 
--- no rows
-abbrev IsEnd : Rows → Type 0
-IsEnd End = Unit {0}
-IsEnd (OneOf row inner next) = ⊥
+abbrev pub IsNoHeading : ItemBody → Type 0
+IsNoHeading body = level_of body ≡ None
 
--- no rows stand in a leaf block, and of its items none is a heading but the first
-abbrev OneIn : What → Rows → Type 0
-OneIn (ALeaf block) inner = HasOneHeading block.items × IsEnd inner
-OneIn (AQuote kind e) inner = Unit {0}
-OneIn (AList byte number e) inner = Unit {0}
-OneIn (AnItem columns e) inner = Unit {0}
-OneIn (AFootnote index e) inner = Unit {0}
-OneIn (ADefinitionList t e) inner = Unit {0}
-OneIn (ATitle block) inner = HasOneHeading block.items × IsEnd inner
-OneIn (ADefinition columns e) inner = Unit {0}
+-- the first of a block's items stands at the block's own depth, and none after it is a heading
+abbrev HasOneHeading : List (ℕ × Item) → Type 0
+HasOneHeading items = IsBlockOf (λ body. Unit {0}) IsNoHeading items
 
--- so it is in each leaf block of rows
-unfoldable RowsHaveOne : Rows → Type 0
-RowsHaveOne End = Unit {0}
-RowsHaveOne (OneOf row inner next) = OneIn row.what inner × RowsHaveOne inner × RowsHaveOne next
+-- no token of a line is a heading, nor is anything in a leaf block
+markup_no_heading : (texts : List CowStr) (body : ItemBody) → is_markup body ≡ true → NamesWithin texts body → IsNoHeading body
+markup_no_heading texts (Heading level index) h k = absurd (true≢false (sym h))
+markup_no_heading texts body h k = refl
 
-gapped_one : (gap : Bool) (rows : Rows) → RowsHaveOne rows → RowsHaveOne (gapped gap rows)
-unfolding RowsHaveOne
-gapped_one gap End h = tt
-gapped_one gap (OneOf row inner next) h = h
+inside_no_heading : (texts : List CowStr) → HoldsInBlocks texts IsNoHeading
+inside_no_heading texts = record {
+  tokens = record { text = λ escaped. refl; soft = refl; hard = λ by_backslash. refl; markup = markup_no_heading texts };
+  raw = record { html = refl; columns = λ ix. refl };
+  head = refl;
+  row = refl;
+  cell = refl;
+  task = λ checked. refl;
+}
 
-unless_one : (t : Bool) (a b : Rows) → RowsHaveOne a → RowsHaveOne b → RowsHaveOne (if t then a else b)
-unless_one true a b h k = h
-unless_one false a b h k = k
-
-items_one : (joins : Joins) (rows : Rows) → RowsHaveOne rows → RowsHaveOne (items_behind joins rows)
-unfolding RowsHaveOne
-items_one joins End h = tt
-items_one joins (OneOf row inner next) h = unless_one (is_list_of joins row.what) (gapped row.gap inner) End (gapped_one row.gap inner h.1) tt
-
-list_one : (joins : Joins) (rows : Rows) → RowsHaveOne rows → RowsHaveOne (list_behind joins rows)
-unfolding RowsHaveOne
-list_one joins End h = tt
-list_one joins (OneOf row inner next) h = unless_one (is_list_of joins row.what) next (OneOf row inner next) h.2 h
-
-container_one : (last : ℕ) (opener : Opener) (row : Row) (inner next : Rows) → OneIn row.what inner → RowsHaveOne inner → RowsHaveOne next
-    → RowsHaveOne (container_row last opener row inner next)
-unfolding RowsHaveOne
-container_one last (QuoteMarker kind) row inner next own h k = (own, h, k)
-container_one last (ItemMarker byte number columns) row inner next own h k =
-    (tt, (own, h, items_one (ItemsOf byte) next k), list_one (ItemsOf byte) next k)
-container_one last (FootnoteMarker columns index label) row inner next own h k = (own, h, k)
-container_one last (DefinitionMarker columns) row inner next own h k =
-    let joins : Joins = DefinitionsTo (end_of row.what last) in
-    (tt, (own, h, items_one joins next k), list_one joins next k)
-
-what_one : (opener : Opener) (e : ℕ) (inner : Rows) → OneIn (what_of opener e) inner
-what_one (QuoteMarker kind) e inner = tt
-what_one (ItemMarker byte number columns) e inner = tt
-what_one (FootnoteMarker columns index label) e inner = tt
-what_one (DefinitionMarker columns) e inner = tt
-
--- definitions that are first of rows
-abbrev FirstHaveOne : Option Definitions → Type 0
-FirstHaveOne None = Unit {0}
-FirstHaveOne (Some ds) = RowsHaveOne ds.items × RowsHaveOne ds.beside
-
-apart_one : (row : Row) (inner : Rows) (o : Option Definitions) → OneIn row.what inner → RowsHaveOne inner → FirstHaveOne o
-    → FirstHaveOne (option_map (apart_after row inner) o)
-unfolding RowsHaveOne
-apart_one row inner None h k f = tt
-apart_one row inner (Some ds) h k f = (f.0, (h, k, f.1))
-
-at_one : (t u : Bool) (row : Row) (inner next : Rows) (o : Option Definitions) → RowsHaveOne (OneOf row inner next) → FirstHaveOne o
-    → FirstHaveOne (if t then definitions_of_row row inner next else (if u then option_map (apart_after row inner) o else None))
-unfolding RowsHaveOne
-at_one true u row inner next o h f = (gapped_one row.gap inner h.1, h.2)
-at_one false true row inner next o h f = apart_one row inner o h.0 h.1 f
-at_one false false row inner next o h f = tt
-
-first_one : (r : Rows) → RowsHaveOne r → FirstHaveOne (definitions_first r)
-unfolding RowsHaveOne definitions_first
-first_one End h = tt
-first_one (OneOf row inner next) h = at_one (is_untitled row.what) (is_run_row row.what) row inner next _ h (first_one next h.2)
-
-titled_one : (block : LeafBlock) (gap p : Bool) (o : Option Definitions) (next : Rows) → HasOneHeading block.items → FirstHaveOne o → RowsHaveOne next
-    → RowsHaveOne (option_map_or (titled block gap) (if p then o else None) (OneOf (row_of_leaf block gap) End next))
-unfolding RowsHaveOne
-titled_one block gap true (Some ds) next h f k = (tt, ((h, tt), tt, f.0), f.1)
-titled_one block gap true None next h f k = ((h, tt), tt, k)
-titled_one block gap false o next h f k = ((h, tt), tt, k)
-
-rows_one : (quoted : Bool) (before : Before) (last : ℕ) (s : Skeleton) → LeavesHaveOne s → RowsHaveOne (rows_of quoted before last s)
-unfolding LeavesHaveOne RowsHaveOne rows_of
-rows_one quoted before last Nil h = tt
-rows_one quoted before last (Then BlankLine next) h = rows_one quoted (after_blank quoted before) last next h.1
-rows_one quoted before last (Then (Block block) next) h =
-    let more = rows_one quoted (after_block before block) last next h.1 in
-    titled_one block (gap_before before block) (begins_paragraph block.items) _ _ h.0 (first_one _ more) more
-rows_one quoted before last (Node head e kids next) h =
-    container_one last head.opener (row_of head e before.counted) _ _ (what_one head.opener e _)
-    (rows_one (is_quote (opened head.opener)) nothing e kids h.0) (rows_one quoted _ last next h.1)
+any_block : HoldsOfBlocks (λ body. Unit {0})
+any_block = record {
+  paragraph = tt;
+  heading = λ level index. tt;
+  table = λ index. tt;
+  indented = tt;
+  fenced = λ info. tt;
+  metadata = λ kind. tt;
+  html = tt;
+  rule = tt;
+  task = λ checked. tt;
+}
 
 -- of these nodes the first that stand below a depth are no headings
 abbrev pub NoneBelow : ℕ → List (ℕ × Item) → Type 0
@@ -164,17 +99,8 @@ block_inside depth items more from n kids is h by k =
     (inr (none_both n.0 kids more h (none_begins n.0 more (begins_deeper depth n.0 more deep by))), inside_both kids more h k)
 
 tight_no_heading : (b : ItemBody) → IsNoHeading b → IsNoHeading (tight_body b)
-tight_no_heading ParagraphBody h = refl
+tight_no_heading Paragraph h = refl
 tight_no_heading b h = h
-
-tight_by : (t : Bool) (x : Item) → IsNoHeading x.body
-    → IsNoHeading (if◌then◌else◌ {A = Item} t (record { start = x.start; «end» = x.«end»; body = tight_body x.body }) x).body
-tight_by true x h = tight_no_heading x.body h
-tight_by false x h = h
-
-tight_nodes : (depth : ℕ) (nodes : List (ℕ × Item)) → AreEachNode IsNoHeading nodes → AreEachNode IsNoHeading (map (tightened depth) nodes)
-tight_nodes depth [] h = tt
-tight_nodes depth (n ∷ nodes) h = (tight_by (n.0 == depth) n.1 h.0, tight_nodes depth nodes h.1)
 
 leaf_inside : (depth : ℕ) (tight : Bool) (items more : List (ℕ × Item)) → HasOneHeading items → BeginsBy depth more → NoneInside more
     → NoneInside ((if tight then map (tightened depth) (at_depth depth items) else at_depth depth items) ++ more)
@@ -183,18 +109,19 @@ leaf_inside depth false [] more h by k = k
 leaf_inside depth true (x ∷ items) more h by k =
     let kids : List (ℕ × Item) = map (tightened depth) (at_depth depth items) in
     block_inside depth (tightened depth (depth + x.0, x.1) ∷ kids) more (omega arith) (tightened depth (depth + x.0, x.1)) kids refl
-    (tight_nodes depth (at_depth depth items) (deeper_nodes IsNoHeading depth items h.1)) by k
+    (tight_nodes IsNoHeading tight_no_heading depth (at_depth depth items) (deeper_nodes IsNoHeading depth items h.2)) by k
 leaf_inside depth false (x ∷ items) more h by k =
     block_inside depth ((depth + x.0, x.1) ∷ at_depth depth items) more (omega arith) (depth + x.0, x.1) (at_depth depth items) refl
-    (deeper_nodes IsNoHeading depth items h.1) by k
+    (deeper_nodes IsNoHeading depth items h.2) by k
 
 title_inside : (depth : ℕ) (items more : List (ℕ × Item)) → HasOneHeading items → NoneInside more → NoneInside (at_depth depth (as_title items) ++ more)
 title_inside depth [] more h k = k
-title_inside depth (x ∷ items) more h k = (inl refl, inside_both (at_depth depth items) more (deeper_nodes IsNoHeading depth items h.1) k)
+title_inside depth (x ∷ items) more h k = (inl refl, inside_both (at_depth depth items) more (deeper_nodes IsNoHeading depth items h.2) k)
 
 -- the items of a row, before those of the rows in it
-row_inside : (depth : ℕ) (tight loose t : Bool) (start : ℕ) (w : What) (inner : Rows) (more : List (ℕ × Item)) → OneIn w inner → BeginsBy depth more
-    → NoneInside (items_of (suc depth) t inner ++ more) → NoneInside (row_items depth tight loose start w ++ (items_of (suc depth) t inner ++ more))
+row_inside : (depth : ℕ) (tight loose t : Bool) (start : ℕ) (w : What) (inner : Rows) (more : List (ℕ × Item)) → HoldsOfRow HasOneHeading w inner
+    → BeginsBy depth more → NoneInside (items_of (suc depth) t inner ++ more)
+    → NoneInside (row_items depth tight loose start w ++ (items_of (suc depth) t inner ++ more))
 unfolding items_of
 row_inside depth tight loose t start (ALeaf block) End more own by k = leaf_inside depth tight block.items more own.0 by k
 row_inside depth tight loose t start (ALeaf block) (OneOf row inner next) more own by k = absurd own.1
@@ -218,12 +145,13 @@ leaf_begins depth true [] more h k = k
 leaf_begins depth true (x ∷ items) more h k = omega (arith, h.0)
 leaf_begins depth false items more h k = items_begin depth items more h k
 
-title_begins : (depth : ℕ) (items more : List (ℕ × Item)) → HasOneHeading items → BeginsBy depth more → BeginsBy depth (at_depth depth (as_title items) ++ more)
+title_begins : (depth : ℕ) (items more : List (ℕ × Item)) → HasOneHeading items → BeginsBy depth more
+    → BeginsBy depth (at_depth depth (as_title items) ++ more)
 title_begins depth [] more h k = k
 title_begins depth (x ∷ items) more h k = omega (arith, h.0)
 
-row_begins : (depth : ℕ) (tight loose t : Bool) (start : ℕ) (w : What) (inner : Rows) (more : List (ℕ × Item)) → OneIn w inner → BeginsBy depth more
-    → BeginsBy depth (row_items depth tight loose start w ++ (items_of (suc depth) t inner ++ more))
+row_begins : (depth : ℕ) (tight loose t : Bool) (start : ℕ) (w : What) (inner : Rows) (more : List (ℕ × Item)) → HoldsOfRow HasOneHeading w inner
+    → BeginsBy depth more → BeginsBy depth (row_items depth tight loose start w ++ (items_of (suc depth) t inner ++ more))
 unfolding items_of
 row_begins depth tight loose t start (ALeaf block) End more own by = leaf_begins depth tight block.items more own.0 by
 row_begins depth tight loose t start (ALeaf block) (OneOf row inner next) more own by = absurd own.1
@@ -239,9 +167,9 @@ row_begins depth tight loose t start (ADefinition columns e) inner more own by =
 regrouped : (a b c rest : List (ℕ × Item)) → a ++ (b ++ (c ++ rest)) ≡ (a ++ (b ++ c)) ++ rest
 regrouped a b c rest = ap (λ z. a ++ z) (sym (append_assoc b c rest)) ∙ sym (append_assoc a (b ++ c) rest)
 
-rows_begin : (depth : ℕ) (tight : Bool) (rows : Rows) (more : List (ℕ × Item)) → RowsHaveOne rows → BeginsBy depth more
+rows_begin : (depth : ℕ) (tight : Bool) (rows : Rows) (more : List (ℕ × Item)) → HoldsOfEachRow HasOneHeading rows → BeginsBy depth more
     → BeginsBy depth (items_of depth tight rows ++ more)
-unfolding RowsHaveOne items_of
+unfolding HoldsOfEachRow items_of
 rows_begin depth tight End more h by = by
 rows_begin depth tight (OneOf row inner next) more h by =
     let loose : Bool = is_loose inner in
@@ -251,9 +179,9 @@ rows_begin depth tight (OneOf row inner next) more h by =
     (row_begins depth tight loose t row.start row.what inner (items_of depth tight next ++ more) h.0 (rows_begin depth tight next more h.2 by))
 
 -- no heading of rows stands below a heading
-rows_inside : (depth : ℕ) (tight : Bool) (rows : Rows) (more : List (ℕ × Item)) → RowsHaveOne rows → BeginsBy depth more → NoneInside more
+rows_inside : (depth : ℕ) (tight : Bool) (rows : Rows) (more : List (ℕ × Item)) → HoldsOfEachRow HasOneHeading rows → BeginsBy depth more → NoneInside more
     → NoneInside (items_of depth tight rows ++ more)
-unfolding RowsHaveOne items_of
+unfolding HoldsOfEachRow items_of
 rows_inside depth tight End more h by k = k
 rows_inside depth tight (OneOf row inner next) more h by k =
     let loose : Bool = is_loose inner in
@@ -268,8 +196,7 @@ rows_inside depth tight (OneOf row inner next) more h by k =
 -- so it is in a derived tree
 pub derived_inside : (d : Document) (nodes : List (ℕ × Item)) (tables : Tables) → Derives d nodes tables → NoneInside nodes
 derived_inside d nodes tables h =
-    let n : ℕ = length d.text in
-    let rows : Rows = rows_of false nothing n h.skeleton in
-    let one = sequence_one d h.skeleton (level [] nothing) Line (lines_at 0 d.text) (Lines []) tt h.sequence in
-    let all = rows_inside 1 false rows [] (rows_one false nothing n h.skeleton one) tt tt in
+    let rows : Rows = rows_of false nothing (length d.text) h.skeleton in
+    let each = derived_rows (λ body. Unit {0}) IsNoHeading d nodes tables any_block (inside_no_heading d.names.texts) h in
+    let all = rows_inside 1 false rows [] each tt tt in
     subst NoneInside (sym h.forest_is) (inl refl, subst NoneInside (append-nil (items_of 1 false rows)) all)

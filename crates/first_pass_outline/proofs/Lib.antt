@@ -1,5 +1,4 @@
 mod EntryLines
-mod HeadingBlocks
 mod HeadingRows
 mod OrderedEntries
 mod Outlines

@@ -15,8 +15,7 @@ use Rattle.first_pass_grammar.specs.Order.{below, beyond, Fits, IsOrdered}
 use Rattle.first_pass_grammar.specs.WholeTables.{AreEachNode}
 use Rattle.first_pass_outline.specs.Outline.{Entry, level_of, id_in}
 use Rattle.first_pass_outline.specs.TextOutline.{IsRangeFrom, LieBetween}
-use Rattle.first_pass_outline.proofs.HeadingBlocks.{IsNoHeading}
-use Rattle.first_pass_outline.proofs.HeadingRows.{NoneBelow, NoneInside, derived_inside}
+use Rattle.first_pass_outline.proofs.HeadingRows.{IsNoHeading, NoneBelow, NoneInside, derived_inside}
 use Rattle.first_pass_outline.proofs.Outlines.{entries_of, entries_of-append}
 
 -- entries that lie after an earlier offset, and entries after others
