@@ -1,3 +1,4 @@
 pub mod KindLemmas
 pub mod PlainKinds
+mod PlainLines
 pub mod TableLemmas

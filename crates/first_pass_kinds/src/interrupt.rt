@@ -218,6 +218,9 @@ pub fn scan_next_line(
 {
     source.is_short();
     let text = scan_text(source, tree, start);
+    if is_plain_front(text.rest.left()) {
+        return Ok(NextLine::More(start + text.rest.bytes_scanned()));
+    }
     if let Some(level) = scan_underline(&text.rest, text.whole, text.columns) {
         return Ok(NextLine::Underline(level));
     }
