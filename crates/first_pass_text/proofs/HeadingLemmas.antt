@@ -1,6 +1,6 @@
 -- The text of a heading.
-use Rattle.std.proofs.Common.{◌≡◌, ℕ, ◌+◌, ◌-◌, ◌≤◌, ◌==◌, Bool, true, false, List, [], ◌∷◌, length, take, drop, slice_get, Option, Some, is_some, refl, sym}
-use Rattle.std.proofs.Common.{ap, subst, ◌∙◌, arith, if◌then◌else◌}
+use Rattle.std.proofs.Common.{◌≡◌, ℕ, ◌+◌, ◌-◌, ◌≤◌, ◌==◌, Bool, true, false, List, [], ◌∷◌, length, take, drop, slice_get, Option, Some, None, refl, sym}
+use Rattle.std.proofs.Common.{IfSome, length-drop, length-take, length-take-le, ap, subst, ◌∙◌, arith}
 use Rattle.std.proofs.lemmas.Bool.Decides.{nat_tests}
 use Rattle.std.specs.List.{prefix_len, slice_range}
 use Rattle.std.proofs.lemmas.List.{drop-drop}
@@ -13,26 +13,26 @@ use Rattle.first_pass_lines.specs.Places.{line_place}
 use Rattle.first_pass_lines.proofs.HeadingFacts.{atx_level-signs}
 use Rattle.first_pass_lines.proofs.PlaceFacts.{bytes_line_end}
 use Rattle.first_pass_tokens.specs.Chains.{add_tokens, close_break, cut}
-use Rattle.first_pass_tokens.specs.Pieces.{Inline}
+use Rattle.first_pass_tokens.specs.Pieces.{Inline, text_upto}
 use Rattle.first_pass_tokens.specs.TreeTokens.{chained, AppendsLine}
 use Rattle.first_pass_tokens.proofs.ChainLemmas.{with_tokens-chained, joins_none-fresh, chained-spine, childless-chained, cut_siblings-chained}
-use Rattle.first_pass_grammar.specs.Headings.{before_attributes, heading_attributes_of, text_before_attributes}
+use Rattle.first_pass_grammar.specs.Headings.{heading_braces, before_attributes, heading_attributes_of, text_before_attributes}
 use Rattle.first_pass_items.specs.declared.cow_str.CowStr.{CowStr}
 use Rattle.first_pass_grammar.specs.Names.{Names, NamesAttributes, Extends}
 use Rattle.first_pass_grammar.proofs.MoreNames.{extends_both}
 use Rattle.first_pass_tokens.proofs.NamedTexts.{line_more}
 use Rattle.first_pass_tokens.specs.Braces.{MathBraces, no_braces}
 use Rattle.first_pass_grammar.specs.Leaves.{document, kept_len, heading_chain, heading_text_at, IsHeading}
-use Rattle.first_pass_attributes.specs.Attributes.{attributes_in}
-use Rattle.first_pass_attributes.specs.declared.attrs.HeadingAttributes.{HeadingAttributes}
 use Rattle.first_pass_items.specs.declared.item.HeadingIndex.{HeadingIndex}
 use Rattle.first_pass_items.specs.declared.option_set.Options.{Options}
 use Rattle.first_pass_lines.proofs.LineFacts.{line_len-fits}
 use Rattle.first_pass_tokens.specs.LineTokens.{IsLine}
-use Rattle.first_pass_text.proofs.AttributeEnds.{content_read, text_read}
-use Rattle.std.specs.Option.{option_map}
+use Rattle.first_pass_text.proofs.AttributeEnds.{content_read, before_none, length_some, braces_within}
+use Rattle.first_pass_attributes.specs.AttributeBlocks.{Braces}
+use Rattle.first_pass_text.specs.declared.heading.BlockPlace.{BlockPlace}
+use Rattle.std.specs.Option.{option_map, option_map_or, unwrap_or}
 use Rattle.first_pass_open.specs.Between.{line_end_at}
-use Rattle.first_pass_text.specs.Appends.{with_closed_break, AppendsHeading}
+use Rattle.first_pass_text.specs.Appends.{with_closed_break, AppendsHeading, block_place}
 use Rattle.first_pass_open.specs.OpenBlock.{IsJustPushed}
 use Rattle.first_pass_text.proofs.ParagraphLemmas.{with_closed_break-chained}
 
@@ -98,26 +98,45 @@ heading_line text start = take (line_len (drop start text)) (drop start text)
 pub line_between : (text : List ℕ) (start to : ℕ) → to ≡ start + line_len (drop start text) → slice_range text start to ≡ heading_line text start
 line_between text start to e = let size : to - start ≡ line_len (drop start text) = omega arith in ap (λ n. take n (drop start text)) size
 
+-- where the attribute block of a heading's line begins
+abbrev cut_by : ℕ → Option Braces → Option ℕ
+cut_by start block = option_map (λ (b : Braces). start + b.opening) block
+
+-- the text that the line is read from, and what of the line stands before the block
+cut_text : (text : List ℕ) (start : ℕ) (o : Option Braces)
+    → text_upto text (cut_by start o) ≡ option_map_or (λ (b : Braces). take (start + b.opening) text) o text
+cut_text text start None = refl
+cut_text text start (Some block) = refl
+
+cut_content : (options : Options) (text : List ℕ) (start next : ℕ) (o : Option Braces) → heading_braces options (heading_line text start) ≡ o
+    → next ≡ line_end_at (text_upto text (cut_by start o)) start
+    → slice_range text start (unwrap_or (cut_by start o) next) ≡ before_attributes options (heading_line text start)
+cut_content options text start next None h e =
+    line_between text start next e ∙ sym (before_none options (heading_line text start) h)
+cut_content options text start next (Some block) h e =
+    content_read options text start (line_len (drop start text)) (start + block.opening) (line_len-fits (drop start text))
+    (ap (λ n. start + n) (sym (length_some options (heading_line text start) block h)))
+
 -- The chain of an ATX heading's line that was read, and the attributes that were found.
-pub heading_read : (text : List ℕ) (options : Options) (before names : Names) (start content_end read_to : ℕ) (found : Option HeadingAttributes)
-    (index : Option HeadingIndex) (kept : ℕ) (front : List ℕ) (old new : Forest Item)
-    → content_end ≡ start + length (before_attributes options (heading_line text start))
-    → option_map attributes_in found ≡ heading_attributes_of options (heading_line text start)
-    → read_to ≡ (if is_some found then content_end else length text) → front ≡ take read_to text → kept ≡ kept_len (slice_range text start content_end)
-    → ((content : List ℕ) → kept ≡ kept_len content
-    → AppendsHeading names.texts (record { options = options; whole = text; text = front; start = start; row = false; braces = no_braces }) content old new)
-    → Extends names before → ((more : Names) → Extends more before → NamesAttributes more index (option_map attributes_in found))
+pub heading_read : (text : List ℕ) (options : Options) (before names : Names) (start next : ℕ) (cut : Option ℕ)
+    (index : Option HeadingIndex) (front content : List ℕ) (old new : Forest Item)
+    → cut ≡ cut_by start (heading_braces options (heading_line text start))
+    → front ≡ text_upto text cut → next ≡ line_end_at front start → content ≡ slice_range text start (unwrap_or cut next)
+    → AppendsHeading names.texts (record { options = options; whole = text; text = front; start = start; row = false; braces = no_braces }) content old new
+    → Extends names before → ((more : Names) → Extends more before → NamesAttributes more index (heading_attributes_of options (heading_line text start)))
     → (chain : List Item) × (new ≡ chained old chain)
     × ((more : Names) → Extends more names → (next : ℕ) → next ≡ start + line_len (drop start text)
     → IsHeading (document text options more) start index chain next)
-heading_read text options before names start content_end read_to found index kept front old new ends given read front_is kept_is appends grown named =
+heading_read text options before names start next cut index front content old new cut_is front_is next_is content_is a grown named =
     let line : List ℕ = heading_line text start in
-    let content = content_read options text start (line_len (drop start text)) content_end (line_len-fits (drop start text)) ends in
-    let a = appends (before_attributes options line) (kept_is ∙ ap kept_len content) in
-    let text_is : front ≡ text_before_attributes options text start line =
-    front_is ∙ text_read options text line start content_end read_to found given ends read in (
+    let o : Option Braces = heading_braces options line in
+    let upto : front ≡ text_upto text (cut_by start o) = front_is ∙ ap (text_upto text) cut_is in
+    let text_is : front ≡ text_before_attributes options text start line = upto ∙ cut_text text start o in
+    let whole : content ≡ before_attributes options line =
+    content_is ∙ ap (λ c. slice_range text start (unwrap_or c next)) cut_is
+    ∙ cut_content options text start next o refl (next_is ∙ ap (λ xs. line_end_at xs start) upto) in (
       heading_chain (kept_len (before_attributes options line)) start (close_break a.answer.1 (add_tokens [] a.tokens)),
-      a.tree_is,
+      a.tree_is ∙ ap (λ xs. chained old (heading_chain (kept_len xs) start (close_break a.answer.1 (add_tokens [] a.tokens)))) whole,
       λ more e next next_is. record {
         tokens = a.tokens;
         answer = a.answer;
@@ -127,10 +146,73 @@ heading_read text options before names start content_end read_to found index kep
             text_is
             (line_more (e.more_texts, e.texts) a.line);
         chain_is = refl;
-        named = subst (NamesAttributes more index) given (named more (extends_both more names before e grown));
+        named = named more (extends_both more names before e grown);
         end_is = next_is;
       },
     )
+
+-- where a heading's line ends, by the place of its block or after its content
+place_at : List ℕ → ℕ → Braces → BlockPlace
+place_at text start b = record { opening = start + b.opening; line_end = line_end_at text start }
+
+cut_of : (text : List ℕ) (start : ℕ) (o : Option Braces) → option_map (λ (p : BlockPlace). p.opening) (option_map (place_at text start) o) ≡ cut_by start o
+unfolding place_at
+cut_of text start None = refl
+cut_of text start (Some b) = refl
+
+end_of : (text : List ℕ) (start next : ℕ) (o : Option Braces) → next ≡ line_end_at (text_upto text (cut_by start o)) start
+    → option_map_or (λ (p : BlockPlace). p.line_end) (option_map (place_at text start) o) next ≡ line_end_at text start
+unfolding place_at
+end_of text start next None e = e
+end_of text start next (Some b) e = refl
+
+pub place_none : (options : Options) (text : List ℕ) (start : ℕ) → heading_braces options (heading_line text start) ≡ None
+    → block_place options text start ≡ None
+unfolding place_at
+place_none options text start h = ap (option_map (place_at text start)) h
+
+pub place_some : (options : Options) (text : List ℕ) (start opening to : ℕ) (block : Braces)
+    → heading_braces options (heading_line text start) ≡ Some block
+    → opening ≡ start + length (before_attributes options (heading_line text start)) → to ≡ line_end_at text start
+    → Some (record { opening = opening; line_end = to }) ≡ block_place options text start
+unfolding place_at
+place_some options text start opening to block h e f =
+    let at : opening ≡ start + block.opening = e ∙ ap (λ n. start + n) (length_some options (heading_line text start) block h) in
+    rw (at, f) (sym (ap (option_map (place_at text start)) h))
+
+pub place_cut : (text : List ℕ) (options : Options) (start : ℕ) (place : Option BlockPlace) → place ≡ block_place options text start
+    → option_map (λ (p : BlockPlace). p.opening) place ≡ option_map (λ (b : Braces). start + b.opening) (heading_braces options (heading_line text start))
+unfolding place_at
+place_cut text options start place e =
+    ap (option_map (λ (p : BlockPlace). p.opening)) e ∙ cut_of text start (heading_braces options (heading_line text start))
+
+fits_by : (text : List ℕ) (options : Options) (start : ℕ) (o : Option Braces) → heading_braces options (heading_line text start) ≡ o → start ≤ length text
+    → IfSome (cut_by start o) (λ e. e ≤ length text) × (start ≤ length (text_upto text (cut_by start o)))
+fits_by text options start None h within = (tt, within)
+fits_by text options start (Some block) h within =
+    let inside = braces_within options (heading_line text start) block h in
+    let most = length-take (line_len (drop start text)) (drop start text) in
+    let long = length-drop start text in
+    let fits : start + block.opening ≤ length text = omega (arith, inside.0, inside.1) in
+    let size = length-take-le (start + block.opening) text fits in
+    (fits, omega arith)
+
+-- the content that ends before a block is in the text
+pub place_fits : (text : List ℕ) (options : Options) (start : ℕ) (place : Option BlockPlace) (cut : Option ℕ) → place ≡ block_place options text start
+    → cut ≡ option_map (λ (p : BlockPlace). p.opening) place → start ≤ length text
+    → IfSome cut (λ e. e ≤ length text) × (start ≤ length (text_upto text cut))
+place_fits text options start place cut e f within =
+    subst (λ c. IfSome c (λ e. e ≤ length text) × (start ≤ length (text_upto text c))) (sym (f ∙ place_cut text options start place e))
+    (fits_by text options start (heading_braces options (heading_line text start)) refl within)
+
+pub place_end : (text : List ℕ) (options : Options) (start next : ℕ) (place : Option BlockPlace) → place ≡ block_place options text start
+    → next ≡ line_end_at (text_upto text (option_map (λ (p : BlockPlace). p.opening) place)) start
+    → option_map_or (λ (p : BlockPlace). p.line_end) place next ≡ line_end_at text start
+unfolding place_at
+place_end text options start next place e f =
+    ap (λ o. option_map_or (λ (p : BlockPlace). p.line_end) o next) e
+    ∙ end_of text start next (heading_braces options (heading_line text start))
+    (f ∙ ap (λ c. line_end_at (text_upto text c) start) (place_cut text options start place e))
 
 -- bytes that pass a test, all of which are content
 prefix_by : (t : Bool) (p : ℕ → Bool) (b : ℕ) (bs : List ℕ)

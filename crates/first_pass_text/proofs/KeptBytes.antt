@@ -108,3 +108,27 @@ kept_counted text =
     ∙ ap (λ (z : ℕ). let o : ℕ = z - s in let n : ℕ = suffix_len (λ b. b == 32) (take o xs) in if (o == 0) || nat_lt 0 n then o - n else z) size
     ∙ ap (λ (ys : List ℕ). let o : ℕ = t - s in let n : ℕ = suffix_len (λ b. b == 32) ys in if (o == 0) || nat_lt 0 n then o - n else t)
     (take-take (t - s) t text (omega arith))
+
+choose_all : (t o n : ℕ) → o ≡ t → n ≡ 0 → (if (o == 0) || nat_lt 0 n then o - n else t) ≡ t
+choose_all t o n e f = sym (same_either ((o == 0) || nat_lt 0 n) (o - n) t (omega arith))
+
+unclosed : (text : List ℕ)
+    → suffix_len (λ b. b == 35) (take (length text - suffix_len is_put_aside text) text) ≡ 0 → kept_len text ≡ length text - suffix_len is_put_aside text
+unclosed text none =
+    let t : ℕ = length text - suffix_len is_put_aside text in
+    let whole : suffix_len is_put_aside (take (length text) text) ≡ suffix_len is_put_aside text =
+    ap (suffix_len is_put_aside) (take_all (length text) text (omega arith)) in
+    let aside : suffix_len is_put_aside (take t text) ≡ 0 =
+    ap (λ (k : ℕ). suffix_len is_put_aside (take (length text - k) text)) (sym whole) ∙ no_more is_put_aside text (length text) (omega arith) in
+    let o : ℕ = t - suffix_len (λ b. b == 35) (take t text) in
+    let all : o ≡ t = omega arith in
+    kept_counted text
+    ∙ choose_all t o (suffix_len (λ b. b == 32) (take o text)) all (ap (λ (k : ℕ). suffix_len (λ b. b == 32) (take k text)) all ∙ no_spaces (take t text) aside)
+
+-- Nothing but what is put aside at the end goes where no number sign stands before it.
+pub kept_unclosed : (text front : List ℕ) (a n : ℕ)
+    → a ≡ suffix_len is_put_aside text → front ≡ take (length text - a) text → n ≡ suffix_len (λ b. b == 35) front → n ≡ 0 → kept_len text ≡ length text - a
+kept_unclosed text front a n e f g none =
+    let same : suffix_len (λ b. b == 35) (take (length text - suffix_len is_put_aside text) text) ≡ n =
+    ap (λ (k : ℕ). suffix_len (λ b. b == 35) (take (length text - k) text)) (sym e) ∙ ap (suffix_len (λ b. b == 35)) (sym f) ∙ sym g in
+    unclosed text (same ∙ none) ∙ ap (λ k. length text - k) (sym e)

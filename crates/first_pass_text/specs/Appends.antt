@@ -1,11 +1,11 @@
 -- What the leaf parsers append to the tree.
-use Rattle.std.specs.Prelude.{◌≡◌, ◌≤◌, ℕ, ◌+◌, List, [], Option, Some, None, false, IsCharBoundary, if◌then◌else◌, ◌<◌, ◌^◌, IfSome}
+use Rattle.std.specs.Prelude.{◌≡◌, ◌≤◌, ℕ, ◌+◌, List, [], take, drop, Option, Some, None, false, IsCharBoundary, if◌then◌else◌, ◌<◌, ◌^◌, IfSome}
 use Rattle.first_pass_items.specs.declared.cow_str.CowStr.{CowStr}
 use Rattle.first_pass_items.specs.declared.item.Item.{Item}
 use Rattle.first_pass_items.specs.declared.item.HeadingIndex.{HeadingIndex}
 use Rattle.first_pass_items.specs.declared.item.HeadingLevel.{HeadingLevel}
 use Rattle.first_pass_tree.specs.Forest.{Forest, added, with_text}
-use Rattle.first_pass_lines.specs.Lines.{level_number}
+use Rattle.first_pass_lines.specs.Lines.{level_number, line_len}
 use Rattle.first_pass_tokens.specs.Chains.{is_backslash_break, add_tokens, close_break}
 use Rattle.first_pass_tokens.specs.Braces.{MathBraces, no_braces}
 use Rattle.first_pass_tokens.specs.LineTokens.{spot, IsLine}
@@ -19,7 +19,19 @@ use Rattle.first_pass_open.specs.Path.{path_of}
 use Rattle.std.specs.Option.{option_map}
 use Rattle.first_pass_grammar.specs.Texts.{underline_first, IsPlainText}
 use Rattle.first_pass_grammar.specs.Tables.{taking}
+use Rattle.first_pass_grammar.specs.Headings.{heading_braces}
+use Rattle.first_pass_items.specs.declared.option_set.Options.{Options}
+use Rattle.first_pass_text.specs.declared.heading.BlockPlace.{BlockPlace}
 use Rattle.first_pass_text.specs.declared.paragraph.TextEnd.{TextEnd}
+
+-- the bytes from an offset up to the end of the line that has something there, its end too (CommonMark 2.1)
+abbrev pub line_from : List ℕ → ℕ → List ℕ
+line_from text start = take (line_len (drop start text)) (drop start text)
+
+-- where the attribute block begins which the line ends with that has something at an offset, and where the line ends (this project)
+abbrev pub block_place : Options → List ℕ → ℕ → Option BlockPlace
+block_place options text start =
+    option_map (λ block. record { opening = start + block.opening; line_end = line_end_at text start }) (heading_braces options (line_from text start))
 
 -- the tree where no line follows: the backslash of a hard break is text
 abbrev pub with_closed_break : Forest Item → Option Item → Forest Item

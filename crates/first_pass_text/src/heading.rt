@@ -1,20 +1,25 @@
 //! The text of an ATX heading.
 
-ghost use Rattle.std.specs.List.{suffix_len};
+ghost use Rattle.std.specs.List.{slice_range, suffix_len};
+ghost use Rattle.std.specs.Option.{option_map, option_map_or, unwrap_or};
 ghost use Rattle.std.specs.Prelude.{◌≡◌, ℕ, ◌==◌, ◌+◌, List, take, drop, ◌≤◌, Some, length, IfOk, IfSome, OnOk, IsCharBoundary, false};
 ghost use Rattle.first_pass_walk.specs.Walk.{MarksSpecial};
 ghost use Rattle.first_pass_lines.specs.Lines.{atx_level as atx_level_of, level_number as number_of};
 ghost use Rattle.first_pass_names.specs.TableEntries.{names_of, NamesMore};
+ghost use Rattle.first_pass_grammar.specs.Headings.{heading_attributes_of};
+ghost use Rattle.first_pass_grammar.specs.Names.{Names, Extends, NamesAttributes};
 ghost use Rattle.first_pass_grammar.specs.Leaves.{document, is_put_aside, kept_len as kept_len_of, heading_text_at};
-ghost use Rattle.first_pass_open.specs.Between.{AddsBetween};
-ghost use Rattle.first_pass_text.specs.Appends.{AppendsHeading, AddsHeading};
+ghost use Rattle.first_pass_open.specs.Between.{AddsBetween, line_end_at};
+ghost use Rattle.first_pass_text.specs.Appends.{AppendsHeading, AddsHeading, line_from, block_place};
 ghost use Rattle.first_pass_open.specs.OpenBlock.{IsJustPushed};
 ghost use Rattle.first_pass_tokens.specs.Braces.{no_braces};
 ghost use Rattle.first_pass_tokens.specs.Pieces.{source, text_upto};
 
 use crate::attributes::{extract_and_parse_heading_attribute_block, name_attributes};
 use crate::paragraph::append_last_backslash;
-use first_pass_items::item::{HeadingLevel, Item, ItemBody};
+use bitflags::Flags;
+use first_pass_items::item::{HeadingIndex, HeadingLevel, Item, ItemBody};
+use first_pass_items::option_set::Options;
 use first_pass_lines::lines::{level_number, scan_whitespace_no_nl};
 use first_pass_lines::places::{next_line, rest_of};
 use first_pass_names::items::Allocations;
@@ -70,12 +75,68 @@ fn kept_len(text: &[u8]) -> usize
     ensures within { result ≤ length text.now }
 {
     let trimmed = text.len() - trailing_aside(text);
-    let opening = trimmed - trailing_run(front_of(text, trimmed), b'#');
+    let signs = trailing_run(front_of(text, trimmed), b'#');
+    if signs == 0 {
+        return trimmed;
+    }
+    let opening = trimmed - signs;
     let spaces = trailing_run(front_of(text, opening), b' ');
     if opening == 0 || 0 < spaces {
         opening - spaces
     } else {
         trimmed
+    }
+}
+
+// Where the attribute block of an ATX heading begins, and where its line ends: offsets into the text.
+#[derive(Clone, Copy, Drop)]
+struct BlockPlace {
+    opening: usize,
+    line_end: usize,
+}
+
+// The attribute block of the heading whose text begins at the offset `start` into the text: where it is, and the index
+// of the attributes that it gives, which are put among `allocs`; neither where there is none. Where headings have no
+// attributes, the line's end isn't sought: the tokens end there. The error is want of memory (this project).
+#[inline(always)]
+fn name_attribute_block<'a>(
+    source: &Source<'a>,
+    allocs: &mut Allocations<'a>,
+    start: usize,
+) -> Result<(Option<BlockPlace>, Option<HeadingIndex>), AllocError>
+    requires { start ≤ length source.now.text.now }
+    ensures more { OnOk result (NamesMore allocs.old allocs.new) }
+    ensures place { IfOk result (λ found. found.0 ≡ block_place source.now.options source.now.text.now start) }
+    ensures named { IfOk result (λ found. (more : Names) → Extends more (names_of allocs.new)
+        → NamesAttributes more found.1
+        (heading_attributes_of source.now.options (line_from source.now.text.now start))) }
+{
+    if !source.options.contains(Options::ENABLE_HEADING_ATTRIBUTES) {
+        return Ok((None, None));
+    }
+    let line_end = next_line(source.text.as_bytes(), start);
+    let (opening, attributes) = extract_and_parse_heading_attribute_block(source, start, line_end)?;
+    if attributes.is_none() {
+        return Ok((None, None));
+    }
+    let index = name_attributes(allocs, attributes)?;
+    Ok((Some(BlockPlace { opening, line_end }), index))
+}
+
+// Where the attribute block begins, if there is one.
+fn opening_of(place: Option<BlockPlace>) -> Option<usize>
+    ensures { result ≡ option_map (λ p. p.opening) place }
+{
+    place.map(|block| block.opening)
+}
+
+// Where the line ends, by the place of its attribute block or after its content.
+fn line_end_of(place: Option<BlockPlace>, next: usize) -> usize
+    ensures { result ≡ option_map_or (λ p. p.line_end) place next }
+{
+    match place {
+        Some(block) => block.line_end,
+        None => next,
     }
 }
 
@@ -98,60 +159,54 @@ pub fn parse_atx_heading<'a>(
     ensures fits { IfOk result (λ next. (from : ℕ) → from ≤ start → IsCharBoundary source.now.text.now start
         → AddsBetween source.now.text.now from next tree.old tree.new) }
 {
-    let bytes = source.text.as_bytes();
-    let header_start = heading_text_start(bytes, start, atx_level);
-    let end = next_line(bytes, header_start);
-    let (content_end, attributes) = extract_and_parse_heading_attribute_block(
-        source,
-        header_start,
-        end,
-    )?;
-    let read_to = if attributes.is_some() {
-        content_end
-    } else {
-        bytes.len()
-    };
-    let index = name_attributes(allocs, attributes)?;
+    let header_start = heading_text_start(source.text.as_bytes(), start, atx_level);
+    let (place, index) = name_attribute_block(source, allocs, header_start)?;
     let heading_ix = open_block(tree, start, ItemBody::Heading(atx_level, index))?;
-    let kept = kept_len(&bytes[header_start..content_end]);
     let content = Content {
         options: source.options,
         whole: source.text,
         special: &source.special,
         start: header_start,
-        end: Some(read_to),
+        end: opening_of(place),
         row: false,
     };
-    heading_text(content, tree, allocs, kept, heading_ix)?;
+    let next = heading_text(content, tree, allocs, heading_ix)?;
+    let end = line_end_of(place, next);
     close_block(tree, end);
     Ok(end)
 }
 
-// Appends the chain of a heading whose text is this content, of which so many bytes are kept, to `node_ix`, the
-// innermost open node, which was just opened. The texts that its tokens name are put among `allocs`.
+// Appends the chain of a heading whose text is this content to `node_ix`, the innermost open node, which was just
+// opened, and returns the offset at which the content ends, with its line end. The texts that its tokens name are put
+// among `allocs`.
+#[inline(always)]
 fn heading_text(
     content: Content<'_>,
     tree: &mut Tree<Item>,
     allocs: &mut Allocations<'_>,
-    kept: usize,
     node_ix: TreeIndex,
-) -> Result<(), AllocError>
+) -> Result<usize, AllocError>
     requires set { IfSome content.«end» (λ e. e ≤ length content.whole.now) }
-    requires within { content.start + kept ≤ length (text_upto content.whole.now content.«end») }
+    requires within { content.start ≤ length (text_upto content.whole.now content.«end») }
     requires marks { MarksSpecial content.special.now content.options }
     requires no_cell { content.row ≡ false }
     requires opened { IsJustPushed tree.old node_ix }
     ensures more { OnOk result (NamesMore allocs.old allocs.new) }
-    ensures line { OnOk result ((bytes : List ℕ) → kept ≡ kept_len_of bytes
-        → AppendsHeading (names_of allocs.new).texts (source content.entry no_braces) bytes tree.old tree.new) }
+    ensures place { IfOk result (λ next.
+        next ≡ line_end_at (text_upto content.entry.whole.now content.entry.«end») content.entry.start) }
+    ensures line { IfOk result (λ next. AppendsHeading (names_of allocs.new).texts (source content.entry no_braces)
+        (slice_range content.entry.whole.now content.entry.start (unwrap_or content.entry.«end» next))
+        tree.old tree.new) }
 {
     let mut braces = BraceContexts::new();
-    let (_, line_break) = allocs.append_line(content, tree, &mut braces)?;
+    let (next, line_break) = allocs.append_line(content, tree, &mut braces)?;
     append_last_backslash(tree, line_break)?;
+    let end = content.end.unwrap_or(next);
+    let kept = kept_len(&content.whole.as_bytes()[content.start..end]);
     if kept == 0 {
         tree.drop_children(node_ix);
-        return Ok(());
+        return Ok(next);
     }
     tree.truncate_siblings(content.start + kept);
-    Ok(())
+    Ok(next)
 }
