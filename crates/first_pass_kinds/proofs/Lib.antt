@@ -1,4 +1,3 @@
 pub mod KindLemmas
 pub mod PlainKinds
 mod PlainLines
-pub mod TableLemmas

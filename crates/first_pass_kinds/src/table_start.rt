@@ -30,7 +30,8 @@ pub struct HeadedTable {
 }
 
 // The table that the line heads with which `bytes` begin, all that the text has from there on: its alignments are those
-// of the delimiter row in the next line, where that continues all open containers and the line has as many columns.
+// of the delimiter row in the next line, where that continues all open containers and the line has as many columns. The
+// next line is looked at first: most lines of prose are followed by none that begins as such a row does.
 #[tactic(auto, unfolding(first_pass_grammar::specs::TableHeads::table_at))]
 fn scan_table_at(
     source: &Source<'_>,
@@ -42,10 +43,6 @@ fn scan_table_at(
     ensures head { IfOk result (λ found. IfSome found (λ t. t.head_len ≡ head_len bytes.now)) }
     ensures within { IfOk result (λ found. IfSome found (λ t. t.head_len ≤ length bytes.now)) }
 {
-    let columns = scan_head_columns(bytes);
-    if columns == 0 {
-        return Ok(None);
-    }
     let row_len = scan_nextline(bytes);
     let after = rest_of(bytes, row_len);
     let front = front_of(after, tree, source.options);
@@ -55,7 +52,7 @@ fn scan_table_at(
     let Some(alignments) = scan_delimiter_row(source.alloc, &front.rest)? else {
         return Ok(None);
     };
-    if alignments.len() != columns {
+    if alignments.len() != scan_head_columns(bytes) {
         return Ok(None);
     }
     Ok(Some(HeadedTable {
