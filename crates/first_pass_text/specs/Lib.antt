@@ -1,3 +1,4 @@
 pub mod Appends
 pub mod CutTexts
 pub mod Reading
+pub mod LineBreaks

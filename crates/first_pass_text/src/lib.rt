@@ -3,5 +3,6 @@
 
 pub mod attributes;
 pub mod heading;
+mod line_break;
 pub mod paragraph;
 pub mod rule;

@@ -11,6 +11,7 @@ ghost use Rattle.first_pass_open.specs.OpenBlock.{with_child};
 ghost use Rattle.first_pass_open.specs.Between.{AddsBetween, IsInItem, StandsBefore};
 
 use crate::attributes::{Underlined, make_heading};
+use crate::line_break::{break_item, held_break};
 use first_pass_items::item::{HeadingLevel, Item, ItemBody};
 use first_pass_kinds::interrupt::{NextLine, scan_next_line};
 use first_pass_lines::places::next_line;
@@ -148,22 +149,23 @@ fn append_text_lines<'a>(
             row: false,
         };
         let (next, line_break) = allocs.append_line(content, tree, &mut braces)?;
+        let held = held_break(line_break);
         match scan_next_line(source, next, tree)? {
             NextLine::More(at) => {
-                append_item(tree, line_break)?;
+                append_item(tree, break_item(held))?;
                 ix = at;
             }
             NextLine::Underline(level) => {
                 return Ok(TextEnd {
                     next,
-                    line_break,
+                    line_break: break_item(held),
                     underline: Some(level),
                 });
             }
             NextLine::Other => {
                 return Ok(TextEnd {
                     next,
-                    line_break,
+                    line_break: break_item(held),
                     underline: None,
                 });
             }
