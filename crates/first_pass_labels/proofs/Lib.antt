@@ -1,2 +1,4 @@
+pub mod FoldingLemmas
+pub mod FrontLemmas
 pub mod TableLemmas
 pub mod TextOrder

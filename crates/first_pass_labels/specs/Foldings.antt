@@ -1,11 +1,15 @@
 -- The case folding of labels, by which they are equal and ordered (CommonMark 4.7, The Unicode Standard 3.13).
-use Rattle.std.specs.Prelude.{ℕ, List, Bool, chars, encode_utf8_all, nat_eq}
+use Rattle.std.specs.Prelude.{ℕ, zero, suc, ◌+◌, ◌*◌, List, Bool, ◌&&◌, not, chars, encode_utf8_all, nat_eq, nat_lt, slice_index}
+use Rattle.std.specs.Box.{boxed_str_bytes}
+use Rattle.std.specs.Char.{is_ascii_uppercase}
 use Rattle.std.specs.declared.cmp.Ordering.{Ordering}
 use Rattle.std.specs.Ordering.{nat_cmp}
 use Rattle.std.specs.Cmp.Lexicographic.{pointwise, slice_cmp}
 use Rattle.caseless.specs.Caseless.{default_case_fold}
 use Rattle.first_pass_items.specs.declared.cow_str.CowStr.{CowStr}
 use Rattle.first_pass_items.specs.CowText.{text_of}
+use Rattle.first_pass_labels.specs.declared.folding.Folding.{Folding}
+use Rattle.first_pass_labels.specs.declared.folding.Folding.TheVariants.{Itself, Short, Long}
 
 -- the bytes of a text with full default case folding applied
 abbrev pub folded : List ℕ → List ℕ
@@ -22,3 +26,18 @@ is_same_label x y = pointwise nat_eq (folding_of x) (folding_of y)
 -- labels are ordered by the bytes of their foldings
 abbrev pub label_cmp : CowStr → CowStr → Ordering
 label_cmp x y = slice_cmp nat_cmp (folding_of x) (folding_of y)
+
+-- a byte of ASCII that is no capital letter (The Unicode Standard 3.13: it has no other folding)
+abbrev pub folds_to_itself : ℕ → Bool
+folds_to_itself b = nat_lt b 128 && not (is_ascii_uppercase b)
+
+-- the folding that is kept for a text (this project)
+abbrev pub kept_folding : Folding → List ℕ → List ℕ
+kept_folding Itself text = text
+kept_folding (Short folding) text = folding
+kept_folding (Long folding) text = boxed_str_bytes folding
+
+-- the first n bytes as one number, the first one the greatest, with 0 for each that isn't there (this project)
+abbrev pub front_of : ℕ → List ℕ → ℕ
+front_of zero bytes = 0
+front_of (suc n) bytes = front_of n bytes * 256 + slice_index bytes n

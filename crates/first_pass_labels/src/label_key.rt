@@ -10,7 +10,7 @@ ghost use Rattle.std.specs.Cmp.Rules.{hashing};
 ghost use Rattle.first_pass_items.specs.CowText.{text_of};
 ghost use Rattle.first_pass_labels.specs.Foldings.{folding_of, is_same_label, label_cmp};
 
-use caseless::default_case_fold_str;
+use crate::folding::{Folding, front_of};
 use first_pass_items::cow_str::CowStr;
 use std::alloc::{AllocError, Global};
 use std::cmp::Ordering;
@@ -18,24 +18,27 @@ use std::hash::{Hash, Hasher};
 use std::marker::Model;
 use std::ops::DerefStr;
 
-/// A label as it is spelled, with its full default case folding, by which it is compared. A contract sees the
-/// label alone.
+/// A label as it is spelled, with its full default case folding, by which it is compared, first by the folding's first
+/// eight bytes. A contract sees the label alone.
 #[derive(Drop)]
 pub struct LabelKey<'a> {
     label: CowStr<'a>,
-    folding: String,
+    folding: Folding,
+    front: u64,
 }
 
 impl<'a> Model for LabelKey<'a> {
-    ghost use Rattle.std.specs.Prelude.{◌≡◌, string_bytes};
+    ghost use Rattle.std.specs.Prelude.{◌≡◌, ◌<◌, ℕ, slice_index};
     ghost use Rattle.first_pass_items.specs.declared.cow_str.CowStr.{CowStr};
-    ghost use Rattle.first_pass_labels.specs.Foldings.{folding_of};
+    ghost use Rattle.first_pass_items.specs.CowText.{text_of};
+    ghost use Rattle.first_pass_labels.specs.Foldings.{folding_of, front_of, kept_folding};
 
     ghost Value = { CowStr };
 
     ghost view = { λ k. k.label };
 
-    ghost invariant = { λ k. string_bytes k.folding ≡ folding_of k.label };
+    ghost invariant = { λ k. (kept_folding k.folding (text_of k.label) ≡ folding_of k.label)
+        × (k.front ≡ front_of 8 (folding_of k.label)) × ((at : ℕ) → slice_index (folding_of k.label) at < 256) };
 }
 
 impl<'a> LabelKey<'a> {
@@ -43,8 +46,13 @@ impl<'a> LabelKey<'a> {
     pub fn new(alloc: Global, label: CowStr<'a>) -> Result<LabelKey<'a>, AllocError>
         ensures { IfOk result (λ key. key ≡ label.entry) }
     {
-        let folding = default_case_fold_str(alloc, label.deref())?;
-        Ok(LabelKey { label, folding })
+        let folding = Folding::of_text(alloc, label.deref())?;
+        let front = front_of(folding.text_of(label.deref()).as_bytes());
+        Ok(LabelKey {
+            label,
+            folding,
+            front,
+        })
     }
 
     /// The label as it is spelled.
@@ -58,7 +66,7 @@ impl<'a> LabelKey<'a> {
     pub fn folding(&self) -> &str
         ensures { result.now ≡ folding_of self.now }
     {
-        self.folding.as_str()
+        self.folding.text_of(self.label.deref())
     }
 }
 
@@ -98,7 +106,11 @@ impl<'a> Ord for LabelKey<'a> {
     ghost matches_eq = { λ x y. texts_ties (folding_of x) (folding_of y) };
 
     /// The order of the foldings by bytes.
+    #[inline(always)]
     fn cmp(&self, other: &LabelKey<'a>) -> Ordering {
+        if self.front != other.front {
+            return self.front.cmp(&other.front);
+        }
         self.folding().cmp(other.folding())
     }
 }
