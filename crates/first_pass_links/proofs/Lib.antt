@@ -9,3 +9,4 @@ pub mod Labels
 pub mod Rewritten
 pub mod Footnotes
 pub mod LineLabels
+pub mod PlainRuns

@@ -1,11 +1,11 @@
 -- Labels that hold no line end, and heads of footnote definitions with them.
-use Rattle.std.proofs.Common.{◌≡◌, ℕ, zero, suc, ◌+◌, ◌==◌, ◌&&◌, ◌||◌, not, Bool, true, false, List, [], ◌∷◌, take, drop, slice_index, Option, Some, None}
-use Rattle.std.proofs.Common.{◌⊎◌, inl, inr, is_some, refl, sym, ap, ◌∙◌, arith, if◌then◌else◌}
+use Rattle.std.proofs.Common.{◌≡◌, ℕ, suc, ◌+◌, ◌==◌, ◌&&◌, Bool, true, false, List, [], ◌∷◌, take, drop, slice_index, Option, Some, None}
+use Rattle.std.proofs.Common.{inl, inr, is_some, refl, sym, ap, ◌∙◌, arith, if◌then◌else◌}
 use Rattle.std.specs.Option.{option_and_then}
 use Rattle.std.specs.Char.{is_ascii_punctuation}
 use Rattle.std.proofs.lemmas.Bool.{and_parts, eqb-true, false≢true}
 use Rattle.std.proofs.lemmas.Bool.Decides.{nat_tests}
-use Rattle.first_pass_lines.specs.Lines.{begins, is_line_end, ends_line}
+use Rattle.first_pass_lines.specs.Lines.{begins, ends_line}
 use Rattle.first_pass_links.specs.Escapes.{begins_escape}
 use Rattle.first_pass_links.specs.Destinations.{unescaped_upto}
 use Rattle.first_pass_links.specs.Labels.{is_bracket, ends_line_label, joined, bytes_of, offsets_of, label_len, is_label, shown, label_at}

@@ -6,4 +6,5 @@ pub mod Destinations
 pub mod Labels
 pub mod Footnotes
 pub mod Units
+pub mod Plain
 pub mod Runs

@@ -6,6 +6,7 @@ ghost use Rattle.first_pass_items.specs.Bytes.{ascii_end};
 ghost use Rattle.first_pass_links.specs.Escapes.{begins_escape};
 ghost use Rattle.first_pass_links.specs.Destinations.{unescaped_upto, ends_brackets, ends_run, closes_none, nesting_behind, run_len, destination_at};
 
+use crate::plain::plain_run;
 use first_pass_lines::lines::begins;
 use first_pass_lines::places::rest_of;
 
@@ -66,6 +67,7 @@ fn scan_run(bytes: &[u8], deepest: usize) -> Option<usize>
             return None;
         }
         at += unit_len(rest_of(bytes, at));
+        at += plain_run(rest_of(bytes, at));
     }
     if nesting == 0 { Some(at) } else { None }
 }

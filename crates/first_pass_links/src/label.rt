@@ -13,6 +13,7 @@ ghost use Rattle.first_pass_links.specs.Labels.{AnswersWith, AnswersPlaces, CanE
 ghost use Rattle.first_pass_links.specs.Units.{part, read_of, left_at, kept_unit, space_unit, dropped_unit, backslash_unit, IsUnit, Reads, IsRead, IsWhiteRun, EndsWhiteRun, StopsByError, IsBlankRest};
 
 use crate::destination::unit_len;
+use crate::plain::plain_run;
 use first_pass_items::cow_str::CowStr;
 use first_pass_lines::lines::{begins, is_ascii_white, is_line_end};
 use first_pass_lines::places::rest_of;
@@ -155,6 +156,10 @@ where
         → AnswersWith bytes.now prefix (F.post linebreak_handler.now) → IsBlankRest prefix bytes.now at) }
     ensures err { OnErr result (StopsByError bytes.now at (F.post linebreak_handler.now)) }
 {
+    let plain = plain_run(rest_of(bytes, at));
+    if plain > 0 {
+        return Ok(Some(kept_unit(at + plain, plain, true)));
+    }
     if is_ascii_white(bytes[at]) {
         return match scan_white_run(bytes, at, linebreak_handler)? {
             Some((next, characters)) => Ok(Some(space_unit(bytes, at, next, characters))),
@@ -298,6 +303,7 @@ fn dropped_unit(next: usize, characters: usize, place: usize) -> Unit
 
 // Writes what changes in a unit after the bytes from `from` on, and returns from where on the bytes
 // are kept then.
+#[inline(always)]
 fn write_unit(
     written: &mut String,
     text: &str,

@@ -7,3 +7,4 @@ pub mod escape;
 pub mod footnote;
 pub mod label;
 pub mod laws;
+mod plain;

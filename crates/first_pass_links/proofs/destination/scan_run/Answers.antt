@@ -1,7 +1,8 @@
-use Rattle.std.proofs.Common.{◌≡◌, ◌==◌, ℕ, inl, inr, ◌+◌, drop, Some, None, sym, ap, ◌∙◌, arith, if◌then◌else◌}
+use Rattle.std.proofs.Common.{◌≡◌, ◌==◌, ℕ, inl, inr, ◌+◌, drop, length, length-drop, Some, None, sym, ap, ◌∙◌, arith, if◌then◌else◌}
 use Rattle.std.proofs.lemmas.Bool.{cases_Bool, eqb-true}
 use Rattle.first_pass_links.specs.Escapes.{begins_escape}
 use Rattle.first_pass_links.specs.Destinations.{run_len, longer, if_closed}
+use Rattle.first_pass_links.proofs.PlainRuns.{are_plain, run_plain}
 use Rattle.first_pass_links.proofs.Destinations.{run_unit, run_deep, run_unopened, run_stopped, run_ended}
 use Rattle.first_pass_links.proofs.destination.scan_run.Goals as goal
 use Rattle.first_pass_links.proofs.destination.scan_run.Goals.{then-loop-at-test+else-not-ends_run, else-loop-at-test}
@@ -35,12 +36,17 @@ loop-at-preserved c =
     let few = c.loop-at.invariant.nested in
     let small = c.nesting_behind-nesting.ensures.small in
     let some = c.unit_len-at.ensures.some in
+    let next = c.loop-at.at + c.unit_len-at.result in
+    let r = c.plain_run-at.result in
+    let far = c.plain_run-at.ensures.within in
+    let left = ap length c.rest_of-in-loop-at.ensures.value ∙ length-drop next bs in
+    let plain = are_plain bs _ next r c.rest_of-in-loop-at.ensures.value c.plain_run-at.ensures.plain in
+    let p = run_plain c.args.deepest c.nesting_behind-nesting.result bs next r (omega arith) plain shallow in
     record {
       within = omega arith;
       nested = omega arith;
       shallow = shallow;
-      passed = ap (λ n. longer (c.loop-at.at + c.unit_len-at.result) (run_len c.args.deepest n 0 (drop (c.loop-at.at + c.unit_len-at.result) bs))) behind ∙ u
-          ∙ c.loop-at.invariant.passed;
+      passed = p ∙ ap (λ n. longer next (run_len c.args.deepest n 0 (drop next bs))) behind ∙ u ∙ c.loop-at.invariant.passed;
     }
 
 -- after the loop the run has ended

@@ -1,6 +1,7 @@
-use Rattle.std.proofs.Common.{◌∙◌, sym, subst}
+use Rattle.std.proofs.Common.{◌∙◌, ◌+◌, ◌≤◌, ap, sym, subst, length, length-drop, arith}
 use Rattle.first_pass_links.specs.Units.{IsUnit, Reads}
 use Rattle.first_pass_links.proofs.Labels.{byte_reads, differs, run_reads, space_is_unit, backslash_is_unit}
+use Rattle.first_pass_links.proofs.PlainRuns.{are_plain, plain_run_reads}
 use Rattle.first_pass_links.proofs.label.scan_unit.Goals as goal
 
 pub returns-in-Some-clause-some : goal.returns-in-Some-clause-some
@@ -32,6 +33,15 @@ returns-then-bytes-at-eq92-clause-reads g c =
 
 pub returns-clause-reads : goal.returns-clause-reads
 returns-clause-reads g c =
-    λ h a. subst (Reads h c.args.in_table c.args.bytes.now c.args.at) (sym c.kept_unit.ensures)
+    λ h a. subst (Reads h c.args.in_table c.args.bytes.now c.args.at) (sym c.kept_unit-2.ensures)
     (byte_reads h c.args.in_table c.args.bytes.now c.args.at _ c.requires.within
     (sym c.is_ascii_white.ensures ∙ c.if-is_ascii_white.false) c.requires.no_bracket (differs _ 92 c.if-bytes-at-eq92.false) c.begun_characters.ensures)
+
+pub returns-then-plain-gt0-clause-reads : goal.returns-then-plain-gt0-clause-reads
+returns-then-plain-gt0-clause-reads g c =
+    let bs = c.args.bytes.now in
+    let r = c.plain_run-plain.result in
+    let within : c.args.at + r ≤ length bs =
+    omega (arith, c.plain_run-plain.ensures.within, ap length c.rest_of.ensures.value, length-drop c.args.at bs, c.requires.within) in
+    λ h a. subst (Reads h c.args.in_table bs c.args.at) (sym c.kept_unit.ensures) (plain_run_reads h c.args.in_table bs c.args.at r
+    c.if-plain-gt0.true within (are_plain bs _ c.args.at r c.rest_of.ensures.value c.plain_run-plain.ensures.plain))

@@ -1,0 +1,131 @@
+-- Runs of plain bytes in destinations and labels.
+use Rattle.std.proofs.Common.{◌≡◌, ℕ, zero, suc, inl, ◌+◌, ◌<◌, ◌≤◌, ◌==◌, ◌||◌, not, Bool, true, false, List, ◌++◌, length, take, drop, get_or}
+use Rattle.std.proofs.Common.{Option, refl, sym, ap, subst, ◌∙◌, arith, append_assoc, length-append, if◌then◌else◌}
+use Rattle.std.specs.List.{list_any, count_by}
+use Rattle.std.proofs.lemmas.Bool.Decides.{nat_tests}
+use Rattle.std.proofs.lemmas.List.{drop_more, map-append, length-map, get_or-drop}
+use Rattle.first_pass_lines.specs.Lines.{is_ascii_white}
+use Rattle.first_pass_links.specs.Escapes.{begins_escape}
+use Rattle.first_pass_links.specs.Destinations.{ends_run, closes_none, nesting_behind, run_len, longer}
+use Rattle.first_pass_links.specs.Labels.{is_bracket, begins_character, bytes_of, label_len, shown}
+use Rattle.first_pass_links.specs.Plain.{is_plain}
+use Rattle.first_pass_links.specs.Units.{part, read_of, left_at, kept_unit, Reads}
+use Rattle.first_pass_links.proofs.Destinations.{run_unit}
+use Rattle.first_pass_links.proofs.Labels.{byte_reads, read-kept, take_past, count_append, any_append}
+use Rattle.first_pass_links.proofs.Parts.{part-split}
+
+-- the first r bytes from an offset on are plain
+abbrev pub ArePlain : List ℕ → ℕ → ℕ → Type 0
+ArePlain bs at r = (k : ℕ) → k < r → is_plain (get_or bs (at + k) 0) ≡ true
+
+pub are_plain : (bs rest : List ℕ) (at r : ℕ) → rest ≡ drop at bs → ((k : ℕ) → k < r → is_plain (get_or rest k 0) ≡ true) → ArePlain bs at r
+are_plain bs rest at r e plain k below = ap is_plain (sym (get_or-drop at bs k 0)) ∙ ap (λ xs. is_plain (get_or xs k 0)) (sym e) ∙ plain k below
+
+plain_ends : (b : ℕ) → is_plain b ≡ true → ends_run b ≡ false
+plain_ends b h = grind (arith, nat_tests, h)
+
+plain_closes : (b n : ℕ) → is_plain b ≡ true → closes_none b n ≡ false
+plain_closes b n h = grind (arith, nat_tests, h)
+
+plain_nests : (b n : ℕ) → is_plain b ≡ true → nesting_behind b n ≡ n
+plain_nests b n h = grind (arith, nat_tests, h)
+
+plain_backslash : (b : ℕ) → is_plain b ≡ true → (b == 92) ≡ false
+plain_backslash b h = grind (arith, nat_tests, h)
+
+plain_white : (b : ℕ) → is_plain b ≡ true → is_ascii_white b ≡ false
+plain_white b h = grind (arith, nat_tests, h)
+
+plain_bracket : (b : ℕ) → is_plain b ≡ true → is_bracket b ≡ false
+plain_bracket b h = grind (arith, nat_tests, h)
+
+plain_begins : (b : ℕ) → is_plain b ≡ true → suc zero ≡ (if begins_character b then 1 else 0)
+plain_begins b h = grind (arith, nat_tests, h)
+
+no_escape : (bs : List ℕ) (at : ℕ) → at < length bs → (get_or bs at 0 == 92) ≡ false → begins_escape (drop at bs) ≡ false
+no_escape bs at l h = ap begins_escape (drop_more bs at 0 l) ∙ rw h refl
+
+-- a run goes past plain bytes
+run_plain_byte : (deepest nesting : ℕ) (bs : List ℕ) (at : ℕ) → at < length bs → is_plain (get_or bs at 0) ≡ true → nesting ≤ deepest
+    → longer (at + 1) (run_len deepest nesting 0 (drop (at + 1) bs)) ≡ longer at (run_len deepest nesting 0 (drop at bs))
+run_plain_byte deepest nesting bs at l plain few =
+    let b = get_or bs at 0 in
+    let same = plain_nests b nesting plain in
+    let one : suc zero ≡ (if begins_escape (drop at bs) then 2 else 1) = rw (no_escape bs at l (plain_backslash b plain)) refl in
+    ap (λ n. longer (at + 1) (run_len deepest n 0 (drop (at + 1) bs))) (sym same)
+    ∙ run_unit deepest nesting bs at 1 l one (plain_ends b plain) (plain_closes b nesting plain) (omega arith)
+
+pub run_plain : (deepest nesting : ℕ) (bs : List ℕ) (at r : ℕ) → at + r ≤ length bs → ArePlain bs at r → nesting ≤ deepest
+    → longer (at + r) (run_len deepest nesting 0 (drop (at + r) bs)) ≡ longer at (run_len deepest nesting 0 (drop at bs))
+run_plain deepest nesting bs at zero within plain few =
+    let e : at + zero ≡ at = omega arith in
+    ap (λ j. longer j (run_len deepest nesting 0 (drop j bs))) e
+run_plain deepest nesting bs at (suc r) within plain few =
+    let e : at + suc r ≡ at + r + 1 = omega arith in
+    ap (λ j. longer j (run_len deepest nesting 0 (drop j bs))) e
+    ∙ run_plain_byte deepest nesting bs (at + r) (omega arith) (plain r (omega arith)) few
+    ∙ run_plain deepest nesting bs at r (omega arith) (λ k below. plain k (omega arith)) few
+
+-- two units that are kept, one after the other, are one
+module _ (h : List ℕ → Option ℕ) (t : Bool) (text : List ℕ) (at m n c d : ℕ) where
+  kept_both : at ≤ m → m ≤ n → Reads h t text at (kept_unit m c true) → Reads h t text m (kept_unit n d true) → Reads h t text at (kept_unit n (c + d) true)
+  kept_both first second one two =
+      let X = bytes_of (left_at h text n) in
+      let us = bytes_of one.run in
+      let vs = bytes_of two.run in
+      let both : bytes_of (one.run ++ two.run) ≡ us ++ vs = map-append (λ e. e.1) one.run two.run in
+      let later : bytes_of (left_at h text m) ≡ vs ++ X = ap bytes_of two.joins ∙ map-append (λ e. e.1) two.run (left_at h text n) in
+      record {
+        run = one.run ++ two.run;
+        joins = one.joins ∙ ap (λ l. one.run ++ l) two.joins ∙ sym (append_assoc one.run two.run (left_at h text n));
+        count = ap (count_by begins_character) both ∙ count_append begins_character us vs ∙ omega (arith, one.count, two.count);
+        something = ap (list_any (λ b. not (is_ascii_white b))) both ∙ any_append (λ b. not (is_ascii_white b)) us vs
+            ∙ ap (λ x. x || list_any (λ b. not (is_ascii_white b)) vs) one.something;
+        passed =
+            ap (λ l. label_len (l ++ X)) both ∙ ap label_len (append_assoc us vs X) ∙ ap (λ l. label_len (us ++ l)) (sym later) ∙ one.passed
+            ∙ omega (arith, ap label_len later, two.passed, length-append one.run two.run);
+        changes = inl refl;
+        reads = λ k.
+            let long : length two.run + k ≡ length vs + k = omega (arith, length-map two.run (λ (e : ℕ × ℕ). e.1)) in
+            ap (λ l. shown t (l ++ take k X)) both ∙ ap (shown t) (append_assoc us vs (take k X))
+            ∙ ap (λ l. shown t (us ++ l)) (sym (ap (take (length vs + k)) later ∙ take_past vs X (length vs + k) k refl))
+            ∙ one.reads (length vs + k)
+            ∙ ap (λ l. read_of text at (kept_unit m c true) ++ shown t l) (ap (take (length vs + k)) later ∙ take_past vs X (length vs + k) k refl)
+            ∙ ap (λ l. read_of text at (kept_unit m c true) ++ l) (two.reads k)
+            ∙ sym (append_assoc (read_of text at (kept_unit m c true)) (read_of text m (kept_unit n d true)) (shown t (take k X)))
+            ∙ ap (λ l. l ++ shown t (take k X)) (read_both first second);
+      }
+    where
+      read_both : at ≤ m → m ≤ n
+          → read_of text at (kept_unit m c true) ++ read_of text m (kept_unit n d true) ≡ read_of text at (kept_unit n (c + d) true)
+      read_both first second =
+          ap (λ l. l ++ read_of text m (kept_unit n d true)) (read-kept text at m c true) ∙ ap (λ l. part text at m ++ l) (read-kept text m n d true)
+          ∙ part-split text at m n first second ∙ sym (read-kept text at n (c + d) true)
+
+plain_byte_reads : (h : List ℕ → Option ℕ) (t : Bool) (text : List ℕ) (at : ℕ) → at < length text → is_plain (get_or text at 0) ≡ true
+    → Reads h t text at (kept_unit (at + 1) 1 true)
+plain_byte_reads h t text at within plain =
+    let b = get_or text at 0 in
+    byte_reads h t text at 1 within (plain_white b plain) (plain_bracket b plain) (plain_backslash b plain) (plain_begins b plain)
+
+-- a run of plain bytes is a unit that is kept
+plain_reads : (h : List ℕ → Option ℕ) (t : Bool) (text : List ℕ) (at r : ℕ) → at + suc r ≤ length text → ArePlain text at (suc r)
+    → Reads h t text at (kept_unit (at + suc r) (suc r) true)
+plain_reads h t text at zero within plain =
+    let z : at + 0 ≡ at = omega arith in
+    plain_byte_reads h t text at (omega arith) (ap (λ j. is_plain (get_or text j 0)) (sym z) ∙ plain 0 (omega arith))
+plain_reads h t text at (suc r) within plain =
+    let front : at ≤ at + suc r = omega arith in
+    let back : at + suc r ≤ at + suc r + 1 = omega arith in
+    let e : at + suc r + 1 ≡ at + suc (suc r) = omega arith in
+    let c : suc r + 1 ≡ suc (suc r) = omega arith in
+    subst (λ (j : ℕ). Reads h t text at (kept_unit j (suc (suc r)) true)) e
+    (subst (λ (j : ℕ). Reads h t text at (kept_unit (at + suc r + 1) j true)) c
+    (kept_both h t text at (at + suc r) (at + suc r + 1) (suc r) 1 front back
+    (plain_reads h t text at r (omega arith) (λ k below. plain k (omega arith)))
+    (plain_byte_reads h t text (at + suc r) (omega arith) (plain (suc r) (omega arith)))))
+
+pub plain_run_reads : (h : List ℕ → Option ℕ) (t : Bool) (text : List ℕ) (at r : ℕ) → 0 < r → at + r ≤ length text → ArePlain text at r
+    → Reads h t text at (kept_unit (at + r) r true)
+plain_run_reads h t text at zero some within plain = absurd (omega arith)
+plain_run_reads h t text at (suc r) some within plain = plain_reads h t text at r within plain

@@ -1,0 +1,33 @@
+//! Runs of bytes that mean nothing in a label or in a destination, looked at 16 at once.
+
+ghost use Rattle.std.specs.Prelude.{◌≡◌, ◌<◌, ◌≤◌, ℕ, length, slice_index, true};
+ghost use Rattle.first_pass_lines.specs.Lanes.{IsRunIn};
+ghost use Rattle.first_pass_links.specs.Plain.{is_plain};
+
+use first_pass_lines::lanes::{LANES, first_set};
+use std::simd::prelude::*;
+
+/// How many of the first 16 bytes are characters of ASCII that end nothing, nest nothing and escape nothing in a label
+/// or in a destination (CommonMark 4.7, 6.3), up to the first that isn't; 0 where there are fewer bytes.
+#[inline(always)]
+pub(crate) fn plain_run(bytes: &[u8]) -> usize
+    ensures within { result ≤ length bytes.now }
+    ensures plain { (k : ℕ) → k < result → is_plain (slice_index bytes.now k) ≡ true }
+{
+    if bytes.len() < LANES {
+        return 0;
+    }
+    plain_lanes(bytes)
+}
+
+// The same of at least 16 bytes.
+#[inline(always)]
+fn plain_lanes(bytes: &[u8]) -> usize
+    requires { 16 ≤ length bytes.now }
+    ensures { IsRunIn is_plain bytes.now 0 16 result }
+{
+    let lanes = u8x16::from_slice(bytes);
+    let past_capitals = (lanes - u8x16::splat(b'*')).simd_ge(u8x16::splat(b'[' - b'*'));
+    let past_letters = (lanes - u8x16::splat(b'^')).simd_ge(u8x16::splat(0x7f - b'^'));
+    first_set((past_capitals & past_letters).to_bitmask())
+}
