@@ -1,1 +1,2 @@
+pub mod HeldLines
 mod WordLemmas

@@ -1,3 +1,4 @@
 pub mod Faults
+pub mod Held
 pub mod OptionWord
 pub mod Streams

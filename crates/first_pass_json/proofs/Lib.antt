@@ -1,2 +1,1 @@
-mod Held
 pub mod Plain

@@ -1,4 +1,3 @@
-pub mod Held
 pub mod JsonLines
 pub mod JsonValues
 pub mod Members

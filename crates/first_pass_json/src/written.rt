@@ -4,21 +4,17 @@ ghost use Rattle.std.specs.Prelude.{◌++◌, map, OnOk, OnErr, IfErr};
 ghost use Rattle.std.specs.List.{flat_map};
 ghost use Rattle.std.specs.Io.KnownBytes.{Appends};
 ghost use Rattle.first_pass_names.specs.TableEntries.{names_of, tables, link_entry, footnote_label};
-ghost use Rattle.first_pass_host.specs.Streams.{AppendsFront, IsWriteFault, stream_between};
+ghost use Rattle.first_pass_host.specs.Streams.{AppendsFront, IsWriteFault};
 ghost use Rattle.first_pass_json.specs.JsonLines.{node_line, definition_line, footnote_line, json_lines};
-ghost use Rattle.first_pass_json.specs.Held.{WritesSome};
 
 use crate::definition::{append_definition, append_footnote};
 use crate::node::append_node;
 use first_pass_host::fault::BlocksFault;
-use first_pass_host::output::write_whole;
+use first_pass_host::output::{write_piece, write_whole};
 use first_pass_items::item::Item;
 use first_pass_names::items::{Allocations, FootDefs, RefDefs};
 use std::alloc::Global;
 use std::io::Write;
-
-/// How many bytes of lines are held back before they are written.
-const PIECE: usize = 8192;
 
 /// Writes the lines of all nodes, after them those of the link definitions, and then those of the footnotes' labels.
 /// A fault is `WriteFailed`, or `OutOfMemory` where a request was refused; a beginning of the lines may be written
@@ -71,7 +67,7 @@ fn write_nodes<W: Write>(
     let mut held = Vec::new(alloc);
     for node in nodes {
         append_node(&mut held, node.0, node.1, allocs)?;
-        write_piece(&mut held, output)?;
+        write_piece(output, &mut held)?;
     }
     write_whole(output, held.as_slice())
 }
@@ -91,7 +87,7 @@ fn write_definitions<W: Write>(
     let mut held = Vec::new(alloc);
     for (label, definition) in links.iter() {
         append_definition(&mut held, label, definition)?;
-        write_piece(&mut held, output)?;
+        write_piece(output, &mut held)?;
     }
     write_whole(output, held.as_slice())
 }
@@ -111,22 +107,7 @@ fn write_footnotes<W: Write>(
     let mut held = Vec::new(alloc);
     for (label, _footnote) in footnotes.iter() {
         append_footnote(&mut held, label)?;
-        write_piece(&mut held, output)?;
+        write_piece(output, &mut held)?;
     }
     write_whole(output, held.as_slice())
-}
-
-// Writes what is held, once that is a piece.
-fn write_piece<W: Write>(held: &mut Vec<u8>, output: &mut W) -> Result<(), BlocksFault>
-    ensures ok { OnOk result (WritesSome held.old.items held.new.items
-        (stream_between (W.contents output.old) (W.contents output.new))) }
-    ensures front { OnErr result
-        (AppendsFront (W.contents output.old) (W.contents output.new) held.old.items) }
-    ensures fault { IfErr result IsWriteFault }
-{
-    if PIECE <= held.len() {
-        write_whole(output, held.as_slice())?;
-        held.clear();
-    }
-    Ok(())
 }

@@ -1,4 +1,3 @@
-mod EntryLines
 mod HeadingRows
 mod OrderedEntries
 mod Outlines

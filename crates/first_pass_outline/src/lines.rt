@@ -10,14 +10,11 @@ ghost use Rattle.first_pass_outline.specs.Lines.{entry_line, id_text};
 
 use crate::outline::OutlineEntry;
 use first_pass_host::fault::BlocksFault;
-use first_pass_host::output::write_whole;
+use first_pass_host::output::{write_piece, write_whole};
 use first_pass_lines::lines::level_number;
 use first_pass_printed::node::append_number;
 use std::alloc::{AllocError, Global};
 use std::io::Write;
-
-/// How many printed bytes are held back before they are written.
-const PIECE: usize = 8192;
 
 /// Appends the line of an entry: its level as a digit, its range after a space, and its id, if it has one, after a
 /// space and `#`. The one error is that a request for memory was refused.
@@ -67,10 +64,7 @@ pub fn write_entries<W: Write>(
     let mut held = Vec::new(alloc);
     for entry in entries {
         append_entry(&mut held, entry)?;
-        if PIECE <= held.len() {
-            write_whole(output, held.as_slice())?;
-            held.clear();
-        }
+        write_piece(output, &mut held)?;
     }
     write_whole(output, held.as_slice())
 }

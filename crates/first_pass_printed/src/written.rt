@@ -10,14 +10,11 @@ ghost use Rattle.first_pass_host.specs.Streams.{AppendsFront, IsWriteFault};
 use crate::links::append_link;
 use crate::node::append_node;
 use first_pass_host::fault::BlocksFault;
-use first_pass_host::output::write_whole;
+use first_pass_host::output::{write_piece, write_whole};
 use first_pass_items::item::Item;
 use first_pass_names::items::{Allocations, RefDefs};
 use std::alloc::Global;
 use std::io::Write;
-
-/// How many printed bytes are held back before they are written.
-const PIECE: usize = 8192;
 
 /// Writes the lines of all nodes and, after them, those of the link definitions. A fault is `WriteFailed`, or
 /// `OutOfMemory` where a request was refused; a beginning of the lines may be written then.
@@ -53,10 +50,7 @@ fn write_nodes<W: Write>(
     let mut held = Vec::new(alloc);
     for node in nodes {
         append_node(&mut held, node.0, node.1, allocs)?;
-        if PIECE <= held.len() {
-            write_whole(output, held.as_slice())?;
-            held.clear();
-        }
+        write_piece(output, &mut held)?;
     }
     write_whole(output, held.as_slice())
 }
@@ -76,10 +70,7 @@ fn write_links<W: Write>(
     let mut held = Vec::new(alloc);
     for (label, definition) in links.iter() {
         append_link(&mut held, label, definition)?;
-        if PIECE <= held.len() {
-            write_whole(output, held.as_slice())?;
-            held.clear();
-        }
+        write_piece(output, &mut held)?;
     }
     write_whole(output, held.as_slice())
 }

@@ -1,3 +1,2 @@
-mod Held
 mod Named
 mod NodeLines

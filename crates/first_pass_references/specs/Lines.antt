@@ -1,6 +1,5 @@
 -- What the program `links` writes of a tree: a line for each link definition, each footnote definition and each reference (this project).
-use Rattle.std.specs.Prelude.{◌≡◌, ℕ, List, [], ◌∷◌, ◌++◌, Option, codes}
-use Rattle.std.specs.Io.KnownBytes.{Appends}
+use Rattle.std.specs.Prelude.{ℕ, List, [], ◌∷◌, ◌++◌, codes}
 use Rattle.std.specs.Option.{option_to_list}
 use Rattle.std.specs.List.{flat_map}
 use Rattle.first_pass_items.specs.declared.item.Item.{Item}
@@ -43,9 +42,3 @@ node_lines text names links (first ∷ nodes) = first_lines text names links (fi
 -- the lines of a tree and its tables: those of the link definitions, in the order of their table, and those of the nodes
 abbrev pub links_lines : List ℕ → Names → List (ℕ × Item) → Tables → List ℕ
 links_lines text names nodes tables = flat_map definition_line tables.links ++ node_lines text names tables.links nodes
-
--- of what was held, a beginning is written, and the rest is held
-pub record PassesOn (held rest : List ℕ) (old new : Option (List ℕ)) : Type 0 where
-  pub written : List ℕ
-  pub split : held ≡ written ++ rest
-  pub appended : Appends old new written

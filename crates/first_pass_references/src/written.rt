@@ -3,22 +3,18 @@
 ghost use Rattle.std.specs.Prelude.{◌≡◌, ◌++◌, map, OnOk, OnErr, IfErr};
 ghost use Rattle.std.specs.List.{flat_map};
 ghost use Rattle.std.specs.Io.KnownBytes.{Appends};
-ghost use Rattle.first_pass_host.specs.declared.fault.BlocksFault.TheVariants.{WriteFailed};
 ghost use Rattle.first_pass_host.specs.Streams.{AppendsFront, IsWriteFault};
 ghost use Rattle.first_pass_names.specs.TableEntries.{names_of, tables, link_entry};
-ghost use Rattle.first_pass_references.specs.Lines.{definition_line, first_lines, node_lines, links_lines, PassesOn};
+ghost use Rattle.first_pass_references.specs.Lines.{definition_line, first_lines, node_lines, links_lines};
 
 use crate::lines::{append_definition, append_footnote, append_reference};
 use crate::reference::reference_at;
 use first_pass_host::fault::BlocksFault;
-use first_pass_host::output::write_whole;
+use first_pass_host::output::{write_piece, write_whole};
 use first_pass_items::item::Item;
 use first_pass_names::items::{Allocations, RefDefs};
 use std::alloc::{AllocError, Global};
 use std::io::Write;
-
-/// How many bytes are held back before they are written.
-const PIECE: usize = 8192;
 
 /// Writes a line for each link definition, in the order of their table, and one for each footnote definition and each
 /// reference among the nodes of the text's tree, in reading order. A fault is `WriteFailed`, or `OutOfMemory` where a
@@ -55,7 +51,7 @@ fn write_definitions<W: Write>(
     let mut held = Vec::new(alloc);
     for (label, definition) in links.iter() {
         append_definition(&mut held, label, definition)?;
-        write_piece(&mut held, output)?;
+        write_piece(output, &mut held)?;
     }
     write_whole(output, held.as_slice())
 }
@@ -78,7 +74,7 @@ fn write_nodes<W: Write>(
     let mut left = nodes;
     while let Some((_, rest)) = left.split_first() {
         append_first(alloc, &mut held, text, left, allocs)?;
-        write_piece(&mut held, output)?;
+        write_piece(output, &mut held)?;
         left = rest;
     }
     write_whole(output, held.as_slice())
@@ -103,18 +99,4 @@ fn append_first(
         Some(reference) => append_reference(line, &reference),
         None => Ok(()),
     }
-}
-
-// Writes what is held where it is a piece or more, and then holds nothing.
-fn write_piece<W: Write>(held: &mut Vec<u8>, output: &mut W) -> Result<(), BlocksFault>
-    ensures ok { OnOk result (PassesOn held.old.items held.new.items (W.contents output.old) (W.contents output.new)) }
-    ensures front { OnErr result (AppendsFront (W.contents output.old) (W.contents output.new) held.old.items) }
-    ensures fault { IfErr result (λ fault. fault ≡ WriteFailed) }
-{
-    if held.len() < PIECE {
-        return Ok(());
-    }
-    write_whole(output, held.as_slice())?;
-    held.clear();
-    Ok(())
 }

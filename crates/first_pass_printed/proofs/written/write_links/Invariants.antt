@@ -1,10 +1,13 @@
-use Rattle.std.proofs.Common.{◌≡◌, List, ℕ, ◌++◌}
-use Rattle.std.specs.Io.KnownBytes.{Appends}
-use Rattle.first_pass_printed.proofs.LinkLines.{link_lines}
+use Rattle.std.proofs.Common.{map}
+use Rattle.std.specs.List.{flat_map}
+use Rattle.first_pass_names.specs.TableEntries.{link_entry}
+use Rattle.first_pass_host.specs.Held.{AreUnderWay}
+use Rattle.first_pass_host.specs.Streams.{stream_between}
+use Rattle.first_pass_printed.specs.Printed.{link_line}
 use Rattle.first_pass_printed.proofs.written.write_links.Given as goal
 
--- the lines so far are written or held, and those of what is left to come make them all
+-- the lines so far are written or held
 abbrev pub invariant-loop-label : goal.invariant-loop-label
 invariant-loop-label g l =
-    (done : List ℕ) × ((done ++ l.held.items) ++ link_lines l.label-iterator ≡ link_lines l.links)
-    × Appends (g.W.Write.contents l.initial.output) (g.W.Write.contents l.output) done
+    AreUnderWay (flat_map link_line (map link_entry l.links)) l.held.items (flat_map link_line (map link_entry l.label-iterator))
+    (stream_between (g.W.Write.contents l.initial.output) (g.W.Write.contents l.output))

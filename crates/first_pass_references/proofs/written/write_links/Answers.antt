@@ -1,10 +1,11 @@
 use Rattle.std.proofs.Common.{map, subst}
+use Rattle.std.proofs.lemmas.Result.{on_err_weaker}
 use Rattle.std.specs.List.{flat_map}
 use Rattle.std.specs.Io.KnownBytes.{Appends}
 use Rattle.first_pass_host.specs.Streams.{AppendsFront}
 use Rattle.first_pass_names.specs.TableEntries.{link_entry}
 use Rattle.first_pass_references.specs.Lines.{definition_line}
-use Rattle.first_pass_references.proofs.Held.{front_first, front_after, on_any, on_err_then}
+use Rattle.first_pass_host.proofs.HeldLines.{front_first, front_after, on_any}
 use Rattle.first_pass_references.proofs.written.write_links.Goals as goal
 
 pub returns-in_err-write_definitions-clause-front : goal.returns-in_err-write_definitions-clause-front
@@ -18,6 +19,6 @@ pub returns-clause-front : goal.returns-clause-front
 returns-clause-front g c =
     let old = g.W.Write.contents c.args.output.now in
     let mid = g.W.Write.contents c.write_definitions.new.output in
-    on_err_then c.write_nodes.result (front_after _ _ old mid (g.W.Write.contents c.write_nodes.new.output)
+    on_err_weaker c.write_nodes.result (front_after _ _ old mid (g.W.Write.contents c.write_nodes.new.output)
     (subst (λ links. Appends old mid (flat_map definition_line (map link_entry links))) c.refdefs.ensures c.in_ok-write_definitions.ensures.ok))
     c.write_nodes.ensures.front

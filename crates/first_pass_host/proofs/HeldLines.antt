@@ -1,0 +1,90 @@
+-- Lines that are written, held or left, and what a step does to them.
+use Rattle.std.proofs.Common.{◌≡◌, ℕ, ◌+◌, ◌<◌, List, [], ◌++◌, Option, Result, Ok, Err, OnErr, length, drop, get_or, refl, sym, ap, subst, ◌∙◌}
+use Rattle.std.proofs.Common.{append_assoc, append-nil}
+use Rattle.std.proofs.KnownBytes.{Appends-nil, Appends-trans}
+use Rattle.std.proofs.lemmas.List.{drop_more}
+use Rattle.std.specs.Io.KnownBytes.{Appends}
+use Rattle.std.specs.List.{flat_map}
+use Rattle.first_pass_host.specs.Held.{AreUnderWay}
+use Rattle.first_pass_host.specs.Streams.{Stream, stream_between, AppendsFront}
+
+-- before the first line, where all are left
+pub none_written : (lines held left : List ℕ) (known : Option (List ℕ)) → held ≡ [] → left ≡ lines
+    → AreUnderWay lines held left (stream_between known known)
+none_written lines held left known empty is = record {
+  written = [];
+  split = ap (λ l. l ++ left) empty ∙ is;
+  appended = Appends-nil known;
+}
+
+-- with the next line held
+pub next_held : (lines held left next more rest : List ℕ) (output : Stream) → left ≡ next ++ rest → more ≡ held ++ next
+    → AreUnderWay lines held left output → AreUnderWay lines more rest output
+next_held lines held left next more rest output left_is more_is u = record {
+  written = u.written;
+  split = ap (λ l. (u.written ++ l) ++ rest) more_is ∙ ap (λ l. l ++ rest) (sym (append_assoc u.written held next))
+      ∙ append_assoc (u.written ++ held) next rest ∙ ap (λ l. (u.written ++ held) ++ l) (sym left_is) ∙ u.split;
+  appended = u.appended;
+}
+
+-- with a beginning of what is held written
+pub piece_written : (lines held kept left : List ℕ) (old mid new : Option (List ℕ)) → AreUnderWay held kept [] (stream_between mid new)
+    → AreUnderWay lines held left (stream_between old mid) → AreUnderWay lines kept left (stream_between old new)
+piece_written lines held kept left old mid new piece u = record {
+  written = u.written ++ piece.written;
+  split = ap (λ l. l ++ left) (append_assoc u.written piece.written kept
+      ∙ ap (λ l. u.written ++ l) (sym (append-nil (piece.written ++ kept)) ∙ piece.split)) ∙ u.split;
+  appended = Appends-trans old mid new u.written piece.written u.appended piece.appended;
+}
+
+-- with all that is held written, and no line left
+pub all_written : (lines held left : List ℕ) (old mid new : Option (List ℕ)) → left ≡ [] → AreUnderWay lines held left (stream_between old mid)
+    → Appends mid new held → Appends old new lines
+all_written lines held left old mid new none u appended =
+    subst (Appends old new) (sym (append-nil (u.written ++ held)) ∙ ap (λ l. (u.written ++ held) ++ l) (sym none) ∙ u.split)
+    (Appends-trans old mid new u.written held u.appended appended)
+
+-- a beginning of what is held, after what is written, is a beginning of the lines
+pub front_written : (lines held left : List ℕ) (old mid new : Option (List ℕ)) → AreUnderWay lines held left (stream_between old mid)
+    → AppendsFront mid new held → AppendsFront old new lines
+front_written lines held left old mid new u front = record {
+  written = u.written ++ front.written;
+  left = front.left ++ left;
+  split = sym u.split ∙ ap (λ l. l ++ left) (ap (λ l. u.written ++ l) front.split ∙ sym (append_assoc u.written front.written front.left))
+      ∙ append_assoc (u.written ++ front.written) front.left left;
+  appended = Appends-trans old mid new u.written front.written u.appended front.appended;
+}
+
+-- so is what is written
+pub front_so_far : (lines held left : List ℕ) (old new : Option (List ℕ)) → AreUnderWay lines held left (stream_between old new)
+    → AppendsFront old new lines
+front_so_far lines held left old new u =
+    front_written lines held left old new new u record { written = []; left = held; split = refl; appended = Appends-nil new }
+
+-- a beginning of the first of two texts, or the first and a beginning of the second, is one of both
+pub front_first : (lines others : List ℕ) (old new : Option (List ℕ)) → AppendsFront old new lines → AppendsFront old new (lines ++ others)
+front_first lines others old new front = record {
+  written = front.written;
+  left = front.left ++ others;
+  split = ap (λ l. l ++ others) front.split ∙ append_assoc front.written front.left others;
+  appended = front.appended;
+}
+
+pub front_after : (lines others : List ℕ) (old mid new : Option (List ℕ))
+    → Appends old mid lines → AppendsFront mid new others → AppendsFront old new (lines ++ others)
+front_after lines others old mid new appended front = record {
+  written = lines ++ front.written;
+  left = front.left;
+  split = ap (λ l. lines ++ l) front.split ∙ sym (append_assoc lines front.written front.left);
+  appended = Appends-trans old mid new lines front.written appended front.appended;
+}
+
+-- the lines of the elements from a place on: the line of the one there, and those of the others
+pub line_at : {A : Type 0} (line : A → List ℕ) (xs : List A) (i : ℕ) (d : A) → i < length xs
+    → flat_map line (drop i xs) ≡ line (get_or xs i d) ++ flat_map line (drop (i + 1) xs)
+line_at line xs i d within = ap (flat_map line) (drop_more xs i d within)
+
+-- a fact that holds anyway
+pub on_any : {T E P : Type 0} (r : Result T E) → P → OnErr r P
+on_any (Ok x) p = tt
+on_any (Err e) p = p

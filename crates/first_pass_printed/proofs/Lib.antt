@@ -1,2 +1,0 @@
-pub mod Lines
-mod LinkLines
