@@ -1,6 +1,6 @@
 //! Runs under a clock that is told what to say, and each fault.
 
-use crate::fakes::{Odd, Sink, Source, Told, time};
+use crate::fakes::{FailingReader, FailingWriter, Odd, Told, time};
 use first_pass_host::fault::BlocksFault;
 use std::alloc::Global;
 use std::process::Abort;
@@ -18,8 +18,8 @@ fn assert_printed(
     want: &str,
 ) -> Result<(), Fail> {
     let mut clock = Told { left: told };
-    let mut input = Source::new(text, 3, 0);
-    let mut output = Sink::new(rt.alloc(), 20, 0);
+    let mut input = FailingReader::new(text, 3, 0);
+    let mut output = FailingWriter::new(rt.alloc(), 20, 0);
     let answer = time(rt.alloc(), words, &mut clock, &mut input, &mut output)?;
     let line = String::from_utf8_lossy(rt.alloc(), output.bytes.as_slice())?;
     assert!(rt;
@@ -46,8 +46,8 @@ fn bad_options_come_first(rt: HostRuntime) -> Result<(), Fail> {
     ];
     for words in bad {
         let mut clock = Told { left: &[0, 1] };
-        let mut input = Source::new(b"\xff", 3, 1);
-        let mut output = Sink::new(rt.alloc(), 20, 1);
+        let mut input = FailingReader::new(b"\xff", 3, 1);
+        let mut output = FailingWriter::new(rt.alloc(), 20, 1);
         let answer = time(rt.alloc(), words, &mut clock, &mut input, &mut output)?;
         assert!(rt; answer == Err(BlocksFault::BadOptions), "{words:?}");
         assert!(rt;
@@ -144,8 +144,8 @@ fn options_make_a_difference(rt: HostRuntime) -> Result<(), Fail> {
 fn input_is_utf8(rt: HostRuntime) -> Result<(), Fail> {
     for bytes in [b"\xff".as_slice(), b"a\n\n# b\xc3".as_slice()] {
         let mut clock = Told { left: &[0, 1] };
-        let mut input = Source::new(bytes, 3, 0);
-        let mut output = Sink::new(rt.alloc(), 20, 1);
+        let mut input = FailingReader::new(bytes, 3, 0);
+        let mut output = FailingWriter::new(rt.alloc(), 20, 1);
         let answer = time(rt.alloc(), &[], &mut clock, &mut input, &mut output)?;
         assert!(rt; answer == Err(BlocksFault::NotUtf8), "{bytes:?}");
         assert!(rt; clock.left.len() == 2 && output.writes == 0, "{bytes:?}");
@@ -158,8 +158,8 @@ fn input_is_utf8(rt: HostRuntime) -> Result<(), Fail> {
 fn each_read_fails_in_turn(rt: HostRuntime) -> Result<(), Fail> {
     for fails_at in 1..6 {
         let mut clock = Told { left: &[0, 1] };
-        let mut input = Source::new(TEXT, 3, fails_at);
-        let mut output = Sink::new(rt.alloc(), 20, 0);
+        let mut input = FailingReader::new(TEXT, 3, fails_at);
+        let mut output = FailingWriter::new(rt.alloc(), 20, 0);
         let answer = time(rt.alloc(), &["0", "1"], &mut clock, &mut input, &mut output)?;
         if fails_at == 5 {
             assert!(rt; answer == Ok(()));
@@ -182,8 +182,8 @@ fn each_reading_of_the_clock_fails_in_turn(rt: HostRuntime) -> Result<(), Fail> 
         let mut clock = Told {
             left: &told[..count],
         };
-        let mut input = Source::new(TEXT, 3, 0);
-        let mut output = Sink::new(rt.alloc(), 20, 0);
+        let mut input = FailingReader::new(TEXT, 3, 0);
+        let mut output = FailingWriter::new(rt.alloc(), 20, 0);
         let answer = time(rt.alloc(), &["0", "2"], &mut clock, &mut input, &mut output)?;
         if count == 4 {
             assert!(rt; answer == Ok(()));
@@ -200,8 +200,8 @@ fn odd_at_each_write(rt: &impl Abort, alloc: Global, odd: Odd) -> Result<(), Fai
     let whole = b"8 bytes, 7 nodes, best of 1 runs: 0.000 ms, 8000.0 MB/s\n".as_slice();
     for odd_at in 1..5 {
         let mut clock = Told { left: &[0, 1] };
-        let mut input = Source::new(TEXT, 3, 0);
-        let mut output = Sink::new(alloc, 20, odd_at);
+        let mut input = FailingReader::new(TEXT, 3, 0);
+        let mut output = FailingWriter::new(alloc, 20, odd_at);
         output.odd = odd;
         let answer = time(alloc, &["0", "1"], &mut clock, &mut input, &mut output)?;
         if odd_at == 4 || odd == Odd::IsShort {

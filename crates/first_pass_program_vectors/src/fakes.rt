@@ -2,7 +2,7 @@
 
 use first_pass_host::fault::BlocksFault;
 use first_pass_json::run::tree_run;
-use first_pass_outline::run::{OutlineFault, outline_run};
+use first_pass_outline::run::outline_run;
 use first_pass_program::bench::bench_run;
 use first_pass_program::run::blocks_run;
 use first_pass_references::run::links_run;
@@ -46,7 +46,7 @@ pub enum Odd {
 
 /// A reader of bytes that gives at most `step` of them at a time, and is odd at the read of that number.
 #[derive(Drop)]
-pub struct Source<'a> {
+pub struct FailingReader<'a> {
     pub rest: &'a [u8],
     pub step: usize,
     pub odd_at: usize,
@@ -54,10 +54,10 @@ pub struct Source<'a> {
     pub reads: usize,
 }
 
-impl Source<'_> {
+impl FailingReader<'_> {
     /// One whose odd read fails.
-    pub fn new(rest: &[u8], step: usize, odd_at: usize) -> Source<'_> {
-        Source {
+    pub fn new(rest: &[u8], step: usize, odd_at: usize) -> FailingReader<'_> {
+        FailingReader {
             rest,
             step,
             odd_at,
@@ -67,7 +67,7 @@ impl Source<'_> {
     }
 }
 
-impl Read for Source<'_> {
+impl Read for FailingReader<'_> {
     fn read(&mut self, buf: &mut [u8]) -> io::Result<usize> {
         self.reads = self.reads.saturating_add(1);
         let most = match self.odd {
@@ -86,7 +86,7 @@ impl Read for Source<'_> {
 
 /// A writer that takes at most `step` bytes at a time, and is odd at the write of that number.
 #[derive(Drop)]
-pub struct Sink {
+pub struct FailingWriter {
     pub bytes: Vec<u8>,
     pub step: usize,
     pub odd_at: usize,
@@ -94,10 +94,10 @@ pub struct Sink {
     pub writes: usize,
 }
 
-impl Sink {
+impl FailingWriter {
     /// One whose odd write fails.
-    pub fn new(alloc: Global, step: usize, odd_at: usize) -> Sink {
-        Sink {
+    pub fn new(alloc: Global, step: usize, odd_at: usize) -> FailingWriter {
+        FailingWriter {
             bytes: Vec::new(alloc),
             step,
             odd_at,
@@ -107,7 +107,7 @@ impl Sink {
     }
 }
 
-impl Write for Sink {
+impl Write for FailingWriter {
     fn write(&mut self, buf: &[u8]) -> io::Result<usize> {
         self.writes = self.writes.saturating_add(1);
         let most = match self.odd {
@@ -136,58 +136,41 @@ fn words_of(alloc: Global, words: &[&str]) -> Result<Vec<String>, AllocError> {
     Ok(list)
 }
 
-/// Runs the work of `blocks` on these words. An error where memory for the words is refused.
+/// A program that writes what it says of a text.
+#[derive(Clone, Copy)]
+pub enum Program {
+    Blocks,
+    Outline,
+    Links,
+    Tree,
+}
+
+/// Runs the work of a program on these words. An error where memory for the words is refused.
 pub fn run(
     alloc: Global,
+    program: Program,
     words: &[&str],
-    source: &mut Source<'_>,
-    sink: &mut Sink,
+    reader: &mut FailingReader<'_>,
+    writer: &mut FailingWriter,
 ) -> Result<Result<(), BlocksFault>, AllocError> {
     let list = words_of(alloc, words)?;
-    Ok(blocks_run(alloc, list.as_slice(), source, sink))
+    let words = list.as_slice();
+    Ok(match program {
+        Program::Blocks => blocks_run(alloc, words, reader, writer),
+        Program::Outline => outline_run(alloc, words, reader, writer),
+        Program::Links => links_run(alloc, words, reader, writer),
+        Program::Tree => tree_run(alloc, words, reader, writer),
+    })
 }
 
-/// The same of `outline`.
-pub fn list(
-    alloc: Global,
-    words: &[&str],
-    source: &mut Source<'_>,
-    sink: &mut Sink,
-) -> Result<Result<(), OutlineFault>, AllocError> {
-    let list = words_of(alloc, words)?;
-    Ok(outline_run(alloc, list.as_slice(), source, sink))
-}
-
-/// The same of `links`.
-pub fn list_links(
-    alloc: Global,
-    words: &[&str],
-    source: &mut Source<'_>,
-    sink: &mut Sink,
-) -> Result<Result<(), BlocksFault>, AllocError> {
-    let list = words_of(alloc, words)?;
-    Ok(links_run(alloc, list.as_slice(), source, sink))
-}
-
-/// The same of `tree`.
-pub fn write_tree(
-    alloc: Global,
-    words: &[&str],
-    source: &mut Source<'_>,
-    sink: &mut Sink,
-) -> Result<Result<(), BlocksFault>, AllocError> {
-    let list = words_of(alloc, words)?;
-    Ok(tree_run(alloc, list.as_slice(), source, sink))
-}
-
-/// The same of `bench`.
+/// Runs the work of `bench` on these words. An error where memory for the words is refused.
 pub fn time(
     alloc: Global,
     words: &[&str],
     clock: &mut Told<'_>,
-    source: &mut Source<'_>,
-    sink: &mut Sink,
+    reader: &mut FailingReader<'_>,
+    writer: &mut FailingWriter,
 ) -> Result<Result<(), BlocksFault>, AllocError> {
     let list = words_of(alloc, words)?;
-    Ok(bench_run(clock, alloc, list.as_slice(), source, sink))
+    Ok(bench_run(clock, alloc, list.as_slice(), reader, writer))
 }

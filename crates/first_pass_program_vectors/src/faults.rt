@@ -1,6 +1,6 @@
 //! Each fault of a run, and what is written before it.
 
-use crate::fakes::{Odd, Sink, Source, run};
+use crate::fakes::{FailingReader, FailingWriter, Odd, Program, run};
 use first_pass_host::fault::BlocksFault;
 use std::alloc::{AllocError, Global};
 use std::process::Abort;
@@ -22,9 +22,15 @@ fn write(
     alloc: Global,
     text: &[u8],
     step: usize,
-    sink: &mut Sink,
+    sink: &mut FailingWriter,
 ) -> Result<Result<(), BlocksFault>, AllocError> {
-    run(alloc, &[], &mut Source::new(text, step, 0), sink)
+    run(
+        alloc,
+        Program::Blocks,
+        &[],
+        &mut FailingReader::new(text, step, 0),
+        sink,
+    )
 }
 
 #[test]
@@ -40,9 +46,9 @@ fn bad_options_come_first(rt: HostRuntime) -> Result<(), Fail> {
         &["0", "0"],
     ];
     for words in bad {
-        let mut input = Source::new(b"\xff", WHOLE, 1);
-        let mut sink = Sink::new(rt.alloc(), WHOLE, 1);
-        let answer = run(rt.alloc(), words, &mut input, &mut sink)?;
+        let mut input = FailingReader::new(b"\xff", WHOLE, 1);
+        let mut sink = FailingWriter::new(rt.alloc(), WHOLE, 1);
+        let answer = run(rt.alloc(), Program::Blocks, words, &mut input, &mut sink)?;
         assert!(rt; answer == Err(BlocksFault::BadOptions), "{words:?}");
         assert!(rt; input.reads == 0 && sink.writes == 0, "{words:?}");
     }
@@ -59,9 +65,9 @@ fn input_is_utf8(rt: HostRuntime) -> Result<(), Fail> {
         b"\xc0\x80",
     ];
     for bytes in bad {
-        let mut input = Source::new(bytes, 1, 0);
-        let mut sink = Sink::new(rt.alloc(), WHOLE, 1);
-        let answer = run(rt.alloc(), &[], &mut input, &mut sink)?;
+        let mut input = FailingReader::new(bytes, 1, 0);
+        let mut sink = FailingWriter::new(rt.alloc(), WHOLE, 1);
+        let answer = run(rt.alloc(), Program::Blocks, &[], &mut input, &mut sink)?;
         assert!(rt; answer == Err(BlocksFault::NotUtf8), "{bytes:?}");
         assert!(rt; sink.writes == 0, "{bytes:?}");
     }
@@ -73,9 +79,9 @@ fn each_read_fails_in_turn(rt: HostRuntime) -> Result<(), Fail> {
     let text = long_text(rt.alloc())?;
     let mut failed = 0;
     for fails_at in 1..100 {
-        let mut input = Source::new(text.as_slice(), 1000, fails_at);
-        let mut sink = Sink::new(rt.alloc(), WHOLE, 0);
-        let answer = run(rt.alloc(), &[], &mut input, &mut sink)?;
+        let mut input = FailingReader::new(text.as_slice(), 1000, fails_at);
+        let mut sink = FailingWriter::new(rt.alloc(), WHOLE, 0);
+        let answer = run(rt.alloc(), Program::Blocks, &[], &mut input, &mut sink)?;
         if answer == Ok(()) {
             assert!(rt; input.reads < fails_at);
             break;
@@ -100,11 +106,11 @@ fn odd_at_each_write(
     step: usize,
     odd: Odd,
 ) -> Result<usize, Fail> {
-    let mut whole = Sink::new(alloc, step, 0);
+    let mut whole = FailingWriter::new(alloc, step, 0);
     let answer = write(alloc, text, WHOLE, &mut whole)?;
     assert!(rt; answer == Ok(()));
     for odd_at in 1..100 {
-        let mut sink = Sink::new(alloc, step, odd_at);
+        let mut sink = FailingWriter::new(alloc, step, odd_at);
         sink.odd = odd;
         let answer = write(alloc, text, WHOLE, &mut sink)?;
         if sink.writes < odd_at || odd == Odd::IsShort {
@@ -172,10 +178,10 @@ fn each_write_of_definitions_fails_in_turn(rt: HostRuntime) -> Result<(), Fail> 
 #[test]
 fn steps_make_no_difference(rt: HostRuntime) -> Result<(), Fail> {
     let text = long_text(rt.alloc())?;
-    let mut whole = Sink::new(rt.alloc(), WHOLE, 0);
+    let mut whole = FailingWriter::new(rt.alloc(), WHOLE, 0);
     let answer = write(rt.alloc(), text.as_slice(), WHOLE, &mut whole)?;
     assert!(rt; answer == Ok(()));
-    let mut bytewise = Sink::new(rt.alloc(), 1, 0);
+    let mut bytewise = FailingWriter::new(rt.alloc(), 1, 0);
     let answer = write(rt.alloc(), text.as_slice(), 1, &mut bytewise)?;
     assert!(rt; answer == Ok(()) && bytewise.bytes.as_slice() == whole.bytes.as_slice());
     Ok(())
@@ -185,14 +191,14 @@ fn steps_make_no_difference(rt: HostRuntime) -> Result<(), Fail> {
 #[test]
 fn each_read_is_short_in_turn(rt: HostRuntime) -> Result<(), Fail> {
     let text = long_text(rt.alloc())?;
-    let mut whole = Sink::new(rt.alloc(), WHOLE, 0);
+    let mut whole = FailingWriter::new(rt.alloc(), WHOLE, 0);
     let answer = write(rt.alloc(), text.as_slice(), WHOLE, &mut whole)?;
     assert!(rt; answer == Ok(()));
     for odd_at in 1..=10 {
-        let mut input = Source::new(text.as_slice(), 1000, odd_at);
+        let mut input = FailingReader::new(text.as_slice(), 1000, odd_at);
         input.odd = Odd::IsShort;
-        let mut sink = Sink::new(rt.alloc(), WHOLE, 0);
-        let answer = run(rt.alloc(), &[], &mut input, &mut sink)?;
+        let mut sink = FailingWriter::new(rt.alloc(), WHOLE, 0);
+        let answer = run(rt.alloc(), Program::Blocks, &[], &mut input, &mut sink)?;
         assert!(rt;
             answer == Ok(()) && sink.bytes.as_slice() == whole.bytes.as_slice(),
             "read {odd_at}"
@@ -204,7 +210,7 @@ fn each_read_is_short_in_turn(rt: HostRuntime) -> Result<(), Fail> {
 #[test]
 fn a_writer_that_takes_nothing_fails(rt: HostRuntime) -> Result<(), Fail> {
     let text = long_text(rt.alloc())?;
-    let mut full = Sink::new(rt.alloc(), 0, 0);
+    let mut full = FailingWriter::new(rt.alloc(), 0, 0);
     let answer = write(rt.alloc(), text.as_slice(), WHOLE, &mut full)?;
     assert!(rt; answer == Err(BlocksFault::WriteFailed) && full.writes == 1);
     Ok(())

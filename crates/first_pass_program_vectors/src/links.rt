@@ -1,6 +1,6 @@
 //! What `links` writes of texts, and its faults.
 
-use crate::fakes::{Sink, Source, list_links};
+use crate::fakes::{FailingReader, FailingWriter, Program, run};
 use first_pass_host::fault::BlocksFault;
 use std::alloc::Global;
 use std::process::Abort;
@@ -14,8 +14,14 @@ fn assert_listed(
     cases: &[(&[u8], &[u8])],
 ) -> Result<(), Fail> {
     for (text, lines) in cases {
-        let mut sink = Sink::new(alloc, 20, 0);
-        let answer = list_links(alloc, &[options], &mut Source::new(text, 3, 0), &mut sink)?;
+        let mut sink = FailingWriter::new(alloc, 20, 0);
+        let answer = run(
+            alloc,
+            Program::Links,
+            &[options],
+            &mut FailingReader::new(text, 3, 0),
+            &mut sink,
+        )?;
         assert!(rt;
             answer == Ok(()) && *sink.bytes.as_slice() == **lines,
             "{text:?}"
@@ -88,8 +94,14 @@ fn links_have_faults(rt: HostRuntime) -> Result<(), Fail> {
         ("0", b"[a]: /x\n", BlocksFault::WriteFailed),
     ];
     for (word, text, fault) in cases {
-        let mut sink = Sink::new(rt.alloc(), 20, 1);
-        let answer = list_links(rt.alloc(), &[word], &mut Source::new(text, 3, 0), &mut sink)?;
+        let mut sink = FailingWriter::new(rt.alloc(), 20, 1);
+        let answer = run(
+            rt.alloc(),
+            Program::Links,
+            &[word],
+            &mut FailingReader::new(text, 3, 0),
+            &mut sink,
+        )?;
         assert!(rt; answer == Err(*fault) && sink.bytes.is_empty(), "{text:?}");
     }
     Ok(())

@@ -1,6 +1,6 @@
 //! The lines that `outline` writes, and each fault of its work.
 
-use crate::fakes::{Odd, Sink, Source, list};
+use crate::fakes::{FailingReader, FailingWriter, Odd, Program, run};
 use first_pass_outline::run::OutlineFault;
 use std::alloc::Global;
 use std::process::Abort;
@@ -28,9 +28,9 @@ fn headings_are_listed(rt: HostRuntime) -> Result<(), Fail> {
         ),
     ];
     for (words, text, want) in cases {
-        let mut sink = Sink::new(rt.alloc(), WHOLE, 0);
-        let mut input = Source::new(text, WHOLE, 0);
-        let answer = list(rt.alloc(), words, &mut input, &mut sink)?;
+        let mut sink = FailingWriter::new(rt.alloc(), WHOLE, 0);
+        let mut input = FailingReader::new(text, WHOLE, 0);
+        let answer = run(rt.alloc(), Program::Outline, words, &mut input, &mut sink)?;
         let lines = String::from_utf8_lossy(rt.alloc(), sink.bytes.as_slice())?;
         assert!(rt;
             answer == Ok(()) && lines.as_str() == *want,
@@ -52,9 +52,9 @@ fn bad_options_come_first(rt: HostRuntime) -> Result<(), Fail> {
         &["99999999999999999999999"],
     ];
     for words in bad {
-        let mut input = Source::new(b"\xff", WHOLE, 1);
-        let mut sink = Sink::new(rt.alloc(), WHOLE, 1);
-        let answer = list(rt.alloc(), words, &mut input, &mut sink)?;
+        let mut input = FailingReader::new(b"\xff", WHOLE, 1);
+        let mut sink = FailingWriter::new(rt.alloc(), WHOLE, 1);
+        let answer = run(rt.alloc(), Program::Outline, words, &mut input, &mut sink)?;
         assert!(rt; answer == Err(OutlineFault::BadOptions), "{words:?}");
         assert!(rt; input.reads == 0 && sink.writes == 0, "{words:?}");
     }
@@ -65,9 +65,9 @@ fn bad_options_come_first(rt: HostRuntime) -> Result<(), Fail> {
 fn input_is_utf8(rt: HostRuntime) -> Result<(), Fail> {
     let bad: &[&[u8]] = &[b"\xff# a", b"# a\n\xc3\n# b", b"# a\xc3"];
     for bytes in bad {
-        let mut input = Source::new(bytes, 1, 0);
-        let mut sink = Sink::new(rt.alloc(), WHOLE, 1);
-        let answer = list(rt.alloc(), &[], &mut input, &mut sink)?;
+        let mut input = FailingReader::new(bytes, 1, 0);
+        let mut sink = FailingWriter::new(rt.alloc(), WHOLE, 1);
+        let answer = run(rt.alloc(), Program::Outline, &[], &mut input, &mut sink)?;
         assert!(rt; answer == Err(OutlineFault::NotUtf8), "{bytes:?}");
         assert!(rt; sink.writes == 0, "{bytes:?}");
     }
@@ -78,9 +78,9 @@ fn input_is_utf8(rt: HostRuntime) -> Result<(), Fail> {
 #[test]
 fn each_read_fails_in_turn(rt: HostRuntime) -> Result<(), Fail> {
     for fails_at in 1..6 {
-        let mut input = Source::new(TEXT, 5, fails_at);
-        let mut sink = Sink::new(rt.alloc(), WHOLE, 0);
-        let answer = list(rt.alloc(), &[], &mut input, &mut sink)?;
+        let mut input = FailingReader::new(TEXT, 5, fails_at);
+        let mut sink = FailingWriter::new(rt.alloc(), WHOLE, 0);
+        let answer = run(rt.alloc(), Program::Outline, &[], &mut input, &mut sink)?;
         if fails_at == 5 {
             assert!(rt; answer == Ok(()));
         } else {
@@ -97,21 +97,23 @@ fn odd_at_each_write(rt: &impl Abort, alloc: Global, odd: Odd) -> Result<(), Fai
     for _ in 0..2000 {
         text.extend_from_slice(b"# a\n")?;
     }
-    let mut whole = Sink::new(alloc, WHOLE, 0);
-    let answer = list(
+    let mut whole = FailingWriter::new(alloc, WHOLE, 0);
+    let answer = run(
         alloc,
+        Program::Outline,
         &[],
-        &mut Source::new(text.as_slice(), WHOLE, 0),
+        &mut FailingReader::new(text.as_slice(), WHOLE, 0),
         &mut whole,
     )?;
     assert!(rt; answer == Ok(()) && whole.writes == 4);
     for odd_at in 1..6 {
-        let mut sink = Sink::new(alloc, WHOLE, odd_at);
+        let mut sink = FailingWriter::new(alloc, WHOLE, odd_at);
         sink.odd = odd;
-        let answer = list(
+        let answer = run(
             alloc,
+            Program::Outline,
             &[],
-            &mut Source::new(text.as_slice(), WHOLE, 0),
+            &mut FailingReader::new(text.as_slice(), WHOLE, 0),
             &mut sink,
         )?;
         if odd_at == 5 || odd == Odd::IsShort {

@@ -1,6 +1,6 @@
 //! What `tree` writes of texts, and each fault of a run of it.
 
-use crate::fakes::{Sink, Source, write_tree};
+use crate::fakes::{FailingReader, FailingWriter, Program, run};
 use first_pass_host::fault::BlocksFault;
 use std::alloc::Global;
 use std::process::Abort;
@@ -16,9 +16,9 @@ fn assert_lines(
     text: &str,
     want: &str,
 ) -> Result<(), Fail> {
-    let mut input = Source::new(text.as_bytes(), WHOLE, 0);
-    let mut output = Sink::new(alloc, WHOLE, 0);
-    let answer = write_tree(alloc, words, &mut input, &mut output)?;
+    let mut input = FailingReader::new(text.as_bytes(), WHOLE, 0);
+    let mut output = FailingWriter::new(alloc, WHOLE, 0);
+    let answer = run(alloc, Program::Tree, words, &mut input, &mut output)?;
     let came = String::from_utf8_lossy(alloc, output.bytes.as_slice())?;
     assert!(rt; answer == Ok(()) && came.as_str() == want, "{text}: {came}");
     Ok(())
@@ -77,9 +77,9 @@ fn each_fault_of_a_run(rt: HostRuntime) -> Result<(), Fail> {
         (&["0"], b"a", 0, BlocksFault::WriteFailed),
     ];
     for (words, text, fails_at, fault) in faults {
-        let mut input = Source::new(text, WHOLE, *fails_at);
-        let mut output = Sink::new(rt.alloc(), WHOLE, 1);
-        let answer = write_tree(rt.alloc(), words, &mut input, &mut output)?;
+        let mut input = FailingReader::new(text, WHOLE, *fails_at);
+        let mut output = FailingWriter::new(rt.alloc(), WHOLE, 1);
+        let answer = run(rt.alloc(), Program::Tree, words, &mut input, &mut output)?;
         assert!(rt;
             answer == Err(*fault) && output.bytes.is_empty(),
             "{words:?}"
