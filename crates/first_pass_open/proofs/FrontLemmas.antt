@@ -17,7 +17,7 @@ after_none : (r : Rest) → after [] r ≡ Some r
 unfolding after
 after_none r = refl
 
-after_step : (c : Option Container) (path : List Container) (r q : Rest) → after path r ≡ Some q → after (with_container c path) r ≡ prefix_of c q
+pub after_step : (c : Option Container) (path : List Container) (r q : Rest) → after path r ≡ Some q → after (with_container c path) r ≡ prefix_of c q
 unfolding after
 after_step None path r q e = e
 after_step (Some c) path r q e = rw e refl

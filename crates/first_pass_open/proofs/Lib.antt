@@ -4,3 +4,4 @@ pub mod FrontLemmas
 pub mod PlaceLemmas
 pub mod PlainLemmas
 pub mod BlockLemmas
+pub mod QuoteLemmas

@@ -50,22 +50,22 @@ path_of-chained options f chain a =
     ap (λ s. path_in options (chained f chain).nodes s) (chained-spine f chain)
     ∙ ap (λ ns. path_in options ns f.spine) (chained-nodes f chain) ∙ path_in-append options f.nodes (at_depth (length f.spine + 1) (leaves chain)) f.spine a
 
-or_true : (t : Bool) → (t || true) ≡ true
+pub or_true : (t : Bool) → (t || true) ≡ true
 or_true true = refl
 or_true false = refl
 
 columns-end : (n : ℕ) → after_columns n (line_rest []) ≡ line_rest []
 columns-end n = after-none n (line_rest []) refl
 
-item_prefix : (n : ℕ) (r : Rest) → has_columns n r ≡ true → prefix (ListItem n) r ≡ Some (after_columns n r)
+pub item_prefix : (n : ℕ) (r : Rest) → has_columns n r ≡ true → prefix (ListItem n) r ≡ Some (after_columns n r)
 unfolding prefix
 item_prefix n r h = rw h refl
 
-same_prefix : (n : ℕ) (r : Rest) → prefix (FootnoteDefinition n) r ≡ prefix (ListItem n) r
+pub same_prefix : (n : ℕ) (r : Rest) → prefix (FootnoteDefinition n) r ≡ prefix (ListItem n) r
 unfolding prefix
 same_prefix n r = refl
 
-definition_prefix : (n : ℕ) (r : Rest) → prefix (Definition n) r ≡ prefix (ListItem n) r
+pub definition_prefix : (n : ℕ) (r : Rest) → prefix (Definition n) r ≡ prefix (ListItem n) r
 unfolding prefix
 definition_prefix n r = refl
 

@@ -1,5 +1,5 @@
 -- The containers that are open in a tree.
-use Rattle.std.specs.Prelude.{ℕ, ◌-◌, ◌==◌, Bool, false, List, [], ◌∷◌, length, drop, reverse, slice_get, Option, Some, None}
+use Rattle.std.specs.Prelude.{ℕ, ◌-◌, ◌==◌, Bool, false, List, [], ◌∷◌, length, take, drop, reverse, slice_get, ◌||◌, Option, Some, None}
 use Rattle.std.specs.Option.{option_and_then}
 use Rattle.first_pass_items.specs.declared.item.Item.{Item}
 use Rattle.first_pass_items.specs.declared.item.ItemBody.{ItemBody}
@@ -11,7 +11,7 @@ use Rattle.first_pass_lines.specs.Rest.{Rest}
 use Rattle.first_pass_grammar.specs.declared.kind.Container.{Container}
 use Rattle.first_pass_grammar.specs.declared.kind.Container.TheVariants.{BlockQuote, ListItem, FootnoteDefinition, Definition}
 use Rattle.first_pass_items.specs.declared.option_set.Options.{Options}
-use Rattle.first_pass_grammar.specs.Containers.{Context, context, footnote_columns, prefix, is_definition}
+use Rattle.first_pass_grammar.specs.Containers.{Context, context, footnote_columns, prefix, is_quote, is_definition}
 use Rattle.first_pass_grammar.specs.Kinds.{Continued}
 
 -- the container that a node is under these options, if it is one
@@ -49,6 +49,24 @@ context_of options f = context options (path_of options f)
 -- the outermost m open nodes
 abbrev pub outer : ℕ → List TreeIndex → List TreeIndex
 outer m spine = drop (length spine - m) spine
+
+-- all open nodes but the outermost m, the innermost first
+abbrev pub inner : ℕ → List TreeIndex → List TreeIndex
+inner m spine = take (length spine - m) spine
+
+-- an open node is a block quote (CommonMark 5.1)
+abbrev pub is_quote_node : Option Container → Bool
+is_quote_node None = false
+is_quote_node (Some c) = is_quote c
+
+-- a block quote is among these containers (CommonMark 5.1)
+abbrev pub has_quote : List Container → Bool
+has_quote [] = false
+has_quote (c ∷ path) = is_quote c || has_quote path
+
+-- a block quote is among the open nodes after the outermost m (CommonMark 5.1)
+abbrev pub has_quote_after : Options → Forest Item → ℕ → Bool
+has_quote_after options f m = has_quote (path_in options f.nodes (inner m f.spine))
 
 -- an open node is a definition of a definition list (this project)
 abbrev pub is_definition_node : Option Container → Bool

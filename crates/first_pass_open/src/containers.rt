@@ -4,7 +4,9 @@ ghost use Rattle.std.specs.Prelude.{◌≡◌, ℕ, ◌<◌, ◌≤◌, length, 
 ghost use Rattle.first_pass_grammar.specs.declared.kind.Container.TheVariants.{BlockQuote, ListItem};
 ghost use Rattle.first_pass_grammar.specs.Containers.{prefix, after, front};
 ghost use Rattle.first_pass_lines.specs.Rest.{after_columns};
-ghost use Rattle.first_pass_open.specs.Path.{container_of, prefix_of, path_in, path_of, outer};
+ghost use Rattle.first_pass_lines.specs.Places.{line_rest};
+ghost use Rattle.first_pass_items.specs.declared.option_set.Options.{Options as OptionSet};
+ghost use Rattle.first_pass_open.specs.Path.{container_of, prefix_of, path_in, path_of, outer, is_quote_node, has_quote_after};
 
 use first_pass_items::item::{Item, ItemBody};
 use first_pass_items::option_set::Options;
@@ -78,6 +80,62 @@ pub fn scan_containers<'a>(
         }
     }
     spine.len()
+}
+
+// Whether a node is a block quote.
+fn is_quote(body: ItemBody) -> bool
+    ensures { (options : OptionSet) → result ≡ is_quote_node (container_of options body) }
+{
+    matches!(body, ItemBody::BlockQuote(_))
+}
+
+// So many nodes are open at least where a walk over them is saved.
+const MANY_OPEN: usize = 16;
+
+/// How many of the open nodes, the outermost first, are those up to the innermost block quote: a line of which nothing
+/// is left there continues all others. Where few nodes are open, it is how many these are. It stays right as long as no
+/// node is opened or closed (CommonMark 5.1, 5.2).
+pub fn quotes_end(tree: &Tree<Item>) -> usize
+    ensures { (options : OptionSet) → has_quote_after options tree.now result ≡ false }
+{
+    tree.is_forest();
+    let spine = tree.walk_spine();
+    let mut end = spine.len();
+    if end < MANY_OPEN {
+        return end;
+    }
+    while 0 < end {
+        if is_quote(tree[spine[end - 1]].body) {
+            return end;
+        }
+        end -= 1;
+    }
+    end
+}
+
+/// What is left of the line that `bytes` begin with after what all open nodes take of it, of which none after the
+/// outermost `quotes_end` is a block quote; `None` where the line doesn't continue all of them (CommonMark 5).
+#[inline(always)]
+pub fn continued_rest<'b>(
+    bytes: &'b [u8],
+    tree: &Tree<Item>,
+    options: Options,
+    quotes_end: usize,
+) -> Option<LineStart<'b>>
+    requires { has_quote_after options tree.now quotes_end ≡ false }
+    ensures { result ≡ after (path_of options tree.now) (line_rest bytes.now) }
+{
+    tree.is_forest();
+    let mut rest = LineStart::new(bytes);
+    for (i, ix) in tree.walk_spine().iter().enumerate() {
+        if quotes_end <= i && rest.remaining_space() == 0 && rest.is_at_eol() {
+            return Some(rest);
+        }
+        if !takes_prefix(tree[*ix].body, &mut rest, options) {
+            return None;
+        }
+    }
+    Some(rest)
 }
 
 /// Takes the prefix of a block quote, where it is there, and returns how many bytes of the line stand before

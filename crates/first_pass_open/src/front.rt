@@ -1,13 +1,13 @@
 //! The front of a line: what the open containers take of it, and what is left then (CommonMark 5).
 
-ghost use Rattle.std.specs.Prelude.{◌≡◌, ◌<◌, ◌≤◌, ℕ, drop, length, is_some, Some, None, IfSome, IsTrue, IsUtf8, IsCharBoundary};
+ghost use Rattle.std.specs.Prelude.{◌≡◌, ◌<◌, ◌≤◌, ℕ, drop, length, is_some, Some, None, false, IfSome, IsTrue, IsUtf8, IsCharBoundary};
 ghost use Rattle.first_pass_items.specs.declared.option_set.Options.{Options};
 ghost use Rattle.first_pass_lines.specs.Places.{line_rest, place_at, IsPlaceOf};
 ghost use Rattle.first_pass_grammar.specs.Containers.{after, front};
 ghost use Rattle.first_pass_grammar.specs.Kinds.{continued};
-ghost use Rattle.first_pass_open.specs.Path.{outer, path_in, path_of, definition_after, continued_to};
+ghost use Rattle.first_pass_open.specs.Path.{outer, path_in, path_of, definition_after, continued_to, has_quote_after};
 
-use crate::containers::scan_containers;
+use crate::containers::{continued_rest, scan_containers};
 use crate::source::Source;
 use first_pass_items::item::{Item, ItemBody};
 use first_pass_items::option_set::Options;
@@ -94,6 +94,31 @@ pub fn scan_continued<'a>(
         return None;
     }
     Some(front.rest)
+}
+
+/// The same as `scan_continued`, where no open node after the outermost `quotes_end` is a block quote: a line of which
+/// nothing is left is not walked through those (CommonMark 5).
+#[inline(always)]
+pub fn scan_continued_past<'a>(
+    source: &Source<'a>,
+    tree: &Tree<Item>,
+    start: usize,
+    quotes_end: usize,
+) -> Option<LineStart<'a>>
+    requires boundary { IsCharBoundary source.now.text.now start }
+    requires quotes { has_quote_after source.now.options tree.now quotes_end ≡ false }
+    ensures value { result
+        ≡ after (path_of source.now.options tree.now) (line_rest (drop start source.now.text.now)) }
+    ensures place { IfSome result (λ rest. IsPlaceOf source.now.text.now (place_at start rest)) }
+    ensures utf8 { IsUtf8 source.now.text.now }
+{
+    let rest = continued_rest(
+        rest_of(source.text.as_bytes(), start),
+        tree,
+        source.options,
+        quotes_end,
+    )?;
+    Some(rest)
 }
 
 /// Whether the open node after the outermost `kept` is a definition of a definition list; `false` where no more are

@@ -1,0 +1,139 @@
+-- A line of which nothing is left continues all open nodes but block quotes.
+use Rattle.std.proofs.Common.{◌≡◌, ℕ, zero, suc, ◌+◌, ◌-◌, ◌<◌, ◌≤◌, nat_le, ◌||◌, Bool, true, false, List, [], ◌∷◌, ◌++◌, length, get_or, take, reverse}
+use Rattle.std.proofs.Common.{Option, Some, None, refl, sym, ap, subst, ◌∙◌, arith}
+use Rattle.std.specs.Option.{option_map}
+use Rattle.std.specs.Prelude.{slice_get}
+use Rattle.std.proofs.lemmas.Bool.Decides.{nat_tests}
+use Rattle.std.proofs.lemmas.List.{take_more, take-append-drop, get_or-reverse, length-reverse}
+use Rattle.first_pass_items.specs.declared.item.Item.{Item}
+use Rattle.first_pass_items.specs.declared.option_set.Options.{Options}
+use Rattle.first_pass_tree.specs.declared.tree_index.TreeIndex.{TreeIndex}
+use Rattle.first_pass_tree.specs.Forest.{Forest}
+use Rattle.first_pass_lines.specs.Lines.{at_line_end}
+use Rattle.first_pass_lines.specs.Rest.{Rest, column_of, column_of_byte, next_column, indent}
+use Rattle.first_pass_lines.proofs.Columns.{after-none}
+use Rattle.first_pass_tokens.specs.TreeTokens.{chained, leaves}
+use Rattle.first_pass_tokens.proofs.ChainLemmas.{chained-spine, chained-nodes}
+use Rattle.first_pass_tree.specs.Forest.{at_depth}
+use Rattle.first_pass_grammar.specs.declared.kind.Container.{Container}
+use Rattle.first_pass_grammar.specs.declared.kind.Container.TheVariants.{BlockQuote, ListItem, FootnoteDefinition, Definition}
+use Rattle.first_pass_grammar.specs.Containers.{has_columns, is_quote, prefix, after}
+use Rattle.first_pass_open.specs.Path.{container_of, container_at, with_container, path_in, path_of, outer, inner, is_quote_node, has_quote, has_quote_after}
+use Rattle.first_pass_open.proofs.PathLemmas.{AreIn, path_in-append, or_true, item_prefix, same_prefix, definition_prefix}
+use Rattle.first_pass_open.proofs.FrontLemmas.{after_step, container_is, root}
+
+byte_none : (r : Rest) (bs : List ℕ) → at_line_end bs ≡ true → column_of_byte r bs ≡ None
+byte_none r [] h = refl
+byte_none r (b ∷ bs) h = grind (arith, nat_tests, h)
+
+-- nothing is left of a line: no column, and then its end
+pub record IsOver (r : Rest) : Type 0 where
+  pub none : r.owed ≡ 0
+  pub ends : at_line_end r.left ≡ true
+
+column_none : (r : Rest) → IsOver r → next_column r ≡ None
+column_none r o = ap (λ k. column_of k r) o.none ∙ byte_none r r.left o.ends
+
+columns_passed : (n : ℕ) (r : Rest) → IsOver r → prefix (ListItem n) r ≡ Some r
+columns_passed n r o =
+    let e = after-none n r (column_none r o) in
+    let h : has_columns n r ≡ true = ap (λ (q : Rest). nat_le n (indent r) || at_line_end q.left) e ∙ ap (λ t. nat_le n (indent r) || t) o.ends
+    ∙ or_true (nat_le n (indent r)) in
+    item_prefix n r h ∙ ap (λ q. Some q) e
+
+-- it continues what is no block quote,
+passed : (c : Container) (r : Rest) → IsOver r → is_quote c ≡ false → prefix c r ≡ Some r
+passed (BlockQuote kind) r o h = absurd cc
+passed (ListItem n) r o h = columns_passed n r o
+passed (FootnoteDefinition n) r o h = same_prefix n r ∙ columns_passed n r o
+passed (Definition n) r o h = definition_prefix n r ∙ columns_passed n r o
+
+both_none : (a b : Bool) → (a || b) ≡ false → (a ≡ false) × (b ≡ false)
+both_none true b h = absurd cc
+both_none false b h = (refl, h)
+
+-- and a path of such containers inside one that it continues
+path_passed : (p path : List Container) (r s : Rest) → after path r ≡ Some s → IsOver s → has_quote p ≡ false → after (p ++ path) r ≡ Some s
+path_passed [] path r s taken o h = taken
+path_passed (c ∷ p) path r s taken o h =
+    let none = both_none (is_quote c) (has_quote p) h in
+    after_step (Some c) (p ++ path) r s (path_passed p path r s taken o none.1) ∙ passed c s o none.0
+
+with_append : (o : Option Container) (p q : List Container) → with_container o (p ++ q) ≡ with_container o p ++ q
+with_append None p q = refl
+with_append (Some c) p q = refl
+
+path_in-both : (options : Options) (ns : List (ℕ × Item)) (a b : List TreeIndex) → path_in options ns (a ++ b) ≡ path_in options ns a ++ path_in options ns b
+path_in-both options ns [] b = refl
+path_in-both options ns (ix ∷ a) b =
+    ap (with_container (container_at options ns ix)) (path_in-both options ns a b)
+    ∙ with_append (container_at options ns ix) (path_in options ns a) (path_in options ns b)
+
+quote_append : (p q : List Container) → has_quote p ≡ false → has_quote q ≡ false → has_quote (p ++ q) ≡ false
+quote_append [] q h k = k
+quote_append (c ∷ p) q h k =
+    let none = both_none (is_quote c) (has_quote p) h in
+    ap (λ t. t || has_quote (p ++ q)) none.0 ∙ quote_append p q none.1 k
+
+-- no block quote is among fewer open nodes either
+with_fewer : (o : Option Container) (p q : List Container) → has_quote (with_container o p) ≡ false → (has_quote p ≡ false → has_quote q ≡ false)
+    → has_quote (with_container o q) ≡ false
+with_fewer None p q h k = k h
+with_fewer (Some c) p q h k = let none = both_none (is_quote c) (has_quote p) h in ap (λ t. t || has_quote q) none.0 ∙ k none.1
+
+fewer : (options : Options) (ns : List (ℕ × Item)) (spine : List TreeIndex) (k n : ℕ) → k ≤ n → has_quote (path_in options ns (take n spine)) ≡ false
+    → has_quote (path_in options ns (take k spine)) ≡ false
+fewer options ns [] zero n h none = refl
+fewer options ns [] (suc k) n h none = refl
+fewer options ns (ix ∷ spine) zero n h none = refl
+fewer options ns (ix ∷ spine) (suc k) zero h none = absurd (omega arith)
+fewer options ns (ix ∷ spine) (suc k) (suc n) h none =
+    with_fewer (container_at options ns ix) (path_in options ns (take n spine)) (path_in options ns (take k spine)) none
+    (λ few. fewer options ns spine k n (omega arith) few)
+
+-- A line continues the outermost i open nodes, of which nothing is left then, and no block quote is open after those.
+pub rest_passed : (options : Options) (f : Forest Item) (n i : ℕ) (r s : Rest) → has_quote_after options f n ≡ false → n ≤ i
+    → after (path_in options f.nodes (outer i f.spine)) r ≡ Some s → IsOver s → after (path_of options f) r ≡ Some s
+rest_passed options f n i r s none h taken o =
+    let few : has_quote (path_in options f.nodes (inner i f.spine)) ≡ false =
+    fewer options f.nodes f.spine (length f.spine - i) (length f.spine - n) (omega arith) none in
+    let parts : path_of options f ≡ path_in options f.nodes (inner i f.spine) ++ path_in options f.nodes (outer i f.spine) =
+    ap (path_in options f.nodes) (sym (take-append-drop (length f.spine - i) f.spine)) ∙ path_in-both options f.nodes (inner i f.spine) (outer i f.spine) in
+    ap (λ p. after p r) parts ∙ path_passed (path_in options f.nodes (inner i f.spine)) (path_in options f.nodes (outer i f.spine)) r s taken o few
+
+one_none : (o : Option Container) → is_quote_node o ≡ false → has_quote (with_container o []) ≡ false
+one_none None h = refl
+one_none (Some c) h = ap (λ t. t || false) h
+
+-- one open node more, which is no block quote
+pub none_after_more : (options : Options) (f : Forest Item) (places : List TreeIndex) (n : ℕ) (item : Item) → places ≡ reverse f.spine → n < length places
+    → option_map (λ n. n.1) (slice_get f.nodes (get_or places n root).0) ≡ Some item → is_quote_node (container_of options item.body) ≡ false
+    → has_quote_after options f (n + 1) ≡ false → has_quote_after options f n ≡ false
+none_after_more options f places n item e h is other none =
+    let inside : n < length f.spine = subst (λ m. n < m) (ap length e ∙ length-reverse f.spine) h in
+    let z : length f.spine - n ≡ (length f.spine - (n + 1)) + 1 = omega arith in
+    let y : length f.spine - 1 - n ≡ length f.spine - (n + 1) = omega arith in
+    let x : TreeIndex = get_or f.spine (length f.spine - (n + 1)) root in
+    let same : get_or places n root ≡ x =
+    ap (λ (xs : List TreeIndex). get_or xs n root) e ∙ get_or-reverse f.spine n root inside ∙ ap (λ m. get_or f.spine m root) y in
+    let node : container_at options f.nodes x ≡ container_of options item.body =
+    container_is options f.nodes x item (subst (λ (ix : TreeIndex). option_map (λ n. n.1) (slice_get f.nodes ix.0) ≡ Some item) same is) in
+    let parts : inner n f.spine ≡ inner (n + 1) f.spine ++ x ∷ [] =
+    ap (λ m. take m f.spine) z ∙ take_more f.spine (length f.spine - (n + 1)) root (omega arith) in
+    let one : has_quote (path_in options f.nodes (x ∷ [])) ≡ false = one_none (container_at options f.nodes x) (ap is_quote_node node ∙ other) in
+    ap (λ s. has_quote (path_in options f.nodes s)) parts ∙ ap has_quote (path_in-both options f.nodes (inner (n + 1) f.spine) (x ∷ []))
+    ∙ quote_append (path_in options f.nodes (inner (n + 1) f.spine)) (path_in options f.nodes (x ∷ [])) none one
+
+are_in-take : (n k : ℕ) (spine : List TreeIndex) → AreIn n spine → AreIn n (take k spine)
+are_in-take n zero spine a = tt
+are_in-take n (suc k) [] a = tt
+are_in-take n (suc k) (ix ∷ spine) a = (a.0, are_in-take n k spine a.1)
+
+-- a chain in the innermost open node makes no difference
+pub quote_after-chained : (options : Options) (f : Forest Item) (chain : List Item) (n : ℕ) → AreIn (length f.nodes) f.spine
+    → has_quote_after options (chained f chain) n ≡ has_quote_after options f n
+quote_after-chained options f chain n a =
+    ap (λ s. has_quote (path_in options (chained f chain).nodes (inner n s))) (chained-spine f chain)
+    ∙ ap (λ ns. has_quote (path_in options ns (inner n f.spine))) (chained-nodes f chain)
+    ∙ ap has_quote (path_in-append options f.nodes (at_depth (length f.spine + 1) (leaves chain)) (inner n f.spine)
+    (are_in-take (length f.nodes) (length f.spine - n) f.spine a))

@@ -1,0 +1,39 @@
+use Rattle.std.proofs.Common.{Some, length, sym, ap, ◌∙◌, arith}
+use Rattle.first_pass_lines.specs.Places.{line_rest}
+use Rattle.first_pass_grammar.specs.Containers.{after}
+use Rattle.first_pass_open.specs.Path.{path_in}
+use Rattle.first_pass_open.proofs.FrontLemmas.{taken_none, in_spine, place_within, node_taken, stops, outer-all, isnt_taken, is_taken}
+use Rattle.first_pass_open.proofs.QuoteLemmas.{rest_passed}
+use Rattle.first_pass_open.proofs.containers.continued_rest.Goals as goal
+
+pub loop-i-init : goal.loop-i-init
+loop-i-init c =
+    taken_none c.args.options c.args.tree.now.nodes c.args.tree.now.spine (line_rest c.args.bytes.now) ∙ ap (λ r. Some r) (sym c.new-rest.ensures)
+
+pub returns-then-is_at_eol : goal.returns-then-is_at_eol
+returns-then-is_at_eol c =
+    sym (rest_passed c.args.options c.args.tree.now c.args.quotes_end c.loop-i.i (line_rest c.args.bytes.now) c.loop-i.rest c.requires
+    c.if-quotes_end-i.true c.loop-i.invariant
+    record { none = sym c.remaining_space.ensures.value ∙ c.if-remaining_space-eq0.true; ends = sym c.is_at_eol.ensures ∙ c.if-is_at_eol.true })
+
+pub index-requires : goal.index-requires
+index-requires c =
+    place_within c.args.tree.now.nodes c.args.tree.now.spine _ c.loop-i.i c.is_forest.ensures.opened c.walk_spine-ix-items.ensures c.loop-i-test.true
+
+pub returns-then-not-takes_prefix : goal.returns-then-not-takes_prefix
+returns-then-not-takes_prefix c =
+    let options = c.args.options in
+    let f = c.args.tree.now in
+    let here = in_spine f.spine _ c.loop-i.i c.walk_spine-ix-items.ensures c.loop-i-test.true in
+    let none = stops options f.nodes f.spine c.loop-i.i (record { 0 = 0 }) (line_rest c.args.bytes.now)
+    (node_taken options f.nodes f.spine _ c.loop-i.i c.index.result.now (line_rest c.args.bytes.now) c.loop-i.rest
+    c.walk_spine-ix-items.ensures c.loop-i-test.true c.index.ensures c.loop-i.invariant
+    ∙ (isnt_taken _ c.takes_prefix.result c.loop-i.rest c.takes_prefix.new.line_start c.if-not-takes_prefix.true c.takes_prefix.ensures).0)
+    (length f.spine) here (omega arith) in
+    sym (ap (λ s. after (path_in options f.nodes s) (line_rest c.args.bytes.now)) (sym (outer-all f.spine)) ∙ none)
+
+pub loop-i-preserved : goal.loop-i-preserved
+loop-i-preserved c =
+    node_taken c.args.options c.args.tree.now.nodes c.args.tree.now.spine _ c.loop-i.i c.index.result.now (line_rest c.args.bytes.now) c.loop-i.rest
+    c.walk_spine-ix-items.ensures c.loop-i-test.true c.index.ensures c.loop-i.invariant
+    ∙ is_taken _ c.takes_prefix.result c.loop-i.rest c.takes_prefix.new.line_start c.if-not-takes_prefix.false c.takes_prefix.ensures

@@ -1,0 +1,14 @@
+use Rattle.std.proofs.Common.{◌≡◌, ◌≤◌, false, length}
+use Rattle.first_pass_items.specs.declared.option_set.Options.{Options}
+use Rattle.first_pass_open.specs.Path.{has_quote_after}
+use Rattle.first_pass_open.proofs.containers.quotes_end.Given as goal
+
+-- no block quote is open after so many open nodes
+abbrev pub invariant-loop-end : goal.invariant-loop-end
+invariant-loop-end l = record {
+  within : l.«end» ≤ length l.spine;
+  none : (options : Options) → has_quote_after options l.tree l.«end» ≡ false;
+}
+
+abbrev pub decreases-loop-end : goal.decreases-loop-end
+decreases-loop-end l = l.«end»
