@@ -1,6 +1,6 @@
 -- The raw lines of a leaf block, one after the other.
 use Rattle.std.proofs.Common.{◌≡◌, ℕ, ◌+◌, ◌<◌, ◌≤◌, List, [], ◌∷◌, length, drop, slice_get, Option, Some, None, IsSome, IsUtf8, IsCharBoundary, refl, sym, ap}
-use Rattle.std.proofs.Common.{subst, ◌∙◌, arith}
+use Rattle.std.proofs.Common.{false, subst, ◌∙◌, arith}
 use Rattle.first_pass_items.specs.declared.item.Item.{Item}
 use Rattle.first_pass_items.specs.declared.option_set.Options.{Options}
 use Rattle.first_pass_tree.specs.Forest.{Forest, added}
@@ -18,11 +18,12 @@ use Rattle.first_pass_grammar.specs.Extents.{Extent, with_line, ends_at, Verdict
 use Rattle.first_pass_grammar.specs.Completion.{lines_from}
 use Rattle.first_pass_raw.specs.declared.raw_line.RawKind.{RawKind}
 use Rattle.first_pass_raw.specs.RawBlocks.{range_of, said, AppendsRaw, AppendsLines, behind_line_at}
-use Rattle.first_pass_open.specs.Path.{path_of, container_of, with_container}
+use Rattle.first_pass_open.specs.Path.{path_of, container_of, with_container, has_quote_after}
 use Rattle.first_pass_items.specs.declared.item.ItemBody.{ItemBody}
 use Rattle.first_pass_open.specs.OpenBlock.{begun_item, opened_block, closed_by}
 use Rattle.first_pass_open.proofs.BlockLemmas.{still_open, block_closed}
 use Rattle.first_pass_open.proofs.PathLemmas.{AreIn, path_of-chained, path_of-opened}
+use Rattle.first_pass_open.proofs.QuoteLemmas.{quote_after-chained}
 use Rattle.first_pass_lines.proofs.LineFacts.{line_len-within, lines_at-line, lines_at-end}
 use Rattle.first_pass_lines.proofs.PlaceFacts.{line_is_place, line_end_boundary}
 use Rattle.std.specs.Option.{option_map}
@@ -103,6 +104,13 @@ lines_end range text options names whole rest old now e next s is =
 pub lines_path : (range : Ranges) (text : List ℕ) (options : Options) (names : Names) (whole rest : Extent) (old now : Forest Item)
     → LinesSoFar range text options names whole rest old now → AreIn (length old.nodes) old.spine → path_of options now ≡ path_of options old
 lines_path range text options names whole rest old now s there = ap (path_of options) s.tree_is ∙ path_of-chained options old s.chain there
+
+-- no block quote is open further inside
+pub lines_quotes : (range : Ranges) (text : List ℕ) (options : Options) (names : Names) (whole rest : Extent) (old now : Forest Item) (n : ℕ)
+    → LinesSoFar range text options names whole rest old now → AreIn (length old.nodes) old.spine → has_quote_after options old n ≡ false
+    → has_quote_after options now n ≡ false
+lines_quotes range text options names whole rest old now n s there none =
+    ap (λ f. has_quote_after options f n) s.tree_is ∙ quote_after-chained options old s.chain n there ∙ none
 
 -- a line of the text from an offset up to where the next one begins
 pub record IsLineAt (text : List ℕ) (at next : ℕ) : Type 0 where

@@ -33,10 +33,11 @@ use Rattle.first_pass_grammar.specs.RawLines.{ends_with_both, range_text, raw_it
 use Rattle.first_pass_grammar.specs.CodeBlocks.{code_place, code_by, code_lines, unless_blank, without_blanks, last_is_blank, last_end}
 use Rattle.first_pass_raw.specs.declared.indented_code.Kept.{Kept}
 use Rattle.first_pass_open.specs.OpenBlock.{IsJustPushed, begun_item, closed_by, opened_block}
-use Rattle.first_pass_open.specs.Path.{path_of}
+use Rattle.first_pass_open.specs.Path.{path_of, has_quote_after}
 use Rattle.first_pass_raw.specs.RawBlocks.{AppendsRaw, AddsIndented, IsPlaceAt, code_rest, code_rest_at, behind_line_at, code_behind}
 use Rattle.first_pass_open.proofs.BlockLemmas.{just_pushed, still_open, block_closed}
 use Rattle.first_pass_open.proofs.PathLemmas.{open_are_in, path_of-chained, path_of-opened}
+use Rattle.first_pass_open.proofs.QuoteLemmas.{quote_after-chained}
 use Rattle.first_pass_open.proofs.PlaceLemmas.{after_keeps, line_start_end, read_end}
 use Rattle.first_pass_names.proofs.NameLemmas.{extends_none, extends_both}
 use Rattle.first_pass_raw.proofs.RawLineLemmas.{raw_one, raw_two}
@@ -529,6 +530,13 @@ next_rest text options names p old now next kept blank found s f e =
     let path : path_of options now ≡ path_of options old =
     ap (path_of options) s.tree_is ∙ path_of-chained options old (add_tokens s.chain s.more) (open_are_in old.nodes old.spine f.opened) in
     e ∙ ap (λ c. code_rest_at text c next) path
+
+-- and no block quote is open further inside than before
+pub next_quotes : (text : List ℕ) (options : Options) (names : Names) (p : Place) (old now : Forest Item) (next : ℕ) (kept : Kept) (blank : Bool) (n : ℕ)
+    → IndentedSoFar text options names p old now next kept blank → IsForest old → has_quote_after options old n ≡ false → has_quote_after options now n ≡ false
+next_quotes text options names p old now next kept blank n s f none =
+    ap (λ g. has_quote_after options g n) s.tree_is
+    ∙ quote_after-chained options old (add_tokens s.chain s.more) n (open_are_in old.nodes old.spine f.opened) ∙ none
 
 -- a node just opened is the last one
 pub opened_last : (f : Forest Item) → IsJustOpened f → open_place f.spine + 1 ≡ length f.nodes

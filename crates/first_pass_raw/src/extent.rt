@@ -16,7 +16,8 @@ use crate::verdict::Verdict;
 use first_pass_items::item::Item;
 use first_pass_lines::places::next_line;
 use first_pass_names::items::Allocations;
-use first_pass_open::front::scan_continued;
+use first_pass_open::containers::quotes_end;
+use first_pass_open::front::scan_continued_past;
 use first_pass_open::open_block::BlockLines;
 use first_pass_open::source::Source;
 use first_pass_scan::line_start::LineStart;
@@ -74,9 +75,10 @@ pub fn read_lines<'a, J: JudgesLines>(
 {
     tree.is_forest();
     let kind = judge.kind();
+    let quotes_end = quotes_end(tree);
     let mut ix = start;
     while ix < source.text.len() {
-        let Some(mut line_start) = scan_continued(source, tree, ix) else {
+        let Some(mut line_start) = scan_continued_past(source, tree, ix, quotes_end) else {
             return Ok(BlockLines { end: ix, next: ix });
         };
         let next = next_line(source.text.as_bytes(), ix);

@@ -6,7 +6,7 @@ ghost use Rattle.first_pass_tree.specs.Forest.{IsChild, kept_after, with_end_at}
 ghost use Rattle.first_pass_lines.specs.Places.{Place, place_at, offset, IsPlaceOf};
 ghost use Rattle.first_pass_grammar.specs.Leaves.{document};
 ghost use Rattle.first_pass_grammar.specs.RawLines.{range_text};
-ghost use Rattle.first_pass_open.specs.Path.{path_of};
+ghost use Rattle.first_pass_open.specs.Path.{path_of, has_quote_after};
 ghost use Rattle.first_pass_names.specs.TableEntries.{names_of, NamesMore};
 ghost use Rattle.first_pass_lines.specs.Lines.{is_blank_line};
 ghost use Rattle.first_pass_raw.specs.RawBlocks.{code_rest_at, IsPlaceAt, AppendsRaw, AddsIndented, behind_line_at};
@@ -16,7 +16,8 @@ use first_pass_items::item::{Item, ItemBody};
 use first_pass_lines::lines::scan_blank_line;
 use first_pass_lines::places::next_line;
 use first_pass_names::items::Allocations;
-use first_pass_open::front::scan_continued;
+use first_pass_open::containers::quotes_end;
+use first_pass_open::front::scan_continued_past;
 use first_pass_open::open_block::{close_block, open_block};
 use first_pass_open::source::Source;
 use first_pass_scan::line_start::LineStart;
@@ -51,13 +52,14 @@ pub fn parse_indented_code_block<'a>(
     let text = source.text;
     open_block(tree, start_ix, ItemBody::IndentCodeBlock)?;
     tree.is_forest();
+    let quotes_end = quotes_end(tree);
     let mut next = append_line(tree, allocs, text, start_ix, remaining_space)?;
     let mut kept = Kept {
         last: tree.cur(),
         end: next,
     };
     let mut blank = false;
-    'lines: while let Some(line_start) = indented_line(source, tree, next) {
+    'lines: while let Some(line_start) = indented_line(source, tree, next, quotes_end) {
         let at = next + line_start.bytes_scanned();
         blank = scan_blank_line(line_start.left()).is_some();
         next = append_line(tree, allocs, text, at, line_start.remaining_space())?;
@@ -129,16 +131,22 @@ fn cut_behind(tree: &mut Tree<Item>, kept: Kept)
 }
 
 // What is left of the line that begins at the offset `start`, after its containers and four columns or fewer, where
-// it continues indented code.
-fn indented_line<'a>(source: &Source<'a>, tree: &Tree<Item>, start: usize) -> Option<LineStart<'a>>
-    requires { IsCharBoundary source.now.text.now start }
+// it continues indented code; no open node after the outermost `quotes_end` is a block quote.
+fn indented_line<'a>(
+    source: &Source<'a>,
+    tree: &Tree<Item>,
+    start: usize,
+    quotes_end: usize,
+) -> Option<LineStart<'a>>
+    requires boundary { IsCharBoundary source.now.text.now start }
+    requires quotes { has_quote_after source.now.options tree.now quotes_end ≡ false }
     ensures value { result ≡ code_rest_at source.now.text.now (path_of source.now.options tree.now) start }
     ensures place { IfSome result (λ line_start. IsPlaceOf source.now.text.now (place_at start line_start)) }
 {
     if start == source.text.len() {
         return None;
     }
-    let mut line_start = scan_continued(source, tree, start)?;
+    let mut line_start = scan_continued_past(source, tree, start, quotes_end)?;
     if !line_start.scan_space(4) && !line_start.is_at_eol() {
         return None;
     }

@@ -5,7 +5,7 @@ use Rattle.first_pass_open.proofs.PathLemmas.{open_are_in}
 use Rattle.first_pass_names.proofs.NameLemmas.{extends_none, extends_both}
 use Rattle.first_pass_raw.specs.RawBlocks.{range_of}
 use Rattle.first_pass_raw.proofs.ExtentLemmas.{lines_start, line_read, behind_path, within_line, extent_from, goes_by, read_end, read_left, read_stops}
-use Rattle.first_pass_raw.proofs.ExtentLemmas.{read_closes, read_last, read_more, line_as}
+use Rattle.first_pass_raw.proofs.ExtentLemmas.{read_closes, read_last, read_more, line_as, lines_quotes}
 use Rattle.first_pass_raw.proofs.extent.read_lines.Goals as goal
 
 pub loop-ix-init : goal.loop-ix-init
@@ -24,21 +24,26 @@ returns-in_default-clause-lines g c =
     read_left (range_of (g.J.JudgesLines.kinds c.args.judge.now)) c.args.source.now.text.now c.args.source.now.options (names_of c.loop-ix.allocs)
     (g.J.JudgesLines.judges c.args.judge.now) c.args.start c.loop-ix.ix c.args.tree.now c.loop-ix.tree c.loop-ix.invariant.read _
     (open_are_in c.args.tree.now.nodes c.args.tree.now.spine c.is_forest.ensures.opened)
-    (line_read c.args.source.now.text.now c.args.source.now.text.now c.loop-ix.ix _ c.scan_continued.ensures.utf8 c.loop-ix.invariant.boundary
+    (line_read c.args.source.now.text.now c.args.source.now.text.now c.loop-ix.ix _ c.scan_continued_past.ensures.utf8 c.loop-ix.invariant.boundary
     c.loop-ix-test.true refl refl)
-    c.scan_continued.result c.in_default.is c.scan_continued.ensures.value
+    c.scan_continued_past.result c.in_default.is c.scan_continued_past.ensures.value
+
+pub scan_continued_past-requires-clause-quotes : goal.scan_continued_past-requires-clause-quotes
+scan_continued_past-requires-clause-quotes g c =
+    lines_quotes _ _ _ _ _ _ c.args.tree.now c.loop-ix.tree _ c.loop-ix.invariant.read
+    (open_are_in c.args.tree.now.nodes c.args.tree.now.spine c.is_forest.ensures.opened) (c.quotes_end-quotes_end.ensures c.args.source.now.options)
 
 pub judge-verdict-requires-clause-next : goal.judge-verdict-requires-clause-next
 judge-verdict-requires-clause-next g c =
-    let line = line_read c.args.source.now.text.now c.as_bytes.result.now c.loop-ix.ix _ c.scan_continued.ensures.utf8 c.loop-ix.invariant.boundary
+    let line = line_read c.args.source.now.text.now c.as_bytes.result.now c.loop-ix.ix _ c.scan_continued_past.ensures.utf8 c.loop-ix.invariant.boundary
     c.loop-ix-test.true
     c.as_bytes.ensures.value c.next_line-next.ensures.value in
     sym (behind_path c.args.source.now.text.now (path_of c.args.source.now.options c.loop-ix.tree) c.loop-ix.ix _ c.in-Some.line_start
-    c.scan_continued.ensures.utf8 line (sym c.in-Some.ensures.value))
+    c.scan_continued_past.ensures.utf8 line (sym c.in-Some.ensures.value))
 
 pub judge-verdict-requires-clause-boundary : goal.judge-verdict-requires-clause-boundary
 judge-verdict-requires-clause-boundary g c =
-    (line_read c.args.source.now.text.now c.as_bytes.result.now c.loop-ix.ix _ c.scan_continued.ensures.utf8 c.loop-ix.invariant.boundary
+    (line_read c.args.source.now.text.now c.as_bytes.result.now c.loop-ix.ix _ c.scan_continued_past.ensures.utf8 c.loop-ix.invariant.boundary
     c.loop-ix-test.true c.as_bytes.ensures.value
     c.next_line-next.ensures.value).boundary
 
@@ -48,13 +53,13 @@ returns-in-Stops-clause-lines g c =
     (g.J.JudgesLines.judges c.args.judge.now) c.args.start c.loop-ix.ix c.args.tree.now c.loop-ix.tree c.loop-ix.invariant.read c.next_line-next.result
     (open_are_in c.args.tree.now.nodes c.args.tree.now.spine c.is_forest.ensures.opened)
     (line_read c.args.source.now.text.now c.as_bytes.result.now c.loop-ix.ix _
-    c.scan_continued.ensures.utf8 c.loop-ix.invariant.boundary c.loop-ix-test.true c.as_bytes.ensures.value c.next_line-next.ensures.value)
+    c.scan_continued_past.ensures.utf8 c.loop-ix.invariant.boundary c.loop-ix-test.true c.as_bytes.ensures.value c.next_line-next.ensures.value)
     c.in-Some.line_start c.judge-verdict.new.line_start c.in-Some.ensures.value c.judge-verdict.result c.judge-verdict.ensures.verdict c.in-Stops.end
     c.in-Stops.is
 
 pub returns-in-Closes : goal.returns-in-Closes
 returns-in-Closes g c =
-    let line = line_read c.args.source.now.text.now c.as_bytes.result.now c.loop-ix.ix _ c.scan_continued.ensures.utf8 c.loop-ix.invariant.boundary
+    let line = line_read c.args.source.now.text.now c.as_bytes.result.now c.loop-ix.ix _ c.scan_continued_past.ensures.utf8 c.loop-ix.invariant.boundary
     c.loop-ix-test.true
     c.as_bytes.ensures.value c.next_line-next.ensures.value in
     record {
@@ -73,7 +78,7 @@ append_raw_line-requires-clause-order g c =
 
 pub returns-in-IsLast : goal.returns-in-IsLast
 returns-in-IsLast g c =
-    let line = line_read c.args.source.now.text.now c.as_bytes.result.now c.loop-ix.ix _ c.scan_continued.ensures.utf8 c.loop-ix.invariant.boundary
+    let line = line_read c.args.source.now.text.now c.as_bytes.result.now c.loop-ix.ix _ c.scan_continued_past.ensures.utf8 c.loop-ix.invariant.boundary
     c.loop-ix-test.true
     c.as_bytes.ensures.value c.next_line-next.ensures.value in
     record {
@@ -95,7 +100,7 @@ returns-in-IsLast g c =
 
 pub loop-ix-preserved : goal.loop-ix-preserved
 loop-ix-preserved g c =
-    let line = line_read c.args.source.now.text.now c.as_bytes.result.now c.loop-ix.ix _ c.scan_continued.ensures.utf8 c.loop-ix.invariant.boundary
+    let line = line_read c.args.source.now.text.now c.as_bytes.result.now c.loop-ix.ix _ c.scan_continued_past.ensures.utf8 c.loop-ix.invariant.boundary
     c.loop-ix-test.true
     c.as_bytes.ensures.value c.next_line-next.ensures.value in
     record {

@@ -1,15 +1,16 @@
-use Rattle.std.proofs.Common.{◌<◌, ◌≤◌, length, is_some, refl, ap, sym, subst, ◌∙◌, arith}
+use Rattle.std.proofs.Common.{◌≡◌, ◌<◌, ◌≤◌, false, length, is_some, refl, ap, sym, subst, ◌∙◌, arith}
 use Rattle.first_pass_items.specs.declared.item.Item.{Item}
 use Rattle.first_pass_items.specs.declared.item.ItemBody.TheVariants.{IndentCodeBlock}
 use Rattle.first_pass_tree.specs.Forest.{Forest, IsForest}
 use Rattle.first_pass_lines.specs.Lines.{blank_len}
 use Rattle.first_pass_tokens.proofs.ChainLemmas.{joins_none-fresh}
 use Rattle.first_pass_open.specs.OpenBlock.{opened_block}
-use Rattle.first_pass_open.specs.Path.{path_of}
+use Rattle.first_pass_open.specs.Path.{path_of, has_quote_after}
 use Rattle.first_pass_names.specs.TableEntries.{names_of}
 use Rattle.first_pass_names.proofs.NameLemmas.{extends_both}
 use Rattle.first_pass_raw.specs.RawBlocks.{AppendsRaw, behind_line_at}
 use Rattle.first_pass_raw.proofs.IndentedLemmas.{first_at, first_is, first_boundary, so_far_first, so_far_next, so_far_stop, kept_child, next_read, next_rest}
+use Rattle.first_pass_raw.proofs.IndentedLemmas.{next_quotes}
 use Rattle.first_pass_raw.proofs.IndentedLemmas.{opened_last, just_opened, code_open, code_added}
 use Rattle.first_pass_grammar.specs.RawLines.{range_text}
 use Rattle.first_pass_raw.proofs.indented_code.parse_indented_code_block.Goals as goal
@@ -32,6 +33,16 @@ lines-init c =
           c.args.remaining_space c.in_ok-next.next c.cur.result at o c.requires.code
           (joins_none-fresh opened refl) e line c.cur.ensures;
     }
+
+pub indented_line-requires-clause-quotes : goal.indented_line-requires-clause-quotes
+indented_line-requires-clause-quotes c =
+    let text = c.args.source.now.text.now in
+    let opened : Forest Item = opened_block c.args.tree.now c.args.start_ix IndentCodeBlock in
+    let forest = subst (IsForest {T = Item}) c.in_ok-open_block.ensures.tree c.is_forest-2.ensures in
+    let first = c.lines.invariant.read (first_at text c.args.start_ix c.args.remaining_space) (first_is text c.args.start_ix c.args.remaining_space) refl in
+    next_quotes _ _ _ _ _ _ _ _ _ _ first forest
+    (subst (λ (f : Forest Item). has_quote_after c.args.source.now.options f c.quotes_end-quotes_end.result ≡ false) c.in_ok-open_block.ensures.tree
+    (c.quotes_end-quotes_end.ensures c.args.source.now.options))
 
 pub lines-preserved : goal.lines-preserved
 lines-preserved c =
