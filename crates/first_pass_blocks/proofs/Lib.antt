@@ -56,3 +56,4 @@ pub mod TitleMoved
 pub mod TitlePops
 pub mod WholeKept
 pub mod WrittenLemmas
+pub mod BlankLines

@@ -38,7 +38,7 @@ use Rattle.first_pass_blocks.proofs.ItemBodies.{item_container}
 use Rattle.first_pass_blocks.proofs.PopLemmas.{leave_container}
 use Rattle.first_pass_blocks.proofs.StateLemmas.{ready_plain, popped_as, popped_paths, popped_spine}
 
-and_no : (b : Bool) → (b && false) ≡ false
+pub and_no : (b : Bool) → (b && false) ≡ false
 and_no true = refl
 and_no false = refl
 

@@ -4,7 +4,7 @@ ghost use Rattle.std.specs.Prelude.{◌≡◌, ◌<◌, ◌≤◌, length, None,
 ghost use Rattle.first_pass_lines.specs.Places.{line_end, IsPlaceOf};
 ghost use Rattle.first_pass_open.specs.Path.{outer};
 ghost use Rattle.first_pass_blocks.specs.Entering.{ClosesAt, EntersLine, footnote_ended};
-ghost use Rattle.first_pass_blocks.specs.Positions.{InLine, IsFrom, may_define};
+ghost use Rattle.first_pass_blocks.specs.Positions.{InLine, IsFrom, LineAt, ReadsTo, may_define};
 ghost use Rattle.first_pass_blocks.specs.Progress.{PassesTo};
 ghost use Rattle.first_pass_blocks.specs.Starts.{start_opened, last_at, IsAfter};
 ghost use Rattle.first_pass_blocks.specs.Views.{reading_of, source_of, source_text};
@@ -17,7 +17,8 @@ use first_pass_items::option_set::Options;
 use first_pass_lines::lines::scan_blank_line;
 use first_pass_lines::places::next_line;
 use first_pass_lists::reading::Reading;
-use first_pass_open::front::scan_front;
+use first_pass_open::containers::quotes_end;
+use first_pass_open::front::{scan_continued_past, scan_front};
 use first_pass_open::place::Place;
 use first_pass_open::source::Source;
 use first_pass_text::paragraph::append_item;
@@ -60,6 +61,39 @@ pub(crate) fn enter_line<'a>(
         line: start_ix,
         rest: front.rest,
     })
+}
+
+/// Reads the blank lines from the one on that begins at the offset `start`, as long as they change nothing of what is
+/// remembered: after a blank line that counts, those that continue all that is open, none of which ends then. Returns
+/// the offset at which the first line begins that is not read, or the text's length. It reads lines only where many
+/// containers are open: a line of which nothing is left costs here no walk over those.
+pub(crate) fn read_blank_lines<'a>(reading: &Reading, source: &Source<'a>, start: usize) -> usize
+    requires { IsCharBoundary source.now.text.now start }
+    ensures later { start ≤ result }
+    ensures boundary { IsCharBoundary source.now.text.now result }
+    ensures read { ReadsTo source.now start reading.now reading.now (LineAt start) (LineAt result) }
+{
+    if !reading.keeps_blank_lines() {
+        return start;
+    }
+    if reading.is_in_footnote() && !source.options.has_gfm_footnotes() {
+        return start;
+    }
+    let quotes_end = quotes_end(&reading.tree);
+    if quotes_end == reading.tree.spine_len() {
+        return start;
+    }
+    let mut next = start;
+    while next < source.text.len() {
+        let Some(rest) = scan_continued_past(source, &reading.tree, next, quotes_end) else {
+            return next;
+        };
+        if scan_blank_line(rest.left()).is_none() {
+            return next;
+        }
+        next = next_line(source.text.as_bytes(), next);
+    }
+    next
 }
 
 // Closes a footnote definition in the old form that is innermost, where a blank line that counts is directly before the

@@ -23,7 +23,7 @@ ghost use Rattle.first_pass_blocks.specs.Starts.{IsAfter};
 ghost use Rattle.first_pass_blocks.specs.Written.{AreFootnotesWritten};
 ghost use Rattle.first_pass_blocks.specs.Views.{allocs_of, reading_of, source_options, source_text, tree_of};
 
-use crate::containers::{close_containers, enter_line, line_over};
+use crate::containers::{close_containers, enter_line, line_over, read_blank_lines};
 use crate::definition::RunEnd;
 use crate::state::BlockPass;
 use crate::text::parse_paragraph;
@@ -279,6 +279,7 @@ pub fn run_first_pass<'a>(
     let mut ix = 0;
     while ix < text.len() {
         ix = pass.parse_block(ix)?;
+        ix = read_blank_lines(&pass.reading, &pass.source, ix);
     }
     close_containers(&mut pass.reading, 0, text.len());
     let BlockPass {

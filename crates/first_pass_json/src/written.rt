@@ -42,9 +42,11 @@ fn write_tables<W: Write>(
     output: &mut W,
 ) -> Result<(), BlocksFault>
     ensures ok { OnOk result (Appends (W.contents output.old) (W.contents output.new)
-        (flat_map definition_line (tables allocs.now).links ++ flat_map footnote_line (tables allocs.now).footnotes)) }
+        (flat_map definition_line (tables allocs.now).links
+        ++ flat_map footnote_line (tables allocs.now).footnotes)) }
     ensures front { OnErr result (AppendsFront (W.contents output.old) (W.contents output.new)
-        (flat_map definition_line (tables allocs.now).links ++ flat_map footnote_line (tables allocs.now).footnotes)) }
+        (flat_map definition_line (tables allocs.now).links
+        ++ flat_map footnote_line (tables allocs.now).footnotes)) }
     ensures fault { IfErr result IsWriteFault }
 {
     write_definitions(alloc, allocs.refdefs(), output)?;

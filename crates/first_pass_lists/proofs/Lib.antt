@@ -1,2 +1,3 @@
 pub mod MovedLemmas
 pub mod WithinLemmas
+pub mod BlankLemmas

@@ -1,7 +1,7 @@
 //! Lists and definition lists, and their items: how they continue, become loose and are closed (CommonMark 5.2, 5.3).
 
-ghost use Rattle.std.specs.Prelude.{◌≡◌, ◌==◌, ◌<◌, length, None, IsSome, slice_get, OnOk, IfSome, bit_and, if◌then◌else◌};
-ghost use Rattle.first_pass_lists.specs.Closing.{loosened_at, top_body, is_list, is_item, is_list_of, popped_at, popped, item_finished, list_left, footnote_left, old_footnote_finished, footnote_begun, with_tree, gap_noted, list_finished, list_kept, list_continued, begun, blank_read};
+ghost use Rattle.std.specs.Prelude.{◌≡◌, ◌==◌, ◌<◌, length, None, true, IsSome, slice_get, OnOk, IfSome, bit_and, if◌then◌else◌};
+ghost use Rattle.first_pass_lists.specs.Closing.{loosened_at, top_body, is_list, is_item, is_list_of, popped_at, popped, item_finished, list_left, footnote_left, old_footnote_finished, footnote_begun, with_tree, gap_noted, list_finished, list_kept, list_continued, begun, blank_read, is_footnote};
 ghost use Rattle.first_pass_lists.specs.Closing.{is_definition_list, top_end, possible_title, title_closed, title_kept, definitions_closed, definitions_left, definitions_opened, definition_begun, takes_definition, is_after_definition};
 ghost use Rattle.first_pass_tree.specs.Tight.{tight_items};
 ghost use Rattle.first_pass_open.specs.OpenBlock.{closed_by};
@@ -388,6 +388,41 @@ impl Reading {
             }
         }
         self.blank = true;
+    }
+
+    /// Whether one more blank line changes nothing that is remembered: one that counts is directly before, and an item
+    /// or a definition that is empty takes blank lines alone already.
+    #[tactic(auto, using(crate::proofs::WithinLemmas::top_within))]
+    pub fn keeps_blank_lines(&self) -> bool
+        ensures { result ≡ true → blank_read self.now ≡ self.now }
+    {
+        if !self.blank {
+            return false;
+        }
+        if self.empty_item.is_none() {
+            return true;
+        }
+        let Some(ix) = self.tree.peek_up() else {
+            return true;
+        };
+        self.tree.is_forest();
+        match self.tree[ix].body {
+            ItemBody::ListItem(columns) => columns == 0,
+            ItemBody::DefinitionListDefinition(columns) => columns == 0,
+            _ => true,
+        }
+    }
+
+    /// Whether the innermost open node is a footnote definition.
+    #[tactic(auto, using(crate::proofs::WithinLemmas::top_within))]
+    pub fn is_in_footnote(&self) -> bool
+        ensures { result ≡ is_footnote (top_body self.now.tree) }
+    {
+        let Some(ix) = self.tree.peek_up() else {
+            return false;
+        };
+        self.tree.is_forest();
+        matches!(self.tree[ix].body, ItemBody::FootnoteDefinition(_))
     }
 
     /// Continues the list that is innermost, where its byte is `ch`: it is loose if a blank line stands

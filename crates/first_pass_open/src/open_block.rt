@@ -18,6 +18,7 @@ pub struct BlockLines {
 }
 
 /// Appends a block that starts at an offset, opens it, and returns its index.
+#[inline(always)]
 pub fn open_block(
     tree: &mut Tree<Item>,
     start: usize,

@@ -37,28 +37,40 @@ loop-ix-init c = record {
 both_same : {t u : List ℕ} {o w : Options} → t ≡ u → o ≡ w → ◌≡◌ {A = List ℕ × Options} (t, o) (u, w)
 both_same a b = cc
 
+pub read_blank_lines-ix-requires : goal.read_blank_lines-ix-requires
+read_blank_lines-ix-requires c = subst (λ (z : Source). IsCharBoundary z.text.now c.in_ok-ix.ix) (sym c.in_ok-ix.ensures.source) c.in_ok-ix.ensures.boundary
+
 pub loop-ix-preserved : goal.loop-ix-preserved
 loop-ix-preserved c =
     let i = c.loop-ix.invariant in
     let e = c.in_ok-ix.ensures in
     let pass = c.loop-ix.pass in
     let new = c.parse_block.new.self in
-    let next = c.in_ok-ix.ix in
+    let mid = c.in_ok-ix.ix in
+    let next = c.read_blank_lines-ix.result in
+    let more_lines = c.read_blank_lines-ix.ensures in
     let before : Reading = pass.reading in
     let behind : Reading = new.reading in
+    let same_text : new.source.text.now ≡ c.args.text.now = ap (λ (z : Source). z.text.now) e.source ∙ i.same_text in
+    let same_options : new.source.options ≡ c.args.options = ap (λ (z : Source). z.options) e.source ∙ i.same_options in
     record {
-      same_text = ap (λ (z : Source). z.text.now) e.source ∙ i.same_text;
-      same_options = ap (λ (z : Source). z.options) e.source ∙ i.same_options;
-      boundary = subst (λ t. IsCharBoundary t next) i.same_text e.boundary;
+      same_text = same_text;
+      same_options = same_options;
+      boundary = subst (λ t. IsCharBoundary t next) same_text more_lines.boundary;
       ready = λ names more.
-          subst (λ (z : List ℕ × Options). Ready (document z.0 z.1 names) (tables pass.allocs) before (lines_from z.0 c.loop-ix.ix)
-          → Ready (document z.0 z.1 names) (tables new.allocs) behind (lines_from z.0 next)) (both_same i.same_text i.same_options) (e.ready names more)
-          (i.ready names (extends_both names (names_of new.allocs) (names_of pass.allocs) more e.names));
-      order = subst (λ (z : List ℕ × Options). IsReadFrom z.1 z.0 before c.loop-ix.ix → IsReadFrom z.1 z.0 behind next)
-          (both_same i.same_text i.same_options) e.order i.order;
+          subst (λ (z : List ℕ × Options). Ready (document z.0 z.1 names) (tables new.allocs) behind (lines_from z.0 mid)
+          → Ready (document z.0 z.1 names) (tables new.allocs) behind (lines_from z.0 next)) (both_same same_text same_options)
+          (more_lines.read.ready names (tables new.allocs))
+          (subst (λ (z : List ℕ × Options). Ready (document z.0 z.1 names) (tables pass.allocs) before (lines_from z.0 c.loop-ix.ix)
+          → Ready (document z.0 z.1 names) (tables new.allocs) behind (lines_from z.0 mid)) (both_same i.same_text i.same_options) (e.ready names more)
+          (i.ready names (extends_both names (names_of new.allocs) (names_of pass.allocs) more e.names)));
+      order = subst (λ (z : List ℕ × Options). IsReadFrom z.1 z.0 behind mid → IsReadFrom z.1 z.0 behind next)
+          (both_same same_text same_options) more_lines.read.order
+          (subst (λ (z : List ℕ × Options). IsReadFrom z.1 z.0 before c.loop-ix.ix → IsReadFrom z.1 z.0 behind mid)
+          (both_same i.same_text i.same_options) e.order i.order);
       named = e.named i.named;
       written = subst (λ t. TablesAreWritten t pass.allocs → TablesAreWritten t new.allocs) i.same_text e.written i.written;
-      few = (let read = i.few in let grows = e.few in let later = e.later in omega arith);
+      few = (let read = i.few in let grows = e.few in let later = e.later in let on = more_lines.later in omega arith);
     }
 
 -- At the end of the text no line is handed on.

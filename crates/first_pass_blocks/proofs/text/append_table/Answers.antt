@@ -29,7 +29,8 @@ named_yet : (c : goal.In_ok-next) (more : Names) → Extends more (names_of c.pa
     → NamesAlignments more c.in_ok-index.index c.args.table.alignments.items
 named_yet c more e =
     let named = names_of c.allocate_alignment.new.self in
-    alignments_last (names_of c.args.allocs.now) named more c.in_ok-index.index c.args.table.alignments.items c.in_ok-index.ensures.index c.in_ok-index.ensures.names
+    alignments_last (names_of c.args.allocs.now) named more c.in_ok-index.index c.args.table.alignments.items c.in_ok-index.ensures.index
+    c.in_ok-index.ensures.names
     (extends_both more (names_of c.parse_table.new.allocs) named e (grown_table c))
 
 pub returns-clause-more : goal.returns-clause-more
@@ -53,10 +54,12 @@ returns-clause-block c = λ marker.
     let rows = subst (λ (f : Forest Item). AppendsRows (document text c.args.source.now.options names) (length alignments) c.args.start
     (c.args.start + c.args.table.head_len) f
     c.parse_table.new.tree c.in_ok-next.next) opened
-    (subst (λ n. AppendsRows (document text c.args.source.now.options names) n c.args.start (c.args.start + c.args.table.head_len) c.open_block.new.tree c.parse_table.new.tree
+    (subst (λ n. AppendsRows (document text c.args.source.now.options names) n c.args.start (c.args.start + c.args.table.head_len)
+    c.open_block.new.tree c.parse_table.new.tree
     c.in_ok-next.next) (c.len.ensures ∙ c.args.table.alignments.ok.0) c.in_ok-next.ensures.rows) in
     let there = open_are_in old.nodes old.spine c.is_forest.ensures.opened in
-    table_text text c.args.source.now.options names c.args.start (c.args.start + c.args.table.head_len) c.in_ok-next.next ix alignments old c.parse_table.new.tree rows there
+    table_text text c.args.source.now.options names c.args.start (c.args.start + c.args.table.head_len) c.in_ok-next.next ix alignments old
+    c.parse_table.new.tree rows there
     (named_yet c) body_is c.requires.headed marker
 
 pub returns-clause-fits : goal.returns-clause-fits
@@ -72,9 +75,11 @@ returns-clause-fits c = λ from low.
     let rows = subst (λ (f : Forest Item). AppendsRows (document text c.args.source.now.options names) (length alignments) c.args.start
     (c.args.start + c.args.table.head_len) f
     c.parse_table.new.tree c.in_ok-next.next) opened
-    (subst (λ n. AppendsRows (document text c.args.source.now.options names) n c.args.start (c.args.start + c.args.table.head_len) c.open_block.new.tree c.parse_table.new.tree
+    (subst (λ n. AppendsRows (document text c.args.source.now.options names) n c.args.start (c.args.start + c.args.table.head_len)
+    c.open_block.new.tree c.parse_table.new.tree
     c.in_ok-next.next) (c.len.ensures ∙ c.args.table.alignments.ok.0) c.in_ok-next.ensures.rows) in
     let there = open_are_in old.nodes old.spine c.is_forest.ensures.opened in
-    table_between text c.args.source.now.options names c.args.start (c.args.start + c.args.table.head_len) c.in_ok-next.next ix alignments old c.parse_table.new.tree rows
+    table_between text c.args.source.now.options names c.args.start (c.args.start + c.args.table.head_len) c.in_ok-next.next ix alignments old
+    c.parse_table.new.tree rows
     there
     (named_yet c) body_is c.requires.headed (extends_none names) utf8 c.requires.boundary from low

@@ -107,7 +107,8 @@ returns-in_default-rest-clause-run c = λ p line begins i.
     let one = one_more text around nested r.0 at w.0 found (tables now.allocs)
     (tables c.define_link.new.self) c.requires.utf8 r.3.stands r.2 w.1 w.2 fits.0 ends told_is in
     let stops = stops_by (stops_at around (drop next text)) (rest_at around (drop next text)) c.in_ok-rest.rest said c.in_default-rest.is in
-    run_ends text around nested p r.0 (at + size) c.loop-size.line next (tables first.allocs) (tables now.allocs) (tables c.define_link.new.self) next_is
+    run_ends text around nested p r.0 (at + size) c.loop-size.line next (tables first.allocs) (tables now.allocs)
+    (tables c.define_link.new.self) next_is
     (sym r.1) (λ within. stops) r.3 one
 
 pub loop-size-preserved : goal.loop-size-preserved

@@ -46,7 +46,8 @@ returns-in-None c =
       names = extends_none _;
       later = omega arith;
       boundary = c.requires.boundary;
-      ready = λ names more tagged. ready_any_line (document text self.source.options names) (tables self.allocs) self.reading at any c.requires.no_empty tagged;
+      ready = λ names more tagged.
+          ready_any_line (document text self.source.options names) (tables self.allocs) self.reading at any c.requires.no_empty tagged;
       named = λ h. h;
       written = λ h. h;
       order = λ ordered. inl (ordered_none text self.reading at c.requires.no_empty c.requires.boundary.0 ordered.0, ordered.1);
@@ -80,7 +81,8 @@ returns-in_ok-next-in-Some c =
       ready = λ names more tagged. let d = document text self.source.options names in
           e.ready names more
           (inr (subst (λ q. ReadyLazy d (tables self.allocs) old q (lines_from text (line_end q))) (sym same)
-          (subst (λ n. ReadyLazy d (tables self.allocs) old p (lines_from text n)) (sym ends) (ready_its_line d (tables self.allocs) old at its.0 tagged))));
+          (subst (λ n. ReadyLazy d (tables self.allocs) old p (lines_from text n)) (sym ends)
+          (ready_its_line d (tables self.allocs) old at its.0 tagged))));
       named = e.named;
       written = e.written;
       order = λ ordered. e.order (ordered_at_place text self.reading.tree at q refl c.requires.boundary (subst (IsPlaceOf text) (sym same) here.0) ordered);

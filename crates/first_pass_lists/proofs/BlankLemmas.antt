@@ -1,0 +1,90 @@
+-- Where one more blank line changes nothing.
+use Rattle.std.proofs.Common.{◌≡◌, ℕ, Bool, true, false, List, [], ◌∷◌, slice_get, Option, Some, None, is_some, refl, sym, ap, ◌∙◌, if◌then◌else◌}
+use Rattle.std.specs.Option.{option_map, option_and_then}
+use Rattle.first_pass_items.specs.declared.item.Item.{Item}
+use Rattle.first_pass_items.specs.declared.item.ItemBody.{ItemBody}
+use Rattle.first_pass_items.specs.declared.item.ItemBody.TheVariants.{BlockQuote as BlockQuoteBody, ListItem as ListItemBody, DefinitionListDefinition}
+use Rattle.first_pass_tree.specs.declared.tree_index.TreeIndex.{TreeIndex}
+use Rattle.first_pass_tree.specs.Forest.{Forest, body_at}
+use Rattle.first_pass_tree.proofs.TightLemmas.{tight_same_body}
+use Rattle.first_pass_lists.specs.Closing.{top_body, emptied, emptied_definition, blank_read_by, blank_read}
+use Rattle.first_pass_lists.specs.declared.reading.Reading.{Reading}
+
+same_blank : (r : Reading) → r.blank ≡ true → record r { blank = true } ≡ r
+same_blank r h = ap (λ t. record r { blank = t }) (sym h)
+
+same_tree : (r : Reading) (f : Forest Item) → f ≡ r.tree → r.blank ≡ true → record r { tree = f; blank = true } ≡ r
+same_tree r f e h = ap (λ (g : Forest Item). record r { tree = g; blank = true }) e ∙ same_blank r h
+
+none_by : (r : Reading) (b : Option ItemBody) → is_some r.empty_item ≡ false → r.blank ≡ true → blank_read_by r b ≡ r
+none_by r None none h = same_blank r h
+none_by r (Some (BlockQuoteBody kind)) none h = refl
+none_by r (Some (ListItemBody columns)) none h =
+    same_tree r (if is_some r.empty_item then emptied r.tree r.tree.spine else r.tree) (ap (λ t. if t then emptied r.tree r.tree.spine else r.tree) none) h
+none_by r (Some (DefinitionListDefinition columns)) none h =
+    same_tree r (if is_some r.empty_item then emptied_definition r.tree r.tree.spine else r.tree)
+    (ap (λ t. if t then emptied_definition r.tree r.tree.spine else r.tree) none) h
+none_by r (Some b) none h = same_blank r h
+
+-- where no item is empty
+pub kept_none : (r : Reading) → is_some r.empty_item ≡ false → r.blank ≡ true → blank_read r ≡ r
+unfolding blank_read
+kept_none r none h = none_by r (top_body r.tree) none h
+
+-- where nothing is open
+pub kept_closed : (r : Reading) → slice_get r.tree.spine 0 ≡ None → r.blank ≡ true → blank_read r ≡ r
+unfolding blank_read
+kept_closed r none h = ap (λ o. blank_read_by r (option_and_then (λ (ix : TreeIndex). body_at r.tree.nodes ix.0) o)) none ∙ same_blank r h
+
+same_item : (f : Forest Item) (spine : List TreeIndex) → option_and_then (λ (ix : TreeIndex). body_at f.nodes ix.0) (slice_get spine 0) ≡ Some (ListItemBody 0)
+    → emptied f spine ≡ f
+same_item f [] e = refl
+same_item f (ix ∷ spine) e = ap (λ ns. record f { nodes = ns }) (tight_same_body f.nodes ix.0 (ListItemBody 0) e)
+
+same_definition : (f : Forest Item) (spine : List TreeIndex)
+    → option_and_then (λ (ix : TreeIndex). body_at f.nodes ix.0) (slice_get spine 0) ≡ Some (DefinitionListDefinition 0) → emptied_definition f spine ≡ f
+same_definition f [] e = refl
+same_definition f (ix ∷ spine) e = ap (λ ns. record f { nodes = ns }) (tight_same_body f.nodes ix.0 (DefinitionListDefinition 0) e)
+
+either : {A : Type 0} (t : Bool) (x y : A) → x ≡ y → (if t then x else y) ≡ y
+either true x y e = e
+either false x y e = refl
+
+-- where an item or a definition takes blank lines alone
+pub kept_item : (r : Reading) → top_body r.tree ≡ Some (ListItemBody 0) → r.blank ≡ true → blank_read r ≡ r
+unfolding blank_read
+kept_item r e h =
+    ap (blank_read_by r) e
+    ∙ same_tree r (if is_some r.empty_item then emptied r.tree r.tree.spine else r.tree)
+    (either (is_some r.empty_item) (emptied r.tree r.tree.spine) r.tree (same_item r.tree r.tree.spine e)) h
+
+pub kept_definition : (r : Reading) → top_body r.tree ≡ Some (DefinitionListDefinition 0) → r.blank ≡ true → blank_read r ≡ r
+unfolding blank_read
+kept_definition r e h =
+    ap (blank_read_by r) e
+    ∙ same_tree r (if is_some r.empty_item then emptied_definition r.tree r.tree.spine else r.tree)
+    (either (is_some r.empty_item) (emptied_definition r.tree r.tree.spine) r.tree (same_definition r.tree r.tree.spine e)) h
+
+other_by : (r : Reading) (b : ItemBody) → ((n : ℕ) → b ≡ ListItemBody n → ⊥) → ((n : ℕ) → b ≡ DefinitionListDefinition n → ⊥) → r.blank ≡ true
+    → blank_read_by r (Some b) ≡ r
+other_by r (BlockQuoteBody kind) item definition h = refl
+other_by r (ListItemBody columns) item definition h = absurd (item columns refl)
+other_by r (DefinitionListDefinition columns) item definition h = absurd (definition columns refl)
+other_by r b item definition h = same_blank r h
+
+-- where the innermost open node is neither
+pub kept_other : (r : Reading) (b : ItemBody) → top_body r.tree ≡ Some b → ((n : ℕ) → b ≡ ListItemBody n → ⊥) → ((n : ℕ) → b ≡ DefinitionListDefinition n → ⊥)
+    → r.blank ≡ true → blank_read r ≡ r
+unfolding blank_read
+kept_other r b e item definition h = ap (blank_read_by r) e ∙ other_by r b item definition h
+
+-- the body of the innermost open node
+item_body : (n : Option (ℕ × Item)) (item : Item)
+    → option_map (λ (n : ℕ × Item). n.1) n ≡ Some item → option_map (λ (n : ℕ × Item). n.1.body) n ≡ Some item.body
+item_body None item e = cc
+item_body (Some n) item e = ap (option_map (λ (i : Item). i.body)) e
+
+pub top_is : (f : Forest Item) (ix : TreeIndex) (item : Item) → slice_get f.spine 0 ≡ Some ix
+    → option_map (λ (n : ℕ × Item). n.1) (slice_get f.nodes ix.0) ≡ Some item → top_body f ≡ Some item.body
+top_is f ix item is e =
+    ap (option_and_then (λ (i : TreeIndex). body_at f.nodes i.0)) is ∙ item_body (slice_get f.nodes ix.0) item e
