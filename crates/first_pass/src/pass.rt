@@ -6,7 +6,7 @@ ghost use Rattle.first_pass_grammar.specs.Derivation.{no_tables};
 ghost use Rattle.first_pass_grammar.specs.Leaves.{document};
 ghost use Rattle.first_pass_grammar.specs.Names.{Names, AreNamed};
 ghost use Rattle.first_pass_grammar.specs.WholeTables.{HasWholeTables};
-ghost use Rattle.first_pass_names.specs.TableEntries.{tables, names_of};
+ghost use Rattle.first_pass_names.specs.TableEntries.{tables_of, names_of};
 ghost use Rattle.first_pass_blocks.specs.Ordered.{IsReadTo};
 ghost use Rattle.first_pass_blocks.specs.Positions.{LineAt};
 ghost use Rattle.first_pass_blocks.specs.Progress.{ReadsBlock};
@@ -29,7 +29,7 @@ impl<'a> FirstPass<'a> {
     pub fn new(alloc: Global, text: &'a str, options: Options) -> Result<FirstPass<'a>, AllocError>
         ensures text { IfOk result (λ pass. (source_text pass) ≡ text.now) }
         ensures options { IfOk result (λ pass. (source_options pass) ≡ options) }
-        ensures tables { IfOk result (λ pass. tables (allocs_of pass) ≡ no_tables) }
+        ensures tables { IfOk result (λ pass. tables_of (allocs_of pass) ≡ no_tables) }
         ensures ready { IfOk result (λ pass. (names : Names)
             → Ready (document text.now options names) no_tables (reading_of pass) (lines_from text.now 0)) }
         ensures order { IfOk result (λ pass. IsReadTo text.now (reading_of pass) 0) }

@@ -8,7 +8,7 @@ use Rattle.first_pass_grammar.specs.Leaves.{document}
 use Rattle.first_pass_grammar.specs.Names.{AreNamed}
 use Rattle.first_pass_grammar.specs.Order.{GrowsBy}
 use Rattle.first_pass_grammar.specs.WholeTables.{HasWholeTables}
-use Rattle.first_pass_names.specs.TableEntries.{tables, names_of}
+use Rattle.first_pass_names.specs.TableEntries.{tables_of, names_of}
 use Rattle.first_pass_names.specs.declared.items.Allocations.{Allocations}
 use Rattle.first_pass_names.proofs.NameLemmas.{extends_equal, extends_both}
 use Rattle.first_pass_blocks.specs.Written.{TablesAreWritten}
@@ -31,8 +31,8 @@ passes_reading over line old new p q source same step =
       source = source;
       names = extends_equal _ _ (ap names_of same);
       ready = λ more extends ready.
-          subst (λ (z : Allocations). ReadyOn (document over.text.now over.options more) (tables z) (reading_of new) q) (sym same)
-          (step.ready more (tables (allocs_of old)) ready);
+          subst (λ (z : Allocations). ReadyOn (document over.text.now over.options more) (tables_of z) (reading_of new) q) (sym same)
+          (step.ready more (tables_of (allocs_of old)) ready);
       order = step.order;
       few = step.few;
       named = λ h. subst (λ (z : Allocations). AreNamed (names_of z) (tree_of new).nodes) (sym same) (step.named names h);

@@ -14,7 +14,7 @@ use Rattle.first_pass_grammar.specs.Order.{GrowsBy}
 use Rattle.first_pass_grammar.specs.Skeleton.{Inside}
 use Rattle.first_pass_grammar.specs.WholeTables.{HasWholeTables}
 use Rattle.first_pass_grammar.proofs.NamedItems.{named_more}
-use Rattle.first_pass_names.specs.TableEntries.{tables, names_of}
+use Rattle.first_pass_names.specs.TableEntries.{tables_of, names_of}
 use Rattle.first_pass_names.proofs.NameLemmas.{extends_named, text_last}
 use Rattle.first_pass_open.specs.Path.{context_of}
 use Rattle.first_pass_open.proofs.PlaceLemmas.{all_keep}
@@ -66,8 +66,8 @@ module _ (old new : BlockPass) (p q : Place) (head : ℕ × List ℕ) (utf8 : Is
 
   ready_then : (more : Names) → Extends more (names_of (allocs_of new))
       → (let d : Document = document text (source_of old).options more in
-      ReadyAt d (tables (allocs_of old)) (tree_of old) (reading_of old).blank (Inside p) (lines_from text (line_end p))
-      → ReadyAt d (tables (allocs_of new)) (tree_of new) (reading_of new).blank (Inside q) (lines_from text (line_end q)))
+      ReadyAt d (tables_of (allocs_of old)) (tree_of old) (reading_of old).blank (Inside p) (lines_from text (line_end p))
+      → ReadyAt d (tables_of (allocs_of new)) (tree_of new) (reading_of new).blank (Inside q) (lines_from text (line_end q)))
   ready_then more extends ready =
       let d : Document = document text (source_of old).options more in
       let lines = lines_from text (line_end p) in
@@ -77,15 +77,15 @@ module _ (old new : BlockPass) (p q : Place) (head : ℕ × List ℕ) (utf8 : Is
         text_last (names_of (allocs_of old)) (names_of (allocs_of new)) more opened.index opened.text opened.last opened.names extends,
         opened.label,
       ) in
-      let o = note_is_open d (tables (allocs_of old)) (reading_of old) p lines head opened.index forest is_head named none ready in
+      let o = note_is_open d (tables_of (allocs_of old)) (reading_of old) p lines head opened.index forest is_head named none ready in
       let now : Reading = footnote_begun start opened.index (reading_of old) in
-      let unblank : ReadyAt d (told_label (tables (allocs_of old)) head.1) now.tree now.blank (Inside (behind_note d p lines head.0).0)
-      (behind_note d p lines head.0).1 = subst (λ t. ReadyAt d (told_label (tables (allocs_of old)) head.1) now.tree t
+      let unblank : ReadyAt d (told_label (tables_of (allocs_of old)) head.1) now.tree now.blank (Inside (behind_note d p lines head.0).0)
+      (behind_note d p lines head.0).1 = subst (λ t. ReadyAt d (told_label (tables_of (allocs_of old)) head.1) now.tree t
       (Inside (behind_note d p lines head.0).0) (behind_note d p lines head.0).1) (sym o.blank) o.ready in
-      let moved : ReadyAt d (told_label (tables (allocs_of old)) head.1) now.tree now.blank (Inside q) (lines_from text (line_end q)) =
-      subst (λ (z : Place × List Place). ReadyAt d (told_label (tables (allocs_of old)) head.1) now.tree now.blank (Inside z.0) z.1) (there more) unblank in
+      let moved : ReadyAt d (told_label (tables_of (allocs_of old)) head.1) now.tree now.blank (Inside q) (lines_from text (line_end q)) =
+      subst (λ (z : Place × List Place). ReadyAt d (told_label (tables_of (allocs_of old)) head.1) now.tree now.blank (Inside z.0) z.1) (there more) unblank in
       let told' = subst (λ (z : Tables). ReadyAt d z now.tree now.blank (Inside q) (lines_from text (line_end q))) (sym opened.told) moved in
-      subst (λ (z : Reading). ReadyAt d (tables (allocs_of new)) z.tree z.blank (Inside q) (lines_from text (line_end q))) (sym opened.opened) told'
+      subst (λ (z : Reading). ReadyAt d (tables_of (allocs_of new)) z.tree z.blank (Inside q) (lines_from text (line_end q))) (sym opened.opened) told'
 
   top : is_list (top_body (footnote_begun start opened.index (reading_of old)).tree) ≡ false
   unfolding footnote_begun

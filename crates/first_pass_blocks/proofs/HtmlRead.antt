@@ -8,7 +8,7 @@ use Rattle.first_pass_grammar.specs.Kinds.{HtmlToBlank, unindented, IsKind}
 use Rattle.first_pass_grammar.specs.Extents.{Extent}
 use Rattle.first_pass_grammar.specs.Leaves.{document}
 use Rattle.first_pass_grammar.specs.Completion.{lines_from}
-use Rattle.first_pass_names.specs.TableEntries.{tables, told_by, names_of, NamesMore}
+use Rattle.first_pass_names.specs.TableEntries.{tables_of, told_by, names_of, NamesMore}
 use Rattle.first_pass_open.specs.Path.{path_of}
 use Rattle.first_pass_open.proofs.PlaceLemmas.{all_keep}
 use Rattle.first_pass_raw.specs.RawBlocks.{IsPlaceAt, behind_line_at, html_to_blank}
@@ -77,7 +77,7 @@ html_read old new p at columns next u i empty forest forest_after kind columns_i
       later = omega arith;
       boundary = behind.1;
       ready = λ more extends ready. subst (λ t. Ready (document text options more) t (reading_of new) (lines_from text next)) (sym (ap told_by adds.entries))
-          (ready_kind text options (tables (allocs_of old)) now more r tree p HtmlToBlank false next forest kind refl refl extends added empty ready
+          (ready_kind text options (tables_of (allocs_of old)) now more r tree p HtmlToBlank false next forest kind refl refl extends added empty ready
           (reading_of new).empty_item (reading_of new).blank none blank);
       named = λ h. block_added now (names_of (allocs_of old)) q.tree tree added.items adds.names added.tree_is
           (kind_named text options now p HtmlToBlank false q.tree tree next added) (list_finished_named (names_of (allocs_of old)) p.line r h);

@@ -7,7 +7,7 @@ use Rattle.first_pass_grammar.specs.Before.{is_run}
 use Rattle.first_pass_grammar.specs.Rows.{is_paragraph}
 use Rattle.first_pass_grammar.specs.Leaves.{document}
 use Rattle.first_pass_grammar.specs.Completion.{lines_from}
-use Rattle.first_pass_names.specs.TableEntries.{tables, told_by, names_of}
+use Rattle.first_pass_names.specs.TableEntries.{tables_of, told_by, names_of}
 use Rattle.first_pass_blocks.specs.State.{Ready}
 use Rattle.first_pass_lists.specs.Closing.{list_finished}
 use Rattle.first_pass_lists.specs.declared.reading.Reading.{Reading}
@@ -43,7 +43,7 @@ leaf_read old new p kind next i empty forest is some other no_run e =
       boundary = e.boundary;
       ready = λ more extends ready.
           subst (λ z. Ready (document text (source_options old) more) z (reading_of new) (lines_from text next)) (sym (ap told_by e.more.entries))
-          (ready_kind text (source_options old) (tables (allocs_of old)) (names_of (allocs_of new)) more r (tree_of new) p kind
+          (ready_kind text (source_options old) (tables_of (allocs_of old)) (names_of (allocs_of new)) more r (tree_of new) p kind
           (reading_of new).blank next forest is other no_run extends e.block empty ready (reading_of new).empty_item (reading_of new).blank none refl);
       named = λ h.
           block_added (names_of (allocs_of new)) (names_of (allocs_of old)) (list_finished p.line r).tree (tree_of new) e.block.items e.more.names

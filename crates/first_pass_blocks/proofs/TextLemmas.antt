@@ -24,7 +24,7 @@ use Rattle.first_pass_grammar.specs.Names.{Names, Extends, AreNamed}
 use Rattle.first_pass_grammar.specs.Order.{GrowsBy}
 use Rattle.first_pass_grammar.specs.WholeTables.{HasWholeTables}
 use Rattle.first_pass_grammar.proofs.TextsNamed.{text_named}
-use Rattle.first_pass_names.specs.TableEntries.{tables, told_by, names_of, NamesMore}
+use Rattle.first_pass_names.specs.TableEntries.{tables_of, told_by, names_of, NamesMore}
 use Rattle.first_pass_names.proofs.NameLemmas.{extends_equal, extends_none}
 use Rattle.first_pass_blocks.specs.Written.{TablesAreWritten}
 use Rattle.first_pass_lists.specs.Closing.{with_tree, current_body, is_list, top_body, is_after_definition, list_finished, title_kept, definitions_left}
@@ -109,7 +109,7 @@ pub run_line : (old mid new : BlockPass) (p : Place) (nested : Bool) (line next 
     → (reading_of old).empty_item ≡ None → IsForest (tree_of old) → IsKind (source_options old) p.rest Paragraph
     → nested ≡ in_table (tree_of old).nodes (tree_of old).spine → source_of mid ≡ source_of old → names_of (allocs_of mid) ≡ names_of (allocs_of old)
     → (TablesAreWritten (source_text old) (allocs_of old) → TablesAreWritten (source_text old) (allocs_of mid))
-    → ReadsRun (source_text old) (context_in old) nested (unindented p) (tables (allocs_of old)) (tables (allocs_of mid)) (NextLine line next)
+    → ReadsRun (source_text old) (context_in old) nested (unindented p) (tables_of (allocs_of old)) (tables_of (allocs_of mid)) (NextLine line next)
     → source_of new ≡ source_of mid → allocs_of new ≡ allocs_of mid → reading_of new ≡ list_finished line (reading_of old) → ReadsLeaf old new p next
 run_line old mid new p nested line next u i empty forest kind nest source names written w source' allocs reading =
     let text = source_text old in
@@ -133,11 +133,11 @@ run_line old mid new p nested line next u i empty forest kind nest source names 
       boundary = last;
       ready = λ more extends ready.
           let d = document text (source_options old) more in
-          let plain = nest ∙ leaf_plain d (tables (allocs_of old)) r p (lines_from text (line_end p)) ready in
+          let plain = nest ∙ leaf_plain d (tables_of (allocs_of old)) r p (lines_from text (line_end p)) ready in
           let run = run_from text (context_in old) p w.definitions (Ended q (lines_from text next)) (w.run plain) in
-          subst (λ z. Ready d z (reading_of new) (lines_from text next)) (sym (ap tables allocs ∙ w.defined plain))
-          (subst (λ z. Ready d (told (tables (allocs_of old)) w.definitions) z (lines_from text next)) (sym behind)
-          (ready_ended d (tables (allocs_of old)) r p q next w.definitions forest kind run empty ready));
+          subst (λ z. Ready d z (reading_of new) (lines_from text next)) (sym (ap tables_of allocs ∙ w.defined plain))
+          (subst (λ z. Ready d (told (tables_of (allocs_of old)) w.definitions) z (lines_from text next)) (sym behind)
+          (ready_ended d (tables_of (allocs_of old)) r p q next w.definitions forest kind run empty ready));
       named = λ h. subst (λ (z : Reading). AreNamed (names_of (allocs_of new)) z.tree.nodes) (sym behind)
           (subst (λ z. AreNamed z (list_finished q.line r).tree.nodes) (sym named) (list_finished_named (names_of (allocs_of old)) q.line r h));
       written = λ h. subst (λ z. TablesAreWritten text z) (sym allocs) (written h);
@@ -170,7 +170,7 @@ pub run_text : (old mid new : BlockPass) (p : Place) (nested : Bool) (at next : 
     → IsKind (source_options old) p.rest Paragraph
     → nested ≡ in_table (tree_of old).nodes (tree_of old).spine → source_of mid ≡ source_of old → names_of (allocs_of mid) ≡ names_of (allocs_of old)
     → (TablesAreWritten (source_text old) (allocs_of old) → TablesAreWritten (source_text old) (allocs_of mid))
-    → ReadsRun (source_text old) (context_in old) nested (unindented p) (tables (allocs_of old)) (tables (allocs_of mid)) (TextBehind at)
+    → ReadsRun (source_text old) (context_in old) nested (unindented p) (tables_of (allocs_of old)) (tables_of (allocs_of mid)) (TextBehind at)
     → source_of new ≡ source_of mid → NamesMore (allocs_of mid) (allocs_of new) → line_end_at (source_text old) at ≤ next
     → IsCharBoundary (source_text old) next → ReadsText old new p at next → ReadsLeaf old new p next
 run_text old mid new p nested at next u i kind nest source names written w source' adds later boundary t =
@@ -193,10 +193,10 @@ run_text old mid new p nested at next u i kind nest source names written w sourc
       boundary = boundary;
       ready = λ more extends ready.
           let d = document text options more in
-          let plain = nest ∙ leaf_plain d (tables (allocs_of old)) r p (lines_from text (line_end p)) ready in
+          let plain = nest ∙ leaf_plain d (tables_of (allocs_of old)) r p (lines_from text (line_end p)) ready in
           let run = run_from text (context_in old) p w.definitions (FlowsOn q (lines_from text (line_end q))) (w.run plain) in
           subst (λ z. Ready d z (reading_of new) (lines_from text next)) (sym (ap told_by adds.entries ∙ w.defined plain))
-          (t.ready more extends q w.definitions (tables (allocs_of old)) w.stands at_is run ready);
+          (t.ready more extends q w.definitions (tables_of (allocs_of old)) w.stands at_is run ready);
       named = λ h. t.named q w.stands at_is more_named h;
       written = λ h. written_stay text (allocs_of mid) (allocs_of new) adds.entries (written h);
       order = λ o. inl (t.order q w.stands at_is (later_ordered text r.tree p q further w.later w.stands o.1));
@@ -369,7 +369,7 @@ pub run_title : (old mid new : BlockPass) (p : Place) (nested : Bool) (at next :
     → nested ≡ in_table (tree_of old).nodes (tree_of old).spine → source_of mid ≡ source_of old → reading_of mid ≡ reading_of old
     → names_of (allocs_of mid) ≡ names_of (allocs_of old)
     → (TablesAreWritten (source_text old) (allocs_of old) → TablesAreWritten (source_text old) (allocs_of mid))
-    → ReadsRun (source_text old) (context_in old) nested (unindented p) (tables (allocs_of old)) (tables (allocs_of mid)) (TextBehind at)
+    → ReadsRun (source_text old) (context_in old) nested (unindented p) (tables_of (allocs_of old)) (tables_of (allocs_of mid)) (TextBehind at)
     → is_after_definition (tree_of mid) ≡ true → ReadsTitle mid new at next → ReadsLeaf old new p next
 run_title old mid new p nested at next u i empty forest kind nest source reading names written w after t =
     let own = names_of (allocs_of new) in

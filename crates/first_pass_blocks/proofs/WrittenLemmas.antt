@@ -8,7 +8,7 @@ use Rattle.first_pass_grammar.specs.Containers.{Context}
 use Rattle.first_pass_grammar.specs.Definitions.{LinkReference, reference_at}
 use Rattle.first_pass_grammar.specs.Derivation.{Tables, no_tables}
 use Rattle.first_pass_names.specs.declared.items.Allocations.{Allocations}
-use Rattle.first_pass_names.specs.TableEntries.{Entries, entries, with_definition, TellsFootnote, tables, link_entry, footnote_label, refdefs_of, footdefs_of}
+use Rattle.first_pass_names.specs.TableEntries.{Entries, entries, with_definition, TellsFootnote, tables_of, link_entry, footnote_label, refdefs_of, footdefs_of}
 use Rattle.first_pass_links.specs.Texts.{Borrows}
 use Rattle.first_pass_items.specs.CowText.{text_of}
 use Rattle.first_pass_labels.specs.declared.label_table.FootnoteDef.{FootnoteDef}
@@ -29,7 +29,7 @@ no_footnotes : (text : List ℕ) (es : List (CowStr × FootnoteDef)) → map foo
 no_footnotes text [] none = All-nil (IsFootnoteWritten text)
 no_footnotes text (e ∷ es) none = cc
 
-pub none_written : (text : List ℕ) (a : Allocations) → tables a ≡ no_tables → TablesAreWritten text a
+pub none_written : (text : List ℕ) (a : Allocations) → tables_of a ≡ no_tables → TablesAreWritten text a
 none_written text a none =
     (none_of text (refdefs_of a) (ap (λ (t : Tables). t.links) none), no_footnotes text (footdefs_of a) (ap (λ (t : Tables). t.footnotes) none))
 

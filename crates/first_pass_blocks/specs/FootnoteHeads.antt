@@ -19,7 +19,7 @@ use Rattle.first_pass_grammar.specs.Kinds.{unindented}
 use Rattle.first_pass_grammar.specs.Derivation.{told_label}
 use Rattle.first_pass_grammar.specs.Completion.{lines_from}
 use Rattle.first_pass_grammar.specs.Footnotes.{footnote_at, footnote_head_at, behind_head}
-use Rattle.first_pass_names.specs.TableEntries.{entries, TellsFootnote, tables, names_of, refdefs_of}
+use Rattle.first_pass_names.specs.TableEntries.{entries, TellsFootnote, tables_of, names_of, refdefs_of}
 use Rattle.first_pass_lists.specs.Closing.{footnote_begun}
 use Rattle.first_pass_open.specs.declared.source.Source.{Source}
 use Rattle.first_pass_blocks.specs.declared.state.BlockPass.{BlockPass}
@@ -53,7 +53,7 @@ pub record OpenedFootnote (start : ℕ) (head : ℕ × List ℕ) (old new : Bloc
   pub label : text_of text ≡ head.1
   pub borrowed : text_of text ≡ label_bytes start head.0 (source_text old) → Borrows (label_bytes start head.0 (source_text old)) text
   pub tells : TellsFootnote (entries (allocs_of old)) (entries (allocs_of new)) text
-  pub told : tables (allocs_of new) ≡ told_label (tables (allocs_of old)) head.1
+  pub told : tables_of (allocs_of new) ≡ told_label (tables_of (allocs_of old)) head.1
   pub links : refdefs_of (allocs_of new) ≡ refdefs_of (allocs_of old)
 
 -- What a pass does where the head of a footnote definition is sought at an offset, by how many bytes are read with it: none begins there, and nothing

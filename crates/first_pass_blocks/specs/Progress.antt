@@ -6,7 +6,7 @@ use Rattle.first_pass_grammar.specs.Names.{Names, Extends, AreNamed}
 use Rattle.first_pass_grammar.specs.Leaves.{document}
 use Rattle.first_pass_grammar.specs.Completion.{lines_from}
 use Rattle.first_pass_grammar.specs.WholeTables.{HasWholeTables}
-use Rattle.first_pass_names.specs.TableEntries.{tables, names_of}
+use Rattle.first_pass_names.specs.TableEntries.{tables_of, names_of}
 use Rattle.first_pass_blocks.specs.Written.{TablesAreWritten}
 use Rattle.first_pass_open.specs.declared.source.Source.{Source}
 use Rattle.first_pass_blocks.specs.declared.state.BlockPass.{BlockPass}
@@ -23,8 +23,8 @@ pub record PassesTo (over : Source) (line : ℕ) (old new : BlockPass) (from to 
   pub source : source_of new ≡ source_of old
   pub names : Extends (names_of (allocs_of new)) (names_of (allocs_of old))
   pub ready : (more : Names) → Extends more (names_of (allocs_of new))
-      → ReadyOn (document over.text.now over.options more) (tables (allocs_of old)) (reading_of old) from
-      → ReadyOn (document over.text.now over.options more) (tables (allocs_of new)) (reading_of new) to
+      → ReadyOn (document over.text.now over.options more) (tables_of (allocs_of old)) (reading_of old) from
+      → ReadyOn (document over.text.now over.options more) (tables_of (allocs_of new)) (reading_of new) to
   pub order : OrderedOn over.options over.text.now (reading_of old) from → OrderedOn over.options over.text.now (reading_of new) to
   pub few : (first : List (ℕ × Item)) → GrowsTo over.text.now line first (tree_of old).nodes from → GrowsTo over.text.now line first (tree_of new).nodes to
   pub named : AreNamed (names_of (allocs_of old)) (tree_of old).nodes → AreNamed (names_of (allocs_of new)) (tree_of new).nodes
@@ -42,8 +42,8 @@ pub record ReadsBlockOf (over : Source) (old new : BlockPass) (far : ℕ) (from 
   pub later : far ≤ next
   pub boundary : IsCharBoundary over.text.now next
   pub ready : (more : Names) → Extends more (names_of (allocs_of new))
-      → ReadyOn (document over.text.now over.options more) (tables (allocs_of old)) (reading_of old) from
-      → Ready (document over.text.now over.options more) (tables (allocs_of new)) (reading_of new) (lines_from over.text.now next)
+      → ReadyOn (document over.text.now over.options more) (tables_of (allocs_of old)) (reading_of old) from
+      → Ready (document over.text.now over.options more) (tables_of (allocs_of new)) (reading_of new) (lines_from over.text.now next)
   pub order : OrderedOn over.options over.text.now (reading_of old) from → IsReadFrom over.options over.text.now (reading_of new) next
   pub few : GrowsFrom over.text.now from next (tree_of old).nodes (tree_of new).nodes
   pub named : AreNamed (names_of (allocs_of old)) (tree_of old).nodes → AreNamed (names_of (allocs_of new)) (tree_of new).nodes

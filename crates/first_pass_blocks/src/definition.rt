@@ -6,7 +6,7 @@ ghost use Rattle.first_pass_grammar.specs.Containers.{front};
 ghost use Rattle.first_pass_grammar.specs.Kinds.{all_taken, ends_tag, is_blank_rest};
 ghost use Rattle.first_pass_open.specs.Path.{context_of};
 ghost use Rattle.first_pass_tree.specs.Forest.{in_table};
-ghost use Rattle.first_pass_names.specs.TableEntries.{tables};
+ghost use Rattle.first_pass_names.specs.TableEntries.{tables_of};
 ghost use Rattle.first_pass_kinds.specs.Memory.{line_may_head};
 ghost use Rattle.first_pass_blocks.specs.Runs.{PutsDefinitions, ReadsRun};
 ghost use Rattle.first_pass_blocks.specs.Views.{allocs_of, context_in, source_text, tree_of};
@@ -70,8 +70,8 @@ impl<'a> BlockPass<'a> {
         ensures run { IfOk result (λ behind. (p : Place) → p.line ≡ line → offset p ≡ at
             → IsPlaceOf (source_text self.old) p
             → ReadsRun (source_text self.old) (context_in self.old)
-            (in_table (tree_of self.old).nodes (tree_of self.old).spine) p (tables (allocs_of self.old))
-            (tables (allocs_of self.new)) behind) }
+            (in_table (tree_of self.old).nodes (tree_of self.old).spine) p (tables_of (allocs_of self.old))
+            (tables_of (allocs_of self.new)) behind) }
     {
         self.source.is_short();
         let mut line = line;

@@ -10,7 +10,7 @@ ghost use Rattle.first_pass_grammar.specs.Counting.{own_nodes};
 ghost use Rattle.first_pass_grammar.specs.WholeTables.{AreWholeTables, HasWholeTables};
 ghost use Rattle.first_pass_grammar.specs.Order.{IsOrdered};
 ghost use Rattle.first_pass_grammar.specs.Names.{Names, AreNamed};
-ghost use Rattle.first_pass_names.specs.TableEntries.{tables, names_of, refdefs_of, footdefs_of};
+ghost use Rattle.first_pass_names.specs.TableEntries.{tables_of, names_of, refdefs_of, footdefs_of};
 ghost use Rattle.first_pass_definitions.specs.Found.{AreWritten};
 ghost use Rattle.first_pass_kinds.specs.Found.{IsFoundAt};
 ghost use Rattle.first_pass_grammar.specs.declared.kind.AfterMarker.TheVariants.{TaskText};
@@ -49,7 +49,7 @@ impl<'a> BlockPass<'a> {
     pub fn new(alloc: Global, text: &'a str, options: Options) -> Result<BlockPass<'a>, AllocError>
         ensures text { IfOk result (λ pass. (source_text pass) ≡ text.now) }
         ensures options { IfOk result (λ pass. (source_options pass) ≡ options) }
-        ensures tables { IfOk result (λ pass. tables (allocs_of pass) ≡ no_tables) }
+        ensures tables { IfOk result (λ pass. tables_of (allocs_of pass) ≡ no_tables) }
         ensures ready { IfOk result (λ pass. (names : Names)
             → Ready (document text.now options names) no_tables (reading_of pass) (lines_from text.now 0)) }
         ensures order { IfOk result (λ pass. IsReadTo text.now (reading_of pass) 0) }
@@ -263,9 +263,9 @@ pub fn run_first_pass<'a>(
     options: Options,
 ) -> Result<(Tree<Item>, Allocations<'a>), AllocError>
     ensures derived { IfOk result (λ answer. Derives (document text.now options (names_of answer.1)) answer.0.nodes
-        (tables answer.1)) }
+        (tables_of answer.1)) }
     ensures only { IfOk result (λ answer. IsOnlyDerived text.now options (names_of answer.1) answer.0.nodes
-        (tables answer.1)) }
+        (tables_of answer.1)) }
     ensures finished { IfOk result (λ answer. answer.0.spine ≡ []) }
     ensures settled { IfOk result (λ answer. AreSettled answer.0.nodes) }
     ensures order { IfOk result (λ answer. IsOrdered text.now answer.0.nodes) }

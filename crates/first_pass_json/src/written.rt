@@ -3,7 +3,7 @@
 ghost use Rattle.std.specs.Prelude.{◌++◌, map, OnOk, OnErr, IfErr};
 ghost use Rattle.std.specs.List.{flat_map};
 ghost use Rattle.std.specs.Io.KnownBytes.{Appends};
-ghost use Rattle.first_pass_names.specs.TableEntries.{names_of, tables, link_entry, footnote_label};
+ghost use Rattle.first_pass_names.specs.TableEntries.{names_of, tables_of, link_entry, footnote_label};
 ghost use Rattle.first_pass_host.specs.Streams.{AppendsFront, IsWriteFault};
 ghost use Rattle.first_pass_json.specs.JsonLines.{node_line, definition_line, footnote_line, json_lines};
 
@@ -26,9 +26,9 @@ pub fn write_json<W: Write>(
     output: &mut W,
 ) -> Result<(), BlocksFault>
     ensures ok { OnOk result (Appends (W.contents output.old) (W.contents output.new)
-        (json_lines (names_of allocs.now) nodes.now (tables allocs.now))) }
+        (json_lines (names_of allocs.now) nodes.now (tables_of allocs.now))) }
     ensures front { OnErr result (AppendsFront (W.contents output.old) (W.contents output.new)
-        (json_lines (names_of allocs.now) nodes.now (tables allocs.now))) }
+        (json_lines (names_of allocs.now) nodes.now (tables_of allocs.now))) }
     ensures fault { IfErr result IsWriteFault }
 {
     write_nodes(alloc, nodes, allocs, output)?;
@@ -42,11 +42,11 @@ fn write_tables<W: Write>(
     output: &mut W,
 ) -> Result<(), BlocksFault>
     ensures ok { OnOk result (Appends (W.contents output.old) (W.contents output.new)
-        (flat_map definition_line (tables allocs.now).links
-        ++ flat_map footnote_line (tables allocs.now).footnotes)) }
+        (flat_map definition_line (tables_of allocs.now).links
+        ++ flat_map footnote_line (tables_of allocs.now).footnotes)) }
     ensures front { OnErr result (AppendsFront (W.contents output.old) (W.contents output.new)
-        (flat_map definition_line (tables allocs.now).links
-        ++ flat_map footnote_line (tables allocs.now).footnotes)) }
+        (flat_map definition_line (tables_of allocs.now).links
+        ++ flat_map footnote_line (tables_of allocs.now).footnotes)) }
     ensures fault { IfErr result IsWriteFault }
 {
     write_definitions(alloc, allocs.refdefs(), output)?;

@@ -56,8 +56,8 @@ abbrev pub told_by : Entries → Tables
 told_by es = record { links = map link_entry es.links; footnotes = map footnote_label es.footnotes }
 
 -- what the tables define
-abbrev pub tables : Allocations → Tables
-tables a = told_by (entries a)
+abbrev pub tables_of : Allocations → Tables
+tables_of a = told_by (entries a)
 
 -- the definitions in these tables (CommonMark 4.7, and this project)
 abbrev pub refdefs_of : Allocations → List (CowStr × LinkDef)

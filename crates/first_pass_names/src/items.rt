@@ -6,7 +6,7 @@ ghost use Rattle.std.specs.Prelude.{◌≡◌, ◌<◌, ◌∷◌, ◌++◌, [],
 ghost use Rattle.first_pass_links.specs.Labels.{label_at};
 ghost use Rattle.first_pass_grammar.specs.Names.{NamesText, Extends};
 ghost use Rattle.first_pass_items.specs.CowText.{text_of};
-ghost use Rattle.first_pass_names.specs.TableEntries.{entries, with_definition, IsCopy, TellsFootnote, tables, names_of, no_names, with_named, with_alignments, with_heading, link_entry, link_at as link_at_of, refdefs_of, footdefs_of};
+ghost use Rattle.first_pass_names.specs.TableEntries.{entries, with_definition, IsCopy, TellsFootnote, tables_of, names_of, no_names, with_named, with_alignments, with_heading, link_entry, link_at as link_at_of, refdefs_of, footdefs_of};
 ghost use Rattle.first_pass_grammar.specs.Names.{text_named, alignments_named};
 ghost use Rattle.first_pass_grammar.specs.Derivation.{no_tables, told, told_label};
 
@@ -35,7 +35,7 @@ pub struct Allocations<'a> {
 impl<'a> Allocations<'a> {
     /// Empty tables, which take no memory.
     pub fn new(alloc: Global) -> Allocations<'a>
-        ensures tables { tables result ≡ no_tables }
+        ensures tables { tables_of result ≡ no_tables }
         ensures names { names_of result ≡ no_names }
     {
         Allocations {
@@ -118,7 +118,7 @@ impl<'a> Allocations<'a> {
         ensures entries { OnOk result
             (entries self.new ≡ with_definition (entries self.old) label.entry definition.entry) }
         ensures tables { OnOk result
-            (tables self.new ≡ told (tables self.old) (link_entry (label.entry, definition.entry) ∷ [])) }
+            (tables_of self.new ≡ told (tables_of self.old) (link_entry (label.entry, definition.entry) ∷ [])) }
         ensures names { names_of self.new ≡ names_of self.old }
         ensures refused { OnErr result (entries self.new ≡ entries self.old) }
     {
@@ -131,7 +131,7 @@ impl<'a> Allocations<'a> {
     /// stays borrowed. The one error is that a request for memory was refused; then nothing changes (this project).
     pub fn define_footnote(&mut self, alloc: Global, label: &CowStr<'a>) -> Result<(), AllocError>
         ensures entries { OnOk result (TellsFootnote (entries self.old) (entries self.new) label.now) }
-        ensures tables { OnOk result (tables self.new ≡ told_label (tables self.old) (text_of label.now)) }
+        ensures tables { OnOk result (tables_of self.new ≡ told_label (tables_of self.old) (text_of label.now)) }
         ensures names { names_of self.new ≡ names_of self.old }
         ensures refused { OnErr result (entries self.new ≡ entries self.old) }
     {

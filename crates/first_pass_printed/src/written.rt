@@ -3,7 +3,7 @@
 ghost use Rattle.std.specs.Prelude.{◌≡◌, map, OnOk, OnErr, IfErr};
 ghost use Rattle.std.specs.List.{flat_map};
 ghost use Rattle.std.specs.Io.KnownBytes.{Appends};
-ghost use Rattle.first_pass_names.specs.TableEntries.{names_of, tables, link_entry};
+ghost use Rattle.first_pass_names.specs.TableEntries.{names_of, tables_of, link_entry};
 ghost use Rattle.first_pass_printed.specs.Printed.{node_line, link_line, printed_lines};
 ghost use Rattle.first_pass_host.specs.Streams.{AppendsFront, IsWriteFault};
 
@@ -25,9 +25,9 @@ pub fn write_lines<W: Write>(
     output: &mut W,
 ) -> Result<(), BlocksFault>
     ensures ok { OnOk result (Appends (W.contents output.old) (W.contents output.new)
-        (printed_lines (names_of allocs.now) nodes.now (tables allocs.now))) }
+        (printed_lines (names_of allocs.now) nodes.now (tables_of allocs.now))) }
     ensures front { OnErr result (AppendsFront (W.contents output.old) (W.contents output.new)
-        (printed_lines (names_of allocs.now) nodes.now (tables allocs.now))) }
+        (printed_lines (names_of allocs.now) nodes.now (tables_of allocs.now))) }
     ensures fault { IfErr result IsWriteFault }
 {
     write_nodes(alloc, nodes, allocs, output)?;

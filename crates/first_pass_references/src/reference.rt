@@ -4,7 +4,7 @@ ghost use Rattle.std.specs.Prelude.{◌≡◌, ◌≤◌, length, IfOk};
 ghost use Rattle.std.specs.List.{prefix_len};
 ghost use Rattle.std.specs.Option.{option_map, option_copied};
 ghost use Rattle.first_pass_items.specs.CowText.{text_of};
-ghost use Rattle.first_pass_names.specs.TableEntries.{tables};
+ghost use Rattle.first_pass_names.specs.TableEntries.{tables_of};
 ghost use Rattle.first_pass_references.specs.Pairs.{opens, closes, is_inside, closed_by, pair_after};
 ghost use Rattle.first_pass_references.specs.References.{link_named, reference_at, reference_of};
 
@@ -35,7 +35,7 @@ pub fn reference_at<'d>(
     allocs: &'d Allocations<'_>,
 ) -> Result<Option<LinkReference<'d>>, AllocError>
     ensures { IfOk result (λ found. option_map reference_of found
-        ≡ reference_at text.now (tables allocs.now).links nodes.now) }
+        ≡ reference_at text.now (tables_of allocs.now).links nodes.now) }
 {
     let Some(((depth, open), after)) = nodes.split_first() else {
         return Ok(None);
@@ -125,7 +125,7 @@ fn link_named<'d, 'a>(
     allocs: &'d Allocations<'a>,
 ) -> Result<Option<&'d LinkDef<'a>>, AllocError>
     ensures { IfOk result (λ found. option_map (λ link. text_of link.now.dest) found
-        ≡ option_map (λ link. link.dest) (link_named (tables allocs.now).links label.now)) }
+        ≡ option_map (λ link. link.dest) (link_named (tables_of allocs.now).links label.now)) }
 {
     let text = match str::from_utf8(label) {
         Ok(text) => text,

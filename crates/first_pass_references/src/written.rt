@@ -4,7 +4,7 @@ ghost use Rattle.std.specs.Prelude.{◌≡◌, ◌++◌, map, OnOk, OnErr, IfErr
 ghost use Rattle.std.specs.List.{flat_map};
 ghost use Rattle.std.specs.Io.KnownBytes.{Appends};
 ghost use Rattle.first_pass_host.specs.Streams.{AppendsFront, IsWriteFault};
-ghost use Rattle.first_pass_names.specs.TableEntries.{names_of, tables, link_entry};
+ghost use Rattle.first_pass_names.specs.TableEntries.{names_of, tables_of, link_entry};
 ghost use Rattle.first_pass_references.specs.Lines.{definition_line, first_lines, node_lines, links_lines};
 
 use crate::lines::{append_definition, append_footnote, append_reference};
@@ -27,9 +27,9 @@ pub fn write_links<W: Write>(
     output: &mut W,
 ) -> Result<(), BlocksFault>
     ensures ok { OnOk result (Appends (W.contents output.old) (W.contents output.new)
-        (links_lines text.now (names_of allocs.now) nodes.now (tables allocs.now))) }
+        (links_lines text.now (names_of allocs.now) nodes.now (tables_of allocs.now))) }
     ensures front { OnErr result (AppendsFront (W.contents output.old) (W.contents output.new)
-        (links_lines text.now (names_of allocs.now) nodes.now (tables allocs.now))) }
+        (links_lines text.now (names_of allocs.now) nodes.now (tables_of allocs.now))) }
     ensures fault { IfErr result IsWriteFault }
 {
     write_definitions(alloc, allocs.refdefs(), output)?;
@@ -65,9 +65,9 @@ fn write_nodes<W: Write>(
     output: &mut W,
 ) -> Result<(), BlocksFault>
     ensures ok { OnOk result (Appends (W.contents output.old) (W.contents output.new)
-        (node_lines text.now (names_of allocs.now) (tables allocs.now).links nodes.now)) }
+        (node_lines text.now (names_of allocs.now) (tables_of allocs.now).links nodes.now)) }
     ensures front { OnErr result (AppendsFront (W.contents output.old) (W.contents output.new)
-        (node_lines text.now (names_of allocs.now) (tables allocs.now).links nodes.now)) }
+        (node_lines text.now (names_of allocs.now) (tables_of allocs.now).links nodes.now)) }
     ensures fault { IfErr result IsWriteFault }
 {
     let mut held = Vec::new(alloc);
@@ -89,7 +89,7 @@ fn append_first(
     allocs: &Allocations<'_>,
 ) -> Result<(), AllocError>
     ensures { OnOk result (line.new.items ≡ line.old.items
-        ++ first_lines text.now (names_of allocs.now) (tables allocs.now).links nodes.now) }
+        ++ first_lines text.now (names_of allocs.now) (tables_of allocs.now).links nodes.now) }
 {
     let Some((_, first)) = nodes.first() else {
         return Ok(());

@@ -8,7 +8,7 @@ use Rattle.first_pass_lists.specs.declared.reading.Reading.{Reading}
 use Rattle.first_pass_open.specs.declared.source.Source.{Source}
 use Rattle.first_pass_blocks.specs.Ordered.{reached, IsReadTo, IsReadFrom}
 use Rattle.first_pass_blocks.specs.State.{Ready}
-use Rattle.first_pass_names.specs.TableEntries.{tables, names_of}
+use Rattle.first_pass_names.specs.TableEntries.{tables_of, names_of}
 use Rattle.first_pass_blocks.specs.Written.{TablesAreWritten}
 use Rattle.first_pass_blocks.proofs.WrittenLemmas.{none_written}
 use Rattle.first_pass_grammar.proofs.OwnNodes.{own_at_most}
@@ -58,11 +58,11 @@ loop-ix-preserved c =
       same_options = same_options;
       boundary = subst (λ t. IsCharBoundary t next) same_text more_lines.boundary;
       ready = λ names more.
-          subst (λ (z : List ℕ × Options). Ready (document z.0 z.1 names) (tables new.allocs) behind (lines_from z.0 mid)
-          → Ready (document z.0 z.1 names) (tables new.allocs) behind (lines_from z.0 next)) (both_same same_text same_options)
-          (more_lines.read.ready names (tables new.allocs))
-          (subst (λ (z : List ℕ × Options). Ready (document z.0 z.1 names) (tables pass.allocs) before (lines_from z.0 c.loop-ix.ix)
-          → Ready (document z.0 z.1 names) (tables new.allocs) behind (lines_from z.0 mid)) (both_same i.same_text i.same_options) (e.ready names more)
+          subst (λ (z : List ℕ × Options). Ready (document z.0 z.1 names) (tables_of new.allocs) behind (lines_from z.0 mid)
+          → Ready (document z.0 z.1 names) (tables_of new.allocs) behind (lines_from z.0 next)) (both_same same_text same_options)
+          (more_lines.read.ready names (tables_of new.allocs))
+          (subst (λ (z : List ℕ × Options). Ready (document z.0 z.1 names) (tables_of pass.allocs) before (lines_from z.0 c.loop-ix.ix)
+          → Ready (document z.0 z.1 names) (tables_of new.allocs) behind (lines_from z.0 mid)) (both_same i.same_text i.same_options) (e.ready names more)
           (i.ready names (extends_both names (names_of new.allocs) (names_of pass.allocs) more e.names)));
       order = subst (λ (z : List ℕ × Options). IsReadFrom z.1 z.0 behind mid → IsReadFrom z.1 z.0 behind next)
           (both_same same_text same_options) more_lines.read.order
@@ -88,22 +88,22 @@ returns-clause-derived c =
     let d = document c.args.text.now c.args.options names in
     let i = c.loop-ix.invariant in
     let now = c.close_containers.new.reading in
-    let here = subst (Ready d (tables c.loop-ix.pass.allocs) c.loop-ix.pass.reading) (lines_at-end c.args.text.now c.loop-ix.ix c.loop-ix-test.false)
+    let here = subst (Ready d (tables_of c.loop-ix.pass.allocs) c.loop-ix.pass.reading) (lines_at-end c.args.text.now c.loop-ix.ix c.loop-ix-test.false)
     (i.ready names (extends_equal _ _ refl)) in
-    let closed : Ready d (tables c.loop-ix.pass.allocs) now [] =
-    c.close_containers.ensures.kept.ready d (tables c.loop-ix.pass.allocs) [] refl (λ m low high. refl) here in
-    ready_finish d (tables c.loop-ix.pass.allocs) now (all_closed c) closed
+    let closed : Ready d (tables_of c.loop-ix.pass.allocs) now [] =
+    c.close_containers.ensures.kept.ready d (tables_of c.loop-ix.pass.allocs) [] refl (λ m low high. refl) here in
+    ready_finish d (tables_of c.loop-ix.pass.allocs) now (all_closed c) closed
 
 pub returns-clause-only : goal.returns-clause-only
 returns-clause-only c =
-    only_derived c.args.text.now c.args.options (names_of c.loop-ix.pass.allocs) c.close_containers.new.reading.tree.nodes (tables c.loop-ix.pass.allocs)
+    only_derived c.args.text.now c.args.options (names_of c.loop-ix.pass.allocs) c.close_containers.new.reading.tree.nodes (tables_of c.loop-ix.pass.allocs)
     (returns-clause-derived c)
 
 pub returns-clause-whole : goal.returns-clause-whole
 returns-clause-whole c =
     let names = names_of c.loop-ix.pass.allocs in
     let d = document c.args.text.now c.args.options names in
-    derived_whole d c.close_containers.new.reading.tree.nodes (tables c.loop-ix.pass.allocs) (returns-clause-derived c)
+    derived_whole d c.close_containers.new.reading.tree.nodes (tables_of c.loop-ix.pass.allocs) (returns-clause-derived c)
 
 pub returns-clause-finished : goal.returns-clause-finished
 returns-clause-finished c = all_closed c
@@ -112,7 +112,7 @@ pub returns-clause-settled : goal.returns-clause-settled
 returns-clause-settled c =
     let names = names_of c.loop-ix.pass.allocs in
     let d = document c.args.text.now c.args.options names in
-    derived_settled d c.close_containers.new.reading.tree.nodes (tables c.loop-ix.pass.allocs) (returns-clause-derived c)
+    derived_settled d c.close_containers.new.reading.tree.nodes (tables_of c.loop-ix.pass.allocs) (returns-clause-derived c)
 
 pub returns-clause-order : goal.returns-clause-order
 returns-clause-order c =

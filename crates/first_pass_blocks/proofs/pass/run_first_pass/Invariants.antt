@@ -5,7 +5,7 @@ use Rattle.first_pass_grammar.specs.Counting.{own_nodes}
 use Rattle.first_pass_grammar.specs.Completion.{lines_from}
 use Rattle.first_pass_blocks.specs.Ordered.{IsReadFrom}
 use Rattle.first_pass_blocks.specs.State.{Ready}
-use Rattle.first_pass_names.specs.TableEntries.{tables, names_of}
+use Rattle.first_pass_names.specs.TableEntries.{tables_of, names_of}
 use Rattle.first_pass_blocks.specs.Written.{TablesAreWritten}
 use Rattle.first_pass_blocks.proofs.pass.run_first_pass.Given as goal
 
@@ -16,7 +16,7 @@ invariant-loop-ix l = record {
   same_options : l.pass.source.options ≡ l.fn.options;
   boundary : IsCharBoundary l.text l.ix;
   ready : (names : Names)
-      → Extends names (names_of l.pass.allocs) → Ready (document l.text l.fn.options names) (tables l.pass.allocs) l.pass.reading (lines_from l.text l.ix);
+      → Extends names (names_of l.pass.allocs) → Ready (document l.text l.fn.options names) (tables_of l.pass.allocs) l.pass.reading (lines_from l.text l.ix);
   order : IsReadFrom l.fn.options l.text l.pass.reading l.ix;
   named : AreNamed (names_of l.pass.allocs) l.pass.reading.tree.nodes;
   written : TablesAreWritten l.text l.pass.allocs;

@@ -1,6 +1,6 @@
 use Rattle.std.proofs.Common.{length, sym, ap, subst, ◌∙◌}
 use Rattle.first_pass_grammar.specs.Leaves.{document}
-use Rattle.first_pass_names.specs.TableEntries.{names_of, tables}
+use Rattle.first_pass_names.specs.TableEntries.{names_of, tables_of}
 use Rattle.first_pass_outline.specs.Outline.{outline_of}
 use Rattle.first_pass_outline.specs.TextOutline.{LieBetween}
 use Rattle.first_pass_outline.proofs.OrderedEntries.{derived_between}
@@ -14,5 +14,5 @@ returns-clause-order c =
     let text = c.args.text.now in
     let allocs = c.in_ok-tree.allocs in
     subst (LieBetween text 0 (length text)) (sym c.in_ok-entries.ensures)
-    (derived_between (document text c.args.options (names_of allocs)) c.in_ok-tree.tree.nodes (tables allocs) c.in_ok-tree.ensures.derived
+    (derived_between (document text c.args.options (names_of allocs)) c.in_ok-tree.tree.nodes (tables_of allocs) c.in_ok-tree.ensures.derived
     c.in_ok-tree.ensures.order)

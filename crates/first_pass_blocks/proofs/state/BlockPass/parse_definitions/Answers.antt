@@ -9,7 +9,7 @@ use Rattle.first_pass_open.specs.declared.source.Source.{Source}
 use Rattle.first_pass_lists.specs.declared.reading.Reading.{Reading}
 use Rattle.first_pass_open.proofs.PlaceLemmas.{text_place}
 use Rattle.first_pass_grammar.specs.Definitions.{reference_at}
-use Rattle.first_pass_names.specs.TableEntries.{tables}
+use Rattle.first_pass_names.specs.TableEntries.{tables_of}
 use Rattle.first_pass_definitions.specs.Found.{IsWritten}
 use Rattle.first_pass_blocks.proofs.WrittenLemmas.{one_written, written_here}
 use Rattle.first_pass_open.specs.Path.{context_of}
@@ -43,7 +43,7 @@ returns-clause-run c = λ p line at i.
     let e = c.in_ok-size.ensures in
     let r = inv.so_far p line at i in
     let none = none_here first now c.loop-size.at c.in_ok-size.field-0 inv.same_source inv.same_reading e.value c.in_default.is in
-    run_flows text around nested p r.0 c.loop-size.at (tables first.allocs) (tables now.allocs) (sym r.2)
+    run_flows text around nested p r.0 c.loop-size.at (tables_of first.allocs) (tables_of now.allocs) (sym r.2)
     (λ plain. defined_none text around r.0 r.3.stands
     (ap (λ n. reference_at false around (drop n text)) r.2 ∙ subst (λ z. reference_at z around (drop c.loop-size.at text) ≡ None) plain none)) r.3
 
@@ -104,11 +104,11 @@ returns-in_default-rest-clause-run c = λ p line begins i.
     let rest_is : c.rest_of.result.now ≡ drop next text = c.rest_of.ensures.value ∙ ap (drop next) bytes_are in
     let said = answered (context_in now) around c.rest_of.result.now (drop next text) c.in_ok-rest.rest path_is rest_is f.value in
     let r = inv.so_far p line begins i in
-    let one = one_more text around nested r.0 at w.0 found (tables now.allocs)
-    (tables c.define_link.new.self) c.requires.utf8 r.3.stands r.2 w.1 w.2 fits.0 ends told_is in
+    let one = one_more text around nested r.0 at w.0 found (tables_of now.allocs)
+    (tables_of c.define_link.new.self) c.requires.utf8 r.3.stands r.2 w.1 w.2 fits.0 ends told_is in
     let stops = stops_by (stops_at around (drop next text)) (rest_at around (drop next text)) c.in_ok-rest.rest said c.in_default-rest.is in
-    run_ends text around nested p r.0 (at + size) c.loop-size.line next (tables first.allocs) (tables now.allocs)
-    (tables c.define_link.new.self) next_is
+    run_ends text around nested p r.0 (at + size) c.loop-size.line next (tables_of first.allocs) (tables_of now.allocs)
+    (tables_of c.define_link.new.self) next_is
     (sym r.1) (λ within. stops) r.3 one
 
 pub loop-size-preserved : goal.loop-size-preserved
@@ -151,12 +151,12 @@ loop-size-preserved c =
       boundary = subst (IsCharBoundary text) here there.boundary;
       so_far = λ p line first_at i.
           let r = inv.so_far p line first_at i in
-          let one = one_more text around nested r.0 at w.0 found (tables now.allocs)
-          (tables c.define_link.new.self) c.requires.utf8 r.3.stands r.2 w.1 w.2 fits.0 ends told_is in (
+          let one = one_more text around nested r.0 at w.0 found (tables_of now.allocs)
+          (tables_of c.define_link.new.self) c.requires.utf8 r.3.stands r.2 w.1 w.2 fits.0 ends told_is in (
             text_at text around.path next,
             refl,
             here,
-            run_goes_on text around nested p r.0 (at + size) next (tables first.allocs) (tables now.allocs)
-                (tables c.define_link.new.self) c.requires.utf8 next_is within goes.0 r.3 one,
+            run_goes_on text around nested p r.0 (at + size) next (tables_of first.allocs) (tables_of now.allocs)
+                (tables_of c.define_link.new.self) c.requires.utf8 next_is within goes.0 r.3 one,
           );
     }

@@ -1,7 +1,7 @@
 use Rattle.std.proofs.Common.{◌≡◌, ◌-◌, length, IsCharBoundary}
 use Rattle.first_pass_lines.specs.Places.{Place, offset, IsPlaceOf}
 use Rattle.first_pass_tree.specs.Forest.{in_table}
-use Rattle.first_pass_names.specs.TableEntries.{tables, names_of}
+use Rattle.first_pass_names.specs.TableEntries.{tables_of, names_of}
 use Rattle.first_pass_blocks.specs.Written.{TablesAreWritten}
 use Rattle.first_pass_blocks.specs.Views.{context_in}
 use Rattle.first_pass_blocks.specs.Runs.{RunSoFar}
@@ -18,7 +18,7 @@ invariant-loop-size l = record {
   so_far : (p : Place) → p.line ≡ l.fn.line → offset p ≡ l.fn.at → IsPlaceOf l.fn.self.source.text.now p
       → (q : Place) × (q.line ≡ l.line) × (offset q ≡ l.at)
       × RunSoFar l.fn.self.source.text.now (context_in l.fn.self) (in_table l.fn.self.reading.tree.nodes l.fn.self.reading.tree.spine) p q
-      (tables l.fn.self.allocs) (tables l.self.allocs);
+      (tables_of l.fn.self.allocs) (tables_of l.self.allocs);
 }
 
 abbrev pub decreases-loop-size : goal.decreases-loop-size

@@ -4,7 +4,7 @@ use Rattle.first_pass_lines.specs.Places.{Place, offset, line_end}
 use Rattle.first_pass_grammar.specs.Kinds.{unindented, IsKind}
 use Rattle.first_pass_grammar.specs.Leaves.{document}
 use Rattle.first_pass_grammar.specs.Completion.{lines_from}
-use Rattle.first_pass_names.specs.TableEntries.{names_of, tables}
+use Rattle.first_pass_names.specs.TableEntries.{names_of, tables_of}
 use Rattle.first_pass_names.proofs.NameLemmas.{extends_none}
 use Rattle.first_pass_open.proofs.PlaceLemmas.{all_keep, place_end}
 use Rattle.first_pass_lists.specs.Closing.{list_finished, blank_read}
@@ -61,9 +61,9 @@ returns-in-Blank c =
       later = omega arith;
       boundary = last;
       ready = λ names more ready. let d = document text self.source.options names in
-          subst (λ q. Ready d (tables self.allocs) q (lines_from text next)) (sym c.read_blank_line.ensures)
-          (subst (λ n. Ready d (tables self.allocs) (blank_read old) (lines_from text n)) (sym ends)
-          (ready_blank_leaf d (tables self.allocs) old p (lines_from text (line_end p))
+          subst (λ q. Ready d (tables_of self.allocs) q (lines_from text next)) (sym c.read_blank_line.ensures)
+          (subst (λ n. Ready d (tables_of self.allocs) (blank_read old) (lines_from text n)) (sym ends)
+          (ready_blank_leaf d (tables_of self.allocs) old p (lines_from text (line_end p))
           (subst (IsKind self.source.options p.rest) (ap kind_of c.in-Blank.is) c.requires.found.kind) c.requires.no_empty ready));
       named = λ h. subst (AreReadNamed (names_of self.allocs)) (sym c.read_blank_line.ensures) (blank_named (names_of self.allocs) old h);
       written = λ h. h;

@@ -14,7 +14,7 @@ use Rattle.first_pass_blocks.specs.Positions.{ReadyLazy}
 use Rattle.first_pass_open.proofs.PlaceLemmas.{text_place}
 use Rattle.first_pass_blocks.proofs.OrderLemmas.{ordered_none}
 use Rattle.first_pass_blocks.proofs.OrderSteps.{ordered_at_place, place_before_end}
-use Rattle.first_pass_names.specs.TableEntries.{tables}
+use Rattle.first_pass_names.specs.TableEntries.{tables_of}
 use Rattle.first_pass_names.proofs.NameLemmas.{extends_none}
 use Rattle.first_pass_blocks.proofs.TagLemmas.{ready_any_line, ready_its_line}
 use Rattle.first_pass_blocks.proofs.state.BlockPass.parse_tagged.Goals as goal
@@ -47,7 +47,7 @@ returns-in-None c =
       later = omega arith;
       boundary = c.requires.boundary;
       ready = λ names more tagged.
-          ready_any_line (document text self.source.options names) (tables self.allocs) self.reading at any c.requires.no_empty tagged;
+          ready_any_line (document text self.source.options names) (tables_of self.allocs) self.reading at any c.requires.no_empty tagged;
       named = λ h. h;
       written = λ h. h;
       order = λ ordered. inl (ordered_none text self.reading at c.requires.no_empty c.requires.boundary.0 ordered.0, ordered.1);
@@ -80,9 +80,9 @@ returns-in_ok-next-in-Some c =
       boundary = e.boundary;
       ready = λ names more tagged. let d = document text self.source.options names in
           e.ready names more
-          (inr (subst (λ q. ReadyLazy d (tables self.allocs) old q (lines_from text (line_end q))) (sym same)
-          (subst (λ n. ReadyLazy d (tables self.allocs) old p (lines_from text n)) (sym ends)
-          (ready_its_line d (tables self.allocs) old at its.0 tagged))));
+          (inr (subst (λ q. ReadyLazy d (tables_of self.allocs) old q (lines_from text (line_end q))) (sym same)
+          (subst (λ n. ReadyLazy d (tables_of self.allocs) old p (lines_from text n)) (sym ends)
+          (ready_its_line d (tables_of self.allocs) old at its.0 tagged))));
       named = e.named;
       written = e.written;
       order = λ ordered. e.order (ordered_at_place text self.reading.tree at q refl c.requires.boundary (subst (IsPlaceOf text) (sym same) here.0) ordered);

@@ -10,7 +10,7 @@ use Rattle.first_pass_blocks.proofs.CountLemmas.{block_count}
 use Rattle.first_pass_blocks.proofs.OrderSteps.{ordered_text, unindented_later}
 use Rattle.first_pass_lines.specs.Places.{offset}
 use Rattle.first_pass_open.specs.Between.{AddsBetween, StandsBefore}
-use Rattle.first_pass_names.specs.TableEntries.{tables, told_by, names_of}
+use Rattle.first_pass_names.specs.TableEntries.{tables_of, told_by, names_of}
 use Rattle.first_pass_blocks.proofs.WrittenLemmas.{written_stay}
 use Rattle.first_pass_names.proofs.NameLemmas.{extends_none}
 use Rattle.first_pass_grammar.proofs.TextsNamed.{text_named}
@@ -67,7 +67,7 @@ returns c =
       boundary = e.block.boundary;
       ready = λ names more ready. let d = document text options names in
           subst (λ z. Ready d z new (lines_from text next)) (sym (ap told_by e.more.entries))
-          (ready_text d (tables self.allocs) old tree p at next c.args.marker e.block.items mark there i (e.block.is_text names more) e.block.tree_is
+          (ready_text d (tables_of self.allocs) old tree p at next c.args.marker e.block.items mark there i (e.block.is_text names more) e.block.tree_is
           none ready);
       named = λ h. block_added now (names_of self.allocs) old.tree tree e.block.items e.more.names e.block.tree_is
           (text_named (document text options now) _ (unindented p) (Some c.args.marker) _ _ (task_has_none c.args.marker.body mark)

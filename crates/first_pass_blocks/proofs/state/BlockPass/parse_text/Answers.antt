@@ -2,7 +2,7 @@ use Rattle.std.proofs.Common.{◌≡◌, ◌≤◌, ℕ, None, IsCharBoundary, r
 use Rattle.first_pass_lines.specs.Places.{Place}
 use Rattle.first_pass_grammar.specs.Leaves.{document}
 use Rattle.first_pass_grammar.specs.Kinds.{unindented}
-use Rattle.first_pass_names.specs.TableEntries.{tables, names_of}
+use Rattle.first_pass_names.specs.TableEntries.{tables_of, names_of}
 use Rattle.first_pass_lists.specs.Closing.{is_after_definition, list_finished}
 use Rattle.first_pass_blocks.proofs.LineLemmas.{list_finished_none}
 use Rattle.first_pass_blocks.proofs.HandedOn.{list_finished_blank}
@@ -31,7 +31,7 @@ returns-in-NextLine c =
     let e = c.in_ok-line.ensures in
     let i = all_keep text p.line p.rest c.requires.utf8 c.requires.place in
     let nested = in_table r.tree.nodes r.tree.spine in
-    let run = subst (ReadsRun text (context_in self) nested (unindented p) (tables self.allocs) (tables mid.allocs)) c.in-NextLine.is
+    let run = subst (ReadsRun text (context_in self) nested (unindented p) (tables_of self.allocs) (tables_of mid.allocs)) c.in-NextLine.is
     (e.run (unindented p) (ap (λ (q : Place). q.line) (sym c.place.view_is)) (sym c.requires.at) i) in
     run_line self mid _ p nested c.in-NextLine.line c.in-NextLine.next c.requires.utf8 c.requires.place c.requires.no_empty c.is_forest.ensures
     c.requires.kind refl e.kept.source e.kept.names e.kept.written run refl refl (c.finish_list.ensures ∙ ap (list_finished c.in-NextLine.line) e.kept.reading)
@@ -43,8 +43,8 @@ parse_possible_title-requires-clause-boundary c =
     let p = c.args.place in
     let e = c.in_ok-line.ensures in
     let i = all_keep text p.line p.rest c.requires.utf8 c.requires.place in
-    let run = subst (ReadsRun text (context_in self) (in_table self.reading.tree.nodes self.reading.tree.spine) (unindented p) (tables self.allocs)
-    (tables c.parse_definitions.new.self.allocs)) c.in-Paragraph.is
+    let run = subst (ReadsRun text (context_in self) (in_table self.reading.tree.nodes self.reading.tree.spine) (unindented p) (tables_of self.allocs)
+    (tables_of c.parse_definitions.new.self.allocs)) c.in-Paragraph.is
     (e.run (unindented p) (ap (λ (q : Place). q.line) (sym c.place.view_is)) (sym c.requires.at) i) in
     subst (λ (z : Source). IsCharBoundary z.text.now c.in-Paragraph.text) (sym e.kept.source) (subst (IsCharBoundary text) (sym run.says) run.stands.boundary)
 
@@ -58,7 +58,7 @@ returns-then-is_after_definition c =
     let e = c.in_ok-line.ensures in
     let i = all_keep text p.line p.rest c.requires.utf8 c.requires.place in
     let nested = in_table r.tree.nodes r.tree.spine in
-    let run = subst (ReadsRun text (context_in self) nested (unindented p) (tables self.allocs) (tables mid.allocs)) c.in-Paragraph.is
+    let run = subst (ReadsRun text (context_in self) nested (unindented p) (tables_of self.allocs) (tables_of mid.allocs)) c.in-Paragraph.is
     (e.run (unindented p) (ap (λ (q : Place). q.line) (sym c.place.view_is)) (sym c.requires.at) i) in
     run_title self mid _ p nested c.in-Paragraph.text c.in_ok-next-in-Paragraph.next c.requires.utf8 c.requires.place c.requires.no_empty c.is_forest.ensures
     c.requires.kind refl e.kept.source e.kept.reading e.kept.names e.kept.written run (sym c.is_after_definition.ensures ∙ c.if-is_after_definition.true)
@@ -71,8 +71,8 @@ parse_paragraph-requires-clause-boundary c =
     let p = c.args.place in
     let e = c.in_ok-line.ensures in
     let i = all_keep text p.line p.rest c.requires.utf8 c.requires.place in
-    let run = subst (ReadsRun text (context_in self) (in_table self.reading.tree.nodes self.reading.tree.spine) (unindented p) (tables self.allocs)
-    (tables c.parse_definitions.new.self.allocs)) c.in-Paragraph.is
+    let run = subst (ReadsRun text (context_in self) (in_table self.reading.tree.nodes self.reading.tree.spine) (unindented p) (tables_of self.allocs)
+    (tables_of c.parse_definitions.new.self.allocs)) c.in-Paragraph.is
     (e.run (unindented p) (ap (λ (q : Place). q.line) (sym c.place.view_is)) (sym c.requires.at) i) in
     subst (λ (z : Source). IsCharBoundary z.text.now c.in-Paragraph.text) (sym e.kept.source) (subst (IsCharBoundary text) (sym run.says) run.stands.boundary)
 
@@ -93,7 +93,7 @@ returns c =
     let f = c.in_ok-next-in-Paragraph-2.ensures in
     let i = all_keep text p.line p.rest c.requires.utf8 c.requires.place in
     let nested = in_table r.tree.nodes r.tree.spine in
-    let run = subst (ReadsRun text (context_in self) nested (unindented p) (tables self.allocs) (tables mid.allocs)) c.in-Paragraph.is
+    let run = subst (ReadsRun text (context_in self) nested (unindented p) (tables_of self.allocs) (tables_of mid.allocs)) c.in-Paragraph.is
     (e.run (unindented p) (ap (λ (q : Place). q.line) (sym c.place.view_is)) (sym c.requires.at) i) in
     let done : ended ≡ list_finished at r = c.finish_list-in-Paragraph.ensures ∙ ap (list_finished at) e.kept.reading in
     let none = ap (λ (z : Reading). z.empty_item) done ∙ list_finished_none at r in
