@@ -5,6 +5,7 @@ ghost use Rattle.std.specs.Prelude.{◌≡◌, ◌<◌, ◌≤◌, length, true,
 ghost use Rattle.first_pass_lines.specs.Lines.{is_line_end, is_white, is_blank, is_ascii_white, begins, is_content, is_number_sign, eol_len, blank_len, line_len, level_number as number_of, level_of, atx_level};
 ghost use Rattle.first_pass_lines.specs.Plain.{begins_plain, begins_inert};
 
+use crate::lanes::{LANES, content_run};
 use first_pass_items::item::HeadingLevel;
 use memchr::memchr2;
 
@@ -104,7 +105,12 @@ pub fn scan_whitespace_no_nl(bytes: &[u8]) -> usize
     ensures value { result ≡ prefix_len is_white bytes.now }
     ensures within { result ≤ length bytes.now }
 {
-    bytes.iter().take_while(|b| is_white(**b)).count()
+    // None and one space are the commonest.
+    match bytes {
+        [first, ..] if *first > b' ' => 0,
+        [b' ', next, ..] if *next > b' ' => 1,
+        _ => bytes.iter().take_while(|b| is_white(**b)).count(),
+    }
 }
 
 /// How many bytes the blank line at the start of `bytes` has, its end too; at the end of the text it
@@ -114,6 +120,12 @@ pub fn scan_blank_line(bytes: &[u8]) -> Option<usize>
     ensures value { result ≡ blank_len bytes.now }
     ensures within { IfSome result (λ n. n ≤ length bytes.now) }
 {
+    // Most lines that are not blank are told by their first byte.
+    if let [first, ..] = bytes {
+        if *first > b' ' {
+            return None;
+        }
+    }
     let white = scan_whitespace_no_nl(bytes);
     match scan_eol(&bytes[white..]) {
         Some(end) => Some(white + end),
@@ -121,8 +133,30 @@ pub fn scan_blank_line(bytes: &[u8]) -> Option<usize>
     }
 }
 
+// So many bytes are looked at for a line end 16 at a time: most lines are shorter, and `memchr2` costs more before its
+// first look.
+const NEAR: usize = 128;
+
 /// How many bytes stand before the first line end. CommonMark 2.1.
 pub fn content_len(bytes: &[u8]) -> usize
+    ensures value { result ≡ prefix_len is_content bytes.now }
+    ensures within { result ≤ length bytes.now }
+{
+    let near = bytes.len().min(NEAR);
+    let mut from = 0;
+    while near - from >= LANES {
+        let run = content_run(bytes, from);
+        from += run;
+        if run < LANES {
+            return from;
+        }
+    }
+    from + far_content_len(&bytes[from..])
+}
+
+// The same of what is left after a near look.
+#[inline(never)]
+fn far_content_len(bytes: &[u8]) -> usize
     ensures value { result ≡ prefix_len is_content bytes.now }
     ensures within { result ≤ length bytes.now }
 {

@@ -323,6 +323,7 @@ impl<'a> LineStart<'a> {
 
     // Takes the columns before an item's content, which could begin `width` columns in, and says how
     // many columns in it does.
+    #[inline(always)]
     #[tactic(auto, unfolding(crate::specs::Markers::content_indent))]
     fn scan_content_indent(&mut self, width: usize) -> usize
         requires { width < 2 ^ 62 }

@@ -1,21 +1,32 @@
-use Rattle.std.proofs.Common.{◌≡◌, Bool, true, false, not, refl, sym, arith}
+use Rattle.std.proofs.Common.{◌≡◌, ℕ, zero, suc, ◌+◌, ◌<◌, ◌≤◌, Bool, true, List, [], ◌∷◌, length, drop, get_or}
+use Rattle.std.proofs.Common.{sym, ap, arith, inl, inr}
+use Rattle.std.proofs.lemmas.Bool.{cases_lt}
+use Rattle.std.proofs.lemmas.List.{take_rest}
 use Rattle.std.proofs.lemmas.List.Sums.{prefix_len_is}
+use Rattle.std.specs.List.{prefix_len}
 use Rattle.first_pass_lines.specs.Lines.{is_content}
 use Rattle.first_pass_lines.proofs.lines.content_len.Goals as goal
 
-not-true : (b : Bool) → (b ≡ true → ⊥) → not b ≡ true
-not-true true h = absurd (h refl)
-not-true false h = refl
+-- the bytes that passed, and then what is left
+after_passed : (p : ℕ → Bool) (xs : List ℕ) (i : ℕ)
+    → i ≤ length xs → ((k : ℕ) → k < i → p (get_or xs k 0) ≡ true) → i + prefix_len p (drop i xs) ≡ prefix_len p xs
+after_passed p xs zero h passed = omega arith
+after_passed p [] (suc i) h passed = absurd (omega arith)
+after_passed p (x ∷ xs) (suc i) h passed =
+    let first : p x ≡ true = passed 0 (omega arith) in
+    rw first (omega (arith, after_passed p xs i (omega arith) (λ k l. passed (suc k) (omega arith))))
 
-not-false : (b : Bool) → b ≡ true → not b ≡ false
-not-false true h = refl
-not-false false h = cc
+pub returns-then-run-lt-LANES-clause-value : goal.returns-then-run-lt-LANES-clause-value
+returns-then-run-lt-LANES-clause-value c =
+    let run = c.content_run-run.ensures in
+    sym (prefix_len_is is_content c.args.bytes.now _ 0 (omega arith)
+    (λ k l. elim (cases_lt k c.loop-from.from) [ inl passed ↦ c.loop-from.invariant.none k passed | inr behind ↦ run.1 k behind l ])
+    (λ l. run.2 (omega arith)))
 
-pub returns-in-None-clause-value : goal.returns-in-None-clause-value
-returns-in-None-clause-value c =
-    sym (prefix_len_is is_content c.args.bytes.now _ 0 (omega arith) (λ k l. not-true _ (c.in-None.ensures k (omega arith) l)) (λ l. absurd (omega arith)))
-
-pub returns-in-Some-clause-value : goal.returns-in-Some-clause-value
-returns-in-Some-clause-value c =
-    let e = c.in-Some.ensures in
-    sym (prefix_len_is is_content c.args.bytes.now _ 0 (omega (arith, e.0.high)) (λ k l. not-true _ (e.0.before k (omega arith) l)) (λ l. not-false _ e.1))
+pub returns-clause-value : goal.returns-clause-value
+returns-clause-value c =
+    let bytes = c.args.bytes.now in
+    let from = c.loop-from.from in
+    let left = c.far_content_len.ensures.value in
+    let whole = ap (prefix_len is_content) (take_rest bytes from) in
+    omega (arith, after_passed is_content bytes from (omega arith) c.loop-from.invariant.none)
