@@ -1,2 +1,3 @@
+pub mod StopLemmas
 pub mod WalkFacts
 pub mod WalkLemmas

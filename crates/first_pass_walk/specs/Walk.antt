@@ -1,7 +1,8 @@
 -- The bytes at which a token may begin, the next of them, and a walk over them.
-use Rattle.std.specs.Prelude.{◌≡◌, ℕ, ◌+◌, ◌<◌, ◌≤◌, ◌==◌, ◌&&◌, ◌||◌, ◌⊎◌, Bool, true, false, nat_lt, List, [], ◌∷◌, length, slice_index, Option, None}
+use Rattle.std.specs.Prelude.{◌≡◌, ℕ, ◌+◌, ◌^◌, ◌<◌, ◌≤◌, ◌==◌, ◌&&◌, ◌||◌, ◌⊎◌, Bool, true, false, nat_lt, List, [], ◌∷◌, length, slice_index, Option, None}
 use Rattle.std.specs.List.{slice_index_or, list_any}
 use Rattle.std.specs.Char.{is_ascii_alphabetic}
+use Rattle.std.specs.Int.{bit_at}
 use Rattle.first_pass_items.specs.Bytes.{line_feed, carriage_return, space, exclamation_mark, quotation_mark, dollar_sign, ampersand, apostrophe, asterisk}
 use Rattle.first_pass_items.specs.Bytes.{hyphen, full_stop, less_than, left_bracket, backslash, right_bracket, circumflex, underscore, backquote, left_brace}
 use Rattle.first_pass_items.specs.Bytes.{pipe, right_brace, tilde}
@@ -63,6 +64,12 @@ NoneMarkedFrom lut bytes ix = (k : ℕ) → ix ≤ k → k < length bytes → is
 -- a letter, a space or a byte of a character past ASCII (this project)
 abbrev pub is_word_byte : ℕ → Bool
 is_word_byte b = (is_ascii_alphabetic b || b == space) || (nat_lt 127 b && nat_lt b 256)
+
+-- which of the 16 bytes from a place on are word bytes: bit k of the mask is 0 just where the byte k after the place is one, and no bit from 16 on is set
+-- (this project)
+pub record AreWordStops (bytes : List ℕ) (at mask : ℕ) : Type 0 where
+  pub within : mask < 2 ^ 16
+  pub stops : (k : ℕ) → k < 16 → is_word_byte (slice_index bytes (at + k)) ≡ (bit_at mask k == 0)
 
 -- the table marks no letter, no space and no byte of a character past ASCII (this project)
 abbrev pub SparesWords : List Bool → Type 0

@@ -1,12 +1,11 @@
 //! The walk over the bytes at which a token may begin.
 
 ghost use Rattle.std.specs.Prelude.{◌≡◌, ◌+◌, ◌≤◌, length, IfSome, IfNone};
-ghost use Rattle.first_pass_walk.specs.Walk.{is_special as is_special_byte, MarksSpecial, IsNextMarked, NoneMarkedFrom, IsWalk, is_word_byte, SparesWords};
-ghost use Rattle.first_pass_lines.specs.Lanes.{IsRunIn};
+ghost use Rattle.first_pass_walk.specs.Walk.{is_special as is_special_byte, MarksSpecial, IsNextMarked, NoneMarkedFrom, IsWalk, SparesWords, AreWordStops};
 
 use bitflags::Flags;
 use first_pass_items::option_set::Options;
-use first_pass_lines::lanes::{LANES, first_set};
+use first_pass_lines::lanes::LANES;
 use std::simd::prelude::*;
 
 /// What a walk does after a call at a place.
@@ -52,31 +51,36 @@ pub fn next_special_in_words(lut: &[bool; 256], bytes: &[u8], ix: usize) -> Opti
     ensures none { IfNone result (NoneMarkedFrom lut.now bytes.now ix) }
 {
     let mut next = ix;
-    while next < bytes.len() && bytes.len() - next >= LANES {
-        let run = word_run(bytes, next);
-        next += run;
-        if run < LANES {
-            if lut[bytes[next] as usize] {
-                return Some(next);
+    if bytes.len() < LANES {
+        return next_special(lut, bytes, next);
+    }
+    let last = bytes.len() - LANES;
+    while next <= last {
+        let mut stops = word_stops(bytes, next);
+        while stops != 0 {
+            let at = next + stops.trailing_zeros() as usize;
+            if lut[bytes[at] as usize] {
+                return Some(at);
             }
-            next += 1;
+            stops &= stops - 1;
         }
+        next += LANES;
     }
     next_special(lut, bytes, next)
 }
 
-// How many of the 16 bytes from an offset on are letters, spaces or bytes past ASCII, up to the first that is none of
-// these.
+// Which of the 16 bytes from an offset on are no letters, spaces or bytes past ASCII: a bit for each byte, the lowest
+// for the first.
 #[inline(always)]
-fn word_run(bytes: &[u8], at: usize) -> usize
+fn word_stops(bytes: &[u8], at: usize) -> u64
     requires { at + 16 ≤ length bytes.now }
-    ensures { IsRunIn is_word_byte bytes.now at 16 result }
+    ensures { AreWordStops bytes.now at result }
 {
     let lanes = u8x16::from_slice(&bytes[at..]);
     let from_a = (lanes | u8x16::splat(0x20)) - u8x16::splat(b'a');
     let ascii = from_a.simd_ge(u8x16::splat(26)) & lanes.simd_ne(u8x16::splat(b' '));
     let stops = ascii & lanes.simd_lt(u8x16::splat(128));
-    first_set(stops.to_bitmask())
+    stops.to_bitmask()
 }
 
 /// Calls the closure at the least place at or after the offset `ix` of `bytes` whose byte the table

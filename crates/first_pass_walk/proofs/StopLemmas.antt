@@ -1,0 +1,94 @@
+-- From the mask of one load to the bytes that fail a test, and from one set bit of a mask to the next.
+use Rattle.std.proofs.Common.{◌≡◌, ◌⊎◌, inl, inr, ℕ, zero, suc, ◌+◌, ◌-◌, ◌/◌, ◌%◌, ◌^◌, ◌<◌, ◌≤◌, ◌==◌, Bool, true, false, not, cond, List, map, length}
+use Rattle.std.proofs.Common.{get_or, Fits, w8, w64, bit_and, refl, sym, ap, ◌∙◌, subst, arith}
+use Rattle.std.proofs.lemmas.Bool.{agree_below, agree_below_at, cases_lt, cases_eq}
+use Rattle.std.proofs.lemmas.List.{get_or-map, length-map}
+use Rattle.std.proofs.lemmas.Nat.Bits.{bit_at_lowest, bit_at-suc, bit_at-lt, bit_at_and, bit_at_above, bit_at-trailing_zeros}
+use Rattle.std.proofs.lemmas.Simd.{map-map, mask_l-mod, mask_l-lt, bit_mask_l, length-chunk, get_or-chunk}
+use Rattle.std.specs.Int.{bit_at, trailing_zeros}
+use lib.Lanes.{chunk, mask_l, top}
+
+clear_is : (test stop : Bool) → stop ≡ not test → test ≡ (cond stop 1 0 == 0)
+clear_is true stop e = rw e refl
+clear_is false stop e = rw e refl
+
+module _ (q : ℕ → Bool) (d : List ℕ) (i n : ℕ) (z : List ℕ) (room : i + n ≤ length d) (few : n ≤ 64)
+    (fits : (k : ℕ) → Fits w8 (get_or d k 0)) (f : ℕ → ℕ) (lanes : z ≡ map f (chunk i n d)) where
+  abbrev stops : ℕ → Bool
+  stops x = top 7 (f x)
+
+  long : length (chunk i n d) ≡ n
+  long = length-chunk i n d room
+
+  mask_is : mask_l (map (top 7) z) % 2 ^ 64 ≡ mask_l (map stops (chunk i n d))
+  mask_is =
+      let v = chunk i n d in
+      ap (λ l. mask_l l % 2 ^ 64) (ap (map (top 7)) lanes ∙ map-map (top 7) f v) ∙ mask_l-mod (map stops v) 64 (omega (arith, length-map v stops, long))
+
+  -- there is no bit but of these lanes
+  pub mask_within : mask_l (map (top 7) z) % 2 ^ 64 < 2 ^ n
+  mask_within =
+      let v = chunk i n d in
+      subst (λ m. m < 2 ^ n) (sym mask_is) (subst (λ m. mask_l (map stops v) < 2 ^ m) (length-map v stops ∙ long) (mask_l-lt (map stops v)))
+
+  -- a lane's bit is clear just where q passes
+  pub mask_stops : agree_below stops (λ x. not (q x)) 256 ≡ true
+      → (k : ℕ) → k < n → q (get_or d (i + k) 0) ≡ (bit_at (mask_l (map (top 7) z) % 2 ^ 64) k == 0)
+  mask_stops all k within =
+      let v = chunk i n d in
+      let at = get_or-map stops v k 0 false (omega (arith, long)) ∙ ap stops (get_or-chunk i n d k 0 within) in
+      clear_is _ _ (agree_below_at stops (λ x. not (q x)) 256 (get_or d (i + k) 0) all (fits (i + k)).fits)
+      ∙ ap (λ b. cond b 1 0 == 0) (sym at) ∙ ap (λ b. b == 0) (sym (ap (λ m. bit_at m k) mask_is ∙ bit_mask_l (map stops v) k))
+
+-- To take one from a number leaves its set bits, but for the lowest.
+abbrev IsKeptOrLowest : ℕ → ℕ → Type 0
+IsKeptOrLowest n k = (bit_at (n - 1) k ≡ 1) ⊎ ((i : ℕ) → i < k → bit_at n i ≡ 0)
+
+kept_by : (n k d : ℕ) → n % 2 ≡ d → 0 < n → bit_at n (suc k) ≡ 1 → (0 < n / 2 → bit_at (n / 2) k ≡ 1 → IsKeptOrLowest (n / 2) k) → IsKeptOrLowest n (suc k)
+kept_by n k (suc d) odd some set half =
+    let same : (n - 1) / 2 ≡ n / 2 = omega arith in
+    inl (bit_at-suc (n - 1) k ∙ ap (λ x. bit_at x k) same ∙ sym (bit_at-suc n k) ∙ set)
+kept_by n k zero even some set half =
+    let less : (n - 1) / 2 ≡ n / 2 - 1 = omega arith in
+    elim (half (omega arith) (sym (bit_at-suc n k) ∙ set)) [
+      | inl kept ↦ inl (bit_at-suc (n - 1) k ∙ ap (λ x. bit_at x k) less ∙ kept)
+      | inr none ↦ inr (below none)
+    ]
+  where
+    below : ((i : ℕ) → i < k → bit_at (n / 2) i ≡ 0) → (i : ℕ) → i < suc k → bit_at n i ≡ 0
+    below none zero l = bit_at_lowest n ∙ even
+    below none (suc i) l = bit_at-suc n i ∙ none i (omega arith)
+
+kept_or_lowest : (k n : ℕ) → 0 < n → bit_at n k ≡ 1 → IsKeptOrLowest n k
+kept_or_lowest zero n some set = inr (λ i l. absurd (omega arith))
+kept_or_lowest (suc k) n some set = kept_by n k (n % 2) refl some set (kept_or_lowest k (n / 2))
+
+-- no bit is set below the lowest
+no_lower : (n s t : ℕ) → bit_at n s ≡ 1 → ((i : ℕ) → i < t → bit_at n i ≡ 0) → t ≤ s
+no_lower n s t set none =
+    elim (cases_lt s t) [
+      | inl lower ↦ absurd (omega (arith, none s lower))
+      | inr h ↦ h
+    ]
+
+module _ (n : ℕ) (some : 0 < n) (fits : n < 2 ^ 64) where
+  -- `n & (n - 1)` clears the lowest set bit alone
+  pub cleared : (k : ℕ) → bit_at (bit_and n (n - 1)) k ≡ 0 → (bit_at n k ≡ 0) ⊎ (k ≡ trailing_zeros w64 n)
+  cleared k clear =
+      elim (cases_eq (bit_at n k) 0) [
+        | inl already ↦ inl already
+        | inr other ↦
+            let low = bit_at-trailing_zeros w64 n some fits in
+            let set : bit_at n k ≡ 1 = omega (arith, bit_at-lt n k) in
+            elim (kept_or_lowest k n some set) [
+              | inl kept ↦ absurd (omega (arith, bit_at_and n (n - 1) k))
+              | inr none ↦ inr (omega (arith, no_lower n k (trailing_zeros w64 n) set low.2, no_lower n (trailing_zeros w64 n) k low.1 none))
+            ]
+      ]
+
+  pub lowest_within : (w : ℕ) → n < 2 ^ w → trailing_zeros w64 n < w
+  lowest_within w below =
+      elim (cases_lt (trailing_zeros w64 n) w) [
+        | inl h ↦ h
+        | inr h ↦ absurd (omega (arith, (bit_at-trailing_zeros w64 n some fits).1, bit_at_above n w (trailing_zeros w64 n) below h))
+      ]
