@@ -11,11 +11,11 @@ use Rattle.std.proofs.lemmas.List.{drop_more, take_more, drop-drop, get_or-drop,
 use Rattle.std.proofs.lemmas.List.Sums.{prefix_len-le-length}
 use Rattle.std.proofs.lemmas.Option.{some_pair_parts, none-some}
 use Rattle.std.proofs.lemmas.Str.{encode_ascii, length-encode, IsCharBoundary-after_ascii}
-use Rattle.memchr.specs.Find.{is_byte2}
 use Rattle.first_pass_lines.specs.Lines.{begins}
 use Rattle.first_pass_links.specs.Entities.{entity_at}
 use Rattle.first_pass_links.specs.Escapes.{unescaped, unescaped_behind, replaced_at, begins_escape, without_pipe_escapes}
 use Rattle.first_pass_links.specs.Changes.{change_at, begins_pipe_escape, IsChange}
+use Rattle.first_pass_links.specs.Plain.{is_unmarked}
 use Rattle.first_pass_links.proofs.EntityFacts.{is_plain, entity_is_reference}
 use Rattle.first_pass_links.proofs.PipeEscapes.{cell-nil, cell-other, cell-kept, cell-dropped, pipe_behind, drop-without_pipe_escapes, entity_at-cell}
 
@@ -341,19 +341,17 @@ kept_more t text from at i l e =
           ∙ ap (λ k. take k (drop from text) ++ unescaped t (drop (at + 1) text)) (sym s);
     }
 
-plain_at : (t : Bool) (b : ℕ) (bs : List ℕ) → (is_byte2 92 38 b ≡ true → ⊥) → (u v : Bool) → (b == 92) ≡ u → (b == 38) ≡ v → change_at t (b ∷ bs) ≡ None
-plain_at t b bs f true v h h' = absurd (f (rw h))
-plain_at t b bs f false true h h' = absurd (f (rw (h, h')))
-plain_at t b bs f false false h h' = no_change t b bs h h'
+unmarked_at : (t : Bool) (b : ℕ) (bs : List ℕ) → is_unmarked b ≡ true → change_at t (b ∷ bs) ≡ None
+unmarked_at t b bs f = no_change t b bs (grind (arith, nat_tests, f)) (grind (arith, nat_tests, f))
 
 pub kept_run : (t : Bool) (text : List ℕ) (from at k : ℕ)
-    → IsKept t text from at → at + k ≤ length text → ((j : ℕ) → j < k → is_byte2 92 38 (get_or (drop at text) j 0) ≡ true → ⊥) → IsKept t text from (at + k)
+    → IsKept t text from at → at + k ≤ length text → ((j : ℕ) → j < k → is_unmarked (get_or (drop at text) j 0) ≡ true) → IsKept t text from (at + k)
 kept_run t text from at zero i l f = let e : at + 0 ≡ at = omega arith in rw e i
 kept_run t text from at (suc k) i l f =
     let r = kept_run t text from at k i (omega arith) (λ j h. f j (omega arith)) in
     let d = drop_more text (at + k) 0 (omega arith) in
     let g = get_or-drop at text k 0 in
-    let p = plain_at t (get_or text (at + k) 0) (drop (at + k + 1) text) (λ h. f k (omega arith) (ap (is_byte2 92 38) g ∙ h)) _ _ refl refl in
+    let p = unmarked_at t (get_or text (at + k) 0) (drop (at + k + 1) text) (ap is_unmarked (sym g) ∙ f k (omega arith)) in
     let s : at + suc k ≡ at + k + 1 = omega arith in
     rw s (kept_more t text from (at + k) r (omega arith) (ap (change_at t) d ∙ p))
 

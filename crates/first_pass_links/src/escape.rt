@@ -1,15 +1,18 @@
 //! Backslash escapes (CommonMark 2.4) and references (2.5) in a text, replaced by what they stand for.
 
-ghost use Rattle.std.specs.Prelude.{◌≡◌, ◌+◌, ◌≤◌, length, drop, IfOk, IsOkAnd, IfSome, IfNone};
+ghost use Rattle.std.specs.Prelude.{◌≡◌, ◌+◌, ◌<◌, ◌≤◌, length, drop, unwrap_or, IfOk, IsOkAnd, IfSome, IfNone};
 ghost use Rattle.first_pass_items.specs.CowText.{text_of};
+ghost use Rattle.first_pass_lines.specs.Lanes.{IsRunIn};
 ghost use Rattle.first_pass_links.specs.Escapes.{unescaped};
+ghost use Rattle.first_pass_links.specs.Plain.{is_unmarked};
 ghost use Rattle.first_pass_links.specs.Texts.{Borrows, TakesNoMemory};
 ghost use Rattle.first_pass_links.specs.Changes.{change_at, IsChange};
 
 use crate::entity::scan_reference;
+use crate::plain::unmarked_run;
 use first_pass_items::cow_str::CowStr;
+use first_pass_lines::lanes::LANES;
 use first_pass_lines::places::rest_of;
-use memchr::memchr2;
 use std::alloc::{AllocError, Global};
 
 /// The text with each backslash escape and each reference replaced by the character that it stands for.
@@ -43,10 +46,32 @@ fn next_change(bytes: &[u8], from: usize, in_table: bool) -> Option<(usize, usiz
     ensures none { IfNone result (unescaped in_table (drop from bytes.now) ≡ drop from bytes.now) }
 {
     let mut at = from;
-    while let Some(plain) = memchr2(b'\\', b'&', rest_of(bytes, at)) {
+    while let Some(plain) = next_mark(rest_of(bytes, at)) {
         at += plain;
         if let Some((len, character)) = change_at(rest_of(bytes, at), in_table) {
             return Some((at, len, character));
+        }
+        at += 1;
+    }
+    None
+}
+
+// The place of the first backslash or `&`. Texts are short mostly, and `memchr2` costs more before its first look.
+fn next_mark(bytes: &[u8]) -> Option<usize>
+    ensures within { IfSome result (λ at. at < length bytes.now) }
+    ensures first { IsRunIn is_unmarked bytes.now 0 (length bytes.now) (unwrap_or result (length bytes.now)) }
+{
+    let mut at = 0;
+    while bytes.len() - at >= LANES {
+        let run = unmarked_run(bytes, at);
+        at += run;
+        if run < LANES {
+            return Some(at);
+        }
+    }
+    while at < bytes.len() {
+        if matches!(bytes[at], b'\\' | b'&') {
+            return Some(at);
         }
         at += 1;
     }

@@ -1,8 +1,8 @@
-//! Runs of bytes that mean nothing in a label or in a destination, looked at 16 at once.
+//! Runs of bytes that mean nothing in a label, in a destination or in a text, looked at 16 at once.
 
-ghost use Rattle.std.specs.Prelude.{◌≡◌, ◌<◌, ◌≤◌, ℕ, length, slice_index, true};
+ghost use Rattle.std.specs.Prelude.{◌≡◌, ◌+◌, ◌<◌, ◌≤◌, ℕ, length, slice_index, true};
 ghost use Rattle.first_pass_lines.specs.Lanes.{IsRunIn};
-ghost use Rattle.first_pass_links.specs.Plain.{is_plain};
+ghost use Rattle.first_pass_links.specs.Plain.{is_plain, is_unmarked};
 
 use first_pass_lines::lanes::{LANES, first_set};
 use std::simd::prelude::*;
@@ -30,4 +30,15 @@ fn plain_lanes(bytes: &[u8]) -> usize
     let past_capitals = (lanes - u8x16::splat(b'*')).simd_ge(u8x16::splat(b'[' - b'*'));
     let past_letters = (lanes - u8x16::splat(b'^')).simd_ge(u8x16::splat(0x7f - b'^'));
     first_set((past_capitals & past_letters).to_bitmask())
+}
+
+/// How many of the 16 bytes from an offset on are neither a backslash nor `&`, up to the first that is.
+#[inline(always)]
+pub(crate) fn unmarked_run(bytes: &[u8], at: usize) -> usize
+    requires { at + 16 ≤ length bytes.now }
+    ensures { IsRunIn is_unmarked bytes.now at 16 result }
+{
+    let lanes = u8x16::from_slice(&bytes[at..]);
+    let marks = lanes.simd_eq(u8x16::splat(b'\\')) | lanes.simd_eq(u8x16::splat(b'&'));
+    first_set(marks.to_bitmask())
 }

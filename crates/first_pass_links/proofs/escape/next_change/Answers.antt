@@ -1,6 +1,6 @@
 use Rattle.std.proofs.Common.{◌≡◌, ℕ, ◌+◌, length, drop, get_or, Some, None, sym, ap, ◌∙◌, arith}
-use Rattle.memchr.specs.Find.{is_byte2}
 use Rattle.first_pass_links.specs.Changes.{change_at}
+use Rattle.first_pass_links.specs.Plain.{is_unmarked}
 use Rattle.first_pass_links.proofs.Escapes.{IsKept, kept_run, kept_more, change_here, kept_all}
 use Rattle.first_pass_links.proofs.escape.next_change.Goals as goal
 use Rattle.first_pass_links.proofs.escape.next_change.Goals.{In-Some, In_default}
@@ -12,8 +12,8 @@ upto c =
     let whole = c.rest_of.ensures.whole in
     let found = c.in-Some.ensures in
     kept_run c.args.in_table c.args.bytes.now c.args.from c.loop-plain.at c.in-Some.plain c.loop-plain.invariant.kept
-    (omega (arith, found.0.high))
-    (λ j l h. found.0.before j (omega arith) l (ap (λ xs. is_byte2 92 38 (get_or xs j 0)) hay ∙ h))
+    (omega (arith, found.within))
+    (λ j l. ap (λ xs. is_unmarked (get_or xs j 0)) (sym hay) ∙ found.first.1 j (omega arith) (omega arith))
 
 pub returns-in-Some-change_at-clause-some : goal.returns-in-Some-change_at-clause-some
 returns-in-Some-change_at-clause-some c =
@@ -33,7 +33,7 @@ loop-plain-preserved c =
     in
     let whole = c.rest_of.ensures.whole in
     let found = c.in-Some.ensures in
-    record { kept = kept_more c.args.in_table c.args.bytes.now c.args.from at k (omega (arith, found.0.high)) e }
+    record { kept = kept_more c.args.in_table c.args.bytes.now c.args.from at k (omega (arith, found.within)) e }
 
 pub returns-clause-none : goal.returns-clause-none
 returns-clause-none c =
@@ -43,6 +43,6 @@ returns-clause-none c =
     let n : ℕ = length c.rest_of.result.now in
     let k = kept_run c.args.in_table c.args.bytes.now c.args.from c.loop-plain.at n c.loop-plain.invariant.kept
     (omega arith)
-    (λ j l h. none j (omega arith) l (ap (λ xs. is_byte2 92 38 (get_or xs j 0)) hay ∙ h))
+    (λ j l. ap (λ xs. is_unmarked (get_or xs j 0)) (sym hay) ∙ none.first.1 j (omega arith) (omega arith))
     in
     kept_all c.args.in_table c.args.bytes.now c.args.from (c.loop-plain.at + n) k whole
