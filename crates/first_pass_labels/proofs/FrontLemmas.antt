@@ -1,22 +1,23 @@
 -- The first bytes of two texts as numbers decide on their order, where the numbers differ.
 use Rattle.std.proofs.Common.{◌≡◌, ◌≢◌, ℕ, zero, suc, ◌*◌, ◌^◌, ◌<◌, ◌≤◌, List, [], ◌∷◌, slice_index, inl, inr, refl, sym, ap, ap₂, subst, ◌∙◌, arith, suc-le-suc, zero-le, not-suc-le-zero}
+use Rattle.std.proofs.Math.Nat.{pow-le-pow_right, pow-suc}
 use Rattle.std.proofs.lemmas.Bool.{cases_lt}
 use Rattle.std.specs.Cmp.{nat_cmp_is}
 use Rattle.std.specs.Cmp.Lexicographic.{slice_cmp, nat_list_cmp_total}
 use Rattle.std.specs.Ordering.{nat_cmp, ordering_then, ordering_reverse}
 use Rattle.std.specs.declared.cmp.Ordering.TheVariants.{Less, Equal, Greater}
 use Rattle.first_pass_items.specs.declared.cow_str.CowStr.{CowStr}
-use Rattle.first_pass_labels.specs.Foldings.{front_of, folding_of, label_cmp}
+use Rattle.first_pass_labels.specs.Foldings.{leading_number, folding_of, label_cmp}
 
 -- the bytes are bytes
 abbrev Fit : List ℕ → Type 0
 Fit bs = (k : ℕ) → slice_index bs k < 256
 
 -- fronts that are the same number have the same bytes
-alike : (n : ℕ) (xs ys : List ℕ) → Fit xs → Fit ys → front_of n xs ≡ front_of n ys → (k : ℕ) → k < n → slice_index xs k ≡ slice_index ys k
+alike : (n : ℕ) (xs ys : List ℕ) → Fit xs → Fit ys → leading_number n xs ≡ leading_number n ys → (k : ℕ) → k < n → slice_index xs k ≡ slice_index ys k
 alike zero xs ys f g same k lt = absurd (not-suc-le-zero lt)
 alike (suc n) xs ys f g same k lt =
-    let front : front_of n xs ≡ front_of n ys = omega (arith, same, f n, g n) in
+    let front : leading_number n xs ≡ leading_number n ys = omega (arith, same, f n, g n) in
     elim (cases_lt k n) [
       | inl below ↦ alike n xs ys f g front k below
       | inr last ↦
@@ -34,41 +35,33 @@ less_at (suc n) (x ∷ xs) (y ∷ ys) same less =
     ap (λ o. ordering_then o (slice_cmp nat_cmp xs ys)) (sym (nat_cmp_is x y Equal (same 0 (suc-le-suc zero-le))))
     ∙ less_at n xs ys (λ k below. same (suc k) (suc-le-suc below)) less
 
-front_less : (n : ℕ) (xs ys : List ℕ) → Fit xs → Fit ys → front_of n xs < front_of n ys → slice_cmp nat_cmp xs ys ≡ Less
+front_less : (n : ℕ) (xs ys : List ℕ) → Fit xs → Fit ys → leading_number n xs < leading_number n ys → slice_cmp nat_cmp xs ys ≡ Less
 front_less zero xs ys f g less = absurd (not-suc-le-zero less)
 front_less (suc n) xs ys f g less =
-    elim (cases_lt (front_of n xs) (front_of n ys)) [
+    elim (cases_lt (leading_number n xs) (leading_number n ys)) [
       | inl below ↦ front_less n xs ys f g below
       | inr level ↦
-          let front : front_of n xs ≡ front_of n ys = omega (arith, level, less, f n, g n) in
+          let front : leading_number n xs ≡ leading_number n ys = omega (arith, level, less, f n, g n) in
           less_at n xs ys (alike n xs ys f g front) (omega (arith, less, front))
     ]
 
-pub fronts_decide : (n : ℕ) (xs ys : List ℕ) → Fit xs → Fit ys → front_of n xs ≢ front_of n ys
-    → nat_cmp (front_of n xs) (front_of n ys) ≡ slice_cmp nat_cmp xs ys
+pub fronts_decide : (n : ℕ) (xs ys : List ℕ) → Fit xs → Fit ys → leading_number n xs ≢ leading_number n ys
+    → nat_cmp (leading_number n xs) (leading_number n ys) ≡ slice_cmp nat_cmp xs ys
 fronts_decide n xs ys f g apart =
-    elim (cases_lt (front_of n xs) (front_of n ys)) [
-      | inl less ↦ sym (nat_cmp_is (front_of n xs) (front_of n ys) Less less) ∙ sym (front_less n xs ys f g less)
+    elim (cases_lt (leading_number n xs) (leading_number n ys)) [
+      | inl less ↦ sym (nat_cmp_is (leading_number n xs) (leading_number n ys) Less less) ∙ sym (front_less n xs ys f g less)
       | inr level ↦
-          let more : front_of n ys < front_of n xs = omega (arith, level, apart) in
-          sym (nat_cmp_is (front_of n xs) (front_of n ys) Greater more)
+          let more : leading_number n ys < leading_number n xs = omega (arith, level, apart) in
+          sym (nat_cmp_is (leading_number n xs) (leading_number n ys) Greater more)
           ∙ sym (nat_list_cmp_total.antisymm xs ys ∙ ap ordering_reverse (front_less n ys xs g f more))
     ]
 
 -- the number of fewer than eight bytes has room for one more
-pub front_room : (n : ℕ) → n < 8 → 256 ^ n * 256 ≤ 2 ^ 64
-front_room zero h = omega arith
-front_room (suc zero) h = omega arith
-front_room (suc (suc zero)) h = omega arith
-front_room (suc (suc (suc zero))) h = omega arith
-front_room (suc (suc (suc (suc zero)))) h = omega arith
-front_room (suc (suc (suc (suc (suc zero))))) h = omega arith
-front_room (suc (suc (suc (suc (suc (suc zero)))))) h = omega arith
-front_room (suc (suc (suc (suc (suc (suc (suc zero))))))) h = omega arith
-front_room (suc (suc (suc (suc (suc (suc (suc (suc n)))))))) h = omega (arith, h)
+pub front_room : (n : ℕ) → n < 16 → 256 ^ n * 256 ≤ 2 ^ 128
+front_room n h = subst (λ (k : ℕ). k ≤ 2 ^ 128) (pow-suc 256 n) (pow-le-pow_right {n = 256} (omega arith) h)
 
 -- keys whose fronts differ are in the order of these numbers
-pub front_compared : (x y label other : CowStr) (m n : ℕ) → m ≡ front_of 8 (folding_of x) → n ≡ front_of 8 (folding_of y)
+pub front_compared : (x y label other : CowStr) (m n : ℕ) → m ≡ leading_number 16 (folding_of x) → n ≡ leading_number 16 (folding_of y)
     → Fit (folding_of x) → Fit (folding_of y) → m ≢ n → x ≡ label → y ≡ other → nat_cmp m n ≡ label_cmp label other
 front_compared x y label other m n p q f g apart same also =
-    ap₂ nat_cmp p q ∙ fronts_decide 8 (folding_of x) (folding_of y) f g (λ e. apart (p ∙ e ∙ sym q)) ∙ ap₂ label_cmp same also
+    ap₂ nat_cmp p q ∙ fronts_decide 16 (folding_of x) (folding_of y) f g (λ e. apart (p ∙ e ∙ sym q)) ∙ ap₂ label_cmp same also

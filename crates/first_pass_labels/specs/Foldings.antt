@@ -38,6 +38,6 @@ kept_folding (Short folding) text = folding
 kept_folding (Long folding) text = boxed_str_bytes folding
 
 -- the first n bytes as one number, the first one the greatest, with 0 for each that isn't there (this project)
-abbrev pub front_of : ℕ → List ℕ → ℕ
-front_of zero bytes = 0
-front_of (suc n) bytes = front_of n bytes * 256 + slice_index bytes n
+abbrev pub leading_number : ℕ → List ℕ → ℕ
+leading_number zero bytes = 0
+leading_number (suc n) bytes = leading_number n bytes * 256 + slice_index bytes n

@@ -3,7 +3,7 @@
 ghost use Rattle.std.specs.Prelude.{◌≡◌, ◌≤◌, ◌<◌, ℕ, List, length, map, slice_index, string_bytes, IfOk, IsAscii};
 ghost use Rattle.std.specs.List.{list_all};
 ghost use Rattle.std.specs.Char.{to_ascii_lowercase};
-ghost use Rattle.first_pass_labels.specs.Foldings.{folded, folds_to_itself, front_of, kept_folding};
+ghost use Rattle.first_pass_labels.specs.Foldings.{folded, folds_to_itself, leading_number, kept_folding};
 
 use caseless::default_case_fold_str;
 use first_pass_items::cow_str::InlineStr;
@@ -23,8 +23,8 @@ pub(crate) enum Folding {
 }
 
 impl Folding {
-    /// The folding of a text. Memory is taken where it is another text that is longer than 22 bytes or has characters
-    /// past ASCII. The one error is that a request for memory was refused.
+    /// The folding of a text. Memory is taken where the text has characters past ASCII, and where its folding is another
+    /// text of more than 22 bytes. The one error is that a request for memory was refused.
     #[tactic(auto, using(crate::proofs::FoldingLemmas::own_folded, crate::proofs::FoldingLemmas::ascii_folded))]
     pub(crate) fn of_text(alloc: Global, text: &str) -> Result<Folding, AllocError>
         ensures { IfOk result (λ folding. kept_folding folding text.now ≡ folded text.now) }
@@ -93,15 +93,15 @@ fn is_own_folding(bytes: &[u8]) -> bool
         .all(|byte| byte.is_ascii() && !byte.is_ascii_uppercase())
 }
 
-/// The first eight bytes as one number, the first one the greatest, with 0 for each that isn't there: what has the
+/// The first sixteen bytes as one number, the first one the greatest, with 0 for each that isn't there: what has the
 /// smaller number is before the other in the order of bytes.
-pub(crate) fn front_of(bytes: &[u8]) -> u64
-    ensures value { result ≡ front_of 8 bytes.now }
+pub(crate) fn leading_number(bytes: &[u8]) -> u128
+    ensures value { result ≡ leading_number 16 bytes.now }
     ensures fit { (at : ℕ) → slice_index bytes.now at < 256 }
 {
     let mut front = 0;
-    for at in 0..8 {
-        front = front * 256 + u64::from(byte_at(bytes, at));
+    for at in 0..16 {
+        front = front * 256 + u128::from(byte_at(bytes, at));
     }
     front
 }

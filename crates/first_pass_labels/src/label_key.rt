@@ -10,7 +10,7 @@ ghost use Rattle.std.specs.Cmp.Rules.{hashing};
 ghost use Rattle.first_pass_items.specs.CowText.{text_of};
 ghost use Rattle.first_pass_labels.specs.Foldings.{folding_of, is_same_label, label_cmp};
 
-use crate::folding::{Folding, front_of};
+use crate::folding::{Folding, leading_number};
 use first_pass_items::cow_str::CowStr;
 use std::alloc::{AllocError, Global};
 use std::cmp::Ordering;
@@ -19,26 +19,26 @@ use std::marker::Model;
 use std::ops::DerefStr;
 
 /// A label as it is spelled, with its full default case folding, by which it is compared, first by the folding's first
-/// eight bytes. A contract sees the label alone.
+/// sixteen bytes. A contract sees the label alone.
 #[derive(Drop)]
 pub struct LabelKey<'a> {
     label: CowStr<'a>,
     folding: Folding,
-    front: u64,
+    front: u128,
 }
 
 impl<'a> Model for LabelKey<'a> {
     ghost use Rattle.std.specs.Prelude.{◌≡◌, ◌<◌, ℕ, slice_index};
     ghost use Rattle.first_pass_items.specs.declared.cow_str.CowStr.{CowStr};
     ghost use Rattle.first_pass_items.specs.CowText.{text_of};
-    ghost use Rattle.first_pass_labels.specs.Foldings.{folding_of, front_of, kept_folding};
+    ghost use Rattle.first_pass_labels.specs.Foldings.{folding_of, leading_number, kept_folding};
 
     ghost Value = { CowStr };
 
     ghost view = { λ k. k.label };
 
     ghost invariant = { λ k. (kept_folding k.folding (text_of k.label) ≡ folding_of k.label)
-        × (k.front ≡ front_of 8 (folding_of k.label)) × ((at : ℕ) → slice_index (folding_of k.label) at < 256) };
+        × (k.front ≡ leading_number 16 (folding_of k.label)) × ((at : ℕ) → slice_index (folding_of k.label) at < 256) };
 }
 
 impl<'a> LabelKey<'a> {
@@ -47,7 +47,7 @@ impl<'a> LabelKey<'a> {
         ensures { IfOk result (λ key. key ≡ label.entry) }
     {
         let folding = Folding::of_text(alloc, label.deref())?;
-        let front = front_of(folding.text_of(label.deref()).as_bytes());
+        let front = leading_number(folding.text_of(label.deref()).as_bytes());
         Ok(LabelKey {
             label,
             folding,

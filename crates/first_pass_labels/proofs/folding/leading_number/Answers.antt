@@ -1,6 +1,6 @@
 use Rattle.std.proofs.Common.{arith}
 use Rattle.first_pass_labels.proofs.FrontLemmas.{front_room}
-use Rattle.first_pass_labels.proofs.folding.front_of.Goals as goal
+use Rattle.first_pass_labels.proofs.folding.leading_number.Goals as goal
 
 pub overflow_mul-front : goal.overflow_mul-front
 overflow_mul-front c = omega (arith, front_room c.loop-at.at c.loop-at-test.true, c.loop-at.invariant.small)
