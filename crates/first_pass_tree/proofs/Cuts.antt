@@ -1,14 +1,15 @@
 -- The children of a node cut at an offset: what is left is a forest.
 use Rattle.std.proofs.Common.{◌≡◌, ℕ, ◌+◌, ◌-◌, ◌≤◌, suc, zero, List, [], ◌∷◌, ◌++◌, length, take, drop, Some, None, true, false, Bool, nat_lt, if◌then◌else◌}
-use Rattle.std.proofs.Common.{◌&&◌, ◌==◌, IfSome, Option, refl, sym, ◌∙◌, ap, subst, ⊎_elim, arith}
+use Rattle.std.proofs.Common.{◌&&◌, ◌==◌, get_or, IfSome, Option, refl, sym, ◌∙◌, ap, subst, ⊎_elim, arith}
 use Rattle.std.proofs.lemmas.List.{take-take, drop-take, take-append-drop, length-append, map-append, length-map, take-map, length-take-le, length-drop}
+use Rattle.std.proofs.lemmas.List.{get_or-drop}
 use Rattle.std.proofs.lemmas.Bool.Decides.{nat_tests}
 use Rattle.std.proofs.lemmas.Bool.{cases_lt}
 use Rattle.first_pass_tree.specs.declared.tree_index.TreeIndex.{TreeIndex}
 use Rattle.first_pass_items.specs.declared.item.Item.{Item}
 use Rattle.first_pass_items.specs.declared.item.ItemBody.TheVariants.{Text}
-use Rattle.first_pass_tree.specs.Forest.{Forest, IsForest, IsLastAt, IsOpenPath, IsPreorder, depths, cut_tokens, cut_item, is_escaped, cut_siblings, last_child}
-use Rattle.first_pass_tree.specs.Forest.{last_before, open_place}
+use Rattle.first_pass_tree.specs.Forest.{Forest, IsForest, IsLastAt, IsOpenPath, IsPreorder, depths, cut_tokens, cut_item, is_single_before}
+use Rattle.first_pass_tree.specs.Forest.{is_escaped, cut_siblings, last_child, last_before, open_place}
 use Rattle.first_pass_tree.proofs.Depths.{preorder-take, path-take_open, open-last}
 use Rattle.first_pass_tree.proofs.Moves.{last_before-is}
 
@@ -118,3 +119,52 @@ pub siblings-by : (f : Forest Item) (e p d : ℕ) (ns : List (ℕ × Item)) (cur
     → cur ≡ (if nat_lt p (length ns) then Some (record { 0 = last_before (depths ns) d (length ns) }) else None)
     → record f { nodes = ns; current = cur } ≡ cut_siblings f e
 siblings-by f e p d ns cur ep ed el ec = cc
+
+-- no nodes or more than one
+pub single-other : (e : ℕ) (ns : List (ℕ × Item)) → (length ns ≡ 1 → ⊥) → is_single_before e ns ≡ false
+single-other e [] h = refl
+single-other e (n ∷ []) h = absurd (h refl)
+single-other e (n ∷ m ∷ ns) h = refl
+
+-- a last node that does not start before the offset
+pub single-late : (e p : ℕ) (ns : List (ℕ × Item)) (d : ℕ × Item)
+    → p + 1 ≡ length ns → nat_lt (get_or ns p d).1.start e ≡ false → is_single_before e (drop p ns) ≡ false
+single-late e p [] d l h = absurd (omega arith)
+single-late e zero (n ∷ []) d l h = rw h refl
+single-late e zero (n ∷ m ∷ ns) d l h = refl
+single-late e (suc p) (n ∷ ns) d l h = single-late e p ns d (omega arith) h
+
+single-length : (e : ℕ) (ns : List (ℕ × Item)) → is_single_before e ns ≡ true → length ns ≡ 1
+single-length e [] t = absurd cc
+single-length e (n ∷ []) t = refl
+single-length e (n ∷ m ∷ ns) t = absurd cc
+
+-- one token alone that ends before the cut is left as it is
+single-uncut : (e d : ℕ) (ns : List (ℕ × Item)) → is_single_before e ns ≡ true → get_or (depths ns) 0 0 ≤ d → cut_tokens e d ns ≡ ns
+single-uncut e d [] t l = refl
+single-uncut e d (n ∷ []) t l = grind (arith, nat_tests)
+single-uncut e d (n ∷ m ∷ ns) t l = absurd cc
+
+last_before-here : (ds : List ℕ) (d k n : ℕ) → n ≡ suc k → get_or ds k 0 ≡ d → last_before ds d n ≡ k
+last_before-here ds d k n e h =
+    let t : (get_or ds k 0 == d) ≡ true = grind (arith, nat_tests) in
+    ap (last_before ds d) e ∙ rw t refl
+
+-- such a cut makes the token current, and changes no node
+pub cut_siblings-single : (f : Forest Item) (e p : ℕ) → IsForest f → p ≡ open_place f.spine + 1 → is_single_before e (drop p f.nodes) ≡ true
+    → record f { current = Some (record { 0 = p }) } ≡ cut_siblings f e
+cut_siblings-single f e p h ep t =
+    let ds = depths f.nodes in
+    let d = length f.spine + 1 in
+    let m = length-map f.nodes (λ n. n.0) in
+    let o = open-last ds f.spine h.opened in
+    let one : length f.nodes ≡ suc p = omega (arith, single-length e (drop p f.nodes) t, length-drop p f.nodes, o.within) in
+    let at = ap (λ k. get_or ds k 0) ep in
+    let deep : get_or ds p 0 ≡ d =
+    omega (arith, at, o.depth, o.behind p (omega arith) (omega arith), h.preorder (open_place f.spine) (omega arith)) in
+    let z : p + 0 ≡ p = omega arith in
+    let here = ap (λ xs. get_or xs 0 0) (drop-depths f.nodes p) ∙ get_or-drop p ds 0 0 ∙ ap (λ k. get_or ds k 0) z in
+    let same = single-uncut e d (drop p f.nodes) t (omega arith) in
+    let nodes = ap (λ (ns : List (ℕ × Item)). take p f.nodes ++ ns) same ∙ take-append-drop p f.nodes in
+    let within : nat_lt p (length f.nodes) ≡ true = grind (arith, nat_tests) in
+    siblings-by f e p d f.nodes _ ep refl (sym nodes) (rw (within, last_before-here ds d p (length f.nodes) one deep) refl)

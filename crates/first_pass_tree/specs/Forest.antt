@@ -1,6 +1,6 @@
 -- What a contract sees of a `Tree`, and what each call makes of it. The words are this project's own.
 use Rattle.std.specs.Prelude.{◌≡◌, ℕ, ◌+◌, ◌-◌, ◌<◌, ◌≤◌, ◌^◌, ◌==◌, ◌&&◌, Bool, true, false, nat_lt, zero, suc, List, [], ◌∷◌, ◌++◌, length, map, take, drop}
-use Rattle.std.specs.Prelude.{Option, Some, None, IfSome, IsSomeAnd, slice_index, slice_get, if◌then◌else◌}
+use Rattle.std.specs.Prelude.{nat_le, Option, Some, None, IfSome, IsSomeAnd, slice_index, slice_get, if◌then◌else◌}
 use Rattle.std.specs.Option.{option_map}
 use Rattle.std.specs.List.{prefix_len}
 use Rattle.first_pass_tree.specs.declared.tree_index.TreeIndex.{TreeIndex}
@@ -211,6 +211,12 @@ cut_tokens e d (n ∷ ns) =
     else (if nat_lt n.1.start e
     then (n.0, cut_item e n.1) ∷ cut_tokens e d ns
     else (if is_escaped n.1.body && (n.1.start == e) then (n.0, record { start = e - 1; «end» = e; body = Text false }) ∷ [] else []))
+
+-- one node alone, which starts before an offset and ends there at the latest
+abbrev pub is_single_before : ℕ → List (ℕ × Item) → Bool
+is_single_before e [] = false
+is_single_before e (n ∷ []) = nat_lt n.1.start e && nat_le n.1.«end» e
+is_single_before e (n ∷ m ∷ ns) = false
 
 -- no child of the innermost open node has children
 abbrev pub HasLeaves : {T : Type 0} → Forest T → Type 0

@@ -1,13 +1,13 @@
 //! The tree as one list in reading order, with the path of its open nodes.
 
 ghost use Rattle.std.specs.Prelude.{◌≡◌, ◌+◌, ◌<◌, ◌≤◌, ◌∷◌, [], ◌-◌, length, reverse, Some, None, if◌then◌else◌, IfOk, IfSome, OnOk, OnErr, IsSome, MatchOption, slice_get};
-ghost use Rattle.first_pass_tree.specs.Forest.{empty_forest, appended, pushed, popped, cut_to, with_text, with_item, with_end_at, with_body_at, item_at, depths, child_of, sibling_of, kept_after, childless, in_table, wrapped, IsChildOfCurrent, CanMoveFrom, moved_from, moved_out, IsChild, cut_siblings, IsForest, end_of};
+ghost use Rattle.first_pass_tree.specs.Forest.{empty_forest, appended, pushed, popped, cut_to, with_text, with_item, with_end_at, with_body_at, item_at, depths, child_of, sibling_of, kept_after, childless, in_table, wrapped, IsChildOfCurrent, CanMoveFrom, moved_from, moved_out, IsChild, cut_siblings, IsForest, end_of, open_place};
 ghost use Rattle.first_pass_tree.specs.Subtrees.{IsSubtree};
 ghost use Rattle.std.specs.Borrow.{sem};
 
 use crate::node_list::{
-    child_in, cut_nodes, deeper_end, first_place, in_table_of, last_child, last_of_depth, lower,
-    sibling_in, wrap,
+    child_in, cut_nodes, deeper_end, first_place, in_table_of, is_single_before, last_child,
+    last_of_depth, lower, sibling_in, wrap,
 };
 use crate::subtrees::{Subtree, Subtrees};
 use crate::tree_index::TreeIndex;
@@ -114,6 +114,7 @@ impl Tree<Item> {
     /// Adds the text of the bytes `start..end`. Nothing where the range is empty; where the current node is
     /// a text that ends at `start`, that one now ends at `end`; else a `Text` is appended, with
     /// `backslash_escaped` as given. An error where memory is refused; then the tree is as before.
+    #[inline(always)]
     pub fn append_text(
         &mut self,
         start: usize,
@@ -283,11 +284,27 @@ impl Tree<Item> {
     /// doesn't start before it goes, and so do those after it, with all below them; but where that first one
     /// is a text that starts at `end` after a backslash, the backslash takes its place as a text. The last
     /// token that is left becomes current.
+    #[inline(always)]
     pub fn truncate_siblings(&mut self, end: usize)
         ensures { self.new ≡ cut_siblings self.old end }
     {
-        let depth = self.spine.len() + 1;
         let first = first_place(&self.spine);
+        // Most chains that are cut have one token, which ends before the cut.
+        if is_single_before(&self.nodes, first, end) {
+            self.cur = Some(TreeIndex(first));
+        } else {
+            self.cut_from(first, end);
+        }
+    }
+
+    // Cuts the tokens, which stand from the place `first` on, at the offset `end`; the last that is left becomes
+    // current.
+    #[inline(never)]
+    fn cut_from(&mut self, first: usize, end: usize)
+        requires { first ≡ open_place self.old.spine + 1 }
+        ensures { self.new ≡ cut_siblings self.old end }
+    {
+        let depth = self.spine.len() + 1;
         self.subtrees.cut_to(first);
         cut_nodes(&mut self.nodes, first, depth, end);
         self.cur = last_child(&self.nodes, first, depth);

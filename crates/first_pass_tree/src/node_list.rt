@@ -1,7 +1,7 @@
 //! Steps over the list of nodes, each a pair of its depth and its item, in reading order.
 
 ghost use Rattle.std.specs.Prelude.{◌≡◌, ℕ, ◌+◌, ◌<◌, ◌≤◌, ◌∷◌, slice_index, ◌++◌, ◌^◌, ◌-◌, length, take, drop, reverse, map, Some, None, EachIndex, if◌then◌else◌, nat_lt, IfSome, OnOk, OnErr, slice_get};
-ghost use Rattle.first_pass_tree.specs.Forest.{depths, child_of, sibling_of, run_end, in_table, shallower, last_before, deeper, map_from, IsShallow, open_place, cut_tokens, IsOpenPath};
+ghost use Rattle.first_pass_tree.specs.Forest.{depths, child_of, sibling_of, run_end, in_table, shallower, last_before, deeper, map_from, IsShallow, open_place, cut_tokens, is_single_before, IsOpenPath};
 
 use crate::tree_index::TreeIndex;
 use first_pass_items::item::{Item, ItemBody};
@@ -138,6 +138,16 @@ pub(crate) fn cut_nodes(nodes: &mut Vec<(usize, Item)>, first: usize, depth: usi
         kept += 1;
     }
     nodes.truncate(kept);
+}
+
+/// Whether one node alone stands from the place `first` on, and it starts before the offset `end` and ends there
+/// at the latest.
+#[inline(always)]
+pub(crate) fn is_single_before(nodes: &[(usize, Item)], first: usize, end: usize) -> bool
+    requires { first ≤ length nodes.now }
+    ensures { result ≡ is_single_before end (drop first nodes.now) }
+{
+    first + 1 == nodes.len() && nodes[first].1.start < end && nodes[first].1.end <= end
 }
 
 /// The place of the first child of the node at `place`.

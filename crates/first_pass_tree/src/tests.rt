@@ -4,52 +4,60 @@ use crate::forest::Tree;
 use crate::subtrees::Subtree;
 use crate::tree_index::TreeIndex;
 use first_pass_items::item::{Item, ItemBody, ListFlags};
-use std::alloc::{AllocError, Global};
 use std::test::Fail;
 
-fn item(start: usize, end: usize, body: ItemBody) -> Item {
-    Item { start, end, body }
-}
-
-// `- - a` without its paragraph: a list in the open item of a list. Both are remembered, and the inner one
-// was just closed.
-fn list_in_list(alloc: Global) -> Result<Tree<Item>, AllocError> {
-    let list = item(0, 4, ItemBody::List(ListFlags::IS_TIGHT, b'-', 0));
-    let mut tree = Tree::with_capacity(alloc, 5)?;
-    for start in [0, 2] {
-        tree.append(list)?;
-        tree.push()?;
-        tree.remember()?;
-        tree.append(item(start, 4, ItemBody::ListItem(2)))?;
-        tree.push()?;
-    }
-    tree.pop();
-    tree.pop();
-    tree.note_end();
-    Ok(tree)
-}
-
+// `- - a` without its paragraph: a list in the open item of a list. Both are remembered, and the inner one was just
+// closed. Then the outer one is closed too, or loses all that is below its item.
 #[test]
 fn remembers_subtrees_until_they_are_cut(rt: HostRuntime) -> Result<(), Fail> {
-    let mut tree = list_in_list(rt.alloc())?;
-    assert!(rt; 4 < tree.node_count());
-    assert!(rt; tree.end_of(TreeIndex(3)) == 5 && tree.end_of(TreeIndex(1)) == 5);
-    assert!(rt; tree.take_subtree(4, 5) == None && tree.take_subtree(2, 4) == None);
-    let inner = Subtree { place: 3, past: 5 };
-    assert!(rt; tree.take_subtree(2, 5) == Some(inner));
-    assert!(rt; tree.take_subtree(2, 5) == None);
-    tree.pop();
-    tree.pop();
-    tree.note_end();
-    assert!(rt; tree.take_subtree(0, 5) == None);
-
-    let mut tree = list_in_list(rt.alloc())?;
-    assert!(rt; tree.remove_node() == Some(TreeIndex(2)));
-    tree.append(item(0, 4, ItemBody::Rule))?;
-    tree.append(item(0, 4, ItemBody::Rule))?;
-    let outer = Subtree { place: 1, past: 2 };
-    assert!(rt; tree.take_subtree(0, 5) == Some(outer));
-    assert!(rt; tree.take_subtree(0, 5) == None);
+    for is_cut in [false, true] {
+        let list = Item {
+            start: 0,
+            end: 4,
+            body: ItemBody::List(ListFlags::IS_TIGHT, b'-', 0),
+        };
+        let mut tree = Tree::with_capacity(rt.alloc(), 5)?;
+        for start in [0, 2] {
+            tree.append(list)?;
+            tree.push()?;
+            tree.remember()?;
+            tree.append(Item {
+                start,
+                end: 4,
+                body: ItemBody::ListItem(2),
+            })?;
+            tree.push()?;
+        }
+        tree.pop();
+        tree.pop();
+        tree.note_end();
+        if is_cut {
+            assert!(rt; tree.remove_node() == Some(TreeIndex(2)));
+            tree.append(Item {
+                start: 0,
+                end: 4,
+                body: ItemBody::Rule,
+            })?;
+            tree.append(Item {
+                start: 0,
+                end: 4,
+                body: ItemBody::Rule,
+            })?;
+            let outer = Subtree { place: 1, past: 2 };
+            assert!(rt; tree.take_subtree(0, 5) == Some(outer));
+        } else {
+            assert!(rt; 4 < tree.node_count());
+            assert!(rt; tree.end_of(TreeIndex(3)) == 5 && tree.end_of(TreeIndex(1)) == 5);
+            assert!(rt; tree.take_subtree(4, 5) == None && tree.take_subtree(2, 4) == None);
+            let inner = Subtree { place: 3, past: 5 };
+            assert!(rt; tree.take_subtree(2, 5) == Some(inner));
+            assert!(rt; tree.take_subtree(2, 5) == None);
+            tree.pop();
+            tree.pop();
+            tree.note_end();
+        }
+        assert!(rt; tree.take_subtree(0, 5) == None);
+    }
     Ok(())
 }
 
@@ -58,13 +66,25 @@ fn remembers_subtrees_until_they_are_cut(rt: HostRuntime) -> Result<(), Fail> {
 fn keeps_a_subtree_that_ends_before_a_child_that_leaves(rt: HostRuntime) -> Result<(), Fail> {
     for ends_before in [false, true] {
         let mut tree = Tree::with_capacity(rt.alloc(), 4)?;
-        tree.append(item(0, 4, ItemBody::BlockQuote(None)))?;
+        tree.append(Item {
+            start: 0,
+            end: 4,
+            body: ItemBody::BlockQuote(None),
+        })?;
         tree.push()?;
         tree.remember()?;
-        let list = tree.append(item(2, 4, ItemBody::DefinitionList(ListFlags::IS_TIGHT)))?;
+        let list = tree.append(Item {
+            start: 2,
+            end: 4,
+            body: ItemBody::DefinitionList(ListFlags::IS_TIGHT),
+        })?;
         tree.push()?;
         tree.remember()?;
-        let left = tree.append(item(2, 4, ItemBody::Paragraph))?;
+        let left = tree.append(Item {
+            start: 2,
+            end: 4,
+            body: ItemBody::Paragraph,
+        })?;
         tree.pop();
         if ends_before {
             tree.note_end_before(left);

@@ -1,12 +1,8 @@
-use Rattle.std.proofs.Common.{arith, refl, sym, subst, ap, ◌∙◌, ◌≡◌, ◌<◌, ◌^◌, ◌+◌, ℕ, List, length, reverse, nat_lt, Option, Some, None, if◌then◌else◌}
+use Rattle.std.proofs.Common.{arith, refl, sym, subst, ap, ◌∙◌, ◌≡◌, ◌+◌, ◌<◌, ◌^◌, length, reverse, drop, true}
 use Rattle.first_pass_items.specs.declared.item.Item.{Item}
-use Rattle.first_pass_tree.specs.declared.tree_index.TreeIndex.{TreeIndex}
-use Rattle.first_pass_tree.specs.Forest.{Forest, IsForest, open_place, depths, last_before}
+use Rattle.first_pass_tree.specs.Forest.{Forest, IsForest, cut_siblings, is_single_before, open_place}
 use Rattle.first_pass_tree.proofs.Keeps.{spine-small}
-use Rattle.first_pass_tree.proofs.Cuts.{cut_siblings-is, siblings-by}
-use Rattle.first_pass_tree.proofs.SubtreeLemmas.{subtrees-first, subtrees-joined}
-use Rattle.first_pass_tree.proofs.Depths.{open-last}
-use Rattle.std.proofs.lemmas.List.{length-map, length-reverse}
+use Rattle.first_pass_tree.proofs.Cuts.{cut_siblings-is, cut_siblings-single}
 use Rattle.first_pass_tree.proofs.forest.Tree+Item.truncate_siblings.Goals as goal
 
 pub first_place-first-requires : goal.first_place-first-requires
@@ -14,21 +10,20 @@ first_place-first-requires c =
     let l : length c.self.inside.nodes.items < 2 ^ 63 = omega (arith, c.self.inside.nodes.small, c.self.inside.nodes.ok) in
     rw c.deref.ensures.value (spine-small _ c.self.inside.spine.items refl c.self.invariant.forest l)
 
--- the last of these nodes at a depth, where any stands at a place or after it
-abbrev last_from : ℕ → ℕ → List (ℕ × Item) → Option TreeIndex
-last_from p d ns = if nat_lt p (length ns) then Some (record { 0 = last_before (depths ns) d (length ns) }) else None
-
 pub invariant_of-self : goal.invariant_of-self
 invariant_of-self c =
-    let ns = c.self.inside.nodes.items in
-    let f : Forest Item = record { nodes = ns; spine = reverse c.self.inside.spine.items; current = c.self.inside.cur } in
-    let p = c.first_place-first.ensures ∙ ap (λ (xs : List TreeIndex). open_place (reverse xs) + 1) c.deref.ensures.value in
-    let d : c.len-depth.result + 1 ≡ length (reverse c.self.inside.spine.items) + 1 = omega (arith, length-reverse c.self.inside.spine.items) in
-    let cur = c.last_child-self-inside.ensures ∙ ap (last_from c.first_place-first.result (c.len-depth.result + 1)) c.deref-2.ensures.value in
-    let w = open-last (depths ns) (reverse c.self.inside.spine.items) c.self.invariant.forest.opened in
+    let f : Forest Item = record { nodes = c.self.inside.nodes.items; spine = reverse c.self.inside.spine.items; current = c.self.inside.cur } in
+    let p : c.first_place-first.result ≡ open_place f.spine + 1 = cc in
+    let t : is_single_before c.args.end (drop c.first_place-first.result f.nodes) ≡ true = cc in
+    let e = cut_siblings-single f c.args.end _ c.self.invariant.forest p t in
     record {
-      forest = subst (λ (v : Forest Item). IsForest v) (sym (siblings-by f c.args.end _ _ _ _ p d c.cut_nodes.ensures cur))
-          (cut_siblings-is f c.args.end c.self.invariant.forest);
-      known = subtrees-joined ns c.cut_nodes.new.nodes.items _ c.first_place-first.result _ (omega (arith, w.within, length-map ns (λ n. n.0)))
-          c.cut_nodes.ensures (subtrees-first (depths ns) (length ns) _ _ _ c.cut_to.ensures c.self.invariant.known);
+      forest = subst (λ (v : Forest Item). IsForest v) (sym e) (cut_siblings-is f c.args.end c.self.invariant.forest);
+      known = c.self.invariant.known;
     }
+
+pub returns-then-is_single_before : goal.returns-then-is_single_before
+returns-then-is_single_before c =
+    let f : Forest Item = record { nodes = c.self.inside.nodes.items; spine = reverse c.self.inside.spine.items; current = c.self.inside.cur } in
+    let p : c.first_place-first.result ≡ open_place f.spine + 1 = cc in
+    let t : is_single_before c.args.end (drop c.first_place-first.result f.nodes) ≡ true = cc in
+    cut_siblings-single f c.args.end _ c.self.invariant.forest p t ∙ ap (λ (v : Forest Item). cut_siblings v c.args.end) c.self.view_is
