@@ -37,6 +37,7 @@ pub struct DelimiterRun {
 
 impl DelimiterRun {
     /// Whether the run can open. CommonMark 6.2, GFM 4.10 and 6.5.
+    #[inline(always)]
     #[tactic(auto, unfolding(crate::specs::Flank::can_open))]
     pub fn can_open(&self) -> bool
         ensures { result ≡ flanks.can_open self.now }
@@ -51,6 +52,7 @@ impl DelimiterRun {
     }
 
     /// Whether the run can close. CommonMark 6.2, GFM 4.10 and 6.5.
+    #[inline(always)]
     #[tactic(auto, unfolding(crate::specs::Flank::can_close))]
     pub fn can_close(&self) -> bool
         ensures { result ≡ flanks.can_close self.now }
@@ -194,6 +196,7 @@ pub fn last_char(text: &str) -> Option<char>
 }
 
 // Whether a run between two characters can open.
+#[inline(always)]
 #[tactic(auto, unfolding(crate::specs::Flank::opens_between))]
 fn opens_between(run: &DelimiterRun, before: char, after: char) -> bool
     ensures { result ≡ flanks.opens_between run.now before after }
@@ -223,6 +226,7 @@ fn opens_between(run: &DelimiterRun, before: char, after: char) -> bool
 }
 
 // Whether a run between two characters can close.
+#[inline(always)]
 #[tactic(auto, unfolding(crate::specs::Flank::closes_between))]
 fn closes_between(run: &DelimiterRun, before: char, after: char) -> bool
     ensures { result ≡ flanks.closes_between run.now before after }

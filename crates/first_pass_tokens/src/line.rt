@@ -1,8 +1,8 @@
 //! The tokens of a line, appended to the tree.
 
-ghost use Rattle.std.specs.Prelude.{◌≡◌, ◌==◌, ◌&&◌, ◌%◌, nat_lt, ◌+◌, ◌<◌, ◌≤◌, ◌^◌, true, false, IsTrue, IsUtf8, length, OnOk, IfOk, IfSome};
+ghost use Rattle.std.specs.Prelude.{◌≡◌, ◌==◌, ◌&&◌, ◌%◌, nat_lt, ◌+◌, ◌-◌, ◌<◌, ◌≤◌, ◌^◌, not, true, false, IsTrue, IsUtf8, length, slice_index, OnOk, IfOk, IfSome};
 ghost use Rattle.std.specs.List.{suffix_len, slice_range};
-ghost use Rattle.first_pass_items.specs.Bytes.{backslash};
+ghost use Rattle.first_pass_items.specs.Bytes.{backslash, space};
 ghost use Rattle.first_pass_lines.specs.Lines.{is_white as is_white_byte};
 ghost use Rattle.first_pass_walk.specs.Walk.{MarksSpecial};
 ghost use Rattle.first_pass_tree.specs.Forest.{with_text};
@@ -247,6 +247,10 @@ fn end_line(
         )) }
 {
     let next = end + line_end_len(text, end);
+    if end < text.len() && ends_solid(text, content.start, end) {
+        tree.append_text(pending.begin, end, pending.escaped)?;
+        return Ok((next, Some(break_of(end, next, false, 0))));
+    }
     let by_backslash = breaks_by_backslash(text, content.start, end, next);
     let blanks = blanks_at_end(text, content.start, end);
     let stop = if by_backslash { end - 1 } else { end - blanks };
@@ -257,7 +261,22 @@ fn end_line(
     Ok((next, Some(break_of(end, next, by_backslash, blanks))))
 }
 
+// Whether the content has a last byte that is above the space and no backslash, as most lines have. Such a line has no
+// white space at its end, and no hard break after it.
+#[inline(always)]
+fn ends_solid(text: &[u8], start: usize, end: usize) -> bool
+    requires order { start ≤ end }
+    requires within { end ≤ length text.now }
+    ensures value { result ≡ (nat_lt start end
+        && (nat_lt space (slice_index text.now (end - 1)) && not (slice_index text.now (end - 1) == backslash))) }
+    ensures white { IsTrue result → suffix_len is_white_byte (slice_range text.now start end) ≡ 0 }
+    ensures backslashes { IsTrue result → suffix_len (λ b. b == backslash) (slice_range text.now start end) ≡ 0 }
+{
+    start < end && text[end - 1] > b' ' && text[end - 1] != b'\\'
+}
+
 // The break from the end of a content up to an offset.
+#[inline(always)]
 fn break_of(end: usize, next: usize, by_backslash: bool, blanks: usize) -> Item
     requires backslash { IsTrue by_backslash → 0 < end }
     requires white { blanks ≤ end }
@@ -313,8 +332,13 @@ fn blanks_at_end(text: &[u8], start: usize, end: usize) -> usize
     ensures value { result ≡ suffix_len is_white_byte (slice_range text.now start end) }
     ensures fits { start + result ≤ end }
 {
+    // None and one space are the commonest.
     let bytes = &text[start..end];
-    bytes.iter().rev().take_while(|b| is_white(**b)).count()
+    match bytes {
+        [.., last] if *last > b' ' => 0,
+        [.., before, b' '] if *before > b' ' => 1,
+        _ => bytes.iter().rev().take_while(|b| is_white(**b)).count(),
+    }
 }
 
 // How many bytes the line end at a place has: `\r\n` has two.

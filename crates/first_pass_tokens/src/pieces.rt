@@ -227,6 +227,7 @@ fn backquote_piece(text: &[u8], at: usize) -> Piece
 }
 
 // The piece at a delimiter.
+#[inline(always)]
 #[tactic(auto, unfolding(crate::specs::Pieces::delimiter_piece))]
 fn delimiter_piece(text: &[u8], content: Content<'_>, at: usize) -> Piece
     requires utf8 { IsUtf8 content.whole.now }
@@ -242,6 +243,7 @@ fn delimiter_piece(text: &[u8], content: Content<'_>, at: usize) -> Piece
 }
 
 // A delimiter run as a piece.
+#[inline(always)]
 fn run_piece(run: &DelimiterRun) -> Piece
     requires { 0 < run.now.size }
     ensures value { result ≡ run_piece run.now }
@@ -296,6 +298,7 @@ fn run_size(text: &[u8], at: usize) -> usize
 }
 
 // The piece at a quote.
+#[inline(always)]
 #[tactic(auto, unfolding(crate::specs::Pieces::quote_piece))]
 fn quote_piece(text: &[u8], content: Content<'_>, at: usize) -> Piece
     requires utf8 { IsUtf8 content.whole.now }
