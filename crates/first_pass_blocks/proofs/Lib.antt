@@ -30,6 +30,7 @@ pub mod LineLemmas
 pub mod ListLemmas
 pub mod NamedLemmas
 pub mod Nests
+pub mod NoContainer
 pub mod OldFootnotes
 pub mod OpenLemmas
 pub mod OpenerLemmas

@@ -1,12 +1,16 @@
 -- A container that begins at a place, as the pass tells it, and what the pass remembers once it is open (private functions alone cite this).
-use Rattle.std.specs.Prelude.{◌≡◌, ℕ, Bool, true, Option, Some, None, if◌then◌else◌}
+use Rattle.std.specs.Prelude.{◌≡◌, ℕ, Bool, true, false, Option, Some, None, if◌then◌else◌}
+use Rattle.first_pass_items.specs.Bytes.{colon, left_bracket}
 use Rattle.first_pass_items.specs.declared.item.Item.{Item}
 use Rattle.first_pass_items.specs.declared.item.ItemBody.TheVariants.{BlockQuote as BlockQuoteBody, ListItem as ListItemBody}
 use Rattle.first_pass_grammar.specs.Blocks.{Opener as ContainerOpener, QuoteMarker, ItemMarker, FootnoteMarker, DefinitionMarker}
 use Rattle.first_pass_grammar.specs.declared.kind.AfterMarker.{AfterMarker}
 use Rattle.first_pass_grammar.specs.declared.kind.AfterMarker.TheVariants.{OnLine, TaskText, LineEnds, TagAlone}
 use Rattle.first_pass_grammar.specs.Openers.{Start as ContainerStart, after_task}
+use Rattle.first_pass_lines.specs.Lines.{begins}
 use Rattle.first_pass_lines.specs.Places.{Place}
+use Rattle.first_pass_lines.specs.Plain.{begins_inert}
+use Rattle.first_pass_lines.specs.Rest.{Rest}
 use Rattle.first_pass_grammar.specs.Order.{is_task_marker}
 use Rattle.first_pass_grammar.specs.OpenOrder.{is_in_item}
 use Rattle.first_pass_lists.specs.Closing.{begun, list_finished, list_continued, definition_begun}
@@ -23,13 +27,14 @@ abbrev pub marker_of : ℕ × ℕ × ℕ → ListMarker
 marker_of m = record { byte = m.0; number = m.1; indent = m.2 }
 
 -- the pass's word for what opens a container is the grammar's; a footnote definition has none there, and is opened apart
+-- (this project)
 abbrev pub TellsOpener : ContainerOpener → Opener → Type 0
 TellsOpener (QuoteMarker kind) o = o ≡ Quote kind
 TellsOpener (ItemMarker byte number columns) o = o ≡ ItemOpener (marker_of (byte, number, columns))
 TellsOpener (FootnoteMarker columns index label) o = ⊥
 TellsOpener (DefinitionMarker columns) o = o ≡ DefinitionOpener columns
 
--- what begins at a place, as the pass tells it, is what the grammar says
+-- what begins at a place, as the pass tells it, is what the grammar says (this project)
 pub record TellsStart (s : ContainerStart) (t : Start) : Type 0 where
   pub opener : TellsOpener s.head.opener t.opener
   pub start : t.start ≡ s.head.start
@@ -72,3 +77,11 @@ IsAfter OnLine r = r.empty_item ≡ None
 IsAfter (TaskText marker) r = (is_task_marker marker.body ≡ true) × (r.empty_item ≡ None) × (is_in_item r.tree ≡ true)
 IsAfter (LineEnds marker) r = Unit {0}
 IsAfter TagAlone r = r.empty_item ≡ None
+
+-- No column is owed, and a byte is next that is no space or tab and with which no container begins: no bullet, digit or `>`, no `:` of a definition, and no
+-- `[` of a footnote definition (this project).
+pub record OpensNone (r : Rest) : Type 0 where
+  pub owed : r.owed ≡ 0
+  pub inert : begins_inert r.left ≡ true
+  pub colon : begins colon r.left ≡ false
+  pub bracket : begins left_bracket r.left ≡ false

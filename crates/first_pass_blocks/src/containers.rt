@@ -1,12 +1,12 @@
 //! The open containers, and how far a line continues them (CommonMark 5).
 
-ghost use Rattle.std.specs.Prelude.{◌≡◌, ◌<◌, ◌≤◌, length, None, IfOk, OnOk, IsUtf8, IsCharBoundary};
+ghost use Rattle.std.specs.Prelude.{◌≡◌, ◌<◌, ◌≤◌, length, None, IfOk, OnOk, IsUtf8, IsCharBoundary, true};
 ghost use Rattle.first_pass_lines.specs.Places.{line_end, IsPlaceOf};
 ghost use Rattle.first_pass_open.specs.Path.{outer};
 ghost use Rattle.first_pass_blocks.specs.Entering.{ClosesAt, EntersLine, footnote_ended};
 ghost use Rattle.first_pass_blocks.specs.Positions.{InLine, IsFrom, LineAt, ReadsTo, may_define};
 ghost use Rattle.first_pass_blocks.specs.Progress.{PassesTo};
-ghost use Rattle.first_pass_blocks.specs.Starts.{start_opened, last_at, IsAfter};
+ghost use Rattle.first_pass_blocks.specs.Starts.{start_opened, last_at, IsAfter, OpensNone};
 ghost use Rattle.first_pass_blocks.specs.Views.{reading_of, source_of, source_text};
 
 use crate::openers::{Opener, Start, start_at};
@@ -14,13 +14,14 @@ use crate::state::BlockPass;
 use bitflags::Flags;
 use first_pass_grammar::AfterMarker;
 use first_pass_items::option_set::Options;
-use first_pass_lines::lines::scan_blank_line;
+use first_pass_lines::lines::{begins, scan_blank_line};
 use first_pass_lines::places::next_line;
 use first_pass_lists::reading::Reading;
 use first_pass_open::containers::quotes_end;
 use first_pass_open::front::{scan_continued_past, scan_front};
 use first_pass_open::place::Place;
 use first_pass_open::source::Source;
+use first_pass_scan::line_start::LineStart;
 use first_pass_text::paragraph::append_item;
 use std::alloc::AllocError;
 
@@ -111,6 +112,7 @@ impl<'a> BlockPass<'a> {
     /// Opens the containers that begin at a place, one inside the other, and takes their markers. Returns what stands
     /// after the last: more of the line, in which no other begins, or what its marker ends with; the place is then
     /// there (CommonMark 5).
+    #[inline(always)]
     pub(crate) fn open_containers(
         &mut self,
         place: &mut Place<'a>,
@@ -123,22 +125,51 @@ impl<'a> BlockPass<'a> {
         ensures opened { IfOk result (λ after. PassesTo (source_of self.old) place.old.line self.old self.new
             (InLine place.old) (last_at place.new (line_end place.new) after)) }
     {
+        // A leaf block with no container before it needs no call.
+        if opens_none(&place.rest) {
+            return Ok(AfterMarker::OnLine);
+        }
+        self.open_in_turn(place)
+    }
+
+    // As `open_containers`, one container a turn. It doesn't ask at the first place what `opens_none` tells: the caller
+    // did.
+    fn open_in_turn(&mut self, place: &mut Place<'a>) -> Result<AfterMarker, AllocError>
+        requires utf8 { IsUtf8 (source_text self.old) }
+        requires place { IsPlaceOf (source_text self.old) place.old }
+        requires no_empty { (reading_of self.old).empty_item ≡ None }
+        ensures after { IfOk result (λ after. IsAfter after (reading_of self.new)) }
+        ensures place { OnOk result (IsFrom (source_text self.old) place.old place.new) }
+        ensures opened { IfOk result (λ after. PassesTo (source_of self.old) place.old.line self.old self.new
+            (InLine place.old) (last_at place.new (line_end place.new) after)) }
+    {
         loop {
-            if self.open_footnote(place)? {
-                continue;
+            if !self.open_footnote(place)? {
+                self.reading.tree.is_forest();
+                let may_define = may_define(&self.source, &self.reading);
+                let Some(start) = start_at(&self.source, place, may_define) else {
+                    return Ok(AfterMarker::OnLine);
+                };
+                open_start(&mut self.reading, &self.source, place, start)?;
+                match start.after {
+                    AfterMarker::OnLine => {}
+                    after => return Ok(after),
+                }
             }
-            self.reading.tree.is_forest();
-            let may_define = may_define(&self.source, &self.reading);
-            let Some(start) = start_at(&self.source, place, may_define) else {
+            if opens_none(&place.rest) {
                 return Ok(AfterMarker::OnLine);
-            };
-            open_start(&mut self.reading, &self.source, place, start)?;
-            match start.after {
-                AfterMarker::OnLine => {}
-                after => return Ok(after),
             }
         }
     }
+}
+
+// Whether no column is owed, and a byte is next that is no space or tab, and with which no container begins: no list
+// item, block quote, definition or footnote definition.
+#[inline(always)]
+fn opens_none<'a>(rest: &LineStart<'a>) -> bool
+    ensures { result ≡ true → OpensNone rest.now }
+{
+    rest.is_at_inert() && !begins(b':', rest.left()) && !begins(b'[', rest.left())
 }
 
 // Whether a `:` may begin a definition after what is last.

@@ -1,3 +1,5 @@
 pub mod KindLemmas
 pub mod PlainKinds
 mod PlainLines
+mod FirstBytes
+mod MarkBytes

@@ -1,7 +1,8 @@
 -- Where a plain byte is next, the block is a paragraph, and nothing interrupts one.
-use Rattle.std.proofs.Common.{◌≡◌, inl, inr, ℕ, zero, suc, Bool, true, false, true≢false, List, [], ◌∷◌, take, None, refl, sym, ap, ◌∙◌, subst}
+use Rattle.std.proofs.Common.{◌≡◌, inl, inr, ℕ, zero, suc, ◌==◌, Bool, true, false, true≢false, List, [], ◌∷◌, take, None, refl, sym, ap, ◌∙◌, subst}
 use Rattle.first_pass_items.specs.declared.option_set.Options.{Options}
 use Rattle.first_pass_items.specs.OptionWords.{has}
+use Rattle.first_pass_lines.specs.Lines.{begins}
 use Rattle.first_pass_lines.specs.Rest.{Rest}
 use Rattle.first_pass_lines.specs.Plain.{is_plain, begins_plain}
 use Rattle.first_pass_scan.proofs.PlainFacts.{plain_begins, plain_eol, plain_blank, plain_hrule, plain_atx, plain_fence, plain_listitem}
@@ -30,19 +31,20 @@ plain_html bs h = rw (plain_begins 60 bs h plain_60) refl
 pub plain_last : (bs : List ℕ) → begins_plain bs ≡ true → last_kind bs ≡ Paragraph
 plain_last bs h = rw (plain_hrule bs h) (rw (plain_atx bs h) (rw (plain_fence bs h) refl))
 
-first_of : (n b : ℕ) (bs xs : List ℕ) → take n (b ∷ bs) ≡ 60 ∷ xs → b ≡ 60
-first_of zero b bs xs e = cc
-first_of (suc n) b bs xs e = cc
+begins_by : (n : ℕ) (bs xs : List ℕ) → take n bs ≡ 60 ∷ xs → begins 60 bs ≡ true
+begins_by zero bs xs e = absurd cc
+begins_by (suc n) [] xs e = absurd cc
+begins_by (suc n) (b ∷ bs) xs e = let first : b ≡ 60 = cc in ap (λ (x : ℕ). x == 60) first
 
-none_by : (bs : List ℕ) (n : ℕ) (xs : List ℕ) → begins_plain bs ≡ true → take n bs ≡ 60 ∷ xs → ⊥
-none_by [] n xs h e = true≢false (sym h)
-none_by (b ∷ bs) n xs h e = true≢false (sym h ∙ ap is_plain (first_of n b bs xs e) ∙ plain_60)
+-- a tag begins with a `<`
+pub tag_begins : (bs : List ℕ) (n : ℕ) → BeginsTagLine bs n → begins 60 bs ≡ true
+tag_begins bs n t = elim t.tag [
+  | inl opening ↦ begins_by n bs _ opening.0.parts
+  | inr closing ↦ begins_by n bs _ closing.parts
+]
 
 pub plain_tag : (bs : List ℕ) (n : ℕ) → begins_plain bs ≡ true → BeginsTagLine bs n → ⊥
-plain_tag bs n h t = elim t.tag [
-  | inl opening ↦ none_by bs n _ h opening.0.parts
-  | inr closing ↦ none_by bs n _ h closing.parts
-]
+plain_tag bs n h t = true≢false (sym (tag_begins bs n t) ∙ plain_begins 60 bs h plain_60)
 
 first_none : (options : Options) (r : Rest) → r.owed ≡ 0 → begins_plain r.left ≡ true → first_kind options r ≡ None
 unfolding first_kind

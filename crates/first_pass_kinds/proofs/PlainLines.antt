@@ -62,7 +62,7 @@ unfolding interrupts
 plain_ends around c r h =
     rw (plain_in around c (all_taken r).left h) (rw (plain_eol (all_taken r).left h) (either (nat_lt (indent r) 4)))
 
-none_either : (t u : Bool) (o : Option (ℕ × HeadingLevel)) → o ≡ None → (if t then (if u then o else None) else None) ≡ None
+pub none_either : (t u : Bool) (o : Option (ℕ × HeadingLevel)) → o ≡ None → (if t then (if u then o else None) else None) ≡ None
 none_either true true o e = e
 none_either true false o e = refl
 none_either false u o e = refl

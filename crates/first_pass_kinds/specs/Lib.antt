@@ -1,4 +1,5 @@
 pub mod Found
+pub mod Marks
 pub mod Memory
 pub mod NextLines
 pub mod Rests

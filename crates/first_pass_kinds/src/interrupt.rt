@@ -1,18 +1,20 @@
 //! Which lines end a paragraph before them.
 
 ghost use Rattle.std.specs.Prelude.{◌≡◌, Bool, min, drop, is_some, nat_lt, ◌&&◌, ◌||◌, not, true, IfOk, IfSome, OnErr, OnOk, Some, None, if◌then◌else◌, IsUtf8, IsCharBoundary};
-ghost use Rattle.first_pass_items.specs.Bytes.{colon};
+ghost use Rattle.first_pass_items.specs.Bytes.{space, colon};
 ghost use Rattle.first_pass_items.specs.OptionWords.{has, definition_list};
 ghost use Rattle.first_pass_lines.specs.Lines.{begins, at_line_end};
+ghost use Rattle.first_pass_lines.specs.Plain.{begins_plain};
 ghost use Rattle.first_pass_lines.specs.Places.{line_rest, place_at, offset, IsPlaceOf};
 ghost use Rattle.first_pass_lines.specs.Rest.{indent};
 ghost use Rattle.first_pass_scan.specs.LeafLines.{setext_underline};
-ghost use Rattle.first_pass_scan.specs.Markers.{is_bullet, listitem};
+ghost use Rattle.first_pass_scan.specs.Markers.{is_bullet, bullet_marker, listitem};
 ghost use Rattle.first_pass_links.specs.Footnotes.{footnote_head};
 ghost use Rattle.first_pass_grammar.specs.Containers.{after, front};
 ghost use Rattle.first_pass_grammar.specs.Kinds.{all_taken, interrupts_with, continued, interrupts_in, interrupts, item_interrupts, ends_tag, unindented};
 ghost use Rattle.first_pass_grammar.specs.Definitions.{is_underline, crossed};
 ghost use Rattle.first_pass_open.specs.Path.{path_of, context_of, continued_to};
+ghost use Rattle.first_pass_kinds.specs.Marks.{begins_no_mark};
 ghost use Rattle.first_pass_kinds.specs.NextLines.{next_line_of};
 ghost use Rattle.first_pass_kinds.specs.Memory.{may_head, line_may_head};
 ghost use Rattle.std.specs.Option.{option_map};
@@ -64,13 +66,51 @@ fn is_bullet(byte: u8) -> bool
 pub fn interrupts_without_table(bytes: &[u8], current_container: bool) -> bool
     ensures { result ≡ interrupts_with current_container bytes.now }
 {
-    if is_plain_front(bytes) {
+    if begins_no_mark(bytes) {
         return false;
+    }
+    if begins_plain_item(bytes) {
+        return true;
     }
     interrupts_by_mark(bytes, current_container)
 }
 
-// The same, by each mark in turn. The caller has told lines apart whose first byte begins none.
+// Whether a byte stands first that is no line end, and with which nothing begins that interrupts a paragraph, but for
+// tables, footnotes and definitions.
+#[inline(always)]
+#[tactic(auto, unfolding(crate::specs::Marks::is_no_mark))]
+fn begins_no_mark(bytes: &[u8]) -> bool
+    ensures { result ≡ begins_no_mark bytes.now }
+{
+    match bytes {
+        [] => false,
+        [byte, ..] => !matches!(
+            *byte,
+            b'\n' | b'\r' | b'#' | b'*' | b'+' | b'-' | b'0'..=b'9'
+                | b'<'
+                | b'>'
+                | b'_'
+                | b'`'
+                | b'~'
+        ),
+    }
+}
+
+// Whether a bullet, a space and a letter or a character past ASCII stand first: then an item begins, and no thematic
+// break.
+#[inline(always)]
+fn begins_plain_item(bytes: &[u8]) -> bool
+    ensures { result
+        ≡ (is_some (bullet_marker bytes.now) && begins space (drop 1 bytes.now) && begins_plain (drop 2 bytes.now)) }
+{
+    match bytes {
+        [b'-' | b'+' | b'*', b' ', rest @ ..] => is_plain_front(rest),
+        _ => false,
+    }
+}
+
+// The same as `interrupts_without_table`, by each mark in turn. The caller has told apart the lines whose first byte
+// begins none, and the items above.
 fn interrupts_by_mark(bytes: &[u8], current_container: bool) -> bool
     ensures { result ≡ interrupts_with current_container bytes.now }
 {
@@ -217,6 +257,14 @@ pub fn scan_next_line(
         (line_rest (drop start source.now.text.now)) ≡ true) }
 {
     source.is_short();
+    let bytes = rest_of(source.text.as_bytes(), start);
+    // Of such lines no container takes anything: they need no walk over those that are open.
+    if is_plain_front(bytes) {
+        return Ok(NextLine::More(start));
+    }
+    if scan_eol(bytes).is_some() {
+        return Ok(NextLine::Other);
+    }
     let text = scan_text(source, tree, start);
     if is_plain_front(text.rest.left()) {
         return Ok(NextLine::More(start + text.rest.bytes_scanned()));

@@ -134,6 +134,10 @@ pub fn kind_at<'a>(
     if columns >= 4 {
         return (Found::Marked(MarkedLeaf::IndentedCode), columns);
     }
+    // Most blocks with a mark are headings.
+    if let Some(level) = scan_atx_heading(place.rest.left()) {
+        return (Found::Marked(MarkedLeaf::AtxHeading(level)), columns);
+    }
     let bytes = source.text.as_bytes();
     let at = place.line + place.rest.bytes_scanned();
     if let Some(byte) = metadata_behind(bytes, at, columns, source.options, ends) {

@@ -50,7 +50,7 @@ context_of options f = context options (path_of options f)
 abbrev pub outer : ℕ → List TreeIndex → List TreeIndex
 outer m spine = drop (length spine - m) spine
 
--- all open nodes but the outermost m, the innermost first
+-- all open nodes but the outermost m, the innermost first (this project)
 abbrev pub inner : ℕ → List TreeIndex → List TreeIndex
 inner m spine = take (length spine - m) spine
 

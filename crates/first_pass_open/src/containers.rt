@@ -147,6 +147,11 @@ pub fn scan_quote<'a>(line_start: &mut LineStart<'a>) -> Option<usize>
         × (line_start.new ≡ line_start.old))
         (λ next. (result ≡ Some (after_columns 3 line_start.old).taken) × (line_start.new ≡ next)) }
 {
+    // Most markers stand right here: look for one here first, and after columns only then.
+    let at = line_start.bytes_scanned();
+    if line_start.scan_blockquote_marker() {
+        return Some(at);
+    }
     if line_start.is_at_inert() {
         return None;
     }

@@ -1,8 +1,14 @@
 use Rattle.std.proofs.Common.{sym, ◌∙◌}
-use Rattle.first_pass_kinds.proofs.PlainKinds.{plain_interrupts}
+use Rattle.first_pass_kinds.proofs.FirstBytes.{item_plain}
+use Rattle.first_pass_kinds.proofs.MarkBytes.{unmarked_interrupts}
 use Rattle.first_pass_kinds.proofs.interrupt.interrupts_without_table.Goals as goal
 
-pub returns-then-is_plain_front : goal.returns-then-is_plain_front
-returns-then-is_plain_front c =
-    sym (plain_interrupts c.args.current_container c.args.bytes.now
-    (sym c.is_plain_front.ensures ∙ c.if-is_plain_front.true))
+pub returns-then-begins_no_mark : goal.returns-then-begins_no_mark
+returns-then-begins_no_mark c =
+    sym (unmarked_interrupts c.args.current_container c.args.bytes.now
+    (sym c.begins_no_mark.ensures ∙ c.if-begins_no_mark.true))
+
+pub returns-then-begins_plain_item : goal.returns-then-begins_plain_item
+returns-then-begins_plain_item c =
+    sym (item_plain c.args.current_container c.args.bytes.now
+    (sym c.begins_plain_item.ensures ∙ c.if-begins_plain_item.true))

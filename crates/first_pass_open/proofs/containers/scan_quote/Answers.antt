@@ -1,7 +1,24 @@
-use Rattle.std.proofs.Common.{refl}
+use Rattle.std.proofs.Common.{◌≡◌, refl, rules}
+use Rattle.first_pass_grammar.specs.Containers.{prefix}
 use Rattle.first_pass_open.proofs.PlainLemmas.{inert_prefix}
 use Rattle.first_pass_open.proofs.containers.scan_quote.Goals as goal
 
+-- In each of these, no marker is right here, and so nothing was taken yet.
 pub returns-then-is_at_inert : goal.returns-then-is_at_inert
 returns-then-is_at_inert c =
-    rw (inert_prefix c.args.line_start.now (c.is_at_inert.ensures.owed c.if-is_at_inert.true) (c.is_at_inert.ensures.inert c.if-is_at_inert.true)) (refl, refl)
+    let same : c.scan_blockquote_marker.new.self ≡ c.args.line_start.now = search rules in
+    let none = inert_prefix c.scan_blockquote_marker.new.self (c.is_at_inert.ensures.owed c.if-is_at_inert.true)
+    (c.is_at_inert.ensures.inert c.if-is_at_inert.true) in
+    rw (← same) (rw none (refl, refl))
+
+pub returns-then-not-scan_blockquote_marker : goal.returns-then-not-scan_blockquote_marker
+unfolding prefix
+returns-then-not-scan_blockquote_marker c =
+    let same : c.scan_blockquote_marker.new.self ≡ c.args.line_start.now = search rules in
+    rw (← same) (search rules)
+
+pub returns : goal.returns
+unfolding prefix
+returns c =
+    let same : c.scan_blockquote_marker.new.self ≡ c.args.line_start.now = search rules in
+    rw (← same) (search rules)

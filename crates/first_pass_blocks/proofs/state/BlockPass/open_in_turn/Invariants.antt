@@ -1,7 +1,7 @@
 use Rattle.std.proofs.Common.{◌≡◌, length, None}
 use Rattle.first_pass_blocks.specs.Positions.{InLine, IsFrom}
 use Rattle.first_pass_blocks.specs.Progress.{PassesTo}
-use Rattle.first_pass_blocks.proofs.state.BlockPass.open_containers.Given as goal
+use Rattle.first_pass_blocks.proofs.state.BlockPass.open_in_turn.Given as goal
 
 -- the containers are open that begin before this place
 abbrev pub invariant-loop-self : goal.invariant-loop-self

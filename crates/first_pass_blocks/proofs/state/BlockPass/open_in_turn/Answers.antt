@@ -1,0 +1,292 @@
+use Rattle.std.proofs.Common.{◌≡◌, ℕ, ◌<◌, ◌≤◌, Bool, true, false, List, length, Option, Some, None, MatchOption, IsSomeAnd, IsUtf8}
+use Rattle.std.proofs.Common.{refl, sym, ap, subst, ◌∙◌, arith}
+use Rattle.first_pass_lines.specs.Places.{Place, offset, line_end, IsPlaceOf}
+use Rattle.first_pass_lines.proofs.PlaceFacts.{place_length}
+use Rattle.first_pass_tree.specs.Forest.{IsForest, in_table}
+use Rattle.first_pass_grammar.specs.Containers.{at_rest}
+use Rattle.first_pass_grammar.specs.Footnotes.{footnote_head_at}
+use Rattle.first_pass_grammar.specs.Openers.{Start as ContainerStart, start_at}
+use Rattle.first_pass_open.specs.Path.{context_of}
+use Rattle.first_pass_open.specs.declared.source.Source.{Source}
+use Rattle.first_pass_lists.specs.declared.reading.Reading.{Reading}
+use Rattle.first_pass_grammar.specs.declared.kind.AfterMarker.{AfterMarker}
+use Rattle.first_pass_grammar.specs.declared.kind.AfterMarker.TheVariants.{OnLine, TaskText, LineEnds, TagAlone}
+use Rattle.first_pass_blocks.specs.declared.openers.Start.{Start}
+use Rattle.first_pass_blocks.specs.declared.state.BlockPass.{BlockPass}
+use Rattle.first_pass_blocks.specs.FootnoteHeads.{StaysSame, TriesFootnote}
+use Rattle.first_pass_blocks.specs.Positions.{Position, InLine, LeafAt, IsFrom, ReadsTo, may_define}
+use Rattle.first_pass_blocks.specs.Progress.{PassesTo}
+use Rattle.first_pass_blocks.specs.Starts.{TellsStart, start_opened, after_at, last_at, IsAfter, OpensNone}
+use Rattle.first_pass_blocks.specs.Views.{allocs_of, reading_of, source_of, tree_of}
+use Rattle.first_pass_blocks.proofs.BlockRead.{passes_reading, passes_both}
+use Rattle.first_pass_blocks.proofs.NoContainer.{leaf_alone}
+use Rattle.first_pass_blocks.proofs.StartLemmas.{start_opens, no_start, opened_start, reads_none}
+use Rattle.first_pass_blocks.proofs.StartFound.{start_found, start_missing}
+use Rattle.first_pass_blocks.proofs.state.BlockPass.open_in_turn.Goals as goal
+use Rattle.first_pass_blocks.proofs.state.BlockPass.open_in_turn.Goals.{Then-not-branch, Joined-not-branch}
+use Rattle.first_pass_blocks.proofs.state.BlockPass.open_in_turn.Goals.{then-not-branch+in-Some+in_ok-open_start+in-OnLine, else-not-branch}
+
+-- where less of a line is left is after where more is
+rest_later : (text : List ℕ) (p new : Place) → IsPlaceOf text p → IsPlaceOf text new → length new.rest.left < length p.rest.left → offset p ≤ offset new
+rest_later text p new i j less = let a = place_length text p i in let b = place_length text new j in omega (arith, a, b, less)
+
+pub loop-self-init : goal.loop-self-init
+loop-self-init c =
+    let self = c.args.self.now in
+    let first : Place = c.args.place.now in
+    record {
+      no_empty = c.requires.no_empty;
+      here = (c.requires.place, omega arith, omega arith, omega arith);
+      opened = passes_reading self.source first.line self self (InLine first) (InLine first) refl refl
+          (reads_none self.source first.line self.reading (InLine first));
+    }
+
+-- no footnote definition begins at the place, and another container is sought
+record IsTried (over : Source) (first : Place) (old mid : BlockPass) (p : Place) : Type 0 where
+  here : IsFrom over.text.now first p
+  no_empty : (reading_of mid).empty_item ≡ None
+  opened : PassesTo over first.line old mid (InLine first) (InLine p)
+  bare : in_table (tree_of mid).nodes (tree_of mid).spine ≡ false → footnote_head_at (context_of over.options (tree_of mid)) p ≡ None
+
+tried : (over : Source) (first : Place) (old now mid : BlockPass) (p q : Place) (t : Bool) → t ≡ false → IsFrom over.text.now first p
+    → (reading_of now).empty_item ≡ None → source_of now ≡ over → PassesTo over first.line old now (InLine first) (InLine p) → TriesFootnote now mid p q t
+    → IsTried over first old mid q
+tried over first old now mid p q t is here none source opened tries =
+    let no = subst (TriesFootnote now mid p q) is tries in
+    let same : StaysSame now mid = no.0 in
+    let at : q ≡ p = no.1 in
+    let kept = subst (λ (r : Reading). ReadsTo over first.line (reading_of now) r (InLine p) (InLine p)) (sym same.1)
+    (reads_none over first.line (reading_of now) (InLine p)) in
+    let steps = passes_both over first.line old now mid (InLine first) (InLine p) (InLine p) opened
+    (passes_reading over first.line now mid (InLine p) (InLine p) same.0 same.2 kept) in
+    record {
+      here = subst (IsFrom over.text.now first) (sym at) here;
+      no_empty = ap (λ (r : Reading). r.empty_item) same.1 ∙ none;
+      opened = subst (λ (z : Place). PassesTo over first.line old mid (InLine first) (InLine z)) (sym at) steps;
+      bare = λ no_table.
+          ap (footnote_head_at (context_of over.options (tree_of mid))) at
+          ∙ ap (λ (r : Reading). footnote_head_at (context_of over.options r.tree) p) same.1
+          ∙ ap (λ (z : Source). footnote_head_at (context_of z.options (tree_of now)) p) (sym source)
+          ∙ no.2 (ap (λ (r : Reading). in_table r.tree.nodes r.tree.spine) (sym same.1) ∙ no_table);
+    }
+
+-- one more container is open at the place, of which less of the line is left
+record IsNested (over : Source) (first : Place) (old mid : BlockPass) (p q : Place) : Type 0 where
+  here : IsFrom over.text.now first q
+  no_empty : (reading_of mid).empty_item ≡ None
+  less : length q.rest.left < length p.rest.left
+  opened : PassesTo over first.line old mid (InLine first) (InLine q)
+
+opens_note : (over : Source) (first : Place) (old now mid : BlockPass) (p q : Place) (t : Bool) → t ≡ true → IsFrom over.text.now first p
+    → source_of now ≡ over → PassesTo over first.line old now (InLine first) (InLine p) → TriesFootnote now mid p q t → IsNested over first old mid p q
+opens_note over first old now mid p q t is here source opened tries =
+    let yes = subst (TriesFootnote now mid p q) is tries in
+    let from = subst (λ (z : Source). IsFrom z.text.now p q) source yes.0 in
+    let low = here.1 in
+    let later = here.2 in
+    let far = here.3 in
+    let line = from.1 in
+    let on = from.2 in
+    let stop = from.3 in
+    let steps = subst (λ (z : Source). PassesTo z first.line now mid (InLine p) (InLine q)) source (yes.3 first.line low) in
+    record {
+      here = (from.0, omega arith, omega arith, omega arith);
+      no_empty = yes.2;
+      less = yes.1;
+      opened = passes_both over first.line old now mid (InLine first) (InLine p) (InLine q) opened steps;
+    }
+
+-- at the place where another container is sought
+at_place : (c : Then-not-branch) → IsTried c.args.self.now.source c.args.place.now c.args.self.now c.open_footnote.new.self c.open_footnote.new.place
+at_place c =
+    let i = c.loop-self.invariant in
+    tried c.args.self.now.source c.args.place.now c.args.self.now c.loop-self.self c.open_footnote.new.self c.loop-self.place c.open_footnote.new.place
+    c.in_ok-open_footnote.field-0 c.if-not-branch.true i.here i.no_empty i.opened.source i.opened c.in_ok-open_footnote.ensures
+
+-- whether a definition may begin at a place, as the calls tell it
+abbrev may_in : Source → BlockPass → Bool
+may_in over pass = may_define over.options (tree_of pass)
+
+-- no container begins any more
+absent : (over : Source) (now : BlockPass) (may : Bool) (p new : Place) (r : Option Start) → source_of now ≡ over → may ≡ may_in (source_of now) now → r ≡ None
+    → MatchOption (start_at (source_of now).options may p) ((r ≡ None) × (new ≡ p)) (λ s. IsSomeAnd r (TellsStart s) × (new ≡ at_rest p s.rest))
+    → (start_at over.options (may_in over now) p ≡ None) × (new ≡ p)
+absent over now may p new r same told is says =
+    let missing = start_missing _ r p new is says in (
+      subst (λ (z : Source). start_at z.options (may_in z now) p ≡ None) same
+          (ap (λ (t : Bool). start_at (source_of now).options t p) (sym told) ∙ missing.0),
+      missing.1,
+    )
+
+ended_here : (over : Source) (first : Place) (old mid new : BlockPass) (p q : Place) → IsUtf8 over.text.now → IsForest (tree_of mid)
+    → IsTried over first old mid p → start_at over.options (may_in over mid) p ≡ None → q ≡ p
+    → source_of new ≡ source_of mid → reading_of new ≡ reading_of mid → allocs_of new ≡ allocs_of mid
+    → PassesTo over first.line old new (InLine first) (LeafAt q)
+ended_here over first old mid new p q utf8 forest i none at source reading allocs =
+    let stays = no_start over (reading_of mid) p utf8 i.here.0 forest i.no_empty first.line i.here.1 i.bare none in
+    subst (λ (z : Place). PassesTo over first.line old new (InLine first) (LeafAt z)) (sym at)
+    (passes_both over first.line old mid new (InLine first) (InLine p) (LeafAt p) i.opened
+    (passes_reading over first.line mid new (InLine p) (LeafAt p) source allocs
+    (subst (λ (z : Reading). ReadsTo over first.line (reading_of mid) z (InLine p) (LeafAt p)) (sym reading) stays)))
+
+pub returns-in_default-clause-opened : goal.returns-in_default-clause-opened
+returns-in_default-clause-opened c =
+    let over = c.args.self.now.source in
+    let first : Place = c.args.place.now in
+    let p : Place = c.open_footnote.new.place in
+    let i = at_place (goal.at.returns-in_default-clause-opened c).Then-not-branch in
+    let a = absent over c.open_footnote.new.self c.may_define-may_define.result p c.start_at.new.place c.start_at.result i.opened.source
+    c.may_define-may_define.ensures
+    c.in_default.is c.start_at.ensures in
+    ended_here over first c.args.self.now c.open_footnote.new.self _ p _ c.requires.utf8 c.is_forest.ensures i a.0 a.1 refl refl refl
+
+-- a container begins
+record Found (over : Source) (now : BlockPass) (p new : Place) (told : Start) : Type 0 where
+  start : ContainerStart
+  begins : start_at over.options (may_in over now) p ≡ Some start
+  told_is : TellsStart start told
+  new_is : new ≡ at_rest p start.rest
+
+found : (over : Source) (now : BlockPass) (may : Bool) (p new : Place) (r : Option Start) (told : Start) → source_of now ≡ over
+    → may ≡ may_in (source_of now) now → r ≡ Some told
+    → MatchOption (start_at (source_of now).options may p) ((r ≡ None) × (new ≡ p)) (λ s. IsSomeAnd r (TellsStart s) × (new ≡ at_rest p s.rest))
+    → Found over now p new told
+found over now may p new r told same may_is is says =
+    let f = start_found _ r told p new is says in
+    record {
+      start = f.0;
+      begins = subst (λ (z : Source). start_at z.options (may_in z now) p ≡ Some f.0) same
+          (ap (λ (t : Bool). start_at (source_of now).options t p) (sym may_is) ∙ f.1);
+      told_is = f.2;
+      new_is = f.3;
+    }
+
+pub open_start-requires : goal.open_start-requires
+open_start-requires c =
+    let over = c.args.self.now.source in
+    let first : Place = c.args.place.now in
+    let p : Place = c.open_footnote.new.place in
+    let new : Place = c.start_at.new.place in
+    let i = at_place (goal.at.open_start-requires c).Then-not-branch in
+    let f = found over c.open_footnote.new.self c.may_define-may_define.result p new c.start_at.result c.in-Some.start i.opened.source
+    c.may_define-may_define.ensures c.in-Some.is c.start_at.ensures in
+    let opens = start_opens over c.open_footnote.new.self.reading p c.requires.utf8 i.here.0 c.is_forest.ensures i.no_empty first.line i.here.1 i.bare
+    f.start f.begins in
+    subst (λ (z : Source). IsPlaceOf z.text.now new) (sym i.opened.source)
+    (subst (λ (q : Place). IsPlaceOf over.text.now q) (sym f.new_is) opens.2.0)
+
+-- a container is open whose marker ends at the place
+record IsBegun (over : Source) (first : Place) (mid : BlockPass) (p new : Place) (after : AfterMarker) (q : Reading) : Type 0 where
+  stands : IsAfter after q
+  less : length new.rest.left < length p.rest.left
+  here : IsFrom over.text.now first new
+  reads : ReadsTo over first.line (reading_of mid) q (InLine p) (after_at new (line_end new) after)
+
+begun : (over : Source) (first : Place) (old mid : BlockPass) (p new : Place) (may : Bool) (r : Option Start) (told : Start) (q : Reading)
+    → IsUtf8 over.text.now → IsForest (tree_of mid) → IsTried over first old mid p → source_of mid ≡ over → may ≡ may_in (source_of mid) mid → r ≡ Some told
+    → MatchOption (start_at (source_of mid).options may p) ((r ≡ None) × (new ≡ p)) (λ s. IsSomeAnd r (TellsStart s) × (new ≡ at_rest p s.rest))
+    → q ≡ start_opened new.line told (line_end new) (reading_of mid) → IsBegun over first mid p new told.after q
+begun over first old mid p new may r told q utf8 forest i same may_is is says opened =
+    let f = found over mid may p new r told same may_is is says in
+    let s = opened_start over (reading_of mid) p utf8 i.here.0 forest i.no_empty first.line i.here.1 i.bare f.start new told q f.begins
+    f.told_is f.new_is opened in
+    let line = s.2.1 in
+    let stop = s.2.2 in
+    let less = s.1 in
+    let later = rest_later over.text.now p new i.here.0 s.2.0 less in
+    let low = i.here.1 in
+    let from = i.here.2 in
+    let far = i.here.3 in
+    record {
+      stands = s.0;
+      less = less;
+      here = (s.2.0, omega (arith, line, low), omega (arith, later, from), omega (arith, stop, far));
+      reads = subst (λ (e : ℕ). ReadsTo over first.line (reading_of mid) q (InLine p) (after_at new e told.after)) (sym stop) s.3;
+    }
+
+-- a marker that more of the line doesn't follow stands last
+last_is : (p : Place) (e : ℕ) (a : AfterMarker) → (a ≡ OnLine → ⊥) → after_at p e a ≡ last_at p e a
+last_is p e OnLine other = absurd (other refl)
+last_is p e (TaskText marker) other = refl
+last_is p e (LineEnds marker) other = refl
+last_is p e TagAlone other = refl
+
+pub returns-in_default-after : goal.returns-in_default-after
+returns-in_default-after c =
+    let over = c.args.self.now.source in
+    let first : Place = c.args.place.now in
+    let p : Place = c.open_footnote.new.place in
+    let new : Place = c.start_at.new.place in
+    let i = at_place (goal.at.returns-in_default-after c).Then-not-branch in
+    let s = begun over first c.args.self.now c.open_footnote.new.self p new c.may_define-may_define.result c.start_at.result c.in-Some.start
+    c.open_start.new.reading c.requires.utf8 c.is_forest.ensures i i.opened.source c.may_define-may_define.ensures c.in-Some.is
+    c.start_at.ensures c.in_ok-open_start.ensures in
+    let there : Position = last_at new (line_end new) c.in-Some.start.after in
+    let opens = subst (λ (t : Position). ReadsTo over first.line c.open_footnote.new.self.reading c.open_start.new.reading (InLine p) t)
+    (last_is new (line_end new) c.in-Some.start.after c.in_default-after.not-OnLine) s.reads in
+    record {
+      after = s.stands;
+      place = s.here;
+      opened = passes_both over first.line c.args.self.now c.open_footnote.new.self _ (InLine first) (InLine p) there i.opened
+          (passes_reading over first.line c.open_footnote.new.self _ (InLine p) there refl refl opens);
+    }
+
+-- after a footnote definition or another container
+nested : (c : Joined-not-branch)
+    → IsNested c.args.self.now.source c.args.place.now c.args.self.now c.if-not-branch.self c.loop-self.place c.if-not-branch.place
+nested c =
+    let over = c.args.self.now.source in
+    let first : Place = c.args.place.now in
+    let old : BlockPass = c.args.self.now in
+    let now : BlockPass = c.loop-self.self in
+    let mid : BlockPass = c.open_footnote.new.self in
+    let here : Place = c.loop-self.place in
+    let p : Place = c.open_footnote.new.place in
+    let l = c.loop-self.invariant in
+    let tries = c.in_ok-open_footnote.ensures in
+    elim c.if-not-branch.branch [
+      | then-not-branch+in-Some+in_ok-open_start+in-OnLine w ↦
+          let new : Place = w.start_at.new.place in
+          let no = subst (TriesFootnote now mid here p) w.if-not-branch.true tries in
+          let i = tried over first old now mid here p _ w.if-not-branch.true l.here l.no_empty l.opened.source l.opened tries in
+          let s = begun over first old mid p new w.may_define-may_define.result w.start_at.result w.in-Some.start w.open_start.new.reading c.requires.utf8
+          w.is_forest.ensures i i.opened.source w.may_define-may_define.ensures w.in-Some.is w.start_at.ensures w.in_ok-open_start.ensures in
+          let opens = subst (λ (a : AfterMarker). ReadsTo over first.line mid.reading w.open_start.new.reading (InLine p) (after_at new (line_end new) a))
+          w.in-OnLine.is s.reads in
+          rw (w.self-is, w.place-is) (record {
+            here = s.here;
+            no_empty = subst (λ (a : AfterMarker). IsAfter a w.open_start.new.reading) w.in-OnLine.is s.stands;
+            less = subst (λ (z : Place). length new.rest.left < length z.rest.left) no.1 s.less;
+            opened = passes_both over first.line old mid _ (InLine first) (InLine p) (InLine new) i.opened
+                (passes_reading over first.line mid _ (InLine p) (InLine new) refl refl opens);
+          })
+      | else-not-branch w ↦
+          rw (w.self-is, w.place-is) (opens_note over first old now mid here p _ w.if-not-branch.false l.here l.opened.source l.opened tries)
+    ]
+
+pub loop-self-smaller : goal.loop-self-smaller
+loop-self-smaller c = (nested (goal.at.loop-self-smaller c).Joined-not-branch).less
+
+pub loop-self-preserved : goal.loop-self-preserved
+loop-self-preserved c =
+    let n = nested (goal.at.loop-self-preserved c).Joined-not-branch in
+    record { no_empty = n.no_empty; here = n.here; opened = n.opened }
+
+-- with the byte that is next no container begins
+pub returns-then-opens_none-clause-after : goal.returns-then-opens_none-clause-after
+returns-then-opens_none-clause-after c = (nested (goal.at.returns-then-opens_none-clause-after c).Joined-not-branch).no_empty
+
+pub returns-then-opens_none-clause-place : goal.returns-then-opens_none-clause-place
+returns-then-opens_none-clause-place c = (nested (goal.at.returns-then-opens_none-clause-place c).Joined-not-branch).here
+
+pub returns-then-opens_none-clause-opened : goal.returns-then-opens_none-clause-opened
+returns-then-opens_none-clause-opened c =
+    let over = c.args.self.now.source in
+    let first : Place = c.args.place.now in
+    let now : BlockPass = c.if-not-branch.self in
+    let p : Place = c.if-not-branch.place in
+    let n = nested (goal.at.returns-then-opens_none-clause-opened c).Joined-not-branch in
+    passes_both over first.line c.args.self.now now now (InLine first) (InLine p) (LeafAt p) n.opened
+    (passes_reading over first.line now now (InLine p) (LeafAt p) refl refl
+    (leaf_alone over now.reading p first.line
+    (subst (λ (q : Place). OpensNone q.rest) c.place-in-loop-self.view_is (c.opens_none.ensures c.if-opens_none.true))))

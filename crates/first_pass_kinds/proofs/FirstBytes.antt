@@ -1,0 +1,204 @@
+-- What the first byte of a line tells before its containers are asked; and which first bytes are those of an item that interrupts a paragraph.
+use Rattle.std.proofs.Common.{◌≡◌, inl, inr, ℕ, suc, ◌+◌, ◌==◌, nat_lt, nat_le, ◌&&◌, ◌||◌, not, Bool, true, false, true≢false, List, [], ◌∷◌, drop}
+use Rattle.std.proofs.Common.{Option, Some, None, is_some, if◌then◌else◌, refl, sym, ap, subst, ◌∙◌, arith}
+use Rattle.std.proofs.lemmas.Bool.{cases_eq, ne_eqb, eqb-true}
+use Rattle.std.proofs.lemmas.Bool.Decides.{nat_tests}
+use Rattle.std.specs.List.{prefix_len}
+use Rattle.std.proofs.Math.Bool.{or-true}
+use Rattle.std.specs.Option.{option_map, option_and_then}
+use Rattle.first_pass_lines.specs.Lines.{begins, eol_len, blank_len, at_line_end, atx_level, is_white}
+use Rattle.first_pass_lines.specs.Plain.{is_plain, begins_plain}
+use Rattle.first_pass_lines.specs.Rest.{Rest, column_of_byte, next_column, after_columns, indent, columns_of, past_bytes, past_quote_byte, past_quote}
+use Rattle.first_pass_lines.specs.Places.{line_rest}
+use Rattle.first_pass_lines.proofs.Columns.{after-none}
+use Rattle.first_pass_scan.specs.LeafLines.{setext_underline, hrule_len, code_fence}
+use Rattle.first_pass_scan.specs.Markers.{is_bullet, bullet_marker, list_marker, listitem, behind_marker, content_indent}
+use Rattle.first_pass_scan.proofs.PlainFacts.{plain_begins, plain_blank}
+use Rattle.first_pass_grammar.specs.declared.kind.Container.{Container}
+use Rattle.first_pass_grammar.specs.declared.kind.Container.TheVariants.{BlockQuote, ListItem, FootnoteDefinition, Definition}
+use Rattle.first_pass_grammar.specs.Containers.{Context, has_columns, prefix, after, or_shorter, front}
+use Rattle.first_pass_grammar.specs.Kinds.{Continued, continued, all_taken, begins_html_to_end, begins_html_to_blank, item_interrupts}
+use Rattle.first_pass_grammar.specs.Kinds.{interrupts_with, interrupts, underline_of}
+use Rattle.first_pass_kinds.specs.declared.interrupt.NextLine.TheVariants.{More, Other}
+use Rattle.first_pass_kinds.specs.NextLines.{next_line_of}
+use Rattle.first_pass_kinds.proofs.PlainLines.{none_either, plain_more}
+
+-- neither a column nor a block quote marker stands here
+pub record HasNone (r : Rest) : Type 0 where
+  pub column : next_column r ≡ None
+  pub quote : past_quote r ≡ None
+
+-- Then a container takes nothing, be it continued or not,
+if_same : (t : Bool) (r : Rest) → or_shorter (if t then Some r else None) r ≡ r
+if_same true r = refl
+if_same false r = refl
+
+columns_same : (n : ℕ) (r : Rest) → HasNone r → or_shorter (if has_columns n r then Some (after_columns n r) else None) r ≡ r
+columns_same n r h = rw (after-none n r h.column) (if_same _ r)
+
+prefix_same : (c : Container) (r : Rest) → HasNone r → or_shorter (prefix c r) r ≡ r
+unfolding prefix
+prefix_same (BlockQuote kind) r h =
+    ap (λ (q : Rest). or_shorter (option_map (after_columns 1) (past_quote q)) r) (after-none 3 r h.column)
+    ∙ ap (λ o. or_shorter (option_map (after_columns 1) o) r) h.quote
+prefix_same (ListItem n) r h = columns_same n r h
+prefix_same (FootnoteDefinition n) r h = columns_same n r h
+prefix_same (Definition n) r h = columns_same n r h
+
+after_by : (c : Container) (r : Rest) (o : Option Rest) → HasNone r → or_shorter o r ≡ r → or_shorter (option_and_then (prefix c) o) r ≡ r
+after_by c r None h e = refl
+after_by c r (Some q) h e = ap (λ (s : Rest). or_shorter (prefix c s) r) e ∙ prefix_same c r h
+
+after_same : (path : List Container) (r : Rest) → HasNone r → or_shorter (after path r) r ≡ r
+unfolding after
+after_same [] r h = refl
+after_same (c ∷ path) r h = after_by c r (after path r) h (after_same path r h)
+
+-- a path of them takes nothing,
+front_same : (path : List Container) (r : Rest) → HasNone r → front path r ≡ r
+unfolding front
+front_same [] r h = refl
+front_same (c ∷ path) r h = ap (or_shorter (after (c ∷ path) r)) (front_same path r h) ∙ after_same (c ∷ path) r h
+
+-- and no columns are left after them.
+text_same : (path : List Container) (r : Rest) → HasNone r → all_taken (front path r) ≡ r
+text_same path r h = ap all_taken (front_same path r h) ∙ after-none (indent r) r h.column
+
+-- So it is where a line begins with no space, tab or `>`.
+column_none : (r : Rest) (bs : List ℕ) → begins 32 bs ≡ false → begins 9 bs ≡ false → column_of_byte r bs ≡ None
+column_none r [] a b = refl
+column_none r (b ∷ bs) s t = rw s (rw t refl)
+
+quote_none : (r : Rest) (bs : List ℕ) → begins 62 bs ≡ false → past_quote_byte r bs ≡ None
+quote_none r [] h = refl
+quote_none r (b ∷ bs) h = rw h refl
+
+none_first : (bs : List ℕ) → begins 32 bs ≡ false → begins 9 bs ≡ false → begins 62 bs ≡ false → HasNone (line_rest bs)
+none_first bs s t q = record { column = column_none (line_rest bs) bs s t; quote = quote_none (line_rest bs) bs q }
+
+off_32 : is_plain 32 ≡ false
+unfolding is_plain
+off_32 = refl
+
+off_9 : is_plain 9 ≡ false
+unfolding is_plain
+off_9 = refl
+
+off_62 : is_plain 62 ≡ false
+unfolding is_plain
+off_62 = refl
+
+plain_none : (bs : List ℕ) → begins_plain bs ≡ true → HasNone (line_rest bs)
+plain_none bs h = none_first bs (plain_begins 32 bs h off_32) (plain_begins 9 bs h off_9) (plain_begins 62 bs h off_62)
+
+-- A line whose first byte is plain is one more line of the text before it, from its start on.
+pub plain_first : (around : Context) (start : ℕ) (bs : List ℕ) → begins_plain bs ≡ true → More start ≡ next_line_of around start (line_rest bs)
+plain_first around start bs h =
+    let same : start ≡ start + 0 = omega arith in
+    ap More same ∙ plain_more around start (line_rest bs) (line_rest bs) (sym (text_same around.path (line_rest bs) (plain_none bs h))) h
+
+-- where a line ends, no byte stands first but that of a line end
+eol_begins : (c : ℕ) (bs : List ℕ) → at_line_end bs ≡ true → ((xs : List ℕ) → at_line_end (c ∷ xs) ≡ false) → begins c bs ≡ false
+eol_begins c [] h k = refl
+eol_begins c (b ∷ bs) h k = elim (cases_eq b c) [
+  | inl same ↦ absurd (true≢false (sym h ∙ ap (λ (x : ℕ). at_line_end (x ∷ bs)) same ∙ k bs))
+  | inr other ↦ ne_eqb b c other
+]
+
+eol_none : (bs : List ℕ) → at_line_end bs ≡ true → HasNone (line_rest bs)
+eol_none bs h = none_first bs (eol_begins 32 bs h (λ xs. refl)) (eol_begins 9 bs h (λ xs. refl)) (eol_begins 62 bs h (λ xs. refl))
+
+eol_setext : (bs : List ℕ) → at_line_end bs ≡ true → setext_underline bs ≡ None
+unfolding setext_underline
+eol_setext bs h = rw (eol_begins 61 bs h (λ xs. refl)) (rw (eol_begins 45 bs h (λ xs. refl)) refl)
+
+-- such a line is no underline,
+eol_underline : (path : List Container) (r : Rest) → at_line_end (all_taken (front path r)).left ≡ true → underline_of path r ≡ None
+unfolding underline_of
+eol_underline path r h =
+    none_either (is_some (after path r)) (nat_lt (indent (front path r)) 4) (setext_underline (all_taken (front path r)).left)
+    (eol_setext (all_taken (front path r)).left h)
+
+either : (t : Bool) → (if t then true else true) ≡ true
+either true = refl
+either false = refl
+
+-- and it ends a paragraph
+eol_ends : (around : Context) (c : Continued) (r : Rest) → at_line_end (all_taken r).left ≡ true → interrupts around c r ≡ true
+unfolding interrupts
+eol_ends around c r h = rw h (either (nat_lt (indent r) 4))
+
+-- A line that ends where it begins is no line of the text before it.
+pub eol_first : (around : Context) (start : ℕ) (bs : List ℕ) → at_line_end bs ≡ true → Other ≡ next_line_of around start (line_rest bs)
+eol_first around start bs h =
+    let ends : at_line_end (all_taken (front around.path (line_rest bs))).left ≡ true =
+    ap (λ (r : Rest). at_line_end r.left) (text_same around.path (line_rest bs) (eol_none bs h)) ∙ h in
+    rw (eol_underline around.path (line_rest bs) ends)
+    (rw (eol_ends around (continued around.path (line_rest bs)) (front around.path (line_rest bs)) ends) refl)
+
+-- a line isn't blank that has a plain byte after its first space
+blank_by : (f g : ℕ → ℕ) (o : Option ℕ) → option_map f o ≡ None → option_map g o ≡ None
+blank_by f g None e = refl
+blank_by f g (Some n) e = absurd cc
+
+blank_more : (n m : ℕ) (bs : List ℕ) → n ≡ suc m → option_map (λ k. m + k) (eol_len (drop m bs)) ≡ None
+    → option_map (λ k. n + k) (eol_len (drop n (32 ∷ bs))) ≡ None
+blank_more n m bs e h = rw e (blank_by (λ k. m + k) (λ k. suc m + k) (eol_len (drop m bs)) h)
+
+blank_behind : (bs : List ℕ) → begins_plain bs ≡ true → blank_len (32 ∷ bs) ≡ None
+blank_behind bs h = blank_more (1 + prefix_len is_white bs) (prefix_len is_white bs) bs (omega arith) (plain_blank bs h)
+
+-- an item begins with a bullet and a space,
+behind_some : (n : ℕ) (r : Rest) → nat_le 1 (indent r) ≡ true → behind_marker n r ≡ Some (content_indent (n + 1) (after_columns 1 r))
+unfolding behind_marker
+behind_some n r h = rw h refl
+
+abbrev bullet_by : Bool → ℕ → Option (ℕ × ℕ × ℕ)
+bullet_by t b = if t then Some (1, b, 0) else None
+
+abbrev behind_bullet : ℕ → List ℕ → Rest
+behind_bullet b bs = past_bytes 1 (line_rest (b ∷ 32 ∷ bs))
+
+has_space : (n : ℕ) → nat_le 1 (0 + (1 + n)) ≡ true
+has_space n = grind (arith, nat_tests)
+
+bullet_item : (b : ℕ) (bs : List ℕ) → is_bullet b ≡ true
+    → listitem (b ∷ 32 ∷ bs) ≡ Some (1, b, 0, (content_indent 2 (after_columns 1 (behind_bullet b bs))).0)
+unfolding listitem list_marker
+bullet_item b bs t =
+    rw t (ap (option_map (λ (content : ℕ × Rest). (1, b, 0, content.0))) (behind_some 1 (behind_bullet b bs) (has_space (columns_of bs 2))))
+
+-- and with a plain byte after these it interrupts a paragraph
+item_by : (whole : Bool) (b : ℕ) (bs : List ℕ) → is_bullet b ≡ true → begins_plain bs ≡ true
+    → item_interrupts whole (b ∷ 32 ∷ bs) (listitem (b ∷ 32 ∷ bs)) ≡ true
+item_by whole b bs t h = rw (bullet_item b bs t) (rw t (rw (blank_behind bs h) (or-true (not whole))))
+
+or_one : (a b c d : Bool) → b ≡ true → (a || b || c || d) ≡ true
+or_one true b c d h = refl
+or_one false b c d h = rw h refl
+
+item_first : (whole : Bool) (b : ℕ) (bs : List ℕ) → is_bullet b ≡ true → begins_plain bs ≡ true → interrupts_with whole (b ∷ 32 ∷ bs) ≡ true
+item_first whole b bs t h =
+    let line : List ℕ = b ∷ 32 ∷ bs in
+    or_one (at_line_end line || is_some (hrule_len line) || is_some (atx_level line) || is_some (code_fence line) || begins 62 line)
+    (item_interrupts whole line (listitem line)) (begins_html_to_end line) (begins_html_to_blank line) (item_by whole b bs t h)
+
+is_marked : (t : Bool) (b : ℕ) → is_some (bullet_by t b) ≡ true → t ≡ true
+is_marked true b h = refl
+is_marked false b h = h
+
+three : (a b c : Bool) → (a && b && c) ≡ true → (a ≡ true) × (b ≡ true) × (c ≡ true)
+three true true true h = (refl, refl, refl)
+three true true false h = absurd cc
+three true false c h = absurd cc
+three false b c h = absurd cc
+
+-- An item that begins with a plain byte after a space interrupts a paragraph.
+pub item_plain : (whole : Bool) (bs : List ℕ) → (is_some (bullet_marker bs) && begins 32 (drop 1 bs) && begins_plain (drop 2 bs)) ≡ true
+    → interrupts_with whole bs ≡ true
+item_plain whole [] h = absurd cc
+item_plain whole (b ∷ []) h = let all = three (is_some (bullet_marker (b ∷ []))) false false h in absurd (true≢false (sym all.1))
+item_plain whole (b ∷ c ∷ bs) h =
+    let all = three (is_some (bullet_marker (b ∷ c ∷ bs))) (c == 32) (begins_plain bs) h in
+    subst (λ (x : ℕ). interrupts_with whole (b ∷ x ∷ bs) ≡ true) (sym (eqb-true c 32 all.1))
+    (item_first whole b bs (is_marked (is_bullet b) b all.0) all.2)

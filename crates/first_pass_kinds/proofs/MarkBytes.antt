@@ -1,0 +1,103 @@
+-- Where no mark is next, nothing interrupts a paragraph but a table, a footnote or a definition; and where an ATX heading is, no block begins that is looked
+-- for before it.
+use Rattle.std.proofs.Common.{◌≡◌, inl, inr, ℕ, ◌==◌, nat_lt, Bool, true, false, true≢false, List, [], ◌∷◌, Option, Some, None, if◌then◌else◌}
+use Rattle.std.proofs.Common.{refl, sym, ap, ◌∙◌, subst, arith}
+use Rattle.std.proofs.lemmas.Bool.{cases_eq, ne_eqb, eqb-true}
+use Rattle.std.proofs.lemmas.Bool.Decides.{nat_tests}
+use Rattle.std.specs.Char.{is_ascii_digit}
+use Rattle.first_pass_items.specs.declared.option_set.Options.{Options}
+use Rattle.first_pass_items.specs.declared.item.HeadingLevel.{HeadingLevel}
+use Rattle.first_pass_items.specs.OptionWords.{has}
+use Rattle.first_pass_lines.specs.Lines.{begins, ends_signs, atx_level}
+use Rattle.first_pass_lines.specs.Rest.{Rest, indent}
+use Rattle.first_pass_scan.specs.LeafLines.{hrule_len, code_fence}
+use Rattle.first_pass_scan.specs.Markers.{list_marker, listitem}
+use Rattle.first_pass_metadata.specs.Metadata.{metadata_byte}
+use Rattle.first_pass_html.specs.Tags.{BeginsTagLine}
+use Rattle.first_pass_grammar.specs.Kinds.{AtxHeading, all_taken, is_blank_rest, metadata_at, html_kind, last_kind, IsKind, interrupts_with}
+use Rattle.first_pass_kinds.specs.Marks.{is_no_mark, begins_no_mark}
+use Rattle.first_pass_kinds.proofs.KindLemmas.{FoundEarly, last_here}
+use Rattle.first_pass_kinds.proofs.PlainKinds.{tag_begins}
+
+-- what holds of the bytes that begin with c, where c stands first
+at_first : (P : List ℕ → Type 0) (c : ℕ) (bs : List ℕ) → begins c bs ≡ true → ((xs : List ℕ) → P (c ∷ xs)) → P bs
+at_first P c [] h f = absurd (true≢false (sym h))
+at_first P c (b ∷ bs) h f = subst (λ (x : ℕ). P (x ∷ bs)) (sym (eqb-true b c h)) (f bs)
+
+either : {A : Type 0} (t : Bool) (o : Option A) → o ≡ None → (if t then o else None) ≡ None
+either true o e = e
+either false o e = refl
+
+-- no ATX heading begins with another byte than a number sign
+unsigned : (b : ℕ) (bs : List ℕ) → b == 35 ≡ false → atx_level (b ∷ bs) ≡ None
+unfolding atx_level
+unsigned b bs other = rw other (either (ends_signs (b ∷ bs)) None refl)
+
+-- a byte that is no mark is none of the marks
+isnt : (b c : ℕ) → is_no_mark b ≡ true → is_no_mark c ≡ false → b == c ≡ false
+isnt b c h k = elim (cases_eq b c) [
+  | inl same ↦ absurd (true≢false (sym h ∙ ap is_no_mark same ∙ k))
+  | inr other ↦ ne_eqb b c other
+]
+
+no_digit : (b : ℕ) → is_no_mark b ≡ true → is_ascii_digit b ≡ false
+unfolding is_no_mark
+no_digit b h = grind (arith, nat_tests, h)
+
+-- A line that begins with no mark interrupts no paragraph, but as a table, a footnote or a definition.
+unmarked_first : (whole : Bool) (b : ℕ) (bs : List ℕ) → is_no_mark b ≡ true → interrupts_with whole (b ∷ bs) ≡ false
+unfolding is_no_mark hrule_len code_fence list_marker listitem
+unmarked_first whole b bs h =
+    rw (unsigned b bs (isnt b 35 h refl))
+    (rw (isnt b 10 h refl) (rw (isnt b 13 h refl) (rw (isnt b 45 h refl) (rw (isnt b 95 h refl) (rw (isnt b 42 h refl)
+    (rw (isnt b 96 h refl) (rw (isnt b 126 h refl) (rw (isnt b 62 h refl) (rw (isnt b 43 h refl) (rw (no_digit b h)
+    (rw (isnt b 60 h refl) refl)))))))))))
+
+pub unmarked_interrupts : (whole : Bool) (bs : List ℕ) → begins_no_mark bs ≡ true → interrupts_with whole bs ≡ false
+unmarked_interrupts whole [] h = absurd (true≢false (sym h))
+unmarked_interrupts whole (b ∷ bs) h = unmarked_first whole b bs h
+
+-- an ATX heading begins with a number sign,
+heading_begins : (bs : List ℕ) (level : HeadingLevel) → atx_level bs ≡ Some level → begins 35 bs ≡ true
+unfolding atx_level
+heading_begins [] level e = absurd cc
+heading_begins (b ∷ bs) level e = elim (cases_eq b 35) [
+  | inl same ↦ ap (λ (x : ℕ). x == 35) same
+  | inr other ↦ let none = unsigned b bs (ne_eqb b 35 other) in absurd cc
+]
+
+-- with which no thematic break, no metadata and no HTML begins,
+sign_hrule : (bs : List ℕ) → begins 35 bs ≡ true → hrule_len bs ≡ None
+unfolding hrule_len
+sign_hrule bs h = at_first (λ xs. hrule_len xs ≡ None) 35 bs h (λ xs. refl)
+
+metadata_first : (yaml pluses : Bool) (bs : List ℕ) → metadata_byte yaml pluses (35 ∷ bs) ≡ None
+unfolding metadata_byte
+metadata_first true true bs = refl
+metadata_first true false bs = refl
+metadata_first false true bs = refl
+metadata_first false false bs = refl
+
+sign_metadata : (columns : ℕ) (options : Options) (bs : List ℕ) → begins 35 bs ≡ true → metadata_at columns options bs ≡ None
+sign_metadata columns options bs h =
+    either (columns == 0) (metadata_byte (has options 128) (has options 256) bs)
+    (at_first (λ xs. metadata_byte (has options 128) (has options 256) xs ≡ None) 35 bs h (metadata_first (has options 128) (has options 256)))
+
+sign_html : (bs : List ℕ) → begins 35 bs ≡ true → html_kind bs ≡ None
+sign_html bs h = at_first (λ xs. html_kind xs ≡ None) 35 bs h (λ xs. refl)
+
+sign_tag : (bs : List ℕ) → begins 35 bs ≡ true → (n : ℕ) → BeginsTagLine bs n → ⊥
+sign_tag bs h n t = true≢false (sym (tag_begins bs n t) ∙ at_first (λ xs. begins 60 xs ≡ false) 35 bs h (λ xs. refl))
+
+heading_last : (bs : List ℕ) (level : HeadingLevel) → begins 35 bs ≡ true → atx_level bs ≡ Some level → last_kind bs ≡ AtxHeading level
+heading_last bs level h e = rw (sign_hrule bs h) (rw e refl)
+
+-- so it is the block at under four columns.
+pub heading_kind : (options : Options) (r : Rest) (level : HeadingLevel) → is_blank_rest r ≡ false → nat_lt (indent r) 4 ≡ true
+    → atx_level (all_taken r).left ≡ Some level → IsKind options r (AtxHeading level)
+heading_kind options r level some few e =
+    let h = heading_begins (all_taken r).left level e in
+    let early : FoundEarly options r None =
+    record { some = some; few = few; metadata = sign_metadata (indent r) options (all_taken r).left h } in
+    subst (IsKind options r) (heading_last (all_taken r).left level h e)
+    (last_here options r early (sign_html (all_taken r).left h) (sign_tag (all_taken r).left h))
