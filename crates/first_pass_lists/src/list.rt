@@ -390,8 +390,8 @@ impl Reading {
         self.blank = true;
     }
 
-    /// Whether one more blank line changes nothing that is remembered: one that counts is directly before, and an item
-    /// or a definition that is empty takes blank lines alone already.
+    /// True only where one more blank line changes nothing that is remembered: one that counts is directly before, and
+    /// an item or a definition that is empty takes blank lines alone already.
     #[tactic(auto, using(crate::proofs::WithinLemmas::top_within))]
     pub fn keeps_blank_lines(&self) -> bool
         ensures { result ≡ true → blank_read self.now ≡ self.now }

@@ -29,10 +29,10 @@ use Rattle.first_pass_lines.proofs.LineFacts.{line_len-fits}
 use Rattle.first_pass_tokens.specs.LineTokens.{IsLine}
 use Rattle.first_pass_text.proofs.AttributeEnds.{content_read, before_none, length_some, braces_within}
 use Rattle.first_pass_attributes.specs.AttributeBlocks.{Braces}
-use Rattle.first_pass_text.specs.declared.heading.BlockPlace.{BlockPlace}
+use Rattle.first_pass_text.specs.declared.heading.AttributePlace.{AttributePlace}
 use Rattle.std.specs.Option.{option_map, option_map_or, unwrap_or}
 use Rattle.first_pass_open.specs.Between.{line_end_at}
-use Rattle.first_pass_text.specs.Appends.{with_closed_break, AppendsHeading, block_place}
+use Rattle.first_pass_text.specs.Appends.{with_closed_break, AppendsHeading, attribute_place}
 use Rattle.first_pass_open.specs.OpenBlock.{IsJustPushed}
 use Rattle.first_pass_text.proofs.ParagraphLemmas.{with_closed_break-chained}
 
@@ -152,39 +152,39 @@ heading_read text options before names start next cut index front content old ne
     )
 
 -- where a heading's line ends, by the place of its block or after its content
-place_at : List ℕ → ℕ → Braces → BlockPlace
+place_at : List ℕ → ℕ → Braces → AttributePlace
 place_at text start b = record { opening = start + b.opening; line_end = line_end_at text start }
 
-cut_of : (text : List ℕ) (start : ℕ) (o : Option Braces) → option_map (λ (p : BlockPlace). p.opening) (option_map (place_at text start) o) ≡ cut_by start o
+cut_of : (text : List ℕ) (start : ℕ) (o : Option Braces) → option_map (λ (p : AttributePlace). p.opening) (option_map (place_at text start) o) ≡ cut_by start o
 unfolding place_at
 cut_of text start None = refl
 cut_of text start (Some b) = refl
 
 end_of : (text : List ℕ) (start next : ℕ) (o : Option Braces) → next ≡ line_end_at (text_upto text (cut_by start o)) start
-    → option_map_or (λ (p : BlockPlace). p.line_end) (option_map (place_at text start) o) next ≡ line_end_at text start
+    → option_map_or (λ (p : AttributePlace). p.line_end) (option_map (place_at text start) o) next ≡ line_end_at text start
 unfolding place_at
 end_of text start next None e = e
 end_of text start next (Some b) e = refl
 
 pub place_none : (options : Options) (text : List ℕ) (start : ℕ) → heading_braces options (heading_line text start) ≡ None
-    → block_place options text start ≡ None
+    → attribute_place options text start ≡ None
 unfolding place_at
 place_none options text start h = ap (option_map (place_at text start)) h
 
 pub place_some : (options : Options) (text : List ℕ) (start opening to : ℕ) (block : Braces)
     → heading_braces options (heading_line text start) ≡ Some block
     → opening ≡ start + length (before_attributes options (heading_line text start)) → to ≡ line_end_at text start
-    → Some (record { opening = opening; line_end = to }) ≡ block_place options text start
+    → Some (record { opening = opening; line_end = to }) ≡ attribute_place options text start
 unfolding place_at
 place_some options text start opening to block h e f =
     let at : opening ≡ start + block.opening = e ∙ ap (λ n. start + n) (length_some options (heading_line text start) block h) in
     rw (at, f) (sym (ap (option_map (place_at text start)) h))
 
-pub place_cut : (text : List ℕ) (options : Options) (start : ℕ) (place : Option BlockPlace) → place ≡ block_place options text start
-    → option_map (λ (p : BlockPlace). p.opening) place ≡ option_map (λ (b : Braces). start + b.opening) (heading_braces options (heading_line text start))
+pub place_cut : (text : List ℕ) (options : Options) (start : ℕ) (place : Option AttributePlace) → place ≡ attribute_place options text start
+    → option_map (λ (p : AttributePlace). p.opening) place ≡ option_map (λ (b : Braces). start + b.opening) (heading_braces options (heading_line text start))
 unfolding place_at
 place_cut text options start place e =
-    ap (option_map (λ (p : BlockPlace). p.opening)) e ∙ cut_of text start (heading_braces options (heading_line text start))
+    ap (option_map (λ (p : AttributePlace). p.opening)) e ∙ cut_of text start (heading_braces options (heading_line text start))
 
 fits_by : (text : List ℕ) (options : Options) (start : ℕ) (o : Option Braces) → heading_braces options (heading_line text start) ≡ o → start ≤ length text
     → IfSome (cut_by start o) (λ e. e ≤ length text) × (start ≤ length (text_upto text (cut_by start o)))
@@ -198,19 +198,19 @@ fits_by text options start (Some block) h within =
     (fits, omega arith)
 
 -- the content that ends before a block is in the text
-pub place_fits : (text : List ℕ) (options : Options) (start : ℕ) (place : Option BlockPlace) (cut : Option ℕ) → place ≡ block_place options text start
-    → cut ≡ option_map (λ (p : BlockPlace). p.opening) place → start ≤ length text
+pub place_fits : (text : List ℕ) (options : Options) (start : ℕ) (place : Option AttributePlace) (cut : Option ℕ) → place ≡ attribute_place options text start
+    → cut ≡ option_map (λ (p : AttributePlace). p.opening) place → start ≤ length text
     → IfSome cut (λ e. e ≤ length text) × (start ≤ length (text_upto text cut))
 place_fits text options start place cut e f within =
     subst (λ c. IfSome c (λ e. e ≤ length text) × (start ≤ length (text_upto text c))) (sym (f ∙ place_cut text options start place e))
     (fits_by text options start (heading_braces options (heading_line text start)) refl within)
 
-pub place_end : (text : List ℕ) (options : Options) (start next : ℕ) (place : Option BlockPlace) → place ≡ block_place options text start
-    → next ≡ line_end_at (text_upto text (option_map (λ (p : BlockPlace). p.opening) place)) start
-    → option_map_or (λ (p : BlockPlace). p.line_end) place next ≡ line_end_at text start
+pub place_end : (text : List ℕ) (options : Options) (start next : ℕ) (place : Option AttributePlace) → place ≡ attribute_place options text start
+    → next ≡ line_end_at (text_upto text (option_map (λ (p : AttributePlace). p.opening) place)) start
+    → option_map_or (λ (p : AttributePlace). p.line_end) place next ≡ line_end_at text start
 unfolding place_at
 place_end text options start next place e f =
-    ap (λ o. option_map_or (λ (p : BlockPlace). p.line_end) o next) e
+    ap (λ o. option_map_or (λ (p : AttributePlace). p.line_end) o next) e
     ∙ end_of text start next (heading_braces options (heading_line text start))
     (f ∙ ap (λ c. line_end_at (text_upto text c) start) (place_cut text options start place e))
 

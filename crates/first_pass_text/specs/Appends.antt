@@ -21,7 +21,7 @@ use Rattle.first_pass_grammar.specs.Texts.{underline_first, IsPlainText}
 use Rattle.first_pass_grammar.specs.Tables.{taking}
 use Rattle.first_pass_grammar.specs.Headings.{heading_braces}
 use Rattle.first_pass_items.specs.declared.option_set.Options.{Options}
-use Rattle.first_pass_text.specs.declared.heading.BlockPlace.{BlockPlace}
+use Rattle.first_pass_text.specs.declared.heading.AttributePlace.{AttributePlace}
 use Rattle.first_pass_text.specs.declared.paragraph.TextEnd.{TextEnd}
 
 -- the bytes from an offset up to the end of the line that has something there, its end too (CommonMark 2.1)
@@ -29,8 +29,8 @@ abbrev pub line_from : List ℕ → ℕ → List ℕ
 line_from text start = take (line_len (drop start text)) (drop start text)
 
 -- where the attribute block begins which the line ends with that has something at an offset, and where the line ends (this project)
-abbrev pub block_place : Options → List ℕ → ℕ → Option BlockPlace
-block_place options text start =
+abbrev pub attribute_place : Options → List ℕ → ℕ → Option AttributePlace
+attribute_place options text start =
     option_map (λ block. record { opening = start + block.opening; line_end = line_end_at text start }) (heading_braces options (line_from text start))
 
 -- the tree where no line follows: the backslash of a hard break is text

@@ -10,7 +10,7 @@ ghost use Rattle.first_pass_grammar.specs.Headings.{heading_attributes_of};
 ghost use Rattle.first_pass_grammar.specs.Names.{Names, Extends, NamesAttributes};
 ghost use Rattle.first_pass_grammar.specs.Leaves.{document, is_put_aside, kept_len as kept_len_of, heading_text_at};
 ghost use Rattle.first_pass_open.specs.Between.{AddsBetween, line_end_at};
-ghost use Rattle.first_pass_text.specs.Appends.{AppendsHeading, AddsHeading, line_from, block_place};
+ghost use Rattle.first_pass_text.specs.Appends.{AppendsHeading, AddsHeading, line_from, attribute_place};
 ghost use Rattle.first_pass_open.specs.OpenBlock.{IsJustPushed};
 ghost use Rattle.first_pass_tokens.specs.Braces.{no_braces};
 ghost use Rattle.first_pass_tokens.specs.Pieces.{source, text_upto};
@@ -62,7 +62,7 @@ fn trailing_run(text: &[u8], byte: u8) -> usize
 }
 
 // The first bytes.
-fn front_of(text: &[u8], count: usize) -> &[u8]
+fn first_bytes(text: &[u8], count: usize) -> &[u8]
     requires { count ≤ length text.now }
     ensures { result.now ≡ take count text.now }
 {
@@ -75,12 +75,12 @@ fn kept_len(text: &[u8]) -> usize
     ensures within { result ≤ length text.now }
 {
     let trimmed = text.len() - trailing_aside(text);
-    let signs = trailing_run(front_of(text, trimmed), b'#');
+    let signs = trailing_run(first_bytes(text, trimmed), b'#');
     if signs == 0 {
         return trimmed;
     }
     let opening = trimmed - signs;
-    let spaces = trailing_run(front_of(text, opening), b' ');
+    let spaces = trailing_run(first_bytes(text, opening), b' ');
     if opening == 0 || 0 < spaces {
         opening - spaces
     } else {
@@ -90,7 +90,7 @@ fn kept_len(text: &[u8]) -> usize
 
 // Where the attribute block of an ATX heading begins, and where its line ends: offsets into the text.
 #[derive(Clone, Copy, Drop)]
-struct BlockPlace {
+struct AttributePlace {
     opening: usize,
     line_end: usize,
 }
@@ -103,10 +103,10 @@ fn name_attribute_block<'a>(
     source: &Source<'a>,
     allocs: &mut Allocations<'a>,
     start: usize,
-) -> Result<(Option<BlockPlace>, Option<HeadingIndex>), AllocError>
+) -> Result<(Option<AttributePlace>, Option<HeadingIndex>), AllocError>
     requires { start ≤ length source.now.text.now }
     ensures more { OnOk result (NamesMore allocs.old allocs.new) }
-    ensures place { IfOk result (λ found. found.0 ≡ block_place source.now.options source.now.text.now start) }
+    ensures place { IfOk result (λ found. found.0 ≡ attribute_place source.now.options source.now.text.now start) }
     ensures named { IfOk result (λ found. (more : Names) → Extends more (names_of allocs.new)
         → NamesAttributes more found.1
         (heading_attributes_of source.now.options (line_from source.now.text.now start))) }
@@ -120,18 +120,18 @@ fn name_attribute_block<'a>(
         return Ok((None, None));
     }
     let index = name_attributes(allocs, attributes)?;
-    Ok((Some(BlockPlace { opening, line_end }), index))
+    Ok((Some(AttributePlace { opening, line_end }), index))
 }
 
 // Where the attribute block begins, if there is one.
-fn opening_of(place: Option<BlockPlace>) -> Option<usize>
+fn opening_of(place: Option<AttributePlace>) -> Option<usize>
     ensures { result ≡ option_map (λ p. p.opening) place }
 {
     place.map(|block| block.opening)
 }
 
 // Where the line ends, by the place of its attribute block or after its content.
-fn line_end_of(place: Option<BlockPlace>, next: usize) -> usize
+fn line_end_of(place: Option<AttributePlace>, next: usize) -> usize
     ensures { result ≡ option_map_or (λ p. p.line_end) place next }
 {
     match place {

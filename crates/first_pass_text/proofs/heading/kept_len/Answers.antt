@@ -29,16 +29,16 @@ counted text front front' a b n e f g h k =
 
 pub returns-then-spaces-gt0-clause-value : goal.returns-then-spaces-gt0-clause-value
 returns-then-spaces-gt0-clause-value c =
-    sym (counted c.args.text.now _ _ _ _ _ c.trailing_aside.ensures.value c.front_of.ensures c.trailing_run-signs.ensures.value c.front_of-2.ensures
+    sym (counted c.args.text.now _ _ _ _ _ c.trailing_aside.ensures.value c.first_bytes.ensures c.trailing_run-signs.ensures.value c.first_bytes-2.ensures
     c.trailing_run-spaces.ensures.value
     ∙ choose_taken _ _ _ (elim c.if-spaces-gt0.either [ inl h ↦ inl h | inr h ↦ inr h.1 ]))
 
 pub returns-else-spaces-gt0-clause-value : goal.returns-else-spaces-gt0-clause-value
 returns-else-spaces-gt0-clause-value c =
-    sym (counted c.args.text.now _ _ _ _ _ c.trailing_aside.ensures.value c.front_of.ensures c.trailing_run-signs.ensures.value c.front_of-2.ensures
+    sym (counted c.args.text.now _ _ _ _ _ c.trailing_aside.ensures.value c.first_bytes.ensures c.trailing_run-signs.ensures.value c.first_bytes-2.ensures
     c.trailing_run-spaces.ensures.value
     ∙ choose_kept _ _ _ c.if-spaces-gt0.false.0 c.if-spaces-gt0.false.1)
 
 pub returns-then-signs-eq0-clause-value : goal.returns-then-signs-eq0-clause-value
 returns-then-signs-eq0-clause-value c =
-    sym (kept_unclosed c.args.text.now _ _ _ c.trailing_aside.ensures.value c.front_of.ensures c.trailing_run-signs.ensures.value c.if-signs-eq0.true)
+    sym (kept_unclosed c.args.text.now _ _ _ c.trailing_aside.ensures.value c.first_bytes.ensures c.trailing_run-signs.ensures.value c.if-signs-eq0.true)
