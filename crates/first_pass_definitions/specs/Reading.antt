@@ -13,7 +13,7 @@ use Rattle.first_pass_grammar.specs.Definitions.{ends_title}
 abbrev pub ClosesTitle : ℕ → Type 0
 ClosesTitle close = (close ≡ apostrophe) ⊎ (close ≡ quotation_mark) ⊎ (close ≡ right_parenthesis)
 
--- what can't stand in a line of a title with this end unless it is escaped (CommonMark 4.7)
+-- what can't stand in a line of a title with this end unless it is escaped (CommonMark 6.3)
 abbrev pub stops_title : ℕ → ℕ → Bool
 stops_title close b = is_line_end b || ends_title close b
 

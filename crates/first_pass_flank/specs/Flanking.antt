@@ -4,7 +4,7 @@ use Rattle.std.specs.Char.{is_whitespace}
 use Rattle.first_pass_flank.specs.declared.flank.DelimiterRun.{DelimiterRun}
 use Rattle.first_pass_flank.specs.Flank.{is_punctuation}
 
--- white space beside a run; the beginning and the end of the line count as it (CommonMark 6.2)
+-- white space beside a run; the beginning and the end of the line count as it (CommonMark 6.2; that U+000B, U+0085, U+2028 and U+2029 count too: this project)
 abbrev pub is_space_beside : Option ℕ → Bool
 is_space_beside None = true
 is_space_beside (Some c) = is_whitespace c

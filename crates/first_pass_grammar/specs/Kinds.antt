@@ -149,7 +149,7 @@ pub record Continued : Type 0 where
 abbrev pub continued : List Container → Rest → Continued
 continued path r = record { whole = is_some (after path r); at_definition = at_definition path r }
 
--- the same, or a footnote definition or a definition (this project), or a table (GFM 4.10)
+-- the same, or a footnote definition, a definition or a table (this project)
 abbrev pub interrupts_in : Context → Continued → List ℕ → Bool
 interrupts_in around c bs =
     interrupts_with c.whole bs

@@ -84,17 +84,19 @@ without_end passes text = take (length text - suffix_len passes text) text
 abbrev pub before_signs : List ℕ → List ℕ
 before_signs text = without_end (λ b. b == number_sign) text
 
--- a text ends with a closing sequence: number signs at its end, before which a space stands, or nothing (CommonMark 4.2)
+-- a text ends with a closing sequence: number signs at its end, before which a space stands, or nothing (CommonMark 4.2; that a tab is none: this project)
 abbrev pub ends_closing : List ℕ → Bool
 ends_closing text =
     nat_lt 0 (suffix_len (λ b. b == number_sign) text)
     && ((length (before_signs text) == 0) || nat_lt 0 (suffix_len (λ b. b == space) (before_signs text)))
 
--- a text without the closing sequence that it ends with, and without the spaces before that; all of it where it ends with none (CommonMark 4.2)
+-- A text without the closing sequence that it ends with, and without the spaces before that; all of it if it ends with none (CommonMark 4.2, which drops tabs
+-- there too; that they stay: this project).
 abbrev pub without_closing : List ℕ → List ℕ
 without_closing text = if ends_closing text then without_end (λ b. b == space) (before_signs text) else text
 
--- how many bytes are kept of an ATX heading's text: all but the spaces and line ends at its end, and the closing sequence before those (CommonMark 4.2)
+-- How many bytes are kept of an ATX heading's text: all except the spaces and line ends at its end, and the closing sequence before those (CommonMark 4.2,
+-- which drops tabs there too; that a tab after number signs keeps them: this project).
 unfoldable pub kept_len : List ℕ → ℕ
 kept_len text = length (without_closing (without_end is_put_aside text))
 

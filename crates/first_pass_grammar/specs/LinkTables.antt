@@ -29,7 +29,7 @@ unfoldable pub with_links : List LinkEntry → List LinkEntry → List LinkEntry
 with_links links [] = links
 with_links links (x ∷ definitions) = with_links (with_link x links) definitions
 
--- the first definition whose label has this folding (CommonMark 4.7, on matching labels)
+-- the first definition whose label has this folding (CommonMark 4.7; matching labels: 6.3)
 unfoldable pub link_under : List ℕ → List LinkEntry → Option LinkEntry
 link_under folding [] = None
 link_under folding (x ∷ links) = cond (pointwise nat_eq folding (folded x.label)) (Some x) (link_under folding links)

@@ -109,8 +109,7 @@ fn begins_plain_item(bytes: &[u8]) -> bool
     }
 }
 
-// The same as `interrupts_without_table`, by each mark in turn. The caller has told apart the lines whose first byte
-// begins none, and the items above.
+// The same as `interrupts_without_table`, by each mark in turn: for the lines that the two tests above leave open.
 fn interrupts_by_mark(bytes: &[u8], current_container: bool) -> bool
     ensures { result ≡ interrupts_with current_container bytes.now }
 {
@@ -258,7 +257,8 @@ pub fn scan_next_line(
 {
     source.is_short();
     let bytes = rest_of(source.text.as_bytes(), start);
-    // Of such lines no container takes anything: they need no walk over those that are open.
+    // No prefix of a container begins with a letter or a character past ASCII, and no mark does. So such a line is one
+    // more of the text, and the walk over the open containers is left out.
     if is_plain_front(bytes) {
         return Ok(NextLine::More(start));
     }

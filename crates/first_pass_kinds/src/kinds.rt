@@ -134,7 +134,7 @@ pub fn kind_at<'a>(
     if columns >= 4 {
         return (Found::Marked(MarkedLeaf::IndentedCode), columns);
     }
-    // Most blocks with a mark are headings.
+    // An ATX heading is looked for first, before kinds that precede it in the grammar: none of those begins with `#`.
     if let Some(level) = scan_atx_heading(place.rest.left()) {
         return (Found::Marked(MarkedLeaf::AtxHeading(level)), columns);
     }

@@ -56,7 +56,7 @@ fronts_decide n xs ys f g apart =
           ∙ sym (nat_list_cmp_total.antisymm xs ys ∙ ap ordering_reverse (front_less n ys xs g f more))
     ]
 
--- the number of fewer than eight bytes has room for one more
+-- the number of fewer than sixteen bytes has room for one more
 pub front_room : (n : ℕ) → n < 16 → 256 ^ n * 256 ≤ 2 ^ 128
 front_room n h = subst (λ (k : ℕ). k ≤ 2 ^ 128) (pow-suc 256 n) (pow-le-pow_right {n = 256} (omega arith) h)
 

@@ -1,4 +1,5 @@
--- The case folding of labels, by which they are equal and ordered (CommonMark 4.7, The Unicode Standard 3.13).
+-- The case folding of labels, by which they are equal and ordered (CommonMark 6.3, The Unicode Standard 3.13). White space at both ends of a label counts
+-- (this project; CommonMark 6.3 drops it).
 use Rattle.std.specs.Prelude.{ℕ, zero, suc, ◌+◌, ◌*◌, List, Bool, ◌&&◌, not, chars, encode_utf8_all, nat_eq, nat_lt, slice_index}
 use Rattle.std.specs.Box.{boxed_str_bytes}
 use Rattle.std.specs.Char.{is_ascii_uppercase}

@@ -1,4 +1,4 @@
--- A table of definitions by label, as the list of its labels with what each defines (CommonMark 4.7, on matching labels).
+-- A table of definitions by label, as the list of its labels with what each defines (CommonMark 6.3, on matching labels).
 use Rattle.std.specs.Prelude.{◌≡◌, ◌≢◌, ℕ, List, Option, None, Some, All, Contains, cond, is_some, nat_eq, [], ◌∷◌}
 use Rattle.std.specs.Cmp.Lexicographic.{pointwise}
 use Rattle.std.specs.List.Sorted.{IsStrictlySortedBy}

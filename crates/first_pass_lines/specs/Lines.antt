@@ -15,7 +15,8 @@ is_line_end b = (b == line_feed) || (b == carriage_return)
 abbrev pub is_content : ℕ → Bool
 is_content b = not (is_line_end b)
 
--- white space without line ends: tab, 0x0B, 0x0C and space (this project; CommonMark 2.1 and 2.2 have tab and space alone)
+-- White space without line ends: tab, 0x0B, 0x0C and space (this project). The rules of CommonMark have only spaces and tabs: if a definition that cites
+-- one has white space, 0x0B and 0x0C in it are this project's.
 abbrev pub is_white : ℕ → Bool
 is_white b = (b == tab) || (b == line_tabulation) || (b == form_feed) || (b == space)
 
@@ -41,7 +42,7 @@ abbrev pub eol_len : List ℕ → Option ℕ
 eol_len [] = Some 0
 eol_len (b ∷ bs) = if b == line_feed then Some 1 else (if b == carriage_return then Some (if begins line_feed bs then 2 else 1) else None)
 
--- how many bytes a blank line has, its end too: white space alone (CommonMark 2.1, blank line)
+-- how many bytes a blank line has, its end too: only white space (CommonMark 2.1, blank line)
 abbrev pub blank_len : List ℕ → Option ℕ
 blank_len bs = let n = prefix_len is_white bs in option_map (λ k. n + k) (eol_len (drop n bs))
 

@@ -1,4 +1,4 @@
--- Heads of footnote definitions (this project; CommonMark 4.7 on their labels).
+-- Heads of footnote definitions (this project; CommonMark 6.3 on their labels).
 use Rattle.std.specs.Prelude.{ℕ, ◌+◌, ◌&&◌, Bool, List, drop, Option, Some, None, if◌then◌else◌}
 use Rattle.std.specs.Option.{option_and_then}
 use Rattle.first_pass_items.specs.Bytes.{colon, left_bracket, circumflex}

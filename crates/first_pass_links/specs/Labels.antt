@@ -1,4 +1,4 @@
--- Link labels (CommonMark 4.7, 6.3), of the bytes after a `[`.
+-- Link labels (CommonMark 6.3), of the bytes after a `[`.
 use Rattle.std.specs.Prelude.{◌≡◌, ◌≢◌, ◌⊎◌, ℕ, zero, suc, ◌+◌, ◌==◌, ◌&&◌, ◌||◌, not, Bool, List, [], ◌∷◌, map, take, drop, slice_index, Option, Some, None}
 use Rattle.std.specs.Prelude.{Ok, Err, Result, length, true, ◌<◌, IsUtf8, nat_lt, nat_le, if◌then◌else◌}
 use Rattle.std.specs.Option.{option_map_or}
@@ -24,7 +24,7 @@ AnswersPlaces text post =
     (behind : Bor (List ℕ)) (n at : ℕ) → IsCharBoundary text at → behind.now ≡ drop at text → post behind (Ok (Some n)) → IsUtf8 behind.now
     → IsCharBoundary behind.now n
 
--- an opening or closing square bracket (CommonMark 4.7)
+-- an opening or closing square bracket (CommonMark 6.3)
 abbrev pub is_bracket : ℕ → Bool
 is_bracket b = b == left_bracket || b == right_bracket
 
@@ -33,7 +33,7 @@ abbrev pub begins_character : ℕ → Bool
 begins_character b = nat_lt b ascii_end || nat_le least_lead b
 
 -- the text from an offset on, its first n bytes aside, with its lines joined: each byte after its offset, without the prefixes of lines;
--- it ends at a line end after which the label may not continue (CommonMark 4.7)
+-- it ends at a line end after which the label may not continue (CommonMark 6.3)
 unfoldable pub joined : (List ℕ → Option ℕ) → ℕ → ℕ → List ℕ → List (ℕ × ℕ)
 joined prefix at n [] = []
 joined prefix at (suc n) (b ∷ bs) = joined prefix (at + 1) n bs
@@ -50,30 +50,30 @@ bytes_of cs = map (λ c. c.1) cs
 abbrev pub offsets_of : List (ℕ × ℕ) → List ℕ
 offsets_of cs = map (λ c. c.0) cs
 
--- what ends a label that holds no line end: a bracket or a line end (CommonMark 4.7)
+-- what ends a label that holds no line end: a bracket or a line end (CommonMark 6.3)
 abbrev pub ends_line_label : ℕ → Bool
 ends_line_label b = is_bracket b || is_line_end b
 
--- how many bytes stand before the first bracket that is not escaped (CommonMark 4.7)
+-- how many bytes stand before the first bracket that is not escaped (CommonMark 6.3)
 abbrev pub label_len : List ℕ → ℕ
 label_len bs = unescaped_upto is_bracket 0 bs
 
--- each run of white space as one space (CommonMark 4.7, 6.3)
+-- each run of white space as one space (CommonMark 6.3, which drops those at both ends; that they stay as one space: this project)
 unfoldable pub single_spaced : List ℕ → List ℕ
 single_spaced [] = []
 single_spaced (b ∷ bs) =
     if is_ascii_white b then (if is_ascii_white (slice_index bs 0) then single_spaced bs else space ∷ single_spaced bs) else b ∷ single_spaced bs
 
--- a label as it is read: runs of white space are single spaces, and in a table backslashes before pipes are dropped (CommonMark 4.7, GFM 4.10)
+-- a label as it is read: runs of white space are single spaces, and in a table backslashes before pipes are dropped (CommonMark 6.3, GFM 4.10)
 abbrev pub shown : Bool → List ℕ → List ℕ
 shown in_table bs = single_spaced (read_in in_table bs)
 
--- a label has at most 999 characters, and one of them is not white space (CommonMark 4.7)
+-- a label has at most 999 characters, and one of them is not white space (CommonMark 6.3)
 abbrev pub is_label : List ℕ → Bool
 is_label bs = nat_le (count_by begins_character bs) 999 && list_any (λ b. not (is_ascii_white b)) bs
 
 -- the label after a `[`: in the joined text what stands before the first bracket that is not escaped, where that is a `]`;
--- the offset after the `]`, and the label as it is read (CommonMark 4.7)
+-- the offset after the `]`, and the label as it is read (CommonMark 6.3)
 unfoldable pub label_at : (List ℕ → Option ℕ) → Bool → List ℕ → Option (ℕ × List ℕ)
 label_at prefix in_table text =
     let whole = joined prefix 0 0 text in
@@ -83,15 +83,15 @@ label_at prefix in_table text =
     then Some (slice_index (offsets_of whole) n + 1, shown in_table label)
     else None
 
--- what a label is read from: in the joined text what stands before the first bracket that is not escaped, or all where none stands (CommonMark 4.7)
+-- what a label is read from: in the joined text what stands before the first bracket that is not escaped, or all where none stands (CommonMark 6.3)
 abbrev pub before_bracket : (List ℕ → Option ℕ) → List ℕ → List ℕ
 before_bracket prefix text = let bs = bytes_of (joined prefix 0 0 text) in take (label_len bs) bs
 
--- it is read otherwise than it stands: it holds a line end, or white space other than single spaces, or in a table a backslash before a pipe (CommonMark 4.7)
+-- it is read otherwise than it stands: it holds a line end, or white space other than single spaces, or in a table a backslash before a pipe (CommonMark 6.3)
 abbrev pub IsRewritten : (List ℕ → Option ℕ) → Bool → List ℕ → Type 0
 IsRewritten prefix in_table text = shown in_table (before_bracket prefix text) ≢ before_bracket prefix text
 
--- no bracket stands in the joined text, unless it is escaped (CommonMark 4.7)
+-- no bracket stands in the joined text, unless it is escaped (CommonMark 6.3)
 abbrev pub HasNoBracket : (List ℕ → Option ℕ) → List ℕ → Type 0
 HasNoBracket prefix text = let bs = bytes_of (joined prefix 0 0 text) in label_len bs ≡ length bs
 

@@ -3,7 +3,7 @@ use Rattle.std.specs.Prelude.{ℕ, Bool, ◌==◌, ◌&&◌, ◌||◌, not, nat_
 use Rattle.first_pass_items.specs.Bytes.{backslash, ampersand}
 
 -- a character of ASCII from `*` to `~`, without square brackets and the backslash: in a label, or in a destination outside `<..>`, it ends,
--- nests and escapes nothing, and is no white space (CommonMark 4.7, 6.3)
+-- nests and escapes nothing, and is no white space (CommonMark 6.3)
 abbrev pub is_plain : ℕ → Bool
 is_plain b = (nat_le 42 b && nat_le b 90) || (nat_le 94 b && nat_le b 126)
 

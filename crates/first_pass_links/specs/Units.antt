@@ -16,11 +16,11 @@ use Rattle.first_pass_links.specs.Labels.{AnswersWith, ErrsBehind, begins_charac
 abbrev pub part : List ℕ → ℕ → ℕ → List ℕ
 part text from to = take (to - from) (drop from text)
 
--- a unit whose bytes are all kept (CommonMark 4.7)
+-- a unit whose bytes are all kept (CommonMark 6.3)
 abbrev pub kept_unit : ℕ → ℕ → Bool → Unit
 kept_unit next characters solid = record { next = next; characters = characters; solid = solid; kept = next; resumed = next; space = false }
 
--- a run of white space: it stands for a space, unless it is one (CommonMark 4.7)
+-- a run of white space: it stands for a space, unless it is one (CommonMark 6.3)
 abbrev pub space_unit : List ℕ → ℕ → ℕ → ℕ → Unit
 space_unit text at next characters =
     if next == at + 1 && slice_index text at == space
@@ -38,7 +38,7 @@ backslash_unit in_table at bs =
     else (if in_table && begins pipe (drop 1 bs) then dropped_unit (at + 2) 2 at
     else (if begins_escape bs then kept_unit (at + 2) 2 true else kept_unit (at + 1) 1 true))
 
--- what is read of a unit: its bytes, but for those that are left out or stand for a space (CommonMark 4.7)
+-- what is read of a unit: its bytes, but for those that are left out or stand for a space (CommonMark 6.3)
 abbrev pub read_of : List ℕ → ℕ → Unit → List ℕ
 read_of text at unit = part text at unit.kept ++ ((if unit.space then space ∷ [] else []) ++ part text unit.resumed unit.next)
 
@@ -64,7 +64,7 @@ pub record IsUnit (text : List ℕ) (at : ℕ) (unit : Unit) : Type 0 where
   pub same : unit.kept ≡ unit.resumed → unit.space ≡ false
 
 -- a unit is read: its bytes are the next of the label, and have so many characters; no bracket ends the label among them,
--- and what is read of them stands before what is read of any bytes that the label takes after them (CommonMark 4.7)
+-- and what is read of them stands before what is read of any bytes that the label takes after them (CommonMark 6.3)
 pub record Reads (prefix : List ℕ → Option ℕ) (in_table : Bool) (text : List ℕ) (at : ℕ) (unit : Unit) : Type 0 where
   pub run : List (ℕ × ℕ)
   pub joins : left_at prefix text at ≡ run ++ left_at prefix text unit.next
@@ -82,18 +82,18 @@ pub record IsRead (text : List ℕ) (written : List ℕ) (from at : ℕ) : Type 
   pub boundary : IsCharBoundary text from
   pub lighter : ((from ≡ 0) × (written ≡ [])) ⊎ (weight written < weight (take from text))
 
--- a run of white space from one offset up to another, over line ends and prefixes, and how many characters it has (CommonMark 4.7)
+-- a run of white space from one offset up to another, over line ends and prefixes, and how many characters it has (CommonMark 6.3)
 pub record IsWhiteRun (prefix : List ℕ → Option ℕ) (text : List ℕ) (at next characters : ℕ) : Type 0 where
   pub run : List (ℕ × ℕ)
   pub joins : left_at prefix text at ≡ run ++ left_at prefix text next
   pub white : list_all is_ascii_white (bytes_of run) ≡ true
   pub count : length run ≡ characters
 
--- nothing but white space is left of the label (CommonMark 4.7)
+-- nothing but white space is left of the label (CommonMark 6.3)
 abbrev pub IsBlankRest : (List ℕ → Option ℕ) → List ℕ → ℕ → Type 0
 IsBlankRest prefix text at = list_all is_ascii_white (bytes_of (left_at prefix text at)) ≡ true
 
--- where a run ends: after its first byte, and before a byte that is no white space (CommonMark 4.7)
+-- where a run ends: after its first byte, and before a byte that is no white space (CommonMark 6.3)
 pub record EndsWhiteRun (text : List ℕ) (at next characters : ℕ) : Type 0 where
   pub later : at < next
   pub within : next ≤ length text

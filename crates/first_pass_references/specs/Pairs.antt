@@ -28,7 +28,7 @@ closed_by depth tokens (Some node) = if node.0 == depth && closes node.1.body th
 
 -- What an opening bracket of this depth makes a pair with, of the nodes after it in reading order: the tokens of its chain up to the next bracket there, and
 -- that bracket, where it closes. Of brackets around other brackets nothing is said: what is between them holds a bracket that is not escaped, and so is no
--- label (CommonMark 4.7).
+-- label (CommonMark 6.3).
 abbrev pub pair_after : ℕ → List (ℕ × Item) → Option (List (ℕ × Item) × Item)
 pair_after depth nodes = let n = prefix_len (is_inside depth) nodes in closed_by depth (take n nodes) (slice_get nodes n)
 

@@ -36,7 +36,7 @@ hrule_len (b ∷ bs) = if is_rule_byte b then rule_len b (b ∷ bs) else None
 pub record HasNoRule (bs : List ℕ) (low : ℕ) (high : ℕ) : Type 0 where
   pub none : (k : ℕ) → low ≤ k → k < high → hrule_len (drop k bs) ≡ None
 
--- how many bytes an underline of the byte c has, its end too: a run of that byte, then white space alone (CommonMark 4.3)
+-- how many bytes an underline of the byte c has, its end too: a run of that byte, then only white space (CommonMark 4.3)
 abbrev pub underline_len : ℕ → List ℕ → Option ℕ
 underline_len c bs = let n = run_len c bs in option_map (λ k. n + k) (blank_len (drop n bs))
 
@@ -47,7 +47,7 @@ setext_underline bs =
     then option_map (λ n. (n, H1)) (underline_len equals_sign bs)
     else (if begins hyphen bs then option_map (λ n. (n, H2)) (underline_len hyphen bs) else None)
 
--- the line continues a backquote somewhere (CommonMark 4.5)
+-- the line holds a backquote somewhere (CommonMark 4.5)
 abbrev pub has_backquote : List ℕ → Bool
 has_backquote bs = list_any (λ b. b == backquote) (take_while is_content bs)
 
@@ -59,7 +59,7 @@ code_fence bs =
     else (if begins tilde bs then (let n = run_len tilde bs in if nat_le 3 n then Some (n, tilde) else None) else None)
 
 -- how many bytes the closing fence of a block has, trailing spaces and tabs too and its line end not, where the block was opened by so many of the byte c: at
--- least as many; the end of the text closes too (CommonMark 4.5)
+-- least as many (CommonMark 4.5); the end of the text closes too (this project)
 unfoldable pub closing_fence_len : ℕ → ℕ → List ℕ → Option ℕ
 closing_fence_len c count bs =
     if length bs == 0

@@ -62,7 +62,7 @@ line_end_len s end =
     if nat_le (length s.text) end then 0
     else (if slice_index s.text end == carriage_return && slice_index s.text (end + 1) == line_feed then 2 else 1)
 
--- how many bytes at the content's end are white space (CommonMark 6.7, 6.8)
+-- how many bytes at the content's end are white space (this project; CommonMark 6.7 and 6.8 have spaces)
 unfoldable pub blanks_at_end : Inline → ℕ → ℕ
 blanks_at_end s end = suffix_len is_white (slice_range s.text s.start end)
 
@@ -74,12 +74,12 @@ backslashes_at_end s end = suffix_len (λ b. b == backslash) (slice_range s.text
 unfoldable pub breaks_by_backslash : Inline → ℕ → Bool
 breaks_by_backslash s end = (backslashes_at_end s end % 2 == 1) && nat_lt (end + line_end_len s end) (length s.text)
 
--- where the last text of the content ends: before that backslash, or before the white space (CommonMark 6.7, 6.8)
+-- where the last text of the content ends: before that backslash (CommonMark 6.7), or before the white space (this project; CommonMark 6.8 has spaces)
 unfoldable pub text_end : Inline → ℕ → ℕ
 text_end s end = if breaks_by_backslash s end then end - 1 else end - blanks_at_end s end
 
--- the break from the end of a content up to an offset: hard by the last backslash of the content, hard by two or more bytes of white space at its end, or soft
--- (CommonMark 6.7, 6.8)
+-- The break from the end of a content up to an offset: hard by the last backslash of the content (CommonMark 6.7); hard by two or more bytes of white space at
+-- its end, tabs too (this project; CommonMark 6.7 asks for two or more spaces); or soft (CommonMark 6.8).
 abbrev pub break_of : ℕ → ℕ → Bool → ℕ → Item
 break_of end next by_backslash blanks =
     if by_backslash then record { start = end - 1; «end» = next; body = HardBreak true }

@@ -175,7 +175,7 @@ special_found s at =
     else (if slice_index s.text at == right_brace then CloseBrace
     else Ready (special_piece s at)))))
 
--- what stands at a place: a byte that is not special is left over (CommonMark 6, textual content)
+-- what stands at a place: a byte that is not special is left over (CommonMark 6.9, textual content)
 unfoldable pub found_at : Inline → ℕ → Found
 found_at s at = if is_special s.options (slice_index s.text at) then special_found s at else Ready (Left 1)
 

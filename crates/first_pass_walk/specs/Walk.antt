@@ -65,7 +65,7 @@ NoneMarkedFrom lut bytes ix = (k : ℕ) → ix ≤ k → k < length bytes → is
 abbrev pub is_word_byte : ℕ → Bool
 is_word_byte b = (is_ascii_alphabetic b || b == space) || (nat_lt 127 b && nat_lt b 256)
 
--- which of the 16 bytes from a place on are word bytes: bit k of the mask is 0 just where the byte k after the place is one, and no bit from 16 on is set
+-- which of the 16 bytes from a place on are no word bytes: bit k of the mask is 1 just where the byte k after the place is none, and no bit from 16 on is set
 -- (this project)
 pub record AreWordStops (bytes : List ℕ) (at mask : ℕ) : Type 0 where
   pub within : mask < 2 ^ 16
