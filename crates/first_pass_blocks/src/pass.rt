@@ -6,7 +6,7 @@ ghost use Rattle.first_pass_grammar.specs.Leaves.{document};
 ghost use Rattle.first_pass_grammar.specs.Derivation.{no_tables, Derives, IsOnlyDerived};
 ghost use Rattle.first_pass_grammar.specs.Completion.{lines_from};
 ghost use Rattle.first_pass_grammar.specs.Kinds.{Paragraph, unindented, IsKind};
-ghost use Rattle.first_pass_grammar.specs.Counting.{own_nodes};
+ghost use Rattle.first_pass_grammar.specs.Counting.{filled_cells};
 ghost use Rattle.first_pass_grammar.specs.WholeTables.{AreWholeTables, HasWholeTables};
 ghost use Rattle.first_pass_grammar.specs.Order.{IsOrdered};
 ghost use Rattle.first_pass_grammar.specs.Names.{Names, AreNamed};
@@ -252,9 +252,9 @@ impl<'a> BlockPass<'a> {
 /// Reads the blocks of a text: the finished tree that the block grammar derives from the text's lines
 /// under these options, and the tables of what the text defines. The grammar derives nothing else from them, as the
 /// law `one_derivation` says of any two derivations. Nothing is open in the tree, and no paragraph in it
-/// may still become a title. It has at most four nodes for each byte, besides its root and cells that rows of tables
-/// are filled with; each row has as many cells as its table has columns, and at most 262,144 cells are filled into a
-/// table. Each link definition in the tables is what stands at its range; its label, its destination and a title of one
+/// may still become a title. Besides its root and its filled cells, those that start at their row's end, it has at most
+/// four nodes for each byte. Each row has as many cells as its table has columns, each of which starts after the one
+/// before it or is a filled cell, and a table has at most 262,144 filled cells. Each link definition in the tables is what stands at its range; its label, its destination and a title of one
 /// line, and the label of each footnote, are borrowed from the text where nothing in them changes. No use of a footnote
 /// is counted. The one error is that a request for memory was refused.
 pub fn run_first_pass<'a>(
@@ -269,7 +269,8 @@ pub fn run_first_pass<'a>(
     ensures finished { IfOk result (λ answer. answer.0.spine ≡ []) }
     ensures settled { IfOk result (λ answer. AreSettled answer.0.nodes) }
     ensures order { IfOk result (λ answer. IsOrdered text.now answer.0.nodes) }
-    ensures few { IfOk result (λ answer. own_nodes answer.0.nodes ≤ 1 + 4 * length text.now) }
+    ensures few { IfOk result (λ answer.
+        length answer.0.nodes ≤ 1 + 4 * length text.now + filled_cells answer.0.nodes) }
     ensures named { IfOk result (λ answer. AreNamed (names_of answer.1) answer.0.nodes) }
     ensures written { IfOk result (λ answer. AreWritten text.now (refdefs_of answer.1)) }
     ensures footnotes { IfOk result (λ answer. AreFootnotesWritten text.now (footdefs_of answer.1)) }

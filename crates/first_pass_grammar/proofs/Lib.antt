@@ -12,6 +12,7 @@ pub mod EachRow
 pub mod EachToken
 pub mod EarlierNodes
 pub mod Extending
+pub mod FilledCells
 pub mod Finishes
 pub mod FirstLabels
 pub mod FirstLinks

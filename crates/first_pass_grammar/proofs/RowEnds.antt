@@ -166,3 +166,24 @@ later_by {after} d at before tokens stop false here within on cell =
 pub cell_takes_a_byte : {after : MathBraces} (d : Document) (p : Spot) (tokens : List Item) (stop : ℕ) → p.at ≤ length d.text
     → at_line_end (drop (cell_text d.text p.at) d.text) ≡ false → IsCell d.names.texts (begun_there d p) tokens stop after → p.at < stop
 cell_takes_a_byte d p tokens stop within on cell = later_by d p.at p.braces tokens stop (slice_index d.text p.at == pipe) refl within on cell
+
+-- The cell after it starts later than it does.
+starts_by : {after : MathBraces} (d : Document) (at : ℕ) (before : MathBraces) (tokens : List Item) (stop : ℕ) (t : Bool)
+    → (slice_index d.text stop == pipe) ≡ t → at_line_end (drop (cell_text d.text at) d.text) ≡ false → cell_text d.text at ≤ stop
+    → IsCell d.names.texts (begun_there d (spot at before)) tokens stop after → cell_start d.text at < cell_start d.text stop
+starts_by d at before tokens stop true here on from cell =
+    let next : cell_start d.text stop ≡ stop + 1 = ap (λ (t : Bool). if t then stop + 1 else stop) here in omega arith
+starts_by {after} d at before tokens stop false here on from cell =
+    let next : cell_start d.text stop ≡ stop = ap (λ (t : Bool). if t then stop + 1 else stop) here in
+    elim (cases_lt (cell_start d.text at) stop) [
+      | inl more ↦ omega arith
+      | inr none ↦
+          let same : cell_text d.text at ≡ stop = omega arith in
+          absurd (goes_further d stop before tokens (ap (λ (k : ℕ). at_line_end (drop k d.text)) (sym same) ∙ on) here
+          (subst (λ (k : ℕ). IsCell d.names.texts (cell_content d (spot k before)) tokens stop after) same cell))
+    ]
+
+pub next_starts_later : {after : MathBraces} (d : Document) (p : Spot) (tokens : List Item) (stop : ℕ)
+    → at_line_end (drop (cell_text d.text p.at) d.text) ≡ false → cell_text d.text p.at ≤ stop → IsCell d.names.texts (begun_there d p) tokens stop after
+    → cell_start d.text p.at < cell_start d.text stop
+next_starts_later d p tokens stop on from cell = starts_by d p.at p.braces tokens stop (slice_index d.text stop == pipe) refl on from cell

@@ -21,10 +21,10 @@ use Rattle.first_pass_grammar.specs.Leaves.{Document}
 use Rattle.first_pass_grammar.specs.Tables.{cell_content, cell_start, cell_text, cell_block, AreCells, filled, side_by_side, row_cells, row_block, Taken}
 use Rattle.first_pass_grammar.specs.Tables.{TableSoFar, table_so_far, AreRows, most_filled, IsTable}
 use Rattle.first_pass_grammar.specs.WholeTables.{Mark, ATable, ARow, ACell, shown, marks, RowCells, row_marks, TableRows, table_marks, how_often, filled_in}
-use Rattle.first_pass_grammar.specs.WholeTables.{HaveCells, AreFull, AreWholeTables}
+use Rattle.first_pass_grammar.specs.WholeTables.{StartApart, HaveCells, AreFull, AreWholeTables}
 use Rattle.first_pass_grammar.proofs.CountedRows.{with_row, CountedRows, counted}
 use Rattle.first_pass_grammar.proofs.EachToken.{AreEach, HoldsOfTokens, HoldsOfRaw, cell_each}
-use Rattle.first_pass_grammar.proofs.RowEnds.{row_ends_its_line}
+use Rattle.first_pass_grammar.proofs.RowEnds.{row_ends_its_line, next_starts_later}
 use Rattle.first_pass_grammar.proofs.TableRows.{as_many_cells}
 use Rattle.first_pass_tokens.proofs.PieceFacts.{is_markup}
 use Rattle.first_pass_items.specs.declared.cow_str.CowStr.{CowStr}
@@ -187,25 +187,47 @@ side_shows names (block ∷ blocks) (start ∷ starts) h =
     let both = marks-append names block (side_by_side blocks) in
     (both ∙ ap (λ (z : List Mark). z ++ marks names (side_by_side blocks)) own ∙ ap (λ (z : List Mark). ACell 0 start ∷ z) rest.0, ap suc rest.1)
 
--- each of these offsets lies before an end
-unfoldable AreBefore : ℕ → List ℕ → Type 0
-AreBefore «end» [] = Unit {0}
-AreBefore «end» (start ∷ starts) = (start < «end») × AreBefore «end» starts
+-- these offsets are one after the other, from one on and before another
+unfoldable AreBetween : ℕ → ℕ → List ℕ → Type 0
+AreBetween from «end» [] = Unit {0}
+AreBetween from «end» (start ∷ starts) = (from ≤ start) × (start < «end») × AreBetween (suc start) «end» starts
 
-first_before : (end n : ℕ) (starts : List ℕ) → AreBefore end starts → AreBefore end (take n starts)
-unfolding AreBefore
-first_before end zero starts h = tt
-first_before end (suc n) [] h = tt
-first_before end (suc n) (start ∷ starts) h = (h.0, first_before end n starts h.1)
+later_between : (low from end : ℕ) (starts : List ℕ) → low ≤ from → AreBetween from end starts → AreBetween low end starts
+unfolding AreBetween
+later_between low from end [] le h = tt
+later_between low from end (start ∷ starts) le h = (let first = h.0 in omega arith, h.1, h.2)
 
-never : (end : ℕ) (starts : List ℕ) → AreBefore end starts → how_often end starts ≡ 0
-unfolding AreBefore how_often
-never end [] h = refl
-never end (start ∷ starts) h =
-    let rest = never end starts h.1 in
-    let low = h.0 in
+first_between : (from end n : ℕ) (starts : List ℕ) → AreBetween from end starts → AreBetween from end (take n starts)
+unfolding AreBetween
+first_between from end zero starts h = tt
+first_between from end (suc n) [] h = tt
+first_between from end (suc n) (start ∷ starts) h = (h.0, h.1, first_between (suc start) end n starts h.2)
+
+never : (from end : ℕ) (starts : List ℕ) → AreBetween from end starts → how_often end starts ≡ 0
+unfolding AreBetween how_often
+never from end [] h = refl
+never from end (start ∷ starts) h =
+    let rest = never (suc start) end starts h.2 in
+    let low = h.1 in
     let other : (start == end) ≡ false = ne_eqb start end (λ same. omega arith) in
     rw (other, rest) refl
+
+-- they start apart, and so they do with copies of the end after them
+copies_apart : (end start n : ℕ) → StartApart end (start ∷ replicate n end)
+unfolding StartApart
+copies_apart end start zero = tt
+copies_apart end start (suc n) = (inr refl, copies_apart end end n)
+
+after_apart : (end start n : ℕ) (starts : List ℕ) → AreBetween (suc start) end starts → StartApart end (start ∷ (starts ++ replicate n end))
+unfolding AreBetween StartApart
+after_apart end start n [] h = copies_apart end start n
+after_apart end start n (next ∷ starts) h = (let later = h.0 in inl (omega arith), after_apart end next n starts h.2)
+
+all_apart : (from end n : ℕ) (starts : List ℕ) → AreBetween from end starts → StartApart end (starts ++ replicate n end)
+unfolding AreBetween StartApart
+all_apart from end zero [] h = tt
+all_apart from end (suc n) [] h = copies_apart end end n
+all_apart from end n (start ∷ starts) h = after_apart end start n starts h.2
 
 always : (end n : ℕ) → how_often end (replicate n end) ≡ n
 unfolding how_often
@@ -225,7 +247,7 @@ at_or_behind false at = omega arith
 written_before : (d : Document) (p : Spot) (tokens : List Item) (stop : Spot) (cells : List (List (ℕ × Item))) (to : Spot)
     → at_line_end (drop (cell_text d.text p.at) d.text) ≡ false
     → IsCell d.names.texts (cell_content d (spot (cell_text d.text p.at) p.braces)) tokens stop.at stop.braces → AreCells d stop cells to
-    → (cell_start d.text p.at < to.at) × (stop.at ≤ length d.text)
+    → (cell_start d.text p.at < to.at) × (stop.at ≤ length d.text) × (cell_text d.text p.at ≤ stop.at)
 written_before d p tokens stop cells to on cell more =
     elim (cases_lt (cell_text d.text p.at) (length d.text)) [
       | inl inside ↦
@@ -238,6 +260,7 @@ written_before d p tokens stop cells to on cell more =
               | inr all ↦ omega arith
             ],
             within,
+            from,
           )
       | inr past ↦ absurd (true≢false (sym (at_drop_all (λ (bs : List ℕ). at_line_end bs) d.text (cell_text d.text p.at) past) ∙ on))
     ]
@@ -253,14 +276,18 @@ cell_shows d p start tokens stop h =
     ∙ ap (map (mark_deeper 1)) (leaves_show d.names tokens (cell_each d.names.texts ShowsNothing (tokens_show d.names.texts) (cell_content d p) tokens stop h)))
 
 cells_show : (d : Document) (p : Spot) (cells : List (List (ℕ × Item))) (to : Spot) → AreCells d p cells to
-    → (starts : List ℕ) × ShowCells d.names cells starts × AreBefore to.at starts
-unfolding AreCells ShowCells AreBefore
+    → (starts : List ℕ) × ShowCells d.names cells starts × AreBetween (cell_start d.text p.at) to.at starts
+unfolding AreCells ShowCells AreBetween
 cells_show d p [] to h = ([], tt, tt)
 cells_show d p (cell ∷ cells) to (on, tokens, stop, is, e, more) =
     let rest = cells_show d stop cells to more in
     let here = written_before d p tokens stop cells to on is more in
     let own = cell_shows d (spot (cell_text d.text p.at) p.braces) (cell_start d.text p.at) tokens stop.at is in
-    (cell_start d.text p.at ∷ rest.0, (ap (marks d.names) e ∙ own, rest.1), (here.0, rest.2))
+    let later = next_starts_later d p tokens stop.at on here.2 is in (
+      cell_start d.text p.at ∷ rest.0,
+      (ap (marks d.names) e ∙ own, rest.1),
+      (omega arith, here.0, later_between (suc (cell_start d.text p.at)) (cell_start d.text stop.at) to.at rest.0 (omega arith) rest.2),
+    )
 
 filled_shows : (names : Names) («end» : ℕ) → marks names (cell_block «end» «end» []) ≡ ACell 0 «end» ∷ []
 unfolding marks
@@ -270,7 +297,7 @@ filled_shows names end = refl
 pub row_shows : (d : Document) (body : ItemBody) (columns : ℕ) (p : Spot) (cells : List (List (ℕ × Item))) (to : Spot)
     → shown d.names 0 p.at to.at body ≡ ARow 0 to.at ∷ [] → AreCells d p cells to
     → (starts : List ℕ) × (marks d.names (row_block body columns p.at cells to.at) ≡ ARow 0 to.at ∷ map (ACell 1) starts)
-    × (length starts ≡ columns) × (how_often to.at starts ≡ filled columns cells)
+    × (length starts ≡ columns) × StartApart to.at starts × (how_often to.at starts ≡ filled columns cells)
 unfolding marks
 row_shows d body columns p cells to own are =
     let (starts, show, before) = cells_show d p cells to are in
@@ -279,7 +306,9 @@ row_shows d body columns p cells to own are =
     let both = both_show d.names (take columns cells) (replicate n (cell_block end end [])) (take columns starts) (replicate n end)
     (first_show d.names columns cells starts show) (copies_show d.names n (cell_block end end []) end (filled_shows d.names end)) in
     let all = side_shows d.names (take columns cells ++ replicate n (cell_block end end [])) (take columns starts ++ replicate n end) both in
-    let none = never end (take columns starts) (first_before end columns starts before) in
+    let from : ℕ = cell_start d.text p.at in
+    let first = first_between from end columns starts before in
+    let none = never from end (take columns starts) first in
     let last = always end n in
     let sum = often_both end (take columns starts) (replicate n end) in (
       take columns starts ++ replicate n end,
@@ -288,6 +317,7 @@ row_shows d body columns p cells to own are =
           (marks-at_depth d.names 1 (row_cells columns cells end) ∙ ap (map (mark_deeper 1)) all.0
           ∙ cells_deeper 1 0 (take columns starts ++ replicate n end)),
       all.1 ∙ as_many_cells columns cells end,
+      all_apart from end n (take columns starts) first,
       omega arith,
     )
 
@@ -298,8 +328,8 @@ unfolding marks row_marks HaveCells filled_in
 none_over d columns items e most = ([], ap (marks d.names) e, tt, omega arith)
 
 one_over : (d : Document) (columns most : ℕ) (first more items : List (ℕ × Item)) (row : RowCells) (rows : List RowCells) → items ≡ first ++ more
-    → marks d.names first ≡ ARow 0 row.«end» ∷ map (ACell 1) row.starts → length row.starts ≡ columns → marks d.names more ≡ row_marks 0 rows
-    → HaveCells columns rows
+    → marks d.names first ≡ ARow 0 row.«end» ∷ map (ACell 1) row.starts → (length row.starts ≡ columns) × StartApart row.«end» row.starts
+    → marks d.names more ≡ row_marks 0 rows → HaveCells columns rows
     → how_often row.«end» row.starts + filled_in rows ≤ most
     → (rows : List RowCells) × (marks d.names items ≡ row_marks 0 rows) × HaveCells columns rows × (filled_in rows ≤ most)
 unfolding row_marks HaveCells filled_in
@@ -307,7 +337,7 @@ one_over d columns most first more items row rows e show size these have few = (
   row ∷ rows,
   ap (marks d.names) e ∙ marks-append d.names first more ∙ ap (λ (z : List Mark). z ++ marks d.names more) show
       ∙ ap (λ (z : List Mark). (ARow 0 row.«end» ∷ map (ACell 1) row.starts) ++ z) these,
-  (size, have),
+  (size.0, size.1, have),
   few,
 )
 
@@ -320,12 +350,12 @@ counted_show d path table (line ∷ lines) t (inr (row, has, inl (stops, e))) =
     none_over d table.columns t.items (ap (λ (z : Taken). z.items) e) table.room
 counted_show d path table (line ∷ lines) t (inr (row, has, inr (is, more, rest, e))) =
     let n : ℕ = filled table.columns row.cells in
-    let (starts, show, size, often) =
+    let (starts, show, size, apart, often) =
     row_shows d TableRow table.columns (spot row.start table.braces) row.cells (spot row.row_end row.after) refl has.are_cells in
     let (rows, these, have, few) = counted_show d path (with_row table row) lines more rest in
     let fits = leb-true n table.room (and_parts (nat_lt 0 (length row.cells)) (nat_le n table.room) is).1 in
     one_over d table.columns table.room (row_block TableRow table.columns row.start row.cells row.row_end) more.items t.items
-    (record { «end» = row.row_end; starts = starts }) rows (ap (λ (z : Taken). z.items) e) show size these have (omega arith)
+    (record { «end» = row.row_end; starts = starts }) rows (ap (λ (z : Taken). z.items) e) show (size, apart) these have (omega arith)
 
 pub rows_show : (d : Document) (path : List Container) (table : TableSoFar) (lines : List Place) (t : Taken) → AreRows d path table lines t
     → (rows : List RowCells) × (marks d.names t.items ≡ row_marks 0 rows) × HaveCells table.columns rows × (filled_in rows ≤ table.room)
@@ -337,7 +367,7 @@ pub table_shows : (d : Document) (path : List Container) (p : Place) (alignments
 unfolding AreWholeTables marks row_marks table_marks HaveCells filled_in AreFull
 table_shows d path p alignments lines t h low =
     let columns : ℕ = length alignments in
-    let (starts, show, size, often) =
+    let (starts, show, size, apart, often) =
     row_shows d TableHead columns (spot (offset p) no_braces) h.cells (spot h.head_end h.after) refl h.are_cells in
     let (rows, these, have, few) = rows_show d path (table_so_far columns (most_filled - filled columns h.cells) h.after) (drop 1 lines) _ h.are_rows in
     let head : List (ℕ × Item) = row_block TableHead columns (offset p) h.cells h.head_end in
@@ -352,5 +382,5 @@ table_shows d path p alignments lines t h low =
       record { depth = 0; columns = columns; rows = first ∷ rows } ∷ [],
       ap (marks d.names) h.items_are ∙ ap (λ (z : List Mark). z ++ marks d.names (at_depth 1 (head ++ h.body))) count
           ∙ ap (λ (z : List Mark). ATable 0 columns ∷ z) (inside ∙ sym (append-nil (row_marks 1 (first ∷ rows)))),
-      ((size, have), omega arith, tt),
+      ((size, apart, have), omega arith, tt),
     )

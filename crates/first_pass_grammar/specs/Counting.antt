@@ -1,4 +1,4 @@
--- How many nodes there are, the cells apart that a row of a table is filled with.
+-- How many nodes there are, and how many of them are cells that a row of a table is filled with.
 use Rattle.std.specs.Prelude.{ℕ, ◌+◌, ◌==◌, ◌&&◌, Bool, true, false, List, [], ◌∷◌, Option, Some, None, if◌then◌else◌}
 use Rattle.first_pass_items.specs.declared.item.Item.{Item}
 use Rattle.first_pass_items.specs.declared.item.ItemBody.{ItemBody}
@@ -33,3 +33,21 @@ own cell (n ∷ nodes) = (if is_filled_behind cell n.1 then 0 else 1) + own (las
 -- how many nodes a tree or a block has of its own: of the cells that a row is filled with, the first counts alone (this project)
 abbrev pub own_nodes : List (ℕ × Item) → ℕ
 own_nodes nodes = own None nodes
+
+-- where the row ends that what follows a node belongs to, if a row begins at or before it (GFM 4.10)
+abbrev pub row_end : Option ℕ → Item → Option ℕ
+row_end «end» x = if is_row x.body then Some x.«end» else «end»
+
+-- A filled cell is a cell that starts at its row's end (GFM 4.10, and this project).
+abbrev pub is_filled : Option ℕ → Item → Bool
+is_filled None x = false
+is_filled (Some «end») x = is_cell x.body && (x.start == «end»)
+
+-- how many of these nodes are filled cells, in a row that ends at an offset, or before any row (this project)
+unfoldable pub filled_in_row : Option ℕ → List (ℕ × Item) → ℕ
+filled_in_row «end» [] = 0
+filled_in_row «end» (n ∷ nodes) = (if is_filled «end» n.1 then 1 else 0) + filled_in_row (row_end «end» n.1) nodes
+
+-- how many filled cells a tree has (GFM 4.10, and this project)
+abbrev pub filled_cells : List (ℕ × Item) → ℕ
+filled_cells nodes = filled_in_row None nodes

@@ -1,5 +1,5 @@
 -- Tables as their nodes show them: as many cells in each row as columns, and no more of them filled in than may be.
-use Rattle.std.specs.Prelude.{◌≡◌, ℕ, zero, ◌+◌, ◌≤◌, ◌==◌, ◌||◌, suc, Bool, true, false, Option, Some, None, IsSomeAnd, List, [], ◌∷◌, ◌++◌}
+use Rattle.std.specs.Prelude.{◌≡◌, ◌⊎◌, ℕ, zero, ◌+◌, ◌<◌, ◌≤◌, ◌==◌, ◌||◌, suc, Bool, true, false, Option, Some, None, IsSomeAnd, List, [], ◌∷◌, ◌++◌}
 use Rattle.std.specs.Prelude.{length, map, if◌then◌else◌}
 use Rattle.std.specs.Option.{option_map_or}
 use Rattle.first_pass_items.specs.declared.item.Item.{Item}
@@ -64,12 +64,19 @@ unfoldable pub filled_in : List RowCells → ℕ
 filled_in [] = 0
 filled_in (row ∷ rows) = how_often row.«end» row.starts + filled_in rows
 
--- each row has as many cells as there are columns (GFM 4.10)
+-- Each cell of a row that ends at an offset starts after the one before it, or at that offset: there the cells start that are filled in (GFM 4.10, and this
+-- project).
+unfoldable pub StartApart : ℕ → List ℕ → Type 0
+StartApart «end» [] = Unit {0}
+StartApart «end» (start ∷ []) = Unit {0}
+StartApart «end» (start ∷ next ∷ starts) = ((start < next) ⊎ (next ≡ «end»)) × StartApart «end» (next ∷ starts)
+
+-- each row has as many cells as there are columns, and they start apart (GFM 4.10, and this project)
 unfoldable pub HaveCells : ℕ → List RowCells → Type 0
 HaveCells columns [] = Unit {0}
-HaveCells columns (row ∷ rows) = (length row.starts ≡ columns) × HaveCells columns rows
+HaveCells columns (row ∷ rows) = (length row.starts ≡ columns) × StartApart row.«end» row.starts × HaveCells columns rows
 
--- each table has as many cells in each row as columns, and no more of them are filled in than may be (GFM 4.10, and this project)
+-- each table has as many cells in each row as columns, which start apart, and no more of them are filled in than may be (GFM 4.10, and this project)
 unfoldable pub AreFull : List TableRows → Type 0
 AreFull [] = Unit {0}
 AreFull (table ∷ tables) = HaveCells table.columns table.rows × (filled_in table.rows ≤ most_filled) × AreFull tables

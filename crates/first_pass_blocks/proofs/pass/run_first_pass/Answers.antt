@@ -12,6 +12,7 @@ use Rattle.first_pass_names.specs.TableEntries.{tables_of, names_of}
 use Rattle.first_pass_blocks.specs.Written.{TablesAreWritten}
 use Rattle.first_pass_blocks.proofs.WrittenLemmas.{none_written}
 use Rattle.first_pass_grammar.proofs.OwnNodes.{own_at_most}
+use Rattle.first_pass_grammar.proofs.FilledCells.{all_nodes}
 use Rattle.first_pass_grammar.proofs.Unique.{only_derived}
 use Rattle.first_pass_grammar.proofs.WholeForests.{derived_whole}
 use Rattle.first_pass_blocks.proofs.SettledNodes.{derived_settled}
@@ -136,6 +137,8 @@ returns-clause-few c =
     let read = i.few in
     let within = i.boundary.0 in
     let closed = c.close_containers.ensures.kept.count in
+    let names = names_of c.loop-ix.pass.allocs in
+    let all = all_nodes names c.close_containers.new.reading.tree.nodes (returns-clause-whole c) in
     omega arith
 
 pub returns-clause-named : goal.returns-clause-named

@@ -1,0 +1,151 @@
+-- Nodes in whole tables number no more than a tree's own and its filled cells together.
+use Rattle.std.proofs.Common.{◌≡◌, ◌⊎◌, inl, inr, ℕ, suc, ◌+◌, ◌<◌, ◌≤◌, ◌==◌, Bool, true, false, if◌then◌else◌, List, [], ◌∷◌, ◌++◌, length, map, Option, Some, None}
+use Rattle.std.proofs.Common.{refl, sym, subst, arith, append_assoc}
+use Rattle.std.proofs.lemmas.Bool.{eq-eqb, ne_eqb}
+use Rattle.first_pass_items.specs.declared.item.Item.{Item}
+use Rattle.first_pass_items.specs.declared.item.ItemBody.{ItemBody}
+use Rattle.first_pass_items.specs.declared.item.ItemBody.TheVariants.{Table, TableHead, TableRow, TableCell}
+use Rattle.first_pass_grammar.specs.Names.{Names}
+use Rattle.first_pass_grammar.specs.Counting.{is_cell, is_filled_behind, own, own_nodes, is_filled, filled_in_row, filled_cells}
+use Rattle.first_pass_grammar.specs.WholeTables.{Mark, ATable, ARow, ACell, shown, marks, RowCells, row_marks, TableRows, table_marks, StartApart, HaveCells}
+use Rattle.first_pass_grammar.specs.WholeTables.{AreFull, AreWholeTables}
+
+-- where a row's last cell so far starts, and where the row ends, after a mark
+abbrev cell_after : Option ℕ → Mark → Option ℕ
+cell_after cell (ATable depth columns) = cell
+cell_after cell (ARow depth «end») = None
+cell_after cell (ACell depth start) = Some start
+
+abbrev end_after : Option ℕ → Mark → Option ℕ
+end_after «end» (ATable depth columns) = «end»
+end_after «end» (ARow depth e) = Some e
+end_after «end» (ACell depth start) = «end»
+
+-- an offset is this one
+abbrev is_at : Option ℕ → ℕ → Bool
+is_at None start = false
+is_at (Some at) start = start == at
+
+-- a cell starts there
+abbrev starts_at : Option ℕ → Mark → Bool
+starts_at at (ATable depth columns) = false
+starts_at at (ARow depth «end») = false
+starts_at at (ACell depth start) = is_at at start
+
+-- how many cells start where the one before them in their row does, and how many where their row ends
+unfoldable repeated : Option ℕ → List Mark → ℕ
+repeated cell [] = 0
+repeated cell (m ∷ ms) = (if starts_at cell m then 1 else 0) + repeated (cell_after cell m) ms
+
+unfoldable at_end : Option ℕ → List Mark → ℕ
+at_end «end» [] = 0
+at_end «end» (m ∷ ms) = (if starts_at «end» m then 1 else 0) + at_end (end_after «end» m) ms
+
+-- each node is counted by one of the two
+filled_is : (cell : Option ℕ) (start e : ℕ) → is_filled_behind cell (record { start = start; «end» = e; body = TableCell }) ≡ is_at cell start
+filled_is None start e = refl
+filled_is (Some at) start e = refl
+
+one_or_other : (t : Bool) (m k n : ℕ) → m + k ≡ n → (if t then 0 else 1) + m + ((if t then 1 else 0) + k) ≡ suc n
+one_or_other true m k n h = omega arith
+one_or_other false m k n h = omega arith
+
+plain_behind : (cell : Option ℕ) (x : Item) → is_cell x.body ≡ false → is_filled_behind cell x ≡ false
+plain_behind None x h = refl
+plain_behind (Some at) x h = rw h refl
+
+counted_with : (names : Names) (cell : Option ℕ) (depth start e : ℕ) (b : ItemBody) (nodes : List (ℕ × Item))
+    → ((after : Option ℕ) → own after nodes + repeated after (marks names nodes) ≡ length nodes)
+    → own cell ((depth, record { start = start; «end» = e; body = b }) ∷ nodes) + repeated cell (shown names depth start e b ++ marks names nodes)
+    ≡ suc (length nodes)
+unfolding own repeated
+counted_with names cell depth start e (Table ix) nodes h = (let rest = h cell in let not = plain_behind cell (record { start = start; «end» = e; body = Table ix }) refl in rw not (omega arith))
+counted_with names cell depth start e TableHead nodes h = (let rest = h None in let not = plain_behind cell (record { start = start; «end» = e; body = TableHead }) refl in rw not (omega arith))
+counted_with names cell depth start e TableRow nodes h = (let rest = h None in let not = plain_behind cell (record { start = start; «end» = e; body = TableRow }) refl in rw not (omega arith))
+counted_with names cell depth start e TableCell nodes h =
+    rw (filled_is cell start e) (one_or_other (is_at cell start) (own (Some start) nodes) (repeated (Some start) (marks names nodes)) (length nodes) (h (Some start)))
+counted_with names cell depth start e b nodes h = (let rest = h cell in let not = plain_behind cell (record { start = start; «end» = e; body = b }) refl in rw not (omega arith))
+
+counted : (names : Names) (cell : Option ℕ) (nodes : List (ℕ × Item)) → own cell nodes + repeated cell (marks names nodes) ≡ length nodes
+unfolding own repeated marks
+counted names cell [] = refl
+counted names cell (n ∷ nodes) = counted_with names cell n.0 n.1.start n.1.«end» n.1.body nodes (λ after. counted names after nodes)
+
+-- the cells at their row's end are the filled ones
+filled_at : («end» : Option ℕ) (start e : ℕ) → is_filled «end» (record { start = start; «end» = e; body = TableCell }) ≡ is_at «end» start
+filled_at None start e = refl
+filled_at (Some at) start e = refl
+
+unfilled : («end» : Option ℕ) (x : Item) → is_cell x.body ≡ false → is_filled «end» x ≡ false
+unfilled None x h = refl
+unfilled (Some at) x h = rw h refl
+
+filled_with : (names : Names) («end» : Option ℕ) (depth start e : ℕ) (b : ItemBody) (nodes : List (ℕ × Item))
+    → ((after : Option ℕ) → filled_in_row after nodes ≡ at_end after (marks names nodes))
+    → filled_in_row «end» ((depth, record { start = start; «end» = e; body = b }) ∷ nodes) ≡ at_end «end» (shown names depth start e b ++ marks names nodes)
+unfolding filled_in_row at_end
+filled_with names end depth start e (Table ix) nodes h =
+    (let rest = h end in let none = unfilled end (record { start = start; «end» = e; body = Table ix }) refl in rw none (omega arith))
+filled_with names end depth start e TableHead nodes h =
+    (let rest = h (Some e) in let none = unfilled end (record { start = start; «end» = e; body = TableHead }) refl in rw none (omega arith))
+filled_with names end depth start e TableRow nodes h =
+    (let rest = h (Some e) in let none = unfilled end (record { start = start; «end» = e; body = TableRow }) refl in rw none (omega arith))
+filled_with names end depth start e TableCell nodes h = rw (filled_at end start e, h end) refl
+filled_with names end depth start e b nodes h =
+    (let rest = h end in let none = unfilled end (record { start = start; «end» = e; body = b }) refl in rw none (omega arith))
+
+filled_are : (names : Names) («end» : Option ℕ) (nodes : List (ℕ × Item)) → filled_in_row «end» nodes ≡ at_end «end» (marks names nodes)
+unfolding filled_in_row at_end marks
+filled_are names end [] = refl
+filled_are names end (n ∷ nodes) = filled_with names end n.0 n.1.start n.1.«end» n.1.body nodes (λ after. filled_are names after nodes)
+
+-- wherever a row began before, no more of these marks are cells that start where the one before them does than cells at their row's end
+abbrev FewAre : List Mark → Type 0
+FewAre ms = (cell «end» : Option ℕ) → repeated cell ms ≤ at_end «end» ms
+
+one_more : (t u : Bool) (m n : ℕ) → (t ≡ true → u ≡ true) → m ≤ n → (if t then 1 else 0) + m ≤ (if u then 1 else 0) + n
+one_more true true m n both h = omega arith
+one_more true false m n both h = absurd (let is = both refl in cc)
+one_more false true m n both h = omega arith
+one_more false false m n both h = omega arith
+
+again_at_end : (start next e : ℕ) → (start < next) ⊎ (next ≡ e) → (next == start) ≡ true → (next == e) ≡ true
+again_at_end start next e (inl later) same = absurd (let other = ne_eqb next start (λ is. omega arith) in cc)
+again_at_end start next e (inr there) same = eq-eqb next e there
+
+cells_after : (depth e start : ℕ) (starts : List ℕ) (ms : List Mark) → StartApart e (start ∷ starts) → FewAre ms
+    → repeated (Some start) (map (ACell depth) starts ++ ms) ≤ at_end (Some e) (map (ACell depth) starts ++ ms)
+unfolding repeated at_end StartApart
+cells_after depth e start [] ms apart few = few (Some start) (Some e)
+cells_after depth e start (next ∷ starts) ms apart few =
+    one_more (next == start) (next == e) _ _ (again_at_end start next e apart.0) (cells_after depth e next starts ms apart.1 few)
+
+first_cells : (depth e : ℕ) (starts : List ℕ) (ms : List Mark) → StartApart e starts → FewAre ms
+    → repeated None (map (ACell depth) starts ++ ms) ≤ at_end (Some e) (map (ACell depth) starts ++ ms)
+unfolding repeated at_end StartApart
+first_cells depth e [] ms apart few = few None (Some e)
+first_cells depth e (start ∷ starts) ms apart few =
+    one_more false (start == e) _ _ (λ h. absurd (cc)) (cells_after depth e start starts ms apart few)
+
+rows_few : (columns depth : ℕ) (rows : List RowCells) (ms : List Mark) → HaveCells columns rows → FewAre ms → FewAre (row_marks depth rows ++ ms)
+unfolding repeated at_end row_marks HaveCells
+rows_few columns depth [] ms have few = few
+rows_few columns depth (row ∷ rows) ms have few =
+    let rest = first_cells (suc depth) row.«end» row.starts (row_marks depth rows ++ ms) have.1 (rows_few columns depth rows ms have.2 few) in
+    let same = append_assoc (map (ACell (suc depth)) row.starts) (row_marks depth rows) ms in
+    let whole = subst (λ (z : List Mark). repeated None z ≤ at_end (Some row.«end») z) (sym same) rest in
+    λ cell end. omega (arith, whole)
+
+tables_few : (tables : List TableRows) → AreFull tables → FewAre (table_marks tables)
+unfolding repeated at_end table_marks AreFull
+tables_few [] full = λ cell end. omega arith
+tables_few (table ∷ tables) full =
+    λ cell end. (let rows = rows_few table.columns (suc table.depth) table.rows (table_marks tables) full.0 (tables_few tables full.2) cell end in omega arith)
+
+pub all_nodes : (names : Names) (nodes : List (ℕ × Item)) → AreWholeTables names nodes → length nodes ≤ own_nodes nodes + filled_cells nodes
+unfolding AreWholeTables
+all_nodes names nodes (tables, are, full) =
+    let sum = counted names None nodes in
+    let same = filled_are names None nodes in
+    let few = subst FewAre (sym are) (tables_few tables full) None None in
+    omega arith
