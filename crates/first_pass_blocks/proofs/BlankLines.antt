@@ -18,16 +18,6 @@ use Rattle.first_pass_blocks.proofs.EnterLemmas.{ready_blank_line}
 use Rattle.first_pass_blocks.proofs.HandedOn.{ordered_blank_line}
 use Rattle.first_pass_blocks.proofs.OldFootnotes.{ends_here}
 
--- no line
-pub none_read : (source : Source) (start : ℕ) (r : Reading) → ReadsTo source start r r (LineAt start) (LineAt start)
-none_read source start r = record {
-  ready = λ names defined ready. ready;
-  order = λ ordered. ordered;
-  few = λ first grows. grows;
-  named = λ names h. h;
-  whole = λ names h. h;
-}
-
 -- one line more
 pub one_read : (source : Source) (start at : ℕ) (r : Reading) (rest : Rest) → IsUtf8 source.text.now → blank_read r ≡ r
     → ends_here source.options r.tree r.blank ≡ false → at < length source.text.now → IsCharBoundary source.text.now at

@@ -1,5 +1,5 @@
 -- A line read: containers closed, and the line entered.
-use Rattle.std.proofs.Common.{◌≡◌, ℕ, ◌+◌, ◌<◌, ◌≤◌, Bool, true, false, List, [], ◌∷◌, length, drop, Option, Some, None, is_some, IsUtf8}
+use Rattle.std.proofs.Common.{◌≡◌, ℕ, ◌+◌, ◌<◌, ◌≤◌, Bool, true, false, List, ◌∷◌, length, drop, Option, Some, None, is_some, IsUtf8, []}
 use Rattle.std.proofs.Common.{IsCharBoundary, refl, sym, ap, subst, ◌∙◌, if◌then◌else◌}
 use Rattle.first_pass_items.specs.declared.item.Item.{Item}
 use Rattle.first_pass_items.specs.declared.item.ItemBody.{ItemBody}
@@ -105,10 +105,6 @@ none_by r (Some e) h = refl
 pub finished_none : (r : Reading) → (item_finished r).empty_item ≡ None
 unfolding item_finished
 finished_none r = none_by r r.empty_item refl
-
--- a place that is another, which stands in the text
-pub same_place : (text : List ℕ) (p q : Place) → p ≡ q → IsPlaceOf text q → IsPlaceOf text p
-same_place text p q same i = subst (IsPlaceOf text) (sym same) i
 
 -- a line has what is left of it after what it continues
 pub line_kept : (options : Options) (text : List ℕ) (start kept : ℕ) (f : Forest Item) (r : Rest) → IsUtf8 text → IsCharBoundary text start

@@ -1,5 +1,5 @@
 -- Each index that nodes keep names an entry: what closes nodes and notes blank lines changes no index, and what opens a container adds none.
-use Rattle.std.proofs.Common.{◌≡◌, ℕ, zero, suc, ◌+◌, ◌<◌, ◌==◌, ◌&&◌, Bool, true, false, if◌then◌else◌, List, [], ◌∷◌, ◌++◌, length, nat_lt, slice_index}
+use Rattle.std.proofs.Common.{◌≡◌, ℕ, zero, suc, ◌+◌, ◌<◌, ◌==◌, ◌&&◌, Bool, true, false, if◌then◌else◌, List, ◌∷◌, ◌++◌, length, nat_lt, slice_index, []}
 use Rattle.std.proofs.Common.{slice_get}
 use Rattle.std.proofs.Common.{Option, Some, map, take, drop}
 use Rattle.std.proofs.Common.{None, is_some, refl, sym, subst}
@@ -31,7 +31,7 @@ use Rattle.first_pass_open.specs.OpenBlock.{closed_by, with_child}
 use Rattle.first_pass_lists.specs.Closing.{loosened_by, top_body, is_list, is_list_of, is_item, popped_by, popped_at, popped, item_finished_by, item_finished}
 use Rattle.first_pass_lists.specs.Closing.{list_left, gap_tree, gap_noted, list_finished, loosened_top, list_kept, begun, list_continued, emptied}
 use Rattle.first_pass_lists.specs.Closing.{blank_read_by, blank_read, is_footnote, footnote_left, footnote_begun, with_tree, current_moved}
-use Rattle.first_pass_lists.specs.Closing.{definitions_closed, top_end, possible_title, popped_after, definitions_left, with_current, title_kept}
+use Rattle.first_pass_lists.specs.Closing.{definitions_closed, top_end, possible_title, popped_after, with_current, title_kept}
 use Rattle.first_pass_lists.specs.Closing.{definitions_by, definitions_at, definitions_opened, definition_begun, emptied_definition}
 use Rattle.first_pass_items.specs.declared.item.CowIndex.{CowIndex}
 use Rattle.first_pass_items.specs.declared.item.ItemBody.TheVariants.{FootnoteDefinition as FootnoteDefinitionBody}
@@ -159,9 +159,6 @@ module _ (names : Names) where
       (λ b. gap_tree_named r.tree r.tree.spine h) (λ b. h)
 
   -- what ends a definition list before a heading or a table, or keeps a possible title
-  pub definitions_left_named : (e : ℕ) (r : Reading) → AreReadNamed r → AreReadNamed (definitions_left e r)
-  unfolding definitions_left
-  definitions_left_named e r h = gap_named (definitions_closed e r) (definitions_closed_named e r h)
 
   end_named : (f : Forest Item) (e : ℕ) (o : Option TreeIndex) → AreNamed names f.nodes → AreNamed names (with_end f e o).nodes
   end_named f e None h = h

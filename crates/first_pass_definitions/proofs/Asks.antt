@@ -30,9 +30,6 @@ pub on_err : {A E P : Type 0} (r : Result A E) → P → OnErr r P
 on_err (Ok x) p = tt
 on_err (Err e) p = p
 
-pub some_asks : (f : ℕ → Bool) (o : Option ℕ) (e : ℕ) → o ≡ Some e → f e ≡ true → option_map_or f o false ≡ true
-some_asks f o e h k = rw h k
-
 or_true : (b : Bool) → (b || true) ≡ true
 or_true true = refl
 or_true false = refl

@@ -1,5 +1,5 @@
 -- Places in what is left of a text.
-use Rattle.std.proofs.Common.{◌≡◌, ℕ, ◌+◌, ◌-◌, ◌<◌, ◌≤◌, ◌==◌, Bool, true, false, List, [], ◌∷◌, length, drop, Option, Some, None, Result, Ok, Err, IfOk}
+use Rattle.std.proofs.Common.{◌≡◌, ℕ, ◌+◌, ◌-◌, ◌<◌, ◌≤◌, ◌==◌, Bool, true, false, List, ◌∷◌, length, drop, Option, Some, None, Result, Ok, Err, IfOk, []}
 use Rattle.std.proofs.Common.{IfSome, IsCharBoundary, refl, sym, ap, subst, ◌∙◌, arith, length-drop, if◌then◌else◌}
 use Rattle.std.specs.declared.alloc.AllocError.{AllocError}
 use Rattle.std.proofs.lemmas.Bool.{eqb-true}
@@ -30,17 +30,6 @@ rest_further text bytes xs k r e b =
       within = omega arith;
       are = d ∙ ap (λ m. drop m text) (sym n);
       boundary = subst (IsCharBoundary text) (sym n) (place_behind text s k (omega arith) (subst (λ ys. IsCharBoundary ys k) r.are b));
-    }
-
-pub rest_from : (text xs : List ℕ) (s : ℕ) → IsCharBoundary text s → xs ≡ drop s text → IsRestOf text xs
-rest_from text xs s b e =
-    let within = b.0 in
-    let l : length xs ≡ length text - s = ap length e ∙ length-drop s text in
-    let n : length text - length xs ≡ s = omega arith in
-    record {
-      within = omega arith;
-      are = e ∙ ap (λ m. drop m text) (sym n);
-      boundary = subst (IsCharBoundary text) (sym n) b;
     }
 
 -- a place in a line of what is left

@@ -19,7 +19,7 @@ use Rattle.first_pass_grammar.proofs.Finishes.{Finish, Tail, before_of, Complete
 use Rattle.first_pass_grammar.proofs.Tightening.{length-modify}
 use Rattle.first_pass_grammar.proofs.TitleNodes.{reflagged, swapped}
 use Rattle.first_pass_grammar.proofs.EarlierNodes.{IsBefore, reflagged-rendered}
-use Rattle.first_pass_grammar.proofs.JoinedNodes.{list-ended, title-ended, list-reflagged, title-reflagged}
+use Rattle.first_pass_grammar.proofs.JoinedNodes.{list-ended, title-ended, list-reflagged}
 
 pub length-reflagged : (nodes : List (ℕ × Item)) (o : ℕ) (l : Bool) → length (reflagged nodes o l) ≡ length nodes
 unfolding reflagged
@@ -44,13 +44,6 @@ IsDefined (ParagraphAt at) = ⊥
 IsDefined (DefinitionClosed e blanks) = Unit {0}
 IsDefined (TitleAt e at) = Unit {0}
 
-open_reflagged : (o : ℕ) (loose l : Bool) (closed : Closed) (nodes : List (ℕ × Item)) → IsDefined closed → (k last : ℕ) (r : Rows)
-    → rendered k last (reflagged nodes o l) (definitions_open o loose (NoList closed)) r ≡ rendered k last nodes (definitions_open o loose (NoList closed)) r
-open_reflagged o loose l OtherClosed nodes h k last r = absurd h
-open_reflagged o loose l (ParagraphAt at) nodes h k last r = absurd h
-open_reflagged o loose l (DefinitionClosed e blanks) nodes h k last r = list-reflagged k last nodes o l (DefinitionsTo e) loose r
-open_reflagged o loose l (TitleAt e at) nodes h k last r = title-reflagged k last nodes o l at e loose r
-
 open_ended : (o x : ℕ) (loose : Bool) (closed : Closed) (nodes : List (ℕ × Item)) → IsDefined closed → (k last : ℕ) (r : Rows)
     → rendered k last (ended nodes o x) (definitions_open o loose (NoList closed)) r ≡ rendered k last nodes (definitions_open o loose (NoList closed)) r
 open_ended o x loose OtherClosed nodes h k last r = absurd h
@@ -70,19 +63,6 @@ completes-reflag_list d defined t byte loose l frames nodes o os from lines k = 
   whole = whole_by _ _ _ _ _ _ _ _ (λ forest tables fin. finish_derives _ _ _ _ _ _ _ _ k forest tables
       (renode_step d defined frames (OneList o (ItemsOf byte) loose) (before_of (InList byte loose ∷ frames) t) nodes (reflagged nodes o l) os from lines
       forest tables k.shape.0 (λ k last r. list-reflagged k last nodes o l (ItemsOf byte) loose r) fin));
-}
-
-pub completes-reflag_definitions : (d : Document) (defined : Tables) (t : Tail) (loose l : Bool) (frames : List Frame) (nodes : List (ℕ × Item)) (o : ℕ)
-    (os : List ℕ) (from : From) (lines : List Place)
-    → IsDefined t.closed → CompletesAt d defined t (InDefinitions loose ∷ frames) nodes (o ∷ os) from lines
-    → CompletesAt d defined t (InDefinitions loose ∷ frames) (reflagged nodes o l) (o ∷ os) from lines
-unfolding Finish
-completes-reflag_definitions d defined t loose l frames nodes o os from lines own k = record {
-  below = AreBelow-more _ _ (o ∷ os) (let n = length-reflagged nodes o l in omega arith) k.below;
-  shape = k.shape;
-  whole = whole_by _ _ _ _ _ _ _ _ (λ forest tables fin. finish_derives _ _ _ _ _ _ _ _ k forest tables
-      (renode_step d defined frames (definitions_open o loose (NoList t.closed)) (before_of (InDefinitions loose ∷ frames) t) nodes (reflagged nodes o l) os
-      from lines forest tables k.shape.0 (open_reflagged o loose l t.closed nodes own) fin));
 }
 
 -- the end that a definition list has in its node while it may continue

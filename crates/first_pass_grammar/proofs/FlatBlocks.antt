@@ -1,5 +1,5 @@
 -- No item of a leaf block is a paragraph but its first, and link definitions alone have no items.
-use Rattle.std.proofs.Common.{◌≡◌, ℕ, Bool, true, false, List, [], ◌∷◌, drop, Option, Some, None, MatchOption, IfSome, refl, sym, ap, subst, ◌∙◌}
+use Rattle.std.proofs.Common.{◌≡◌, ℕ, Bool, true, false, List, ◌∷◌, drop, Option, Some, None, MatchOption, IfSome, refl, sym, ap, subst, ◌∙◌, []}
 use Rattle.std.proofs.Common.{if◌then◌else◌}
 use Rattle.std.proofs.lemmas.Bool.{true≢false}
 use Rattle.first_pass_items.specs.declared.cow_str.CowStr.{CowStr}
@@ -227,7 +227,3 @@ module _ (P : ItemBody → Type 0) (d : Document) (holds : HoldsOfTokens d.names
 pub opened_own : (d : Document) (l : Level) (from : From) (lines : List Place) (b : LeafBlock) (there : From) (left : List Place) → OwnFrom from
     → IsFirst d l from lines (OpensLeaf (Block b) there left) → FlatBlock b × OwnParagraph b
 opened_own d l from lines b there left mark first = opened_holds IsNoParagraph d (tokens_flat d.names.texts) l from lines b there left mark first
-
-pub opened_flat : (d : Document) (l : Level) (from : From) (lines : List Place) (b : LeafBlock) (there : From) (left : List Place) → OwnFrom from
-    → IsFirst d l from lines (OpensLeaf (Block b) there left) → FlatBlock b
-opened_flat d l from lines b there left mark first = (opened_own d l from lines b there left mark first).0

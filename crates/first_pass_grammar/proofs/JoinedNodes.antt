@@ -14,7 +14,7 @@ use Rattle.first_pass_grammar.specs.Completion.{ended, with_title, title_taken, 
 use Rattle.first_pass_grammar.specs.Completion.{OneTitle, rows_beyond, after_paragraph, after_title, rendered}
 use Rattle.first_pass_grammar.proofs.Tightening.{list_closed-append, closed_item}
 use Rattle.first_pass_grammar.proofs.TitleNodes.{reflagged}
-use Rattle.first_pass_grammar.proofs.TitleNodes.{length-with_title, length-taken, closed-ended, closed-reflagged, taken-ended, taken-reflagged}
+use Rattle.first_pass_grammar.proofs.TitleNodes.{length-with_title, length-taken, closed-ended, closed-reflagged, taken-ended}
 
 -- the next item or definition of a list
 or_four : (a b c e : Bool) → (a || (b || (c || e))) ≡ (((a || b) || c) || e)
@@ -145,10 +145,3 @@ list-reflagged k last nodes o l joins loose r =
     let now : Bool = loose || is_loose (items_behind joins r) in
     ap (λ z. z ++ (items_of (suc k) (not now) (items_behind joins r) ++ items_of k false (list_behind joins r)))
     (closed-reflagged nodes o (suc (suc k)) l now (list_until joins last r))
-
-pub title-reflagged : (k last : ℕ) (nodes : List (ℕ × Item)) (o : ℕ) (l : Bool) (at e : ℕ) (loose : Bool) (r : Rows)
-    → rendered k last (reflagged nodes o l) (OneTitle o at e loose) r ≡ rendered k last nodes (OneTitle o at e loose) r
-unfolding rendered
-title-reflagged k last nodes o l at e loose r =
-    title_same k (reflagged nodes o l) nodes o at e loose r _ (λ d now until. closed-reflagged nodes o d l now until)
-    (λ d now until. ap (λ z. list_closed z o d now until) (taken-reflagged nodes o at l) ∙ closed-reflagged (title_taken nodes at) o d l now until)

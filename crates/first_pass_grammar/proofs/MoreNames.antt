@@ -1,5 +1,5 @@
 -- What is named stays named while more is named.
-use Rattle.std.proofs.Common.{◌≡◌, ℕ, zero, suc, ◌<◌, List, [], ◌∷◌, ◌++◌, length, slice_get, Option, Some, None, unwrap_or, refl, sym, ap, ◌∙◌, arith}
+use Rattle.std.proofs.Common.{◌≡◌, ℕ, zero, suc, ◌<◌, List, ◌∷◌, ◌++◌, length, slice_get, Option, Some, None, unwrap_or, refl, sym, ap, ◌∙◌, arith, []}
 use Rattle.std.proofs.Common.{append_assoc}
 use Rattle.std.proofs.lemmas.List.{append-nil}
 use Rattle.std.proofs.lemmas.Option.{slice_get_within}
@@ -10,7 +10,7 @@ use Rattle.first_pass_items.specs.declared.item.CowIndex.{CowIndex}
 use Rattle.first_pass_items.specs.declared.item.HeadingIndex.{HeadingIndex}
 use Rattle.first_pass_attributes.specs.Attributes.{Attributes}
 use Rattle.first_pass_tokens.specs.NamedTexts.{AreMore}
-use Rattle.first_pass_grammar.specs.Names.{Names, NamesText, NamesAlignments, NamesAttributes, Extends, with_named, with_alignments, with_heading}
+use Rattle.first_pass_grammar.specs.Names.{Names, NamesAlignments, NamesAttributes, Extends, with_named, with_alignments, with_heading}
 use Rattle.first_pass_grammar.specs.Names.{alignments_named}
 
 -- no more is named
@@ -102,9 +102,6 @@ still_there new old more i x e h = ap (λ xs. slice_get xs i) e ∙ named_front 
 -- an index names what it named
 still_named : (new old : Names) (i : ℕ) (named : CowStr) → Extends new old → slice_get old.texts i ≡ Some named → slice_get new.texts i ≡ Some named
 still_named new old i named e h = still_there new.texts old.texts e.more_texts i named e.texts h
-
-pub still_text : (new old : Names) (ix : CowIndex) (text : List ℕ) → Extends new old → NamesText old ix text → NamesText new ix text
-still_text new old ix text e (cow, at, is) = (cow, still_named new old ix.0 cow e at, is)
 
 pub still_aligned : (new old : Names) (ix : AlignmentIndex) (alignments : List Alignment) → Extends new old → NamesAlignments old ix alignments
     → NamesAlignments new ix alignments

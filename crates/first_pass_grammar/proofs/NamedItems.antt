@@ -1,20 +1,19 @@
 -- Each index that nodes keep names an entry: what keeps that, and chains and blocks of which it holds.
-use Rattle.std.proofs.Common.{◌≡◌, ℕ, zero, suc, ◌-◌, Bool, true, false, nat_lt, List, [], ◌∷◌, ◌++◌, length, Option, Some, None, refl, sym, ap, subst, ◌∙◌}
+use Rattle.std.proofs.Common.{◌≡◌, ℕ, zero, suc, ◌-◌, Bool, true, false, nat_lt, List, ◌∷◌, ◌++◌, length, Option, Some, None, refl, sym, ap, subst, ◌∙◌, []}
 use Rattle.std.proofs.Common.{arith, length-append, if◌then◌else◌}
 use Rattle.std.proofs.lemmas.Option.{slice_get_within}
-use Rattle.first_pass_items.specs.declared.item.CowIndex.{CowIndex}
 use Rattle.first_pass_items.specs.declared.item.Item.{Item}
 use Rattle.first_pass_items.specs.declared.item.ItemBody.{ItemBody}
 use Rattle.first_pass_tree.specs.Forest.{modify, at_depth}
 use Rattle.first_pass_lines.specs.Places.{Place, offset, line_end}
 use Rattle.first_pass_tokens.specs.Chains.{text_token, touches, add_token, add_tokens}
 use Rattle.first_pass_tokens.specs.TreeTokens.{leaves}
-use Rattle.first_pass_grammar.specs.Names.{Names, NamesText, Extends, Index, TextAt, AlignmentsAt, AttributesAt, index_of, NamesEntry, AreNamed}
+use Rattle.first_pass_grammar.specs.Names.{Names, Extends, Index, TextAt, AlignmentsAt, AttributesAt, index_of, NamesEntry, AreNamed}
 use Rattle.first_pass_grammar.specs.Leaves.{Document, block_with}
 use Rattle.first_pass_grammar.specs.RawLines.{AreColumns, Ranges, range_text, range_html, ends_with_both, raw_items, IsRawLine, AreRawLines}
 use Rattle.std.proofs.lemmas.Bool.{false≢true}
 use Rattle.first_pass_items.specs.declared.item.ItemBody.TheVariants.{MaybeEmphasis, MaybeMath, MaybeSmartQuote, SynthesizeChar, SynthesizeText, MaybeCode}
-use Rattle.first_pass_items.specs.declared.item.ItemBody.TheVariants.{MaybeHtml, MaybeLinkOpen, MaybeLinkClose, MaybeImage, FootnoteDefinition}
+use Rattle.first_pass_items.specs.declared.item.ItemBody.TheVariants.{MaybeHtml, MaybeLinkOpen, MaybeLinkClose, MaybeImage}
 use Rattle.first_pass_tokens.proofs.PieceFacts.{is_markup}
 use Rattle.first_pass_grammar.proofs.TokensNamed.{NamesWithin}
 use Rattle.first_pass_grammar.proofs.EachToken.{AreEach, HoldsOfTokens}
@@ -166,7 +165,3 @@ pub block_named : (names : Names) (start stop : ℕ) (body : ItemBody) (chain : 
     → items ≡ block_with start stop body chain → NamesEntry names (index_of body) → AreNamed names (leaves chain) → AreNamed names items
 unfolding AreNamed
 block_named names start stop body chain items is own h = subst (AreNamed names) (sym is) (own, named_deeper names 1 (leaves chain) h)
-
--- a footnote definition whose index names its label
-pub label_entered : (names : Names) (ix : CowIndex) (label : List ℕ) → NamesText names ix label → HasEntry names (FootnoteDefinition ix)
-label_entered names ix label (cow, at, is) = slice_get_within names.texts ix.0 cow at

@@ -1,5 +1,5 @@
 -- What the nodes of a table show: as many cells in each row as columns, and no more of them filled in than may be.
-use Rattle.std.proofs.Common.{◌≡◌, inl, inr, ℕ, zero, suc, ◌+◌, ◌-◌, ◌<◌, ◌≤◌, ◌==◌, nat_lt, nat_le, Bool, true, false, List, [], ◌∷◌, ◌++◌, length, map, take}
+use Rattle.std.proofs.Common.{◌≡◌, inl, inr, ℕ, zero, suc, ◌+◌, ◌-◌, ◌<◌, ◌≤◌, ◌==◌, nat_lt, nat_le, Bool, true, false, List, ◌∷◌, ◌++◌, length, map, take, []}
 use Rattle.std.proofs.Common.{drop, replicate, refl, sym, ap, ◌∙◌, arith, if◌then◌else◌}
 use Rattle.std.proofs.lemmas.Bool.{cases_lt, and_parts, eq-eqb, ne_eqb, leb-true, true≢false}
 use Rattle.std.proofs.lemmas.List.{append_assoc, append-nil, map-append, at_drop_all}
@@ -240,9 +240,6 @@ often_both end [] ys = omega arith
 often_both end (x ∷ xs) ys = (let rest = often_both end xs ys in omega arith)
 
 -- a cell that is written starts before its row ends
-at_or_behind : (t : Bool) (at : ℕ) → at ≤ (if t then at + 1 else at)
-at_or_behind true at = omega arith
-at_or_behind false at = omega arith
 
 written_before : (d : Document) (p : Spot) (tokens : List Item) (stop : Spot) (cells : List (List (ℕ × Item))) (to : Spot)
     → at_line_end (drop (cell_text d.text p.at) d.text) ≡ false

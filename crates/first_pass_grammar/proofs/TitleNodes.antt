@@ -1,5 +1,5 @@
 -- Nodes of which a paragraph becomes the title of a definition list, and nodes of lists that are closed.
-use Rattle.std.proofs.Common.{◌≡◌, ℕ, zero, suc, ◌+◌, ◌-◌, ◌<◌, ◌==◌, Bool, true, false, not, List, [], ◌∷◌, ◌++◌, length, map, drop, refl, sym, ap, ◌∙◌}
+use Rattle.std.proofs.Common.{◌≡◌, ℕ, zero, suc, ◌+◌, ◌-◌, ◌<◌, ◌==◌, Bool, true, false, not, List, ◌∷◌, ◌++◌, length, map, drop, refl, sym, ap, ◌∙◌, []}
 use Rattle.std.proofs.Common.{arith, if◌then◌else◌}
 use Rattle.std.proofs.lemmas.List.{length-map}
 use Rattle.first_pass_items.specs.declared.item.Item.{Item}
@@ -232,7 +232,3 @@ swapped (n ∷ nodes) (suc o) (suc x) g f h = ap (λ z. n ∷ z) (swapped nodes 
 pub taken-ended : (nodes : List (ℕ × Item)) (o at x : ℕ) → title_taken (ended nodes o x) at ≡ ended (title_taken nodes at) o x
 unfolding title_taken ended
 taken-ended nodes o at x = swapped nodes o at _ _ (λ y. refl)
-
-pub taken-reflagged : (nodes : List (ℕ × Item)) (o at : ℕ) (l : Bool) → title_taken (reflagged nodes o l) at ≡ reflagged (title_taken nodes at) o l
-unfolding title_taken reflagged
-taken-reflagged nodes o at l = swapped nodes o at _ _ (λ y. refl)

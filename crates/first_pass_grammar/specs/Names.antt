@@ -1,5 +1,5 @@
 -- What the indices of items name.
-use Rattle.std.specs.Prelude.{◌≡◌, ℕ, ◌<◌, List, [], ◌∷◌, ◌++◌, length, map, slice_get, Option, Some, None, unwrap_or}
+use Rattle.std.specs.Prelude.{◌≡◌, ℕ, ◌<◌, List, ◌∷◌, ◌++◌, length, map, slice_get, Option, Some, None, unwrap_or, []}
 use Rattle.std.specs.Option.{option_map, option_and_then}
 use Rattle.first_pass_items.specs.declared.cow_str.CowStr.{CowStr}
 use Rattle.first_pass_items.specs.CowText.{text_of}
@@ -10,7 +10,7 @@ use Rattle.first_pass_items.specs.declared.item.HeadingIndex.{HeadingIndex}
 use Rattle.first_pass_items.specs.declared.item.Item.{Item}
 use Rattle.first_pass_items.specs.declared.item.ItemBody.{ItemBody}
 use Rattle.first_pass_items.specs.declared.item.ItemBody.TheVariants.{Heading, SynthesizeText, FencedCodeBlock, Table, FootnoteDefinition}
-use Rattle.first_pass_attributes.specs.Attributes.{Attributes, no_attributes}
+use Rattle.first_pass_attributes.specs.Attributes.{Attributes}
 use Rattle.first_pass_tokens.specs.NamedTexts.{NamesAmong}
 
 -- the texts, the alignments of tables' columns, and the attributes of headings, that items name by their indices (this project)
@@ -106,10 +106,6 @@ text_named names ix = unwrap_or (option_map text_of (slice_get names.texts ix.0)
 -- the alignments that an index names, or nothing where it names none (this project)
 abbrev pub alignments_named : Names → AlignmentIndex → List Alignment
 alignments_named names ix = unwrap_or (slice_get names.alignments ix.0) []
-
--- the attributes that an index names, or none where it names none (this project)
-abbrev pub attributes_named : Names → HeadingIndex → Attributes
-attributes_named names ix = unwrap_or (slice_get names.headings ix.0) no_attributes
 
 -- an index, where there is one, names an entry (this project)
 abbrev pub NamesEntry : Names → Option Index → Type 0

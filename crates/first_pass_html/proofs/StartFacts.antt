@@ -1,16 +1,14 @@
 -- Facts on the tests of where HTML blocks of the kinds 1 to 6 begin.
-use Rattle.std.proofs.Common.{◌≡◌, ◌↔◌, ℕ, true, true≢false, IsTrue, List, [], ◌∷◌, take, drop, Some, refl, sym}
+use Rattle.std.proofs.Common.{◌≡◌, ◌↔◌, ℕ, IsTrue, List, ◌∷◌, take, drop, refl, sym}
 use Rattle.std.specs.List.{prefix_len}
 use Rattle.std.specs.Char.{is_ascii_alphanumeric}
 use Rattle.std.proofs.lemmas.Bool.{and_parts, and_from}
 use Rattle.std.proofs.lemmas.Cmp.{nat_list_eq_equiv}
 use Rattle.std.proofs.lemmas.List.{take-append-drop}
 use Rattle.std.proofs.lemmas.Map.Views.{Contains-from_any, list_any-from_Contains}
-use Rattle.std.proofs.lemmas.Option.{none-some}
 use Rattle.std.proofs.lemmas.Slice.Eq.{bytes_eq-Decides}
 use Rattle.first_pass_html.specs.Names.{in_lower_case, block_names, IsBlockName, is_block_name}
-use Rattle.first_pass_html.specs.Ends.{BlockEnd}
-use Rattle.first_pass_html.specs.Starts.{HasBlockName, begins_block_name, begins_block_tag, is_raw_name, begins_raw_text, html_end}
+use Rattle.first_pass_html.specs.Starts.{HasBlockName, begins_block_name}
 use Rattle.first_pass_html.proofs.NameFacts.{name_found}
 
 -- the test of a name finds the names of blocks, and no others
@@ -31,15 +29,3 @@ block_start_iff bs =
           record { name = take n bs; rest = drop n bs; parts = sym (take-append-drop n bs); is_name = name.0 both.0; ends = both.1 },
       λ h. let found = name_found bs n refl h in and_from _ _ (name.1 found.0) found.1,
     )
-
--- no HTML block of the sixth kind begins where nothing stands
-pub block_tag_first : (bs : List ℕ) → begins_block_tag bs ≡ true → (c : ℕ) × (cs : List ℕ) × (bs ≡ c ∷ cs)
-unfolding begins_block_name is_block_name
-block_tag_first [] h = absurd (true≢false (sym h))
-block_tag_first (c ∷ cs) h = (c, cs, refl)
-
--- nor one of the kinds 1 to 5
-pub html_end_first : (bs : List ℕ) (until : BlockEnd) → html_end bs ≡ Some until → (c : ℕ) × (cs : List ℕ) × (bs ≡ c ∷ cs)
-unfolding html_end begins_raw_text is_raw_name
-html_end_first [] until h = absurd (none-some until h)
-html_end_first (c ∷ cs) until h = (c, cs, refl)

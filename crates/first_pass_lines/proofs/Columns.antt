@@ -1,5 +1,5 @@
 -- Columns taken one at a time.
-use Rattle.std.proofs.Common.{◌≡◌, ℕ, ◌+◌, suc, zero, List, [], ◌∷◌, Bool, true, false, MatchOption, Option, Some, None, refl, sym, ◌∙◌, ap, arith}
+use Rattle.std.proofs.Common.{◌≡◌, ℕ, ◌+◌, suc, zero, List, ◌∷◌, Bool, true, false, MatchOption, Option, Some, None, refl, sym, ◌∙◌, ap, arith, []}
 use Rattle.std.specs.Option.{option_map_or}
 use Rattle.first_pass_lines.specs.Rest.{Rest, column_of, column_of_byte, next_column, after_columns, columns_of, indent}
 
@@ -10,24 +10,13 @@ pub after-none : (k : ℕ) (r : Rest) → next_column r ≡ None → after_colum
 after-none zero r h = refl
 after-none (suc k) r h = ap (λ o. option_map_or (after_columns k) o r) h
 
-byte-none : (r : Rest) (bs : List ℕ) (k : ℕ) → column_of_byte r bs ≡ None → columns_of bs k ≡ 0
-byte-none r [] k h = refl
-byte-none r (b ∷ bs) k h = grind (arith, h)
-
 byte-some : (r s : Rest) (bs : List ℕ) → column_of_byte r bs ≡ Some s → columns_of bs r.column ≡ 1 + indent s
 byte-some r s [] h = cc
 byte-some r s (b ∷ bs) h = grind (arith, h)
 
-owed-none : (o : ℕ) (r : Rest) → column_of o r ≡ None → o + columns_of r.left r.column ≡ 0
-owed-none zero r h = omega (arith, byte-none r r.left r.column h)
-owed-none (suc o) r h = cc
-
 owed-some : (o : ℕ) (r s : Rest) → column_of o r ≡ Some s → o + columns_of r.left r.column ≡ 1 + indent s
 owed-some zero r s h = omega (arith, byte-some r s r.left h)
 owed-some (suc o) r s h = let e : record r { owed = o } ≡ s = cc in omega (arith, ap indent e)
-
-pub indent-none : (r : Rest) → next_column r ≡ None → indent r ≡ 0
-indent-none r h = owed-none r.owed r h
 
 pub indent-some : (r s : Rest) → next_column r ≡ Some s → indent r ≡ 1 + indent s
 indent-some r s h = owed-some r.owed r s h
@@ -37,11 +26,6 @@ pub taken-yes : (o : Option Rest) (old new : Rest) (b : Bool)
     → MatchOption o ((b ≡ false) × (new ≡ old)) (λ next. (b ≡ true) × (new ≡ next)) → b ≡ true → o ≡ Some new
 taken-yes None old new b h e = cc
 taken-yes (Some s) old new b h e = ap Some (sym h.1)
-
-pub taken-no : (o : Option Rest) (old new : Rest) (b : Bool)
-    → MatchOption o ((b ≡ false) × (new ≡ old)) (λ next. (b ≡ true) × (new ≡ next)) → b ≡ false → (o ≡ None) × (new ≡ old)
-taken-no None old new b h e = (refl, h.1)
-taken-no (Some s) old new b h e = cc
 
 -- all columns, one at a time
 pub all-more : (r s : Rest) → next_column r ≡ Some s → after_columns (indent s) s ≡ after_columns (indent r) r

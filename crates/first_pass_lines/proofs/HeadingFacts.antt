@@ -15,22 +15,6 @@ level_of-number n H4 h = grind (arith, nat_tests, h)
 level_of-number n H5 h = grind (arith, nat_tests, h)
 level_of-number n H6 h = grind (arith, nat_tests, h)
 
-pub number-level_of : (level : HeadingLevel) → level_of (level_number level) ≡ Some level
-number-level_of H1 = refl
-number-level_of H2 = refl
-number-level_of H3 = refl
-number-level_of H4 = refl
-number-level_of H5 = refl
-number-level_of H6 = refl
-
-pub level-some : (level : HeadingLevel) → (0 < level_number level) × (level_number level ≤ 6)
-level-some H1 = (omega arith, omega arith)
-level-some H2 = (omega arith, omega arith)
-level-some H3 = (omega arith, omega arith)
-level-some H4 = (omega arith, omega arith)
-level-some H5 = (omega arith, omega arith)
-level-some H6 = (omega arith, omega arith)
-
 heading_by : (t : Bool) (n : ℕ) (level : HeadingLevel) → (if t then level_of n else None) ≡ Some level → (level_of n ≡ Some level) × (t ≡ true)
 heading_by true n level e = (e, refl)
 heading_by false n level e = cc

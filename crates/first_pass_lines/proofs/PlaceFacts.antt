@@ -1,19 +1,18 @@
 -- Facts on places in the text, and on the columns of a rest.
-use Rattle.std.proofs.Common.{◌≡◌, ◌⊎◌, inl, inr, ℕ, zero, suc, ◌+◌, ◌-◌, ◌<◌, ◌≤◌, Bool, true, false, ◌==◌, List, [], ◌∷◌, length, drop, get_or, slice_index}
+use Rattle.std.proofs.Common.{◌≡◌, ◌⊎◌, inl, inr, ℕ, zero, suc, ◌+◌, ◌-◌, ◌<◌, ◌≤◌, Bool, true, false, ◌==◌, List, ◌∷◌, length, drop, get_or, slice_index, []}
 use Rattle.std.proofs.Common.{Option, Some, None, IsUtf8, IsCharBoundary, if◌then◌else◌, refl, sym, ap, subst, ◌∙◌, arith, length-drop, get_or-drop, drop-drop}
 use Rattle.std.proofs.lemmas.Option.{none-some}
-use Rattle.std.specs.List.{prefix_len, All}
-use Rattle.std.proofs.lemmas.List.Elements.{All-nil, All-cons}
-use Rattle.std.proofs.lemmas.Str.{IsCharBoundary-after_ascii, IsCharBoundary-before_ascii, IsCharBoundary-end}
-use Rattle.std.proofs.lemmas.List.Sums.{prefix_len_passes, prefix_len_stops, prefix_len-le-length}
+use Rattle.std.specs.List.{prefix_len}
+use Rattle.std.proofs.lemmas.Str.{IsCharBoundary-after_ascii, IsCharBoundary-end}
+use Rattle.std.proofs.lemmas.List.Sums.{prefix_len_passes, prefix_len-le-length}
 use Rattle.std.proofs.lemmas.Bool.{eqb-true, cases_lt}
 use Rattle.std.proofs.lemmas.Bool.Decides.{nat_tests}
 use Rattle.first_pass_lines.specs.Lines.{begins, ends_line, line_len, is_content, is_white, is_number_sign}
 use Rattle.first_pass_lines.specs.Rest.{Rest, past_byte, past_bytes, past_quote_byte, past_quote, column_of_byte, column_of, next_column, after_columns, indent}
-use Rattle.first_pass_lines.specs.Places.{Place, place_at, line_rest, offset, line_place, IsPlaceOf, moved_columns, moved_bytes, line_end, content_end}
+use Rattle.first_pass_lines.specs.Places.{Place, place_at, offset, line_place, IsPlaceOf, moved_columns, moved_bytes, line_end}
 use Rattle.first_pass_lines.specs.Places.{start_of, lines_at}
 use Rattle.first_pass_lines.proofs.LineFacts.{line_len-none, line_len-step, line_len-some, line_len-within, line_len-content_first, lines_at-line, lines_at-end}
-use Rattle.first_pass_lines.proofs.Columns.{after-more, after-none, indent-none, indent-some, all-more, all-none}
+use Rattle.first_pass_lines.proofs.Columns.{after-more, after-none, indent-some, all-more, all-none}
 
 -- all columns are taken: no column is owed, and neither a space nor a tab is left
 byte_none : (r : Rest) (bs : List ℕ) → column_of_byte r bs ≡ None → (begins 32 bs ≡ false) × (begins 9 bs ≡ false)
@@ -54,14 +53,6 @@ all_columns_up_to zero r h = let e : indent r ≡ 0 = omega arith in rw e
 all_columns_up_to (suc k) r h = up_to_step k r (next_column r) refl h (all_columns_up_to k)
 
 -- the columns that are left after some
-left_step : (k : ℕ) (r : Rest) (o : Option Rest)
-    → next_column r ≡ o → ((s : Rest) → indent (after_columns k s) ≡ indent s - k) → indent (after_columns (suc k) r) ≡ indent r - suc k
-left_step k r None e f = ap indent (after-none (suc k) r e) ∙ omega (arith, indent-none r e)
-left_step k r (Some s) e f = ap indent (after-more (suc k) k r s refl e) ∙ f s ∙ omega (arith, indent-some r s e)
-
-pub columns_left : (k : ℕ) (r : Rest) → indent (after_columns k r) ≡ indent r - k
-columns_left zero r = omega arith
-columns_left (suc k) r = left_step k r (next_column r) refl (columns_left k)
 
 -- the bytes after the one at an offset
 next_bytes : (text : List ℕ) (o b : ℕ) (bs : List ℕ) → b ∷ bs ≡ drop o text → bs ≡ drop (o + 1) text
@@ -171,8 +162,6 @@ columns_keep text zero p u i = i
 columns_keep text (suc k) p u i = columns_step text k p (next_column p.rest) u i refl (λ q j. columns_keep text k q u j)
 
 -- the same for a rest that a call has changed
-pub starts_at : (text bytes : List ℕ) (s : ℕ) (r : Rest) → bytes ≡ drop s text → r ≡ line_rest bytes → IsCharBoundary text s → IsPlaceOf text (place_at s r)
-starts_at text bytes s r e h b = subst (λ q. IsPlaceOf text (place_at s q)) (ap line_rest (sym e) ∙ sym h) (line_is_place text s b)
 
 pub taken_columns : (text : List ℕ) (k line : ℕ) (r s : Rest)
     → IsUtf8 text → s ≡ after_columns k r → IsPlaceOf text (place_at line r) → IsPlaceOf text (place_at line s)
@@ -215,22 +204,6 @@ line_end_boundary text s u h l =
     end_by text s (drop s text) refl u l w.0 w.1 d (last_of_line (drop s text) (omega arith))
 
 -- the content of a line ends before an ASCII byte, or with the text
-content_by : (text : List ℕ) (s : ℕ) (bs : List ℕ) (n : ℕ) → bs ≡ drop s text → s ≤ length text → length bs ≡ length text - s → n ≡ prefix_len is_content bs
-    → n ≤ length bs → (n < length bs) ⊎ (length bs ≤ n) → IsCharBoundary text (s + n)
-content_by text s bs n e l d same fits (inl more) =
-    let b = byte_at text s n bs e in
-    let stops : is_content (get_or bs n 0) ≡ false = rw same (prefix_len_stops is_content bs 0 (omega arith)) in
-    let small : get_or bs n 0 < 128 = grind (arith, nat_tests, stops) in
-    IsCharBoundary-before_ascii text (s + n) (omega arith) (omega arith)
-content_by text s bs n e l d same fits (inr all) =
-    let k : s + n ≡ length text = omega arith in
-    rw k (IsCharBoundary-end text)
-
-pub content_end_boundary : (text : List ℕ) (s : ℕ) → s ≤ length text → IsCharBoundary text (s + prefix_len is_content (drop s text))
-content_end_boundary text s l =
-    let bs = drop s text in
-    let n = prefix_len is_content bs in
-    content_by text s bs n refl l (length-drop s text) refl (prefix_len-le-length is_content bs) (cases_lt n (length bs))
 
 -- the same from a place in the line on
 pub place_line_end : (text : List ℕ) (p : Place)
@@ -238,9 +211,6 @@ pub place_line_end : (text : List ℕ) (p : Place)
 place_line_end text p u i h =
     let d : length p.rest.left ≡ length text - offset p = ap length i.left ∙ length-drop (offset p) text in
     rw i.left (line_end_boundary text (offset p) u i.boundary (omega arith))
-
-pub place_content_end : (text : List ℕ) (p : Place) → IsPlaceOf text p → IsCharBoundary text (offset p + prefix_len is_content p.rest.left)
-place_content_end text p i = rw i.left (content_end_boundary text (offset p) i.within)
 
 -- how many bytes of the text are left at a place
 pub place_length : (text : List ℕ) (p : Place) → IsPlaceOf text p → offset p + length p.rest.left ≡ length text
@@ -282,9 +252,6 @@ content_first b bs h = rw h (omega arith)
 pub columns_line_end : (k : ℕ) (p : Place) → line_end (moved_columns k p) ≡ line_end p
 columns_line_end k p = let e = columns_away line_len line_len-content_first k p.rest in omega arith
 
-pub columns_content_end : (k : ℕ) (p : Place) → content_end (moved_columns k p) ≡ content_end p
-columns_content_end k p = let e = columns_away (prefix_len is_content) content_first k p.rest in omega arith
-
 bytes_step : (f : List ℕ → ℕ) → ((b : ℕ) (bs : List ℕ) → is_content b ≡ true → f (b ∷ bs) ≡ f bs + 1) → (t : Bool) (b n : ℕ) (bs : List ℕ) → is_content b ≡ t
     → suc n ≤ prefix_len is_content (b ∷ bs) → (n ≤ prefix_len is_content bs → n + f (drop n bs) ≡ f bs) → suc n + f (drop n bs) ≡ f (b ∷ bs)
 bytes_step f step true b n bs h w g =
@@ -305,9 +272,6 @@ bytes_away f step (suc n) (b ∷ bs) w = bytes_step f step (is_content b) b n bs
 pub bytes_line_end : (n : ℕ) (p : Place) → n ≤ prefix_len is_content p.rest.left → line_end (moved_bytes n p) ≡ line_end p
 bytes_line_end n p w = let e = bytes_away line_len line_len-content_first n p.rest.left w in omega arith
 
-pub bytes_content_end : (n : ℕ) (p : Place) → n ≤ prefix_len is_content p.rest.left → content_end (moved_bytes n p) ≡ content_end p
-bytes_content_end n p w = let e = bytes_away (prefix_len is_content) content_first n p.rest.left w in omega arith
-
 -- where the lines from an offset on begin, and that each begins between characters
 start_by : (text : List ℕ) (s : ℕ) → s ≤ length text → (s < length text) ⊎ (length text ≤ s) → start_of (length text) (lines_at s (drop s text)) ≡ s
 start_by text s h (inl l) = ap (start_of (length text)) (lines_at-line text s l)
@@ -315,22 +279,6 @@ start_by text s h (inr l) = ap (start_of (length text)) (lines_at-end text s l) 
 
 pub start_of-lines : (text : List ℕ) (s : ℕ) → s ≤ length text → start_of (length text) (lines_at s (drop s text)) ≡ s
 start_of-lines text s h = start_by text s h (cases_lt s (length text))
-
-places_step : (text : List ℕ) (most s : ℕ) → IsUtf8 text → IsCharBoundary text s → length text ≤ s + suc most
-    → ((t : ℕ) → IsCharBoundary text t → length text ≤ t + most → All (IsPlaceOf text) (lines_at t (drop t text))) → (s < length text) ⊎ (length text ≤ s)
-    → All (IsPlaceOf text) (lines_at s (drop s text))
-places_step text most s u b m f (inl l) =
-    let w = line_len-within text s l in
-    let further = f (s + line_len (drop s text)) (line_end_boundary text s u b l) (omega arith) in
-    subst (All (IsPlaceOf text)) (sym (lines_at-line text s l)) (All-cons (IsPlaceOf text) _ _ (line_is_place text s b) further)
-places_step text most s u b m f (inr l) = subst (All (IsPlaceOf text)) (sym (lines_at-end text s l)) (All-nil (IsPlaceOf text))
-
-places_up_to : (text : List ℕ) (most s : ℕ) → IsUtf8 text → IsCharBoundary text s → length text ≤ s + most → All (IsPlaceOf text) (lines_at s (drop s text))
-places_up_to text zero s u b m = subst (All (IsPlaceOf text)) (sym (lines_at-end text s (omega arith))) (All-nil (IsPlaceOf text))
-places_up_to text (suc most) s u b m = places_step text most s u b m (λ t c n. places_up_to text most t u c n) (cases_lt s (length text))
-
-pub lines_are_places : (text : List ℕ) (s : ℕ) → IsUtf8 text → IsCharBoundary text s → All (IsPlaceOf text) (lines_at s (drop s text))
-lines_are_places text s u b = places_up_to text (length text) s u b (omega arith)
 
 quote_byte_by : (t : Bool) (r s : Rest) (b : ℕ) (bs : List ℕ) → (b == 62) ≡ t → b ∷ bs ≡ r.left → (if t then Some (past_byte r bs) else None) ≡ Some s
     → (s ≡ past_bytes 1 r) × (0 < length r.left) × (slice_index r.left 0 < 128) × (1 ≤ prefix_len is_content r.left)

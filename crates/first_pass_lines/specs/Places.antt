@@ -1,7 +1,7 @@
 -- Places in the text, and its lines.
-use Rattle.std.specs.Prelude.{◌≡◌, ◌≤◌, ℕ, ◌+◌, List, [], ◌∷◌, length, take, drop, IsCharBoundary, if◌then◌else◌}
-use Rattle.std.specs.List.{prefix_len, concat}
-use Rattle.first_pass_lines.specs.Lines.{is_content, ends_line, line_len, IsLine}
+use Rattle.std.specs.Prelude.{◌≡◌, ◌≤◌, ℕ, ◌+◌, List, ◌∷◌, length, take, drop, IsCharBoundary, if◌then◌else◌, []}
+use Rattle.std.specs.List.{concat}
+use Rattle.first_pass_lines.specs.Lines.{ends_line, line_len, IsLine}
 use Rattle.first_pass_lines.specs.Rest.{Rest, after_columns, past_bytes}
 
 -- a place in the text: where the reading of its line began, and what is left of the text from there (this project)
@@ -63,10 +63,6 @@ pub record IsDivision (text : List ℕ) (pieces : List (List ℕ)) : Type 0 wher
 -- the offset at which the line of a place ends, its end too (CommonMark 2.1, line)
 abbrev pub line_end : Place → ℕ
 line_end p = offset p + line_len p.rest.left
-
--- the offset at which the content of the line of a place ends, before its line end (CommonMark 2.1)
-abbrev pub content_end : Place → ℕ
-content_end p = offset p + prefix_len is_content p.rest.left
 
 -- the place stands in the text, between characters (this project)
 pub record IsPlaceOf (text : List ℕ) (p : Place) : Type 0 where

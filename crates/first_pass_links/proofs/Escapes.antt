@@ -1,5 +1,5 @@
 -- Unescaped texts, change by change.
-use Rattle.std.proofs.Common.{◌≡◌, ◌⊎◌, inl, inr, ℕ, zero, suc, ◌+◌, ◌-◌, ◌<◌, ◌≤◌, ◌==◌, ◌&&◌, Bool, true, false, List, [], ◌∷◌, ◌++◌, length, take, drop}
+use Rattle.std.proofs.Common.{◌≡◌, ◌⊎◌, inl, inr, ℕ, zero, suc, ◌+◌, ◌-◌, ◌<◌, ◌≤◌, ◌==◌, ◌&&◌, Bool, true, false, List, ◌∷◌, ◌++◌, length, take, drop, []}
 use Rattle.std.proofs.Common.{get_or, slice_index, encode_utf8, Option, Some, None, refl, sym, ap, subst, ◌∙◌, arith, append_assoc, length-append, length-drop}
 use Rattle.std.proofs.Common.{IsUtf8}
 use Rattle.std.specs.List.{prefix_len}
@@ -315,10 +315,6 @@ pub shrinks : (t : Bool) (bs : List ℕ) → length (unescaped t bs) ≤ length 
 shrinks t bs = shrinks_to t (length bs) bs (omega arith)
 
 -- bytes that are kept
-pub kept_none : (t : Bool) (text : List ℕ) (from : ℕ) → from ≤ length text → IsKept t text from from
-kept_none t text from l =
-    let e : from - from ≡ 0 = omega arith in
-    record { order = omega arith; within = l; kept = rw e }
 
 pub kept_more : (t : Bool) (text : List ℕ) (from at : ℕ)
     → IsKept t text from at → at < length text → change_at t (drop at text) ≡ None → IsKept t text from (at + 1)
@@ -435,20 +431,3 @@ change_differs t text from at n c written i x e =
     let r = shrinks t (drop (at + n) text) in
     let d = length-drop (at + n) text in
     omega arith
-
-pub written_differs : (t : Bool) (text : List ℕ) (from : ℕ) (written : List ℕ)
-    → IsWritten t text from written → 0 < from → unescaped t (drop from text) ≡ drop from text → unescaped t text ≡ text → ⊥
-written_differs t text from written i some k e =
-    let within = i.within in
-    let l = ap length (sym e ∙ i.so_far ∙ ap (λ xs. written ++ xs) k) in
-    let a = length-append written (drop from text) in
-    let d = length-drop from text in
-    elim i.fewer [ inl h ↦ absurd (omega (arith, h.0)) | inr h ↦ omega arith ]
-
-pub written_all : (t : Bool) (text : List ℕ) (from : ℕ) (written : List ℕ)
-    → IsWritten t text from written → unescaped t (drop from text) ≡ drop from text → unescaped t text ≡ written ++ drop from text
-written_all t text from written i k = i.so_far ∙ ap (λ xs. written ++ xs) k
-
-pub written_nothing : (t : Bool) (text : List ℕ) (from : ℕ) (written : List ℕ)
-    → IsWritten t text from written → from ≡ 0 → unescaped t (drop from text) ≡ drop from text → unescaped t text ≡ text
-written_nothing t text from written i z k = ap (λ n. unescaped t (drop n text)) (sym z) ∙ k ∙ ap (λ n. drop n text) z

@@ -1,5 +1,5 @@
 -- The units of a label.
-use Rattle.std.proofs.Common.{◌≡◌, ◌⊎◌, inl, inr, ℕ, zero, suc, ◌+◌, ◌-◌, ◌<◌, ◌≤◌, ◌==◌, ◌&&◌, ◌||◌, not, nat_le, Bool, true, false, List, [], ◌∷◌, ◌++◌}
+use Rattle.std.proofs.Common.{◌≡◌, ◌⊎◌, inl, inr, ℕ, zero, suc, ◌+◌, ◌-◌, ◌<◌, ◌≤◌, ◌==◌, ◌&&◌, ◌||◌, not, nat_le, Bool, true, false, List, ◌∷◌, ◌++◌, []}
 use Rattle.std.proofs.Common.{length, take, drop, get_or, slice_index, Option, Some, None, refl, sym, ap, ◌∙◌, arith, append_assoc, length-append, length-drop}
 use Rattle.std.proofs.Common.{IsUtf8, if◌then◌else◌}
 use Rattle.std.specs.List.{list_any, list_all, count_by}
@@ -10,7 +10,7 @@ use Rattle.std.proofs.lemmas.Bool.Decides.{nat_tests}
 use Rattle.std.proofs.lemmas.Grind.{common_steps}
 use Rattle.std.proofs.lemmas.Str.{IsCharBoundary-after_ascii, IsCharBoundary-start}
 use Rattle.std.proofs.lemmas.List.{drop_more, drop-drop, drop_all, get_or-drop, get_or_past, length-take-le, map-append, length-map, append-nil}
-use Rattle.first_pass_lines.specs.Lines.{begins, is_line_end, ends_line, is_ascii_white}
+use Rattle.first_pass_lines.specs.Lines.{begins, ends_line, is_ascii_white}
 use Rattle.first_pass_links.specs.declared.label.Unit.{Unit}
 use Rattle.first_pass_links.specs.Escapes.{begins_escape, without_pipe_escapes}
 use Rattle.first_pass_links.specs.Changes.{begins_pipe_escape}
@@ -206,8 +206,6 @@ label_unit t known us cs w e s =
     (s (label_len (bytes_of cs)))
 
 -- one byte
-space_cases : (b : ℕ) → is_ascii_white b ≡ false → is_line_end b ≡ false
-space_cases b h = grind (arith, nat_tests, h)
 
 solid_ends_none : (b : ℕ) (bs : List ℕ) → is_ascii_white b ≡ false → ends_line b bs ≡ false
 solid_ends_none b bs h = grind (arith, nat_tests, h)
@@ -796,8 +794,6 @@ all_more [] b h s = rw s
 all_more (x ∷ xs) b h s = let p = white_parts x xs h in rw p.0 (all_more xs b p.1 s)
 
 -- a run of white space, byte by byte
-pub run_none : (h : List ℕ → Option ℕ) (text : List ℕ) (at : ℕ) → IsWhiteRun h text at at 0
-run_none h text at = record { run = []; joins = refl; white = refl; count = refl }
 
 pub run_more : (h : List ℕ → Option ℕ) (text : List ℕ) (at next behind n : ℕ)
     → IsWhiteRun h text at next n → left_at h text next ≡ (next, get_or text next 0) ∷ left_at h text behind → is_ascii_white (get_or text next 0) ≡ true

@@ -1,5 +1,5 @@
 -- Parts of a text, and how heavy they are.
-use Rattle.std.proofs.Common.{◌≡◌, ◌⊎◌, inl, inr, ℕ, zero, suc, ◌+◌, ◌-◌, ◌<◌, ◌≤◌, ◌==◌, ◌&&◌, not, Bool, true, false, List, [], ◌∷◌, ◌++◌, length, take, drop}
+use Rattle.std.proofs.Common.{◌≡◌, ◌⊎◌, inl, inr, ℕ, zero, suc, ◌+◌, ◌-◌, ◌<◌, ◌≤◌, ◌==◌, ◌&&◌, not, Bool, true, false, List, ◌∷◌, ◌++◌, length, take, drop, []}
 use Rattle.std.proofs.Common.{get_or, refl, sym, ap, ◌∙◌, arith, append_assoc, if◌then◌else◌}
 use Rattle.std.specs.Str.{IsCharBoundary}
 use Rattle.std.proofs.lemmas.List.{drop_more, drop-drop}
@@ -44,8 +44,6 @@ pub take-part : (text : List ℕ) (a b : ℕ) → a ≤ b → take b text ≡ ta
 take-part text a b h = let e : b ≡ a + (b - a) = omega arith in ap (λ n. take n text) e ∙ take_add a (b - a) text
 
 -- weights
-weigh : ℕ → ℕ
-weigh b = if is_ascii_white b && not (b == 32) then 2 else 1
 
 weigh_some : (t : Bool) → 1 ≤ (if t then 2 else 1)
 weigh_some true = omega arith

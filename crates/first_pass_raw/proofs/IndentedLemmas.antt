@@ -1,5 +1,5 @@
 -- The lines of indented code, one after the other.
-use Rattle.std.proofs.Common.{◌≡◌, inl, inr, ℕ, suc, ◌+◌, ◌-◌, ◌<◌, ◌≤◌, Bool, true, false, if◌then◌else◌, List, [], ◌∷◌, ◌++◌, length, take, drop, slice_get}
+use Rattle.std.proofs.Common.{◌≡◌, inl, inr, ℕ, suc, ◌+◌, ◌-◌, ◌<◌, ◌≤◌, Bool, true, false, if◌then◌else◌, List, ◌∷◌, ◌++◌, length, take, drop, slice_get, []}
 use Rattle.std.proofs.Common.{slice_index, Option, Some, None, IsSome, IfSome, IsUtf8, IsCharBoundary, refl, sym, ap, subst, ◌∙◌, arith, length-append}
 use Rattle.std.proofs.Common.{append_assoc}
 use Rattle.std.specs.Option.{option_map, option_and_then}
@@ -215,10 +215,6 @@ one_line : (d : Document) (chain : List Item) (q : Place) (line : List Item)
     → IsRawLine range_text d q.rest.owed (offset q) (line_end q) line → AreRawLines range_text d chain (q ∷ []) (add_tokens chain line)
 unfolding AreRawLines
 one_line d chain q line is = (line, is, refl)
-
-no_line : (d : Document) (chain : List Item) → AreRawLines range_text d chain [] chain
-unfolding AreRawLines
-no_line d chain = refl
 
 pub more_lines : (d : Document) (chain : List Item) (ps : List Place) (q : Place) (mid line : List Item) → AreRawLines range_text d chain ps mid
     → IsRawLine range_text d q.rest.owed (offset q) (line_end q) line → AreRawLines range_text d chain (ps ++ q ∷ []) (add_tokens mid line)

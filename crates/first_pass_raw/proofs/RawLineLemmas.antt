@@ -1,17 +1,17 @@
 -- Raw lines after the nodes of a tree: the columns that are owed, and the bytes.
-use Rattle.std.proofs.Common.{◌≡◌, ℕ, zero, suc, ◌+◌, ◌-◌, ◌<◌, ◌≤◌, Bool, true, false, List, [], ◌∷◌, ◌++◌, length, refl, sym, ap, ◌∙◌, subst, inl, inr, arith}
+use Rattle.std.proofs.Common.{◌≡◌, ℕ, zero, suc, ◌+◌, ◌-◌, ◌<◌, ◌≤◌, Bool, true, false, List, ◌∷◌, ◌++◌, length, refl, sym, ap, ◌∙◌, arith, []}
 use Rattle.std.specs.List.{slice_range}
-use Rattle.std.proofs.lemmas.Bool.{cases_lt, lt-ltb, le-ltb, cond-true, cond-false}
+use Rattle.std.proofs.lemmas.Bool.{cond-true, cond-false}
 use Rattle.first_pass_items.specs.declared.cow_str.CowStr.{CowStr}
 use Rattle.first_pass_items.specs.CowText.{text_of}
 use Rattle.first_pass_items.specs.declared.item.CowIndex.{CowIndex}
 use Rattle.first_pass_items.specs.declared.item.Item.{Item}
 use Rattle.first_pass_items.specs.declared.item.ItemBody.TheVariants.{SynthesizeText}
-use Rattle.first_pass_tree.specs.Forest.{Forest, appended, with_text}
+use Rattle.first_pass_tree.specs.Forest.{Forest, appended}
 use Rattle.first_pass_tokens.specs.TreeTokens.{with_tokens, chained}
-use Rattle.first_pass_tokens.proofs.ChainLemmas.{with_tokens-append, with_text-none, with_text-some, with_token-plain}
+use Rattle.first_pass_tokens.proofs.ChainLemmas.{with_tokens-append, with_token-plain}
 use Rattle.first_pass_grammar.specs.Names.{Names, NamesText, Extends}
-use Rattle.first_pass_grammar.specs.RawLines.{spaces, AreColumns, ends_with_both, Ranges, range_text, raw_items}
+use Rattle.first_pass_grammar.specs.RawLines.{spaces, AreColumns, ends_with_both, Ranges, raw_items}
 use Rattle.first_pass_names.specs.TableEntries.{with_named}
 use Rattle.first_pass_names.proofs.NameLemmas.{extends_none, text_last}
 use Rattle.first_pass_raw.specs.RawBlocks.{AppendsColumns, AppendsRaw}
@@ -37,9 +37,6 @@ some_columns : (names : Names) (n at : ℕ) (ix : CowIndex) → ¬ (n ≡ 0) →
 some_columns names zero at ix h named = absurd (h refl)
 some_columns names (suc n) at ix h named = (ix, named, refl)
 
-pub no_columns : (names : Names) (n at : ℕ) (f : Forest Item) → n ≡ 0 → AppendsColumns names n at f f
-no_columns names n at f e = record { items = []; tree_is = refl; are = λ more h. subst (λ k. AreColumns more k at []) (sym e) refl }
-
 pub columns_appended : (old_names names : Names) (cow : CowStr) (ix : CowIndex) (n at : ℕ) (old new : Forest Item)
     → ¬ (n ≡ 0) → n ≤ 3 → text_of cow ≡ slice_range (32 ∷ 32 ∷ 32 ∷ []) 0 n → names ≡ with_named old_names cow → ix.0 ≡ length old_names.texts
     → new ≡ appended old (record { start = at; «end» = at; body = SynthesizeText ix }) → AppendsColumns names n at old new
@@ -56,12 +53,6 @@ columns_plain names zero at items f h = ap (chained f) h ∙ sym (ap (with_token
 columns_plain names (suc n) at items f (ix, named, is) = ap (chained f) is ∙ sym (with_token-plain f (columns_item at ix) refl) ∙ sym (ap (with_tokens f) is)
 
 -- the bytes of a line
-pub range_appended : (f : Forest Item) (from to : ℕ) → from ≤ to → with_text f from to false ≡ with_tokens f (range_text from to)
-range_appended f from to order =
-    elim (cases_lt from to) [
-      | inl some ↦ with_text-some f from to false some ∙ sym (ap (with_tokens f) (cond-true _ _ _ (lt-ltb from to some)))
-      | inr none ↦ with_text-none f from to false (omega arith) ∙ sym (ap (with_tokens f) (cond-false _ _ _ (le-ltb from to none)))
-    ]
 
 pub raw_one : (range : Ranges) (text : List ℕ) (from to : ℕ) → ends_with_both text from to ≡ false → raw_items range text from to ≡ range from to
 unfolding raw_items
@@ -72,12 +63,7 @@ pub raw_two : (range : Ranges) (text : List ℕ) (from to : ℕ)
 unfolding raw_items
 raw_two range text from to h = cond-true _ _ _ h
 
-both_order : (text : List ℕ) (from to : ℕ) → ends_with_both text from to ≡ true → from + 1 < to
-both_order text from to h = grind (arith, h)
-
 -- where a line ends with `\r\n`, it has these two bytes
-pub both_bytes : (text bytes : List ℕ) (from to : ℕ) (both : Bool) → bytes ≡ text → both ≡ ends_with_both bytes from to → both ≡ true → from + 1 < to
-both_bytes text bytes from to both same is h = both_order text from to (ap (λ bs. ends_with_both bs from to) (sym same) ∙ sym is ∙ h)
 
 raw_appended : (range : Ranges) (text : List ℕ) (names : Names) (owed from to : ℕ) (old mid new : Forest Item)
     → AppendsColumns names owed from old mid → new ≡ with_tokens mid (raw_items range text from to) → AppendsRaw range text names owed from to old new

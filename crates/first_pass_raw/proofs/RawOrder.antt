@@ -1,5 +1,5 @@
 -- Raw leaf blocks are in order: each lies between two offsets with what is below it, and its lines are placed in the text one after the other.
-use Rattle.std.proofs.Common.{◌≡◌, ◌⊎◌, inl, inr, ℕ, zero, suc, ◌+◌, ◌-◌, ◌*◌, ◌<◌, ◌≤◌, ◌==◌, ◌&&◌, Bool, true, false, not, List, [], ◌∷◌, ◌++◌, length, drop}
+use Rattle.std.proofs.Common.{◌≡◌, ◌⊎◌, inl, inr, ℕ, zero, suc, ◌+◌, ◌-◌, ◌*◌, ◌<◌, ◌≤◌, ◌==◌, ◌&&◌, Bool, true, false, not, List, ◌∷◌, ◌++◌, length, drop, []}
 use Rattle.std.proofs.Common.{get_or, slice_index, nat_lt, nat_le, if◌then◌else◌, Option, Some, None, IsUtf8, IsCharBoundary, refl, sym, ap, subst, ◌∙◌, arith}
 use Rattle.std.proofs.Common.{length-append, length-drop, get_or-drop}
 use Rattle.std.specs.List.{prefix_len}
@@ -67,9 +67,6 @@ pub record IsFilled (text : List ℕ) (from : ℕ) (e : Lines) : Type 0 where
   pub boundary : IsCharBoundary text e.«end»
   pub bytes : HaveBytes from e.places
 
-pub filled_placed : (text : List ℕ) (from : ℕ) (e : Lines) → IsFilled text from e → IsPlaced text from e
-filled_placed text from e f = record { places = f.places; boundary = f.boundary; few = inr f.bytes }
-
 -- An extent ends no later than the first line begins that it leaves.
 abbrev pub EndsBefore : List ℕ → Lines → Type 0
 EndsBefore text e = e.«end» ≤ start_of (length text) e.left
@@ -89,11 +86,6 @@ pub placed_from : (text : List ℕ) (low from to : ℕ) (ps : List Place) → lo
 unfolding ArePlaced
 placed_from text low from to [] less h = omega arith
 placed_from text low from to (p ∷ ps) less h = (let a = h.0 in omega arith, h.1, h.2)
-
-pub placed_to : (text : List ℕ) (from mid to : ℕ) (ps : List Place) → mid ≤ to → ArePlaced text from ps mid → ArePlaced text from ps to
-unfolding ArePlaced
-placed_to text from mid to [] more h = omega arith
-placed_to text from mid to (p ∷ ps) more h = (h.0, h.1, placed_to text (line_end p) mid to ps more h.2)
 
 -- columns that are owed have an empty range
 columns_in_order : (text : List ℕ) (names : Names) (owed at : ℕ) (items : List Item)

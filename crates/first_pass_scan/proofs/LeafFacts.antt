@@ -1,10 +1,10 @@
 -- Facts on the spaces and tabs that bytes begin with.
-use Rattle.std.proofs.Common.{◌≡◌, ℕ, ◌+◌, ◌<◌, ◌≤◌, Bool, true, ◌==◌, List, [], ◌∷◌, ◌++◌, length, take, drop, get_or, refl, sym, ap, ◌∙◌, arith}
-use Rattle.std.proofs.Common.{append_assoc, inl, inr, if◌then◌else◌}
+use Rattle.std.proofs.Common.{◌≡◌, ℕ, ◌+◌, ◌<◌, ◌≤◌, Bool, true, ◌==◌, List, ◌∷◌, ◌++◌, length, take, drop, get_or, refl, sym, ap, ◌∙◌, arith, []}
+use Rattle.std.proofs.Common.{inl, inr, if◌then◌else◌}
 use Rattle.std.specs.List.{list_all}
 use Rattle.std.proofs.lemmas.Bool.{cases_lt, and_parts}
 use Rattle.std.proofs.lemmas.Bool.Decides.{nat_tests}
-use Rattle.std.proofs.lemmas.List.{take_more, append-nil, length-take-le, drop_more, get_or-take, take-append-drop, take-take}
+use Rattle.std.proofs.lemmas.List.{append-nil, length-take-le, drop_more, get_or-take, take-append-drop, take-take}
 use Rattle.first_pass_lines.specs.Rest.{columns_of}
 use Rattle.first_pass_lines.specs.Lines.{is_blank}
 use Rattle.first_pass_scan.specs.LeafLines.{blank_columns, IsIndent, IsLongestIndent}
@@ -15,33 +15,12 @@ pub record IsFront (bs : List ℕ) (n : ℕ) (columns : ℕ) (column : ℕ) : Ty
   pub blanks : list_all is_blank (take n bs) ≡ true
   pub before : (more : List ℕ) → columns_of (take n bs ++ more) 0 ≡ columns + columns_of more column
 
-pub front-none : (bs : List ℕ) → IsFront bs 0 0 0
-front-none bs = record { within = omega arith; blanks = refl; before = λ more. omega arith }
-
-list_all-push : (p : ℕ → Bool) (xs : List ℕ) (x : ℕ) → list_all p xs ≡ true → p x ≡ true → list_all p (xs ++ x ∷ []) ≡ true
-list_all-push p [] x h e = rw e
-list_all-push p (y ∷ ys) x h e = grind (arith, list_all-push p ys x, h, e)
-
 pub columns_of-blank : (b column : ℕ) (more : List ℕ)
     → 0 < blank_columns b column → columns_of (b ∷ more) column ≡ blank_columns b column + columns_of more (if b == 9 then 0 else column + 1)
 columns_of-blank b column more h = grind (arith, nat_tests, h)
 
-blank_if : (b column : ℕ) → 0 < blank_columns b column → is_blank b ≡ true
-blank_if b column h = grind (arith, nat_tests, h)
-
 blank_then : (b column : ℕ) → is_blank b ≡ true → 0 < blank_columns b column
 blank_then b column h = grind (arith, nat_tests, h)
-
--- one byte more
-pub front-more : (bs : List ℕ) (n columns column b k : ℕ) → n < length bs → b ≡ get_or bs n 0 → 0 < blank_columns b column
-    → k ≡ (if b == 9 then 0 else column + 1) → IsFront bs n columns column → IsFront bs (n + 1) (columns + blank_columns b column) k
-front-more bs n columns column b k l e w s f =
-    let t : take (n + 1) bs ≡ take n bs ++ b ∷ [] = take_more bs n 0 l ∙ ap (λ x. take n bs ++ x ∷ []) (sym e) in
-    record {
-      within = omega arith;
-      blanks = rw t (list_all-push is_blank (take n bs) b f.blanks (blank_if b column w));
-      before = λ more. rw t (rw append_assoc (rw s (f.before (b ∷ more) ∙ ap (λ x. columns + x) (columns_of-blank b column more w) ∙ omega arith)));
-    }
 
 -- the columns of some bytes are at least those of the first of them
 columns_first : (b column : ℕ) (more : List ℕ) → 0 < blank_columns b column → blank_columns b column ≤ columns_of (b ∷ more) column

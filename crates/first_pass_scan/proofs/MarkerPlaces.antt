@@ -1,28 +1,22 @@
 -- Facts on what markers take of a line: bytes of its content, the last of them ASCII, and columns.
-use Rattle.std.proofs.Common.{◌≡◌, inl, inr, ℕ, zero, suc, ◌+◌, ◌-◌, ◌<◌, ◌≤◌, nat_le, Bool, true, false, ◌==◌, ◌&&◌, ◌||◌, not, List, [], ◌∷◌, length, map}
+use Rattle.std.proofs.Common.{◌≡◌, inl, inr, ℕ, zero, suc, ◌+◌, ◌-◌, ◌<◌, ◌≤◌, nat_le, Bool, true, false, ◌==◌, ◌&&◌, ◌||◌, not, List, ◌∷◌, length, []}
 use Rattle.std.proofs.Common.{take, drop, get_or, slice_index, Option, Some, None, is_some, IsUtf8, refl, sym, ap, subst, ◌∙◌, arith, length-drop, get_or-drop}
 use Rattle.std.proofs.Common.{if◌then◌else◌}
 use Rattle.std.specs.Option.{option_map}
-use Rattle.std.specs.List.{prefix_len, list_all}
-use Rattle.std.specs.Char.{is_ascii_digit, to_ascii_lowercase}
-use Rattle.std.specs.Str.{str_eq_ignore_ascii_case}
-use Rattle.std.specs.Cmp.Lexicographic.{same_text}
-use Rattle.std.proofs.lemmas.List.{get_or_past, get_or-take, length-take-le}
+use Rattle.std.specs.List.{prefix_len}
+use Rattle.std.specs.Char.{is_ascii_digit}
+use Rattle.std.proofs.lemmas.List.{get_or_past}
 use Rattle.std.proofs.lemmas.List.Sums.{prefix_len_passes, prefix_len_stops, prefix_len-le-length}
-use Rattle.std.proofs.lemmas.Bool.{cases_lt, eqb-true, leb-true, and_parts, both_ways, false≢true}
+use Rattle.std.proofs.lemmas.Bool.{cases_lt, eqb-true, and_parts, both_ways, false≢true}
 use Rattle.std.proofs.lemmas.Bool.Decides.{nat_tests}
 use Rattle.std.proofs.lemmas.Option.{cond_some, none-some, same_Some}
-use Rattle.first_pass_items.specs.declared.item.BlockQuoteKind.{BlockQuoteKind}
-use Rattle.first_pass_items.specs.declared.item.BlockQuoteKind.TheVariants.{Note, Tip, Important, Warning, Caution}
-use Rattle.first_pass_lines.specs.Lines.{is_content, is_white, is_ascii_white, begins, blank_len, line_len, at_line_end}
-use Rattle.first_pass_lines.specs.Rest.{Rest, past_byte, past_bytes, past_quote, past_quote_byte, after_columns, indent}
-use Rattle.first_pass_lines.specs.Places.{place_at, line_rest, line_end, content_end, moved_bytes, IsPlaceOf}
+use Rattle.first_pass_lines.specs.Lines.{is_content, is_white, is_ascii_white, begins, blank_len, at_line_end}
+use Rattle.first_pass_lines.specs.Rest.{Rest, past_bytes, after_columns, indent}
+use Rattle.first_pass_lines.specs.Places.{place_at, line_end, moved_bytes, IsPlaceOf}
 use Rattle.first_pass_scan.specs.LeafLines.{hrule_len}
 use Rattle.first_pass_scan.specs.Markers.{is_bullet, number_from, bullet_marker, delimited, ordered_marker, list_marker, content_indent, behind_marker}
-use Rattle.first_pass_scan.specs.Markers.{behind_colon, item_by, item_of, definition_of, is_checked, task_box, task_of, tag_of, has_tag, tag_kind, tag_line_of}
-use Rattle.first_pass_scan.specs.Markers.{tag_line, past_tag}
-use Rattle.first_pass_lines.proofs.PlaceFacts.{ascii_keeps, columns_keep, bytes_line_end, bytes_content_end, columns_line_end, columns_content_end}
-use Rattle.first_pass_lines.proofs.LineFacts.{line_len-blank}
+use Rattle.first_pass_scan.specs.Markers.{behind_colon, item_by, item_of, definition_of, is_checked, task_box, task_of}
+use Rattle.first_pass_lines.proofs.PlaceFacts.{ascii_keeps, columns_keep, bytes_line_end, columns_line_end}
 
 -- a marker of some bytes and the columns after it lie between the first rest and the second
 pub record IsMarked (r : Rest) (s : Rest) : Type 0 where
@@ -61,11 +55,6 @@ marked-line_end line r s m =
     ap (λ (q : Rest). line_end (place_at line q)) m.same ∙ columns_line_end m.further (place_at line (after_columns m.first (past_bytes m.width r)))
     ∙ columns_line_end m.first (place_at line (past_bytes m.width r)) ∙ bytes_line_end m.width (place_at line r) m.within
 
-pub marked-content_end : (line : ℕ) (r s : Rest) → IsMarked r s → content_end (place_at line s) ≡ content_end (place_at line r)
-marked-content_end line r s m =
-    ap (λ (q : Rest). content_end (place_at line q)) m.same ∙ columns_content_end m.further (place_at line (after_columns m.first (past_bytes m.width r)))
-    ∙ columns_content_end m.first (place_at line (past_bytes m.width r)) ∙ bytes_content_end m.width (place_at line r) m.within
-
 -- so many bytes are content of the line, and the last of them is ASCII
 pub record IsFrontOf (bs : List ℕ) (n : ℕ) : Type 0 where
   pub some : 0 < n
@@ -92,18 +81,6 @@ first_front c (b ∷ bs) l e h =
     record { some = omega arith; within = rw content (omega arith); ascii = omega arith }
 
 -- the block quote marker
-one_byte : (r : Rest) (b : ℕ) (bs : List ℕ) → b ∷ bs ≡ r.left → past_byte r bs ≡ past_bytes 1 r
-one_byte r b bs e = rw (← e) refl
-
-quote_by : (r s : Rest) (bs : List ℕ) → bs ≡ r.left → r.owed ≡ 0 → past_quote_byte r bs ≡ Some s → IsMarked r (after_columns 1 s)
-quote_by r s [] e o h = absurd (none-some s h)
-quote_by r s (b ∷ bs) e o h =
-    let parts = cond_some (b == 62) (past_byte r bs) s h in
-    let front : IsFrontOf r.left 1 = first_front 62 r.left (omega arith) refl (ap (begins 62) (sym e) ∙ parts.0) in
-    marked_by r (after_columns 1 s) 1 1 0 front o (ap (after_columns 1) (sym parts.1 ∙ one_byte r b bs e))
-
-pub quote-marked : (r s : Rest) → past_quote r ≡ Some s → IsMarked r (after_columns 1 s)
-quote-marked r s h = let p = when_some (r.owed == 0) (past_quote_byte r r.left) s h in quote_by r s r.left refl (eqb-true r.owed 0 p.0) p.1
 
 -- list markers
 bullet_front : (bs : List ℕ) (m : ℕ × ℕ × ℕ) → bullet_marker bs ≡ Some m → IsFrontOf bs m.0
@@ -243,62 +220,3 @@ task-marked r task h =
     marked_by box task.1 3 0 0 (box_front box.left parts.0 parts.1) (eqb-true box.owed 0 p.0) (sym (ap (λ (x : Bool × Rest). x.1) parts.2))
 
 -- the tag of a block quote goes to the end of its line
-lower_content : (b : ℕ) → is_content (to_ascii_lowercase b) ≡ true → is_content b ≡ true
-lower_content b h = grind (arith, nat_tests, h)
-
-all_content : (xs : List ℕ) (k : ℕ) → list_all is_content (map to_ascii_lowercase xs) ≡ true → k < length xs → is_content (get_or xs k 0) ≡ true
-all_content [] k h l = absurd (omega arith)
-all_content (x ∷ xs) zero h l = lower_content x ((and_parts _ _ h).0)
-all_content (x ∷ xs) (suc k) h l = all_content xs k ((and_parts (is_content (to_ascii_lowercase x)) _ h).1) (omega arith)
-
-tag_content : (kind : BlockQuoteKind) → list_all is_content (map to_ascii_lowercase (tag_of kind)) ≡ true
-tag_content Note = refl
-tag_content Tip = refl
-tag_content Important = refl
-tag_content Warning = refl
-tag_content Caution = refl
-
-tag_front : (kind : BlockQuoteKind) (bs : List ℕ) → has_tag kind bs ≡ true → length (tag_of kind) ≤ prefix_len is_content bs
-unfolding has_tag
-tag_front kind bs h =
-    let n : ℕ = length (tag_of kind) in
-    let p = and_parts (nat_le n (length bs)) (str_eq_ignore_ascii_case (take n bs) (tag_of kind)) h in
-    let l : n ≤ length bs = leb-true n (length bs) p.0 in
-    let same : map to_ascii_lowercase (take n bs) ≡ map to_ascii_lowercase (tag_of kind) = same_text _ _ (sym p.1) in
-    let all : list_all is_content (map to_ascii_lowercase (take n bs)) ≡ true = ap (list_all is_content) same ∙ tag_content kind in
-    content_front bs n l (λ k g. sym (ap is_content (get_or-take n bs k 0 g)) ∙ all_content (take n bs) k all (omega (arith, length-take-le n bs l)))
-
-kind_by : (t : Bool) (kind found : BlockQuoteKind) (o : Option BlockQuoteKind) (bs : List ℕ)
-    → has_tag kind bs ≡ t → (if t then Some kind else o) ≡ Some found → (o ≡ Some found → has_tag found bs ≡ true) → has_tag found bs ≡ true
-kind_by true kind found o bs e h f = let same : kind ≡ found = same_Some kind found h in subst (λ (k : BlockQuoteKind). has_tag k bs ≡ true) same e
-kind_by false kind found o bs e h f = f h
-
-kind_has_tag : (bs : List ℕ) (found : BlockQuoteKind) → tag_kind bs ≡ Some found → has_tag found bs ≡ true
-unfolding tag_kind
-kind_has_tag bs found h =
-    kind_by (has_tag Note bs) Note found _ bs refl h (λ i.
-    kind_by (has_tag Tip bs) Tip found _ bs refl i (λ j.
-    kind_by (has_tag Important bs) Important found _ bs refl j (λ k.
-    kind_by (has_tag Warning bs) Warning found _ bs refl k (λ l.
-    kind_by (has_tag Caution bs) Caution found None bs refl l (λ m. absurd (none-some found m))))))
-
-line_behind : (bs : List ℕ) (n : ℕ) → n ≤ prefix_len is_content bs → line_len bs ≡ n + line_len (drop n bs)
-line_behind bs n h = let e = bytes_line_end n (place_at 0 (line_rest bs)) h in omega arith
-
-tag_line_len : (bs : List ℕ) (o : Option BlockQuoteKind) (tag : BlockQuoteKind × ℕ) → tag_kind bs ≡ o → tag_line_of bs o ≡ Some tag → tag.1 ≡ line_len bs
-tag_line_len bs None tag e h = absurd (none-some tag h)
-tag_line_len bs (Some kind) tag e h =
-    let n : ℕ = length (tag_of kind) in
-    let parts = mapped (λ (k : ℕ). (kind, n + k)) (blank_len (drop n bs)) tag h in
-    let w : n + parts.0 ≡ tag.1 = ap (λ (x : BlockQuoteKind × ℕ). x.1) parts.2 in
-    let blank = line_len-blank (drop n bs) parts.0 parts.1 in
-    let whole = line_behind bs n (tag_front kind bs (kind_has_tag bs kind e)) in
-    omega arith
-
-pub tag-line : (r : Rest) (tag : BlockQuoteKind × Rest) → past_tag r ≡ Some tag → (r.owed ≡ 0) × (tag.1 ≡ past_bytes (line_len r.left) r)
-unfolding past_tag tag_line
-tag-line r tag h =
-    let p = when_some (r.owed == 0) (option_map (λ (t : BlockQuoteKind × ℕ). (t.0, past_bytes t.1 r)) (tag_line_of r.left (tag_kind r.left))) tag h in
-    let parts = mapped (λ (t : BlockQuoteKind × ℕ). (t.0, past_bytes t.1 r)) (tag_line_of r.left (tag_kind r.left)) tag p.1 in
-    let n = tag_line_len r.left (tag_kind r.left) parts.0 refl parts.1 in
-    (eqb-true r.owed 0 p.0, sym (ap (λ (x : BlockQuoteKind × Rest). x.1) parts.2) ∙ ap (λ k. past_bytes k r) n)

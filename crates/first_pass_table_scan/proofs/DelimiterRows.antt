@@ -1,5 +1,5 @@
 -- Facts on where a delimiter row can begin, and on how many alignments it gives.
-use Rattle.std.proofs.Common.{◌≡◌, subst, ℕ, zero, suc, ◌+◌, ◌-◌, ◌<◌, ◌≤◌, ◌==◌, ◌&&◌, ◌||◌, ◌⊎◌, Bool, true, false, nat_le, nat_lt, List, [], ◌∷◌, length}
+use Rattle.std.proofs.Common.{◌≡◌, subst, ℕ, zero, suc, ◌+◌, ◌-◌, ◌<◌, ◌≤◌, ◌==◌, ◌&&◌, ◌||◌, ◌⊎◌, Bool, true, false, nat_le, nat_lt, List, ◌∷◌, length, []}
 use Rattle.std.proofs.Common.{map, take, drop, Option, Some, None, refl, sym, ap, ◌∙◌, arith, inl, inr, if◌then◌else◌}
 use Rattle.std.specs.Option.{option_map, option_map_or}
 use Rattle.std.specs.List.{prefix_len, suffix_len, take_while, position_or_len, list_any, slice_split}
@@ -176,10 +176,6 @@ row-some bs xs h =
     let row : List ℕ = stripped (take_while is_content bs) in
     let cells : List ℕ = without_last pipe (without_first pipe row) in
     cells-some cells xs (if_some (nat_le (columns_of bs 0) 3 && list_any is_pipe row) (delimiter_cells cells) xs h)
-
-pub row_of-some : (r : Rest) (xs : List Alignment) → delimiter_row_of r ≡ Some xs → 0 < length xs
-unfolding delimiter_row_of
-row_of-some r xs h = row-some (after_columns (indent r) r).left xs (if_some (nat_lt (indent r) 4) (delimiter_row (after_columns (indent r) r).left) xs h)
 
 -- the row of a head that was read, by its alignments
 head-cases : (n : ℕ) (o : Option (List Alignment)) (size : ℕ) (xs : List Alignment)

@@ -1,13 +1,12 @@
 -- Facts on the pipes of a header row, and on its columns.
-use Rattle.std.proofs.Common.{◌≡◌, ℕ, suc, ◌+◌, ◌-◌, ◌<◌, ◌≤◌, ◌⊎◌, Bool, true, false, List, [], ◌∷◌, length, take, drop, Option, Some, None, refl, sym, ap}
+use Rattle.std.proofs.Common.{◌≡◌, ℕ, suc, ◌+◌, ◌-◌, ◌<◌, ◌≤◌, ◌⊎◌, Bool, true, false, List, ◌∷◌, length, take, drop, Option, Some, None, refl, sym, ap, []}
 use Rattle.std.proofs.Common.{◌∙◌, arith, inl, inr, if◌then◌else◌, ◌==◌, ◌&&◌, not, get_or}
 use Rattle.std.specs.Option.{option_map_or}
 use Rattle.std.specs.List.{prefix_len, take_while, position_or_len}
 use Rattle.std.proofs.lemmas.List.{drop_more, drop_all, take-take}
 use Rattle.std.proofs.lemmas.List.Folds.{length-prefix_len}
 use Rattle.first_pass_items.specs.Bytes.{backslash, pipe}
-use Rattle.first_pass_lines.specs.Lines.{is_content, is_white, begins, is_blank_line}
-use Rattle.first_pass_table_scan.proofs.TableFacts.{pipes-fit}
+use Rattle.first_pass_lines.specs.Lines.{is_content}
 use Rattle.first_pass_table_scan.specs.TableHead.{is_pipe, pipes_behind, pipes_of, last_pipe_behind, header_columns, columns_by_pipes, head_columns}
 
 -- the offset after the last pipe of what stands at an offset after a byte, where the one before that was found
@@ -185,35 +184,8 @@ pipes-of-line bs n h =
     ap (pipes_behind 0) (sym (take-take (n + 1) (prefix_len is_content bs) bs few)) ∙ pipes-to-last 0 (take_while is_content bs) n h
 
 -- a line has a pipe where it has columns
-none_or_some : (bs : List ℕ) (o : Option ℕ) → 0 < option_map_or (header_columns bs) o 0 → (n : ℕ) × (o ≡ Some n)
-none_or_some bs None h = absurd (omega arith)
-none_or_some bs (Some n) h = (n, refl)
-
-pub has_last : (bs : List ℕ) → 0 < head_columns bs → (n : ℕ) × (last_pipe_behind 0 (take_while is_content bs) ≡ Some n)
-unfolding head_columns
-has_last bs h = none_or_some bs (last_pipe_behind 0 (take_while is_content bs)) h
 
 -- a line has no more columns than bytes, and one
-columns-few : (pipes : ℕ) (t u : Bool) → pipes - (if t then 1 else 0) + (if u then 0 else 1) ≤ pipes + 1
-columns-few pipes true true = omega arith
-columns-few pipes true false = omega arith
-columns-few pipes false true = omega arith
-columns-few pipes false false = omega arith
-
-few_or_none : (bs : List ℕ) (o : Option ℕ)
-    → ((n : ℕ) → o ≡ Some n → header_columns bs n ≤ prefix_len is_content bs + 1) → option_map_or (header_columns bs) o 0 ≤ prefix_len is_content bs + 1
-few_or_none bs None f = omega arith
-few_or_none bs (Some n) f = f n refl
-
-pub columns_within : (bs : List ℕ) → head_columns bs ≤ prefix_len is_content bs + 1
-unfolding head_columns
-columns_within bs =
-    few_or_none bs (last_pipe_behind 0 (take_while is_content bs)) (λ n h.
-    let counted = pipes-of-line bs n h in
-    let long = line_len-content bs in
-    let few = pipes-fit 0 (take_while is_content bs) in
-    let most = columns-few (pipes_of (take (n + 1) bs)) (begins pipe (drop (prefix_len is_white bs) bs)) (is_blank_line (drop (n + 1) bs)) in
-    omega arith)
 
 -- what the pipes of a line say of its columns
 pub head-by-pipes : (bs : List ℕ) (n : ℕ)

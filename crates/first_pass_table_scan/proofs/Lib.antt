@@ -1,4 +1,3 @@
 pub mod TableFacts
 pub mod HeaderRows
 pub mod DelimiterRows
-pub mod TableStart

@@ -1,5 +1,5 @@
 -- Where the text of a row begins, and what stays as it is while rows are added.
-use Rattle.std.proofs.Common.{◌≡◌, ◌⊎◌, inl, inr, ℕ, ◌+◌, ◌<◌, Bool, true, false, true≢false, List, [], length, drop, Option}
+use Rattle.std.proofs.Common.{◌≡◌, ◌⊎◌, inl, inr, ℕ, ◌+◌, ◌<◌, Bool, true, false, true≢false, List, length, drop, Option, []}
 use Rattle.std.proofs.Common.{Some, None, IsUtf8, IsCharBoundary, refl, sym, ap, subst, ◌∙◌, if◌then◌else◌}
 use Rattle.std.specs.Option.{option_map, option_and_then}
 use Rattle.std.proofs.lemmas.Bool.{cases_lt}
@@ -65,10 +65,6 @@ row_at : (around : Context) (line : Place) (o : Option Rest) (r : Rest) → o �
     → row_text around line ≡ row_in around.options (at_rest line r)
 row_at around line o r e f =
     ap (λ (o : Option Rest). option_and_then (row_in around.options) (option_map (at_rest line) o)) (sym e ∙ f)
-
-pub row_none : (around : Context) (line : Place) (o : Option Rest) → o ≡ after around.path line.rest → o ≡ None → None ≡ row_text around line
-row_none around line o e f =
-    sym (ap (λ (o : Option Rest). option_and_then (row_in around.options) (option_map (at_rest line) o)) (sym e ∙ f))
 
 module _ (text : List ℕ) (around : Context) (n at : ℕ) (o : Option Rest) (r : Rest) (stops : Bool)
     (e : o ≡ after around.path (line_rest (drop n text))) (f : o ≡ Some r) (at_is : at ≡ offset (unindented (place_at n r)))

@@ -1,11 +1,11 @@
 -- The attribute block that the text of a heading ends with.
-use Rattle.std.proofs.Common.{◌≡◌, inl, inr, ℕ, ◌+◌, ◌-◌, ◌≤◌, ◌<◌, ◌==◌, ◌&&◌, nat_lt, Bool, true, false, List, [], ◌∷◌, ◌++◌, length, take, drop, get_or}
+use Rattle.std.proofs.Common.{◌≡◌, inl, inr, ℕ, ◌+◌, ◌-◌, ◌≤◌, ◌<◌, ◌==◌, ◌&&◌, nat_lt, Bool, true, false, List, ◌∷◌, ◌++◌, length, take, drop, get_or, []}
 use Rattle.std.proofs.Common.{slice_index, Option, Some, None, is_some, IsSomeAnd, min, IsUtf8, IsCharBoundary, refl, sym, ap, subst, ◌∙◌, arith, length-append}
 use Rattle.std.proofs.Common.{length-drop, length-take, length-take-le, get_or-drop, if◌then◌else◌}
 use Rattle.std.specs.List.{slice_range, suffix_len}
 use Rattle.std.specs.Option.{option_map, option_map_or}
 use Rattle.std.proofs.lemmas.Bool.{cond_both, cases_lt}
-use Rattle.std.proofs.lemmas.List.{drop-take, take-take, take_all, take_min, get_or-take, drop-drop}
+use Rattle.std.proofs.lemmas.List.{drop-take, take-take, take_min, get_or-take, drop-drop}
 use Rattle.std.proofs.lemmas.List.Sums.{suffix_len-le-length}
 use Rattle.std.proofs.lemmas.Option.{none-some, same_Some}
 use Rattle.std.proofs.lemmas.Str.{IsCharBoundary-after_ascii}
@@ -16,7 +16,7 @@ use Rattle.first_pass_attributes.specs.AttributeBlocks.{Braces, attribute_block,
 use Rattle.first_pass_attributes.specs.Attributes.{Attributes, attributes_of, attributes_in}
 use Rattle.first_pass_attributes.specs.declared.attrs.HeadingAttributes.{HeadingAttributes}
 use Rattle.first_pass_attributes.proofs.BlockFacts.{block-found}
-use Rattle.first_pass_grammar.specs.Headings.{heading_braces, heading_attributes_of, before_attributes, text_before_attributes, chain_end, chain_bytes}
+use Rattle.first_pass_grammar.specs.Headings.{heading_braces, heading_attributes_of, before_attributes, chain_end, chain_bytes}
 use Rattle.first_pass_grammar.specs.Headings.{kept_before}
 use Rattle.first_pass_items.specs.declared.item.Item.{Item}
 use Rattle.first_pass_lines.specs.Lines.{is_white}
@@ -181,16 +181,6 @@ length_some options bs block h =
     ap (λ (o : Option Braces). length (option_map_or (λ (b : Braces). take b.opening bs) o bs)) h
     ∙ length-take-le block.opening bs (omega (arith, inside.0, inside.1))
 
-before_by : (options : Options) (bs : List ℕ) (o : Option Braces) → heading_braces options bs ≡ o → length (before_attributes options bs) ≤ length bs
-before_by options bs None h = let same = ap length (before_none options bs h) in omega arith
-before_by options bs (Some block) h =
-    let same = length_some options bs block h in
-    let inside = braces_within options bs block h in
-    omega (arith, inside.0, inside.1)
-
-pub before_less : (options : Options) (bs : List ℕ) → length (before_attributes options bs) ≤ length bs
-before_less options bs = before_by options bs (heading_braces options bs) refl
-
 -- an end past the text's is no other than that
 pub clipped : (text : List ℕ) (start to : ℕ) → slice_range text start (min to (length text)) ≡ slice_range text start to
 clipped text start to =
@@ -280,22 +270,6 @@ opens_with options bs block e =
     ∙ behind_front is.front left_brace (is.inside ++ right_brace ∷ is.behind)
 
 -- the text that a heading's line is read from, and the bytes before its block
-read_by : (options : Options) (text bs : List ℕ) (start content_end read_to : ℕ) (found : Option HeadingAttributes) (t : Bool) → is_some found ≡ t
-    → option_map attributes_in found ≡ heading_attributes_of options bs → content_end ≡ start + length (before_attributes options bs)
-    → read_to ≡ (if t then content_end else length text) → take read_to text ≡ text_before_attributes options text start bs
-read_by options text bs start content_end read_to found true some given ends read =
-    let (block, at) = block_given options bs found given some in
-    let place : read_to ≡ start + block.opening = read ∙ ends ∙ ap (λ n. start + n) (length_some options bs block at) in
-    ap (λ n. take n text) place ∙ sym (ap (λ (o : Option Braces). option_map_or (λ (b : Braces). take (start + b.opening) text) o text) at)
-read_by options text bs start content_end read_to found false none given ends read =
-    take_all read_to text (omega arith)
-    ∙ sym (ap (λ (o : Option Braces). option_map_or (λ (b : Braces). take (start + b.opening) text) o text) (none_given options bs found given none))
-
-pub text_read : (options : Options) (text bs : List ℕ) (start content_end read_to : ℕ) (found : Option HeadingAttributes)
-    → option_map attributes_in found ≡ heading_attributes_of options bs → content_end ≡ start + length (before_attributes options bs)
-    → read_to ≡ (if is_some found then content_end else length text) → take read_to text ≡ text_before_attributes options text start bs
-text_read options text bs start content_end read_to found given ends read =
-    read_by options text bs start content_end read_to found (is_some found) refl given ends read
 
 content_by : (options : Options) (line : List ℕ) (size : ℕ) (o : Option Braces) → heading_braces options (take size line) ≡ o → size ≤ length line
     → take (length (before_attributes options (take size line))) line ≡ before_attributes options (take size line)

@@ -1,5 +1,5 @@
 -- A line has one list of tokens, but for the indices of the texts that they name, and so has a cell.
-use Rattle.std.proofs.Common.{◌≡◌, ℕ, zero, suc, ◌+◌, ◌-◌, ◌==◌, ◌&&◌, ◌||◌, not, Bool, true, false, List, [], ◌∷◌, slice_index, nat_lt, min, Option, Some}
+use Rattle.std.proofs.Common.{◌≡◌, ℕ, zero, suc, ◌+◌, ◌-◌, ◌==◌, ◌&&◌, ◌||◌, not, Bool, true, false, List, ◌∷◌, slice_index, nat_lt, min, Option, Some, []}
 use Rattle.std.proofs.Common.{None, unwrap_or, refl, sym, ap, subst, ◌∙◌, inl, inr}
 use Rattle.std.specs.Option.{option_map, option_map_or}
 use Rattle.std.specs.Char.{is_ascii_punctuation}
@@ -150,12 +150,6 @@ module _ (texts others : List CowStr) where
   alike_add (x ∷ z ∷ zs) (u ∷ w ∷ ws) y v h k = (h.0, alike_add (z ∷ zs) (w ∷ ws) y v h.1 k)
 
   -- tokens after each
-  pub alike_adds : (xs us ys vs : List Item) → AreAlike texts others xs us → AreAlike texts others ys vs
-      → AreAlike texts others (add_tokens xs ys) (add_tokens us vs)
-  alike_adds xs us [] [] h k = h
-  alike_adds xs us [] (v ∷ vs) h k = absurd k
-  alike_adds xs us (y ∷ ys) [] h k = absurd k
-  alike_adds xs us (y ∷ ys) (v ∷ vs) h k = alike_adds (add_token xs y) (add_token us v) ys vs (alike_add xs us y v h k.0) k.1
 
   pub alike_text : (from to : ℕ) (escaped : Bool) (xs us : List Item) → AreAlike texts others xs us
       → AreAlike texts others (add_text from to escaped xs) (add_text from to escaped us)

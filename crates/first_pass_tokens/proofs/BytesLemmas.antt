@@ -1,5 +1,5 @@
 -- Each token of a chain has a byte, so a chain in order has at most as many tokens as bytes.
-use Rattle.std.proofs.Common.{◌≡◌, ℕ, zero, suc, ◌+◌, ◌-◌, ◌≤◌, ◌<◌, ◌==◌, ◌&&◌, Bool, false, List, [], ◌∷◌, ◌++◌, length, Option, Some, None, nat_lt, min}
+use Rattle.std.proofs.Common.{◌≡◌, ℕ, zero, suc, ◌+◌, ◌-◌, ◌≤◌, ◌<◌, ◌==◌, ◌&&◌, Bool, false, List, ◌∷◌, ◌++◌, length, Option, Some, None, nat_lt, min, []}
 use Rattle.std.proofs.Common.{if◌then◌else◌, refl, sym, ap, subst, arith}
 use Rattle.std.proofs.lemmas.Bool.{and_parts, cond_both, eqb-true, ltb-true}
 use Rattle.first_pass_items.specs.declared.cow_str.CowStr.{CowStr}
@@ -81,12 +81,6 @@ bytes_closed (Some x) chain h =
 pub bytes_append : (xs ys : List Item) → HaveBytes xs → HaveBytes ys → HaveBytes (xs ++ ys)
 bytes_append [] ys h k = k
 bytes_append (x ∷ xs) ys h k = (h.0, bytes_append xs ys h.1 k)
-
--- the tokens of a cell
-pub cell_has_bytes : {texts : List CowStr} {s : Inline} {tokens : List Item} {end : ℕ} {after : MathBraces} → IsCell texts s tokens end after → HaveBytes tokens
-cell_has_bytes {texts} {s} {tokens} {end} {after} cell =
-    subst HaveBytes (sym cell.tokens_are)
-    (bytes_pieces texts s (end - blanks_at_end s end) s.start s.braces cell.pieces (spot end after) [] cell.division.divided tt)
 
 -- the tokens of a line
 pub line_has_bytes : {texts : List CowStr} {s : Inline} {tokens : List Item} {answer : ℕ × Option Item} {after : MathBraces}

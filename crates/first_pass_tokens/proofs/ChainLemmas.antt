@@ -1,5 +1,5 @@
 -- Chains and trees: what a token adds and joins, what a cut leaves, and the block that a chain closes to.
-use Rattle.std.proofs.Common.{ℕ, suc, zero, ◌≡◌, ◌+◌, ◌≤◌, ◌<◌, ◌==◌, ◌&&◌, Bool, true, false, List, [], ◌∷◌, ◌++◌, length, take, drop, Option, Some, None}
+use Rattle.std.proofs.Common.{ℕ, suc, zero, ◌≡◌, ◌+◌, ◌≤◌, ◌<◌, ◌==◌, ◌&&◌, Bool, true, false, List, ◌∷◌, ◌++◌, length, take, drop, Option, Some, None, []}
 use Rattle.std.proofs.Common.{MatchOption, nat_lt, slice_get, slice_index, refl, sym, ap, ◌∙◌, inl, inr, arith, length-append, append_assoc}
 use Rattle.std.specs.Option.{option_map}
 use Rattle.std.proofs.lemmas.List.{append-nil}
@@ -7,15 +7,12 @@ use Rattle.std.proofs.Math.Seq.{take-append_seam, drop-append_seam}
 use Rattle.std.proofs.lemmas.Bool.{lt-ltb, le-ltb, cond-true, cond-false, cond_both, cases_Bool, cases_lt, and_parts, and_from, and_left, and_right, eq-eqb}
 use Rattle.std.proofs.lemmas.Bool.{ne_eqb, false≢true}
 use Rattle.first_pass_items.specs.declared.item.Item.{Item}
-use Rattle.first_pass_items.specs.declared.item.ItemBody.{ItemBody}
-use Rattle.first_pass_items.specs.declared.item.ItemBody.TheVariants.{SoftBreak, HardBreak}
 use Rattle.first_pass_tree.specs.declared.tree_index.TreeIndex.{TreeIndex}
-use Rattle.first_pass_tree.specs.Forest.{Forest, depths, item_at, modify, modified, appended, pushed, popped, cut_to, childless, is_text, is_escaped, cut_item}
+use Rattle.first_pass_tree.specs.Forest.{Forest, depths, item_at, modify, modified, appended, pushed, popped, childless, is_text, is_escaped, cut_item}
 use Rattle.first_pass_tree.specs.Forest.{cut_tokens, cut_siblings, last_before, last_child, open_place, HasLeaves, ends_text_at, joins_at, with_end}
 use Rattle.first_pass_tree.specs.Forest.{with_end_at, with_text, at_depth, added, block_of}
 use Rattle.first_pass_tree.proofs.Blocks.{modify-at, forest-eq, block-calls}
-use Rattle.first_pass_tokens.specs.Chains.{is_backslash_break, close_break, text_token, touches, AreApart, add_token, add_tokens, add_text, cut}
-use Rattle.first_pass_tokens.specs.LineTokens.{is_break}
+use Rattle.first_pass_tokens.specs.Chains.{text_token, touches, AreApart, add_token, add_tokens, add_text, cut}
 use Rattle.first_pass_tokens.specs.TreeTokens.{with_token, with_tokens, chained, leaves, JoinsNone}
 
 -- a text that is empty, and one that is not
@@ -102,29 +99,16 @@ add_tokens-none [] h = refl
 add_tokens-none (x ∷ xs) h = add_tokens-behind [] x xs h
 
 -- a token that is no text is put after the chain
-pub add_token-plain : (chain : List Item) (x : Item) → is_text x.body ≡ false → add_token chain x ≡ chain ++ x ∷ []
-add_token-plain [] x plain = refl
-add_token-plain (y ∷ []) x plain = cond-false _ _ _ (and_left _ _ plain)
-add_token-plain (y ∷ z ∷ zs) x plain = ap (λ (ys : List Item). y ∷ ys) (add_token-plain (z ∷ zs) x plain)
 
 pub add_tokens-append : (chain xs ys : List Item) → add_tokens chain (xs ++ ys) ≡ add_tokens (add_tokens chain xs) ys
 add_tokens-append chain [] ys = refl
 add_tokens-append chain (x ∷ xs) ys = add_tokens-append (add_token chain x) xs ys
-
--- a break is no text
-pub break-plain : (body : ItemBody) → is_break body ≡ true → is_text body ≡ false
-break-plain SoftBreak h = refl
-break-plain (HardBreak b) h = refl
-break-plain _ h = absurd (false≢true h)
 
 -- a write to a node, and then another
 pub modify-modify : (ns : List (ℕ × Item)) (i : ℕ) (g h : Item → Item) → modify (modify ns i g) i h ≡ modify ns i (λ x. h (g x))
 modify-modify [] i g h = refl
 modify-modify (n ∷ ns) zero g h = refl
 modify-modify (n ∷ ns) (suc i) g h = ap (λ (ms : List (ℕ × Item)). n ∷ ms) (modify-modify ns i g h)
-
-pub modified-modified : (f : Forest Item) (ix : TreeIndex) (g h : Item → Item) → modified (modified f ix g) ix h ≡ modified f ix (λ x. h (g x))
-modified-modified f ix g h = ap (λ (ns : List (ℕ × Item)). record f { nodes = ns }) (modify-modify f.nodes ix.0 g h)
 
 item_modified : (ns : List (ℕ × Item)) (i : ℕ) (g : Item → Item)
     → option_map (λ n. n.1) (slice_get (modify ns i g) i) ≡ option_map g (option_map (λ n. n.1) (slice_get ns i))
@@ -252,17 +236,7 @@ pub appended-chained : (f : Forest Item) (chain : List Item) (x : Item) → appe
 appended-chained f [] x = refl
 appended-chained f (y ∷ ys) x = appended-chained (appended f y) ys x
 
--- a break after a chain
-pub appended-break : (f : Forest Item) (chain : List Item) (x : Item) → is_break x.body ≡ true → appended (chained f chain) x ≡ chained f (add_token chain x)
-appended-break f chain x is = appended-chained f chain x ∙ ap (chained f) (sym (add_token-plain chain x (break-plain x.body is)))
-
 -- a chain that a break by a backslash would stand after, where the block ends, and any other chain
-pub close_break-backslash : (f : Forest Item) (chain : List Item) (x : Item)
-    → JoinsNone f → is_backslash_break x.body ≡ true → with_text (chained f chain) x.start (x.start + 1) false ≡ chained f (close_break (Some x) chain)
-close_break-backslash f chain x none is = with_text-chained f chain x.start (x.start + 1) false none (omega arith) ∙ ap (chained f) (sym (cond-true _ _ _ is))
-
-pub close_break-other : (chain : List Item) (x : Item) → is_backslash_break x.body ≡ false → close_break (Some x) chain ≡ chain
-close_break-other chain x other = cond-false _ _ _ other
 
 pub chained-append : (f : Forest Item) (xs ys : List Item) → chained (chained f xs) ys ≡ chained f (xs ++ ys)
 chained-append f [] ys = refl
@@ -312,27 +286,11 @@ pub record IsOpened (f : Forest Item) (x : Item) (place : TreeIndex) (f₂ : For
   pub is : f₂ ≡ pushed (appended f x) place
 
 -- the clauses of append and push, as they come
-pub opened-calls : (f f₁ f₂ : Forest Item) (x : Item) (place opened : TreeIndex)
-    → place.0 ≡ length f.nodes → f₁ ≡ appended f x → f₁.current ≡ Some opened → f₂ ≡ pushed f₁ opened → IsOpened f x place f₂
-opened-calls f f₁ f₂ x place opened at e₁ c₁ e₂ =
-    let current : f₁.current ≡ Some (place_at (length f.nodes)) = ap (λ (v : Forest Item). v.current) e₁ in
-    let there : place ≡ place_at (length f.nodes) = ap place_at at in
-    let same : opened ≡ place = cc in
-    record { at = at; is = e₂ ∙ ap (pushed f₁) same ∙ ap (λ (v : Forest Item). pushed v place) e₁ }
 
 module _ {f f₂ : Forest Item} {x : Item} {place : TreeIndex} (o : IsOpened f x place f₂) where
   pub opened-spine : f₂.spine ≡ place ∷ f.spine
   opened-spine = ap (λ (v : Forest Item). v.spine) o.is
-
-  pub opened-current : f₂.current ≡ None
-  opened-current = ap (λ (v : Forest Item). v.current) o.is
-
   -- the node is the last one
-  pub opened-last : open_place f₂.spine + 1 ≡ length f₂.nodes
-  opened-last = ap (λ (v : Forest Item). open_place v.spine + 1) o.is ∙ (pushed-fresh f x place o.at).0 ∙ sym (ap (λ (v : Forest Item). length v.nodes) o.is)
-
-  pub opened-joins_none : JoinsNone f₂
-  opened-joins_none = joins_none-fresh f₂ opened-current
 
 leaf_depth : (d : ℕ) (chain : List Item) (k : ℕ) → k < length (at_depth d (leaves chain)) → slice_index (depths (at_depth d (leaves chain))) k ≡ d
 leaf_depth d [] k within = absurd (omega arith)
@@ -424,12 +382,6 @@ pub childless-chained : (f : Forest Item) (chain : List Item) (ix : TreeIndex)
     → ix.0 + 1 ≡ length f.nodes → f.current ≡ None → childless (chained f chain) ix ≡ f
 childless-chained f chain ix last none = forest-eq (childless (chained f chain) ix) f (taken_chained f chain (ix.0 + 1) last) (chained-spine f chain) (sym none)
 
--- the same, closed
-pub removed-chained : (f : Forest Item) (chain : List Item) (ix : TreeIndex) (rest : List TreeIndex)
-    → ix.0 + 1 ≡ length f.nodes → cut_to (popped (chained f chain) ix rest) (ix.0 + 1) ≡ popped f ix rest
-removed-chained f chain ix rest last =
-    forest-eq (cut_to (popped (chained f chain) ix rest) (ix.0 + 1)) (popped f ix rest) (taken_chained f chain (ix.0 + 1) last) refl refl
-
 -- a chain under the node that was opened, and the node closed: the block is added, with any change of its item
 pub record IsClosed (f : Forest Item) (x : Item) (chain : List Item) (place : TreeIndex) (f₄ : Forest Item) : Type 0 where
   pub within : place.0 < length f₄.nodes
@@ -457,23 +409,7 @@ module _ {f f₂ : Forest Item} {x : Item} {place : TreeIndex} (o : IsOpened f x
             λ h. block-calls f (appended f x) f₂ f₃ f₄ x h (leaves chain) place place (Some ix) o.at refl (ap (λ (n : ℕ). Some (place_at n)) (sym o.at)) o.is
             (ap (λ (v : Forest Item). v.nodes) chain_is ∙ chained-nodes f₂ chain) (ap (λ (v : Forest Item). v.spine) chain_is ∙ chained-spine f₂ chain) m;
       }
-
   -- the clause of remove_node, as it comes: the node alone is left
-  pub removed-calls : (r : Option TreeIndex)
-      → MatchOption r ((f₃.spine ≡ []) × (f₄ ≡ f₃)) (λ ix. (f₃.spine ≡ ix ∷ f₄.spine) × (f₄ ≡ cut_to (popped f₃ ix f₄.spine) (ix.0 + 1))) → f₄ ≡ appended f x
-  removed-calls None m = absurd (no_open f₃.spine place f.spine m.0 closed_spine)
-  removed-calls (Some ix) m =
-      let spine = closed_spine in
-      let rest : f₄.spine ≡ f.spine = cc in
-      let same : ix ≡ place = cc in
-      let there : place ≡ place_at (length f.nodes) = ap place_at o.at in
-      let nodes : f₂.nodes ≡ f.nodes ++ (length f.spine + 1, x) ∷ [] = ap (λ (v : Forest Item). v.nodes) o.is in
-      let last : ix.0 + 1 ≡ length f₂.nodes =
-      ap (λ (j : TreeIndex). j.0 + 1) (same ∙ there) ∙ sym (length-append f.nodes ((length f.spine + 1, x) ∷ [])) ∙ sym (ap length nodes) in
-      forest-eq f₄ (appended f x)
-      (ap (λ (v : Forest Item). v.nodes) m.1 ∙ ap (λ (v : Forest Item). take (ix.0 + 1) v.nodes) chain_is ∙ taken_chained f₂ chain (ix.0 + 1) last ∙ nodes)
-      rest
-      (ap (λ (v : Forest Item). v.current) m.1 ∙ ap (λ (j : TreeIndex). Some j) (same ∙ there))
 
 -- the same for trees that are spelled out
 pub closed-chained : (g : Forest Item) (x : Item) (h : Item → Item) (chain : List Item) (ix : TreeIndex)

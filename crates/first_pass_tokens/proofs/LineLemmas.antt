@@ -1,5 +1,5 @@
 -- The division of a content: one more piece, that there is one division, that no line end stands in it, and where the line ends.
-use Rattle.std.proofs.Common.{ℕ, min, zero, suc, ◌≡◌, ◌⊎◌, ◌+◌, ◌-◌, ◌≤◌, ◌<◌, ◌==◌, ◌&&◌, ◌||◌, ◌%◌, if◌then◌else◌, Bool, true, false, List, [], ◌∷◌, ◌++◌}
+use Rattle.std.proofs.Common.{ℕ, min, zero, suc, ◌≡◌, ◌⊎◌, ◌+◌, ◌-◌, ◌≤◌, ◌<◌, ◌==◌, ◌&&◌, ◌||◌, ◌%◌, if◌then◌else◌, Bool, true, false, List, ◌∷◌, ◌++◌, []}
 use Rattle.std.proofs.Common.{length, take, drop, get_or, slice_index, nat_lt, nat_le, Option, None, IfSome, Result, Ok, Err, IfOk, unwrap_or, refl, sym, ap}
 use Rattle.std.proofs.Common.{subst, ◌∙◌, inl, inr, arith, length-drop}
 use Rattle.std.specs.List.{suffix_len, slice_range, prefix_len}
@@ -368,11 +368,6 @@ pub line_apart : {texts : List CowStr} {s : Inline} {tokens : List Item} {answer
     → IsLine texts s tokens answer after → AreApart tokens
 line_apart {texts} {s} line = subst AreApart (sym line.tokens_are) (add_pieces-apart (text_end s line.content_end) s.start line.pieces [] tt)
 
--- the tokens of a line alone
-pub line_alone : {texts : List CowStr} {s : Inline} {tokens : List Item} {answer : ℕ × Option Item} {after : MathBraces}
-    → IsLine texts s tokens answer after → add_tokens [] tokens ≡ tokens
-line_alone {texts} {s} {tokens} line = add_tokens-none tokens (line_apart line)
-
 -- a cell appended after a chain
 pub appended_cell : {texts : List CowStr} {s : Inline} {old new : Forest Item} {end : ℕ} {after : MathBraces} (f : Forest Item) (chain : List Item)
     (h : AppendsCell texts s old new end after)
@@ -383,8 +378,3 @@ appended_cell f chain h is none = h.tree_is ∙ ap (λ (g : Forest Item). with_t
 pub appended_cell_alone : {texts : List CowStr} {s : Inline} {old new : Forest Item} {end : ℕ} {after : MathBraces} (h : AppendsCell texts s old new end after)
     → JoinsNone old → new ≡ chained old h.tokens
 appended_cell_alone {texts} {s} {old} h none = appended_cell old [] h refl none ∙ ap (chained old) (add_tokens-none h.tokens (cell_apart h.cell))
-
--- a line appended after a chain
-pub appended_line : {texts : List CowStr} {s : Inline} {old new : Forest Item} {answer : ℕ × Option Item} {after : MathBraces} (f : Forest Item)
-    (chain : List Item) (h : AppendsLine texts s old new answer after) → old ≡ chained f chain → JoinsNone f → new ≡ chained f (add_tokens chain h.tokens)
-appended_line f chain h is none = h.tree_is ∙ ap (λ (g : Forest Item). with_tokens g h.tokens) is ∙ with_tokens-chained f chain h.tokens none

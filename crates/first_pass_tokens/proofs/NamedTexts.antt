@@ -1,18 +1,16 @@
 -- Texts that tokens name stay named while more is named, and each token of a line names one of them, if it names a text.
-use Rattle.std.proofs.Common.{◌≡◌, ℕ, zero, suc, ◌+◌, List, [], ◌∷◌, ◌++◌, length, slice_get, Option, Some, refl, sym, ap, ◌∙◌, append_assoc}
+use Rattle.std.proofs.Common.{◌≡◌, ℕ, zero, suc, ◌+◌, List, ◌∷◌, ◌++◌, length, slice_get, Option, Some, refl, sym, ap, ◌∙◌, append_assoc, []}
 use Rattle.std.proofs.lemmas.List.{append-nil}
 use Rattle.first_pass_items.specs.declared.cow_str.CowStr.{CowStr}
 use Rattle.first_pass_tokens.specs.Braces.{MathBraces, braces_after}
 use Rattle.first_pass_items.specs.declared.item.CowIndex.{CowIndex}
 use Rattle.first_pass_items.specs.declared.item.Item.{Item}
-use Rattle.first_pass_tree.specs.Forest.{Forest}
 use Rattle.first_pass_tokens.specs.declared.pieces.Found.{Found}
 use Rattle.first_pass_tokens.specs.declared.pieces.Found.TheVariants.{Ready, Reference, Dashes, Dollar, OpenBrace, CloseBrace}
 use Rattle.first_pass_tokens.specs.declared.pieces.Piece.{Piece}
 use Rattle.first_pass_tokens.specs.Pieces.{Inline, found_at, size}
 use Rattle.first_pass_tokens.specs.NamedTexts.{NamesAmong, Becomes, AreMore}
 use Rattle.first_pass_tokens.specs.LineTokens.{Spot, ArePieces, IsDivision, IsLine, IsCell}
-use Rattle.first_pass_tokens.specs.TreeTokens.{AppendsLine, AppendsCell}
 
 pub more_none : (texts : List CowStr) → AreMore texts texts
 more_none texts = ([], sym (append-nil texts))
@@ -71,11 +69,3 @@ line_more more line = record {
 pub cell_more : {new old : List CowStr} {s : Inline} {tokens : List Item} {end : ℕ} {after : MathBraces}
     → AreMore new old → IsCell old s tokens end after → IsCell new s tokens end after
 cell_more more cell = record { pieces = cell.pieces; division = division_more more cell.division; tokens_are = cell.tokens_are }
-
-pub appends_line_more : {new old : List CowStr} {s : Inline} {before later : Forest Item} {answer : ℕ × Option Item} {after : MathBraces} → AreMore new old
-    → AppendsLine old s before later answer after → AppendsLine new s before later answer after
-appends_line_more more h = record { tokens = h.tokens; line = line_more more h.line; tree_is = h.tree_is }
-
-pub appends_cell_more : {new old : List CowStr} {s : Inline} {before later : Forest Item} {end : ℕ} {after : MathBraces} → AreMore new old
-    → AppendsCell old s before later end after → AppendsCell new s before later end after
-appends_cell_more more h = record { tokens = h.tokens; cell = cell_more more h.cell; tree_is = h.tree_is }

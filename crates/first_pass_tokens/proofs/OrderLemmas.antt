@@ -1,5 +1,5 @@
 -- Tokens one after the other: a chain in order stays so with a token after it, and the tokens of a line or a cell are in order.
-use Rattle.std.proofs.Common.{ℕ, zero, suc, ◌≡◌, ◌⊎◌, ◌+◌, ◌-◌, ◌≤◌, ◌<◌, ◌==◌, ◌%◌, min, Bool, true, false, List, [], ◌∷◌, ◌++◌, length, take, drop, get_or}
+use Rattle.std.proofs.Common.{ℕ, zero, suc, ◌≡◌, ◌⊎◌, ◌+◌, ◌-◌, ◌≤◌, ◌<◌, ◌==◌, ◌%◌, min, Bool, true, false, List, ◌∷◌, ◌++◌, length, take, drop, get_or, []}
 use Rattle.std.proofs.Common.{slice_index, nat_lt, nat_le, if◌then◌else◌, Option, Some, None, IfSome, IsUtf8, IsCharBoundary, refl, sym, ap, subst, ◌∙◌, inl}
 use Rattle.std.proofs.Common.{inr, arith, length-drop}
 use Rattle.std.specs.List.{suffix_len, slice_range}
@@ -374,12 +374,6 @@ line_in_order {texts} {s} {tokens} {answer} {after} utf8 boundary within line =
       break_fits = subst (λ (o : Option Item). IfSome o (StandsBehind s.text (text_end s end) answer.0)) (sym break_is)
           (break_stands s end answer.0 answer_is c.order c.within finish next);
     }
-
--- the break alone: it begins where the line's tokens end or after that, and ends with the line
-pub break_in_order : {texts : List CowStr} {s : Inline} {tokens : List Item} {answer : ℕ × Option Item} {after : MathBraces}
-    → IsUtf8 s.text → IsCharBoundary s.text s.start → s.start ≤ length s.text → (line : IsLine texts s tokens answer after)
-    → IfSome answer.1 (StandsBehind s.text (text_end s line.content_end) answer.0)
-break_in_order utf8 boundary within line = (line_in_order utf8 boundary within line).break_fits
 
 -- a chain after which the last line's break stands, closed
 pub order_closed : (text : List ℕ) (from at next : ℕ) (break : Option Item) (chain : List Item)

@@ -1,12 +1,8 @@
 -- What a caller needs to add a block: open it, add its children, close it.
-use Rattle.std.proofs.Common.{◌≡◌, ℕ, ◌+◌, ◌<◌, suc, zero, List, [], ◌∷◌, ◌++◌, length, Some, None, Bool, false, eqb, slice_get, MatchOption, Option, refl, sym}
+use Rattle.std.proofs.Common.{◌≡◌, ℕ, ◌+◌, ◌<◌, List, ◌∷◌, ◌++◌, length, Some, None, MatchOption, Option, refl, sym, []}
 use Rattle.std.proofs.Common.{◌∙◌, ap, arith, append_assoc}
 use Rattle.first_pass_tree.specs.declared.tree_index.TreeIndex.{TreeIndex}
-use Rattle.first_pass_tree.specs.Forest.{Forest, modify, at_depth, added, block_of, appended, pushed, popped, with_item, modified, item_at, with_text}
-use Rattle.std.specs.Option.{option_map}
-use Rattle.std.proofs.lemmas.Bool.Decides.{nat_tests}
-use Rattle.first_pass_items.specs.declared.item.Item.{Item}
-use Rattle.first_pass_items.specs.declared.item.ItemBody.TheVariants.{Text}
+use Rattle.first_pass_tree.specs.Forest.{Forest, modify, at_depth, added, block_of, appended, pushed, popped, modified}
 
 pub at_depth-append : {T : Type 0} (d : ℕ) (xs ys : List (ℕ × T)) → at_depth d (xs ++ ys) ≡ at_depth d xs ++ at_depth d ys
 at_depth-append d [] ys = refl
@@ -27,17 +23,6 @@ pub modify-at : {T : Type 0} (xs ys : List (ℕ × T)) (n : ℕ × T) (i : ℕ) 
 modify-at xs ys n i g e = ap (λ k. modify (xs ++ n ∷ ys) k g) e ∙ modify-here xs ys n g
 
 -- the item is added and opened, children are added, and it is closed
-pub closed-block : {T : Type 0} (f : Forest T) (x : T) (kids : List (ℕ × T))
-    → record f { nodes = (f.nodes ++ (length f.spine + 1, x) ∷ []) ++ at_depth (length f.spine + 2) kids; current = Some (record { 0 = length f.nodes }) }
-    ≡ added f (block_of x kids)
-closed-block {T = T} f x kids =
-    let d = length f.spine + 1 in
-    let z : d + 0 ≡ d = omega arith in
-    let w : d + 1 ≡ length f.spine + 2 = omega arith in
-    let k : at_depth (length f.spine + 2) kids ≡ at_depth d (at_depth 1 kids) = ap (λ e. at_depth e kids) (sym w) ∙ sym (at_depth-at_depth d 1 kids) in
-    ap (λ (ns : List (ℕ × T)). record f { nodes = ns; current = Some (record { 0 = length f.nodes }) })
-    (append_assoc f.nodes ((d, x) ∷ []) (at_depth (length f.spine + 2) kids) ∙ ap (λ (ns : List (ℕ × T)). f.nodes ++ (d, x) ∷ ns) k
-    ∙ ap (λ e. f.nodes ++ (e, x) ∷ at_depth d (at_depth 1 kids)) (sym z))
 
 pub forest-eq : {T : Type 0} (f g : Forest T) → f.nodes ≡ g.nodes → f.spine ≡ g.spine → f.current ≡ g.current → f ≡ g
 forest-eq f g a b c =
@@ -72,21 +57,8 @@ block-built {T = T} f f₁ f₂ f₃ f₄ x g kids ix e₁ e₂ n₃ s₃ p₃ e
     (c₄ ∙ ap (λ (m : ℕ). Some (at_place m)) i)
 
 -- a text where no node is current
-pub text-fresh : (f : Forest Item) (s e : ℕ) (b : Bool)
-    → s < e → f.current ≡ None → with_text f s e b ≡ appended f (record { start = s; «end» = e; body = Text b })
-text-fresh f s e b l h =
-    let t : eqb s e ≡ false = grind (arith, nat_tests) in
-    rw (t, h)
-
-modify-same : {T : Type 0} (ns : List (ℕ × T)) (i : ℕ) (x : T) (g : T → T)
-    → option_map (λ n. n.1) (slice_get ns i) ≡ Some x → modify ns i (λ _. g x) ≡ modify ns i g
-modify-same [] i x g e = refl
-modify-same (n ∷ ns) zero x g e = let h : n.1 ≡ x = cc in ap (λ k. (n.0, g k) ∷ ns) (sym h)
-modify-same (n ∷ ns) (suc i) x g e = ap (λ z. n ∷ z) (modify-same ns i x g e)
 
 -- a write through `tree[ix]` is a change of the item there
-pub written-by : {T : Type 0} (f : Forest T) (ix : TreeIndex) (x : T) (g : T → T) → item_at f ix ≡ Some x → with_item f ix (g x) ≡ modified f ix g
-written-by {T = T} f ix x g e = ap (λ (ns : List (ℕ × T)). record f { nodes = ns }) (modify-same f.nodes ix.0 x g e)
 
 no-open : (s : List TreeIndex) (i : TreeIndex) (is : List TreeIndex) → s ≡ [] → s ≡ i ∷ is → ⊥
 no-open s i is a b = cc
@@ -108,9 +80,3 @@ block-calls {T = T} f f₁ f₂ f₃ f₄ x g kids place opened (Some ix) i e₁
     let w : ix ≡ place = o ∙ sym q in
     block-built f f₁ f₂ f₃ f₄ x g kids place e₁ (e₂ ∙ ap (pushed f₁) (sym q)) n₃ s₃ (h.0 ∙ ap (λ (j : TreeIndex). j ∷ f₄.spine) w)
     (h.1 ∙ ap (λ (j : TreeIndex). popped f₃ j f₄.spine) w) i
-
--- one item added is a block of its own
-pub one-kid : {T : Type 0} (f g : Forest T) (x : T) → g ≡ appended f x → g.nodes ≡ f.nodes ++ at_depth (length f.spine + 1) ((0, x) ∷ [])
-one-kid {T = T} f g x e =
-    let z : length f.spine + 1 ≡ length f.spine + 1 + 0 = omega arith in
-    ap (λ (v : Forest T). v.nodes) e ∙ ap (λ k. f.nodes ++ (k, x) ∷ []) z

@@ -1,31 +1,13 @@
 -- What a caller keeps of a tree over several calls.
-use Rattle.std.proofs.Common.{◌≡◌, ◌≢◌, ℕ, ◌+◌, ◌<◌, ◌⊎◌, List, [], ◌∷◌, ◌++◌, length, Some, Bool, true, false, ◌&&◌, eqb, get_or, refl, sym, ◌∙◌, ap, subst}
-use Rattle.std.proofs.Common.{⊎_elim, arith, append_assoc}
-use Rattle.std.proofs.lemmas.List.{length-append, length-map, map-append, get_or_append_left, get_or_at}
-use Rattle.std.proofs.lemmas.Bool.Decides.{nat_tests}
-use Rattle.first_pass_items.specs.declared.item.Item.{Item}
-use Rattle.first_pass_items.specs.declared.item.ItemBody.TheVariants.{Text}
+use Rattle.std.proofs.Common.{◌≡◌, ◌≢◌, ℕ, ◌+◌, ◌<◌, ◌⊎◌, List, ◌∷◌, ◌++◌, length, Some, ◌&&◌, get_or, sym, ◌∙◌, ap, subst, []}
+use Rattle.std.proofs.Common.{arith, append_assoc}
+use Rattle.std.proofs.lemmas.List.{length-append, length-map, map-append, get_or_append_left}
 use Rattle.first_pass_tree.specs.declared.tree_index.TreeIndex.{TreeIndex}
-use Rattle.first_pass_tree.specs.Forest.{Forest, IsForest, IsChild, depths, open_place, item_at, is_text, ends_text_at, appended, added, at_depth, with_text}
-use Rattle.first_pass_tree.specs.Forest.{with_end_at}
-use Rattle.first_pass_tree.proofs.Depths.{open-last}
+use Rattle.first_pass_tree.specs.Forest.{Forest, IsChild, depths, open_place, appended, added, at_depth}
 use Rattle.first_pass_tree.proofs.Blocks.{at_depth-append}
 
 abbrev last_place : {T : Type 0} → Forest T → TreeIndex
 last_place f = record { 0 = length f.nodes }
-
--- a node just added is a child of the innermost open one
-pub child-appended : {T : Type 0} (f : Forest T) (x : T) → IsForest f → IsChild (appended f x) (last_place f)
-child-appended f x h =
-    let d = length f.spine + 1 in
-    let ns = f.nodes in
-    let w = length-map ns (λ n. n.0) in
-    let o = open-last (depths ns) f.spine h.opened in
-    record {
-      within = omega (arith, length-append ns ((d, x) ∷ []));
-      depth = ap (λ v. get_or v (length ns) 0) (map-append (λ n. n.0) ns ((d, x) ∷ [])) ∙ get_or_at (depths ns) d [] 0 (length ns) w;
-      behind = omega (arith, w, o.within);
-    }
 
 -- a child stays one where the list continues after it
 pub child-kept : {T : Type 0} (f g : Forest T) (more : List (ℕ × T)) (ix : TreeIndex)
@@ -59,32 +41,4 @@ appended-block f x =
     let z : length f.spine + 1 ≡ length f.spine + 1 + 0 = omega arith in
     ap (λ k. record f { nodes = f.nodes ++ (k, x) ∷ []; current = Some (last_place f) }) z
 
--- an empty text adds nothing
-pub text-empty : (f : Forest Item) (s e : ℕ) (b : Bool) → s ≡ e → with_text f s e b ≡ f
-text-empty f s e b h =
-    let t : eqb s e ≡ true = grind (arith, nat_tests) in
-    rw t
-
 -- a text after a text that ends at its start is joined to it
-pub text-joined : (f : Forest Item) (s e : ℕ) (b : Bool) (c : TreeIndex) (x : Item)
-    → s < e → f.current ≡ Some c → item_at f c ≡ Some x → is_text x.body ≡ true → x.«end» ≡ s → with_text f s e b ≡ with_end_at f c e
-text-joined f s e b c x l h i t p =
-    let n : eqb s e ≡ false = grind (arith, nat_tests) in
-    let q : eqb x.«end» s ≡ true = grind (arith, nat_tests) in
-    rw (n, h, i, t, q)
-
-neither : (a b : Bool) → b ≡ false → (a && b) ≡ false
-neither true b h = h
-neither false b h = refl
-
--- a text after an item that isn't a text, or ends elsewhere, stands alone
-pub text-apart : (f : Forest Item) (s e : ℕ) (b : Bool) (c : TreeIndex) (x : Item) → s < e → f.current ≡ Some c → item_at f c ≡ Some x
-    → (is_text x.body ≡ false) ⊎ (x.«end» ≢ s) → with_text f s e b ≡ appended f (record { start = s; «end» = e; body = Text b })
-text-apart f s e b c x l h i t =
-    let n : eqb s e ≡ false = grind (arith, nat_tests) in
-    let a : ends_text_at s (Some x) ≡ false =
-    ⊎_elim
-    (λ u. ap (λ v. v && eqb x.«end» s) u)
-    (λ u. let q : eqb x.«end» s ≡ false = grind (arith, nat_tests) in neither (is_text x.body) (eqb x.«end» s) q)
-    t in
-    rw (n, h, i, a)

@@ -1,7 +1,7 @@
 -- Each change of a forest leaves a forest.
-use Rattle.std.proofs.Common.{◌≡◌, ℕ, ◌+◌, ◌-◌, ◌<◌, ◌≤◌, ◌^◌, suc, zero, List, [], ◌∷◌, ◌++◌, length, get_or, set, take, drop, map, Some, None, true, false}
+use Rattle.std.proofs.Common.{◌≡◌, ℕ, ◌+◌, ◌-◌, ◌<◌, ◌≤◌, ◌^◌, suc, zero, List, ◌∷◌, ◌++◌, length, get_or, set, take, drop, map, Some, None, true, false, []}
 use Rattle.std.proofs.Common.{Bool, nat_lt, eqb, ◌≢◌, ◌⊎◌, reverse, slice_get, IfSome, Option, refl, sym, ◌∙◌, ap, subst, ⊎_elim, arith}
-use Rattle.std.proofs.lemmas.List.{length-append, length-reverse, get_or-reverse, map-append, length-map, take-map, get_or-map, get_or_past, take_more}
+use Rattle.std.proofs.lemmas.List.{length-append, length-reverse, get_or-reverse, map-append, length-map, take-map, get_or-map, take_more}
 use Rattle.std.proofs.lemmas.List.{reverse-append, get_or-append_right, get_or-drop, get_or-take, length-take-le, length-drop, get_or-set_other, length-set}
 use Rattle.std.proofs.lemmas.List.{get_or_append_left, get_or_at}
 use Rattle.std.proofs.lemmas.List.Sums.{prefix_len-drop_yes, prefix_len-drop_no, prefix_len-drop_all, prefix_len-le-length, prefix_len_is}
@@ -14,7 +14,7 @@ use Rattle.first_pass_items.specs.declared.item.AlignmentIndex.{AlignmentIndex}
 use Rattle.first_pass_items.specs.declared.item.Item.{Item}
 use Rattle.first_pass_items.specs.declared.item.ItemBody.{ItemBody}
 use Rattle.first_pass_items.specs.declared.item.ItemBody.TheVariants.{Table, TableHead, TableRow, TableCell}
-use Rattle.first_pass_tree.specs.Forest.{Forest, IsForest, IsLastAt, IsOpenPath, IsPreorder, depths, item_at, modify, run_end, end_of, child_of, sibling_of}
+use Rattle.first_pass_tree.specs.Forest.{Forest, IsForest, IsLastAt, IsOpenPath, IsPreorder, depths, item_at, modify, run_end, end_of, sibling_of}
 use Rattle.first_pass_tree.specs.Forest.{in_table, in_table_by, appended, popped, cut_to, kept_after, childless, wrapped, map_from, deeper, IsShallow}
 use Rattle.first_pass_tree.specs.Forest.{open_place, IsChild}
 use Rattle.first_pass_tree.proofs.Depths.{last-push, last-take, path-append, path-last_depth, path-take, preorder-append, preorder-take, path-take_open}
@@ -94,9 +94,6 @@ root-within f h = omega (arith, path-last_depth (depths f.nodes) f.spine h.opene
 pub depth_at : {T : Type 0} (ns : List (ℕ × T)) (i : ℕ) (n : ℕ × T) → i < length ns → n ≡ get_or ns i n → get_or (depths ns) i 0 ≡ n.0
 depth_at ns i n l e = get_or-map (λ n. n.0) ns i n 0 l ∙ ap (λ m. m.0) (sym e)
 
-pub depth_past : {T : Type 0} (ns : List (ℕ × T)) (i : ℕ) → length ns ≤ i → get_or (depths ns) i 0 ≡ 0
-depth_past ns i l = get_or_past (depths ns) i 0 (omega (arith, length-map ns (λ n. n.0)))
-
 -- the same for a place of a slice
 pub depth_read : {T : Type 0} (ns : List (ℕ × T)) (i : ℕ) (d : ℕ × T) → i < length ns → get_or (depths ns) i 0 ≡ (get_or ns i d).0
 depth_read ns i d l = get_or-map (λ n. n.0) ns i d 0 l
@@ -123,22 +120,6 @@ run_all ns depth i l =
     let e = prefix_len-drop_all (λ d. nat_lt depth d) (depths ns) i (omega arith) in omega arith
 
 -- the first child, as the code tests it
-pub child-some : {T : Type 0} (ns : List (ℕ × T)) (i : ℕ) (d : ℕ × T)
-    → i + 1 < length ns → (get_or ns i d).0 < (get_or ns (i + 1) d).0 → Some (record { 0 = i + 1 }) ≡ child_of (depths ns) i
-child-some ns i d l h =
-    let a = depth_read ns i d (omega arith) in
-    let b = depth_read ns (i + 1) d l in
-    let t : nat_lt (get_or (depths ns) i 0) (get_or (depths ns) (i + 1) 0) ≡ true = grind (arith, nat_tests) in
-    rw t
-
-pub child-none : {T : Type 0} (ns : List (ℕ × T)) (i : ℕ) (d : ℕ × T)
-    → i < length ns → (i + 1 < length ns → (get_or ns (i + 1) d).0 ≤ (get_or ns i d).0) → None ≡ child_of (depths ns) i
-child-none ns i d l h =
-    let a = depth_read ns i d l in
-    let t : nat_lt (get_or (depths ns) i 0) (get_or (depths ns) (i + 1) 0) ≡ false =
-    ⊎_elim (λ p. let b = depth_read ns (i + 1) d p in let k = h p in grind (arith, nat_tests))
-    (λ p. let b = depth_past ns (i + 1) p in grind (arith, nat_tests)) (cases_lt (i + 1) (length ns)) in
-    rw t
 
 -- the next sibling, as the code tests it
 pub sibling-some : {T : Type 0} (ns : List (ℕ × T)) (i e : ℕ) (d : ℕ × T) → i < length ns → e ≡ run_end (depths ns) (get_or ns i d).0 (i + 1) → e < length ns
@@ -206,16 +187,6 @@ in_table-more o b h = ⊎_elim (λ e. rw e refl) (λ k. ⊎_elim (λ e. rw e ref
 
 pub in_table-table : (o : Bool) (b : ItemBody) (a : AlignmentIndex) → b ≡ Table a → in_table_by o (Some b) ≡ true
 in_table-table o b a e = rw e refl
-
--- in a map in place the element that comes next is as it was
-pub map_over_same : {X : Type 0} (f : X → X) (xs ys : List X) (i : ℕ) (d : X)
-    → i < length xs → ys ≡ map f (take i xs) ++ drop i xs → get_or ys i d ≡ get_or xs i d
-map_over_same f xs ys i d l e =
-    let n : length (map f (take i xs)) ≡ i = length-map (take i xs) f ∙ length-take-le i xs (omega arith) in
-    let r = get_or-append_right (map f (take i xs)) (drop i xs) i i d n (omega arith) in
-    let z : i - i ≡ 0 = omega arith in
-    let w : i + 0 ≡ i = omega arith in
-    ap (λ zs. get_or zs i d) e ∙ r ∙ ap (λ k. get_or (drop i xs) k d) z ∙ get_or-drop i xs 0 d ∙ ap (λ k. get_or xs k d) w
 
 -- a run of deeper nodes ends within the list
 pub run-within : {T : Type 0} (ns : List (ℕ × T)) (depth i : ℕ) → i ≤ length ns → run_end (depths ns) depth i ≤ length ns

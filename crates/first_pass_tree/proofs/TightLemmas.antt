@@ -1,5 +1,5 @@
 -- The paragraphs of a list made tight, one node after the other.
-use Rattle.std.proofs.Common.{◌≡◌, ℕ, zero, suc, ◌+◌, ◌<◌, ◌≤◌, ◌-◌, ◌==◌, nat_lt, Bool, true, false, List, [], ◌∷◌, length, slice_index, if◌then◌else◌, Option}
+use Rattle.std.proofs.Common.{◌≡◌, ℕ, zero, suc, ◌+◌, ◌<◌, ◌≤◌, ◌-◌, ◌==◌, nat_lt, Bool, true, false, List, ◌∷◌, length, slice_index, if◌then◌else◌, Option, []}
 use Rattle.std.proofs.Common.{Some, refl, sym, ap, subst, ◌∙◌, ⊎_elim, arith}
 use Rattle.std.proofs.lemmas.Bool.{cases_lt}
 use Rattle.std.proofs.lemmas.Bool.Decides.{nat_tests}
@@ -156,19 +156,6 @@ pub record IsTightening (old : Forest Item) (depth from to at : ℕ) (now : Fore
   pub within : at ≤ to
   pub depths_stay : depths now.nodes ≡ depths old.nodes
   pub tight : (f : Forest Item) → old ≡ tight_from f depth to → now ≡ tight_from f depth at
-
-pub tightening_begins : (old : Forest Item) (depth from to : ℕ) → from ≤ to → IsTightening old depth from to to old
-tightening_begins old depth from to l = record { before = l; within = omega arith; depths_stay = refl; tight = λ f e. e }
-
-pub tightening_within : (old now : Forest Item) (depth from to at : ℕ) → to ≤ length old.nodes → IsTightening old depth from to at now → at ≤ length now.nodes
-tightening_within old now depth from to at l h = omega (arith, h.within, same_count old now h.depths_stay)
-
-pub tightening_deeper : (old now : Forest Item) (depth from to at k : ℕ)
-    → ((j : ℕ) → from ≤ j → j < to → depth < slice_index (depths old.nodes) j) → from < at → at ≡ k + 1 → IsTightening old depth from to at now
-    → depth < slice_index (depths now.nodes) k
-tightening_deeper old now depth from to at k deep l s h =
-    let w = h.within in
-    subst (λ (ds : List ℕ). depth < slice_index ds k) (sym h.depths_stay) (deep k (omega arith) (omega arith))
 
 pub tightening_next : (old now next : Forest Item) (depth from to at k : ℕ) → to ≤ length old.nodes
     → ((j : ℕ) → from ≤ j → j < to → depth < slice_index (depths old.nodes) j) → from < at → at ≡ k + 1 → IsTightening old depth from to at now

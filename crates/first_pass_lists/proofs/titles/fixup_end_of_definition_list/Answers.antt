@@ -7,7 +7,7 @@ use Rattle.std.proofs.lemmas.Bool.Decides.{nat_tests}
 use Rattle.first_pass_items.specs.declared.item.Item.{Item}
 use Rattle.first_pass_items.specs.declared.item.ItemBody.TheVariants.{Paragraph}
 use Rattle.first_pass_tree.specs.declared.tree_index.TreeIndex.{TreeIndex}
-use Rattle.first_pass_tree.specs.Forest.{Forest, IsChildOfCurrent, depths, last_before, modify, with_body_at, with_end_at, body_at}
+use Rattle.first_pass_tree.specs.Forest.{Forest, IsChildOfCurrent, depths, last_before, with_body_at, with_end_at, body_at}
 use Rattle.first_pass_tree.proofs.Keeps.{depths-modify, depth_read, current-within}
 use Rattle.first_pass_lists.specs.Titles.{place, is_other_at, is_possible_title, first_other, left_untitled}
 use Rattle.first_pass_lists.proofs.titles.fixup_end_of_definition_list.Goals as goal
@@ -64,10 +64,6 @@ other_at f ns spine d n r list nodes way count deep is within =
       depth = ap (λ k. slice_index (depths f.nodes) k) first ∙ depth_first f.nodes (length f.spine + 2) (list + 1) (omega (arith, first, count, within));
       above = omega (arith, first);
     }
-
-length_changed : (ns : List (ℕ × Item)) (k : ℕ) (g : Item → Item) → length (modify ns k g) ≡ length ns
-length_changed ns k g =
-    sym (length-map (modify ns k g) (λ n. n.0)) ∙ ap (λ (ds : List ℕ). length ds) (depths-modify ns k g) ∙ length-map ns (λ n. n.0)
 
 -- a forest with other ranges and bodies: as many nodes, as deep as before
 record IsLike (f g : Forest Item) : Type 0 where
