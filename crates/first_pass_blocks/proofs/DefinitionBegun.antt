@@ -21,7 +21,8 @@ use Rattle.first_pass_lists.specs.Closing.{with_tree, top_body, is_list, precede
 use Rattle.first_pass_lists.specs.Closing.{definitions_by, definitions_at, definitions_opened, definition_begun, is_definition_list as is_definitions}
 use Rattle.first_pass_lists.specs.declared.reading.Reading.{Reading}
 use Rattle.first_pass_blocks.specs.Ordered.{top_of, AreNested}
-use Rattle.first_pass_blocks.proofs.Nests.{classes_body, nested_same, nested_before, top_before, AreBefore, IsSettled, begun_settled, kept_like, like_nested}
+use Rattle.first_pass_blocks.proofs.AlikeNodes.{like_kept}
+use Rattle.first_pass_blocks.proofs.Nests.{classes_body, nested_same, nested_before, top_before, AreBefore, IsSettled, begun_settled, like_nested}
 use Rattle.first_pass_blocks.proofs.OrderLemmas.{ordered_same, ordered_begun, extents-body, list_extent}
 use Rattle.first_pass_blocks.proofs.PopOrder.{ordered_list_kept}
 
@@ -278,5 +279,5 @@ ordered_definition text r a start columns forest may later within starts h neste
     let k : Reading = list_kept q in
     let now = opened_with text r.tree a r.tree.current forest refl may (h, nested) in (
       ordered_begun text k a start (DefinitionListDefinition columns) later within starts (ordered_list_kept text q a now.0),
-      begun_settled start (DefinitionListDefinition columns) k refl (λ list. refl) (like_nested q.tree k.tree (kept_like q) now.1),
+      begun_settled start (DefinitionListDefinition columns) k refl (λ list. refl) (like_nested q.tree k.tree (like_kept q) now.1),
     )

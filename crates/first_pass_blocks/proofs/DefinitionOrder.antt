@@ -32,7 +32,9 @@ use Rattle.first_pass_blocks.proofs.Nests.{title_there, definitions_closed_outsi
 use Rattle.first_pass_blocks.proofs.OrderLemmas.{ordered_same, ordered_added, ordered_none}
 use Rattle.first_pass_blocks.proofs.OrderLemmas.{extents-body}
 use Rattle.first_pass_blocks.proofs.PopOrder.{ordered_gap_noted, closed_empty, noted_empty}
-use Rattle.first_pass_blocks.proofs.LeftOrder.{extents-end, modify-front, length-changed, end_there, HasLeft, left_ordered}
+use Rattle.first_pass_blocks.proofs.AlikeNodes.{LooksAlike, like_itself}
+use Rattle.first_pass_blocks.proofs.PropertyKept.{IsLeft, is_left}
+use Rattle.first_pass_blocks.proofs.LeftOrder.{extents-end, modify-front, length-changed, end_there, left_ordered}
 
 -- What is last is no task list item marker: the tree is in order up to its end.
 pub ordered_to_last : (text : List ℕ) (f : Forest Item) (a : ℕ) (c : TreeIndex) (y : Item) → IsForest f → f.current ≡ Some c → item_at f c ≡ Some y
@@ -119,8 +121,21 @@ module _ (text : List ℕ) (old : Forest Item) (ix : TreeIndex) (rest : List Tre
   -- the list closed, with the block after it
   block_left : (q : Reading) → q.tree ≡ added old items → IsOrderedTo text (definitions_closed e q).tree next
   block_left q is =
-      left_ordered text old ix place rest spine refl fits.0 e next o boundary fits.2 within q e refl
-      (subst (HasLeft text old ix place rest spine refl fits.0 e next o boundary fits.2 within) (sym is) (spine, refl, added_extents))
+      let f : Forest Item = added old items in
+      let block : List (ℕ × Item) = at_depth (length old.spine + 1) items in
+      let sum = length-append old.nodes block in
+      let front : take (length old.nodes) f.nodes ≡ old.nodes = take-append_seam old.nodes block in
+      let left : IsLeft f (definitions_closed e q).tree e place =
+      is_left f q e place ix rest (subst (λ g. LooksAlike f g) (sym is) (like_itself f)) spine refl (omega arith)
+      (λ h. subst (λ (g : Forest Item). IsForest g) (sym is) h) in
+      left_ordered text f (definitions_closed e q).tree next e place left (record {
+        before = ordered_same text old (record f { nodes = take (length old.nodes) f.nodes }) e (ap (λ (z : List (ℕ × Item)). extents z) front) refl o;
+        ends = boundary;
+        row = fits.0;
+        last = ap (λ (z : List (ℕ × Item)). extents z) (drop-append_seam old.nodes block) ∙ block_extents
+            ∙ ap (λ (s : List TreeIndex). laid (suc (length s)) fits.0) (sym spine);
+        fits = fits.2;
+      }) within
 
   -- a possible title is kept: the block is one, and the list has the offset as its end
   kept_tree : Forest Item

@@ -1,13 +1,12 @@
 -- Tables stay whole where a definition begins, and where a possible title is kept.
 use Rattle.std.proofs.Common.{◌≡◌, ℕ, zero, suc, ◌+◌, ◌<◌, ◌≤◌, true, false, List, [], ◌∷◌, ◌++◌, length, map, take, drop, slice_get}
 use Rattle.std.proofs.Common.{Option, Some, None, IfSome, refl, sym, ap, subst, ◌∙◌, arith}
-use Rattle.std.proofs.lemmas.Bool.{cond_both}
 use Rattle.std.proofs.lemmas.Option.{none-some}
 use Rattle.std.specs.Prelude.{IsSomeAnd}
 use Rattle.std.specs.Option.{option_and_then, option_map_or}
 use Rattle.first_pass_items.specs.declared.item.Item.{Item}
 use Rattle.first_pass_items.specs.declared.item.ItemBody.{ItemBody}
-use Rattle.first_pass_items.specs.declared.item.ItemBody.TheVariants.{List as ListBody, Paragraph, DefinitionList, DefinitionListTitle}
+use Rattle.first_pass_items.specs.declared.item.ItemBody.TheVariants.{Paragraph, DefinitionList, DefinitionListTitle}
 use Rattle.first_pass_items.specs.declared.item.ItemBody.TheVariants.{DefinitionListDefinition}
 use Rattle.first_pass_items.specs.declared.item.ItemBody.TheVariants.{MaybeDefinitionListTitle}
 use Rattle.first_pass_tree.specs.declared.tree_index.TreeIndex.{TreeIndex}
@@ -21,14 +20,13 @@ use Rattle.first_pass_grammar.specs.WholeTables.{Mark, shown, marks, ShowsNothin
 use Rattle.first_pass_grammar.specs.WholeTables.{HasWholeTables}
 use Rattle.first_pass_grammar.proofs.SilentNodes.{marks_modified, none_shown, from_at, from_modified}
 use Rattle.first_pass_lists.specs.Closing.{with_tree, current_body, with_current, title_kept, list_kept, definitions_by, definitions_at, definitions_opened}
-use Rattle.first_pass_lists.specs.Closing.{definition_begun, loosened_by, top_body, is_list, popped, item_finished_by, item_finished, list_left, gap_tree}
-use Rattle.first_pass_lists.specs.Closing.{gap_noted, list_finished}
+use Rattle.first_pass_lists.specs.Closing.{definition_begun}
 use Rattle.first_pass_lists.specs.declared.reading.Reading.{Reading}
 use Rattle.first_pass_blocks.proofs.DefinitionBegun.{take_front, here_within, list_length}
 use Rattle.first_pass_blocks.proofs.Nests.{AreBefore}
 use Rattle.first_pass_blocks.proofs.WholeKept.{may_not_open, none_kept, modified_keeps, other_keeps, silent_at, IsKept, IsReadWhole, kept_of, same_shown}
-use Rattle.first_pass_blocks.proofs.WholeKept.{kept_kept}
-use Rattle.first_pass_blocks.proofs.WholeKept.{begun_whole, marks_ended, body_last, gap_kept, popped_whole}
+use Rattle.first_pass_blocks.proofs.AlikeNodes.{like_kept}
+use Rattle.first_pass_blocks.proofs.WholeKept.{marks_ended, opened_whole, like_kept_whole}
 
 -- open nodes stand before the current one
 open_before : (ds : List ℕ) (spine : List TreeIndex) (c d : ℕ) → IsOpenPath ds spine → IsLastAt ds d c → length spine < d → AreBefore c spine
@@ -116,8 +114,8 @@ module _ (names : Names) where
   unfolding definition_begun
   definition_whole start columns r forest h =
       let q : Reading = with_tree r (definitions_opened r.tree r.tree.current) in
-      begun_whole names start (DefinitionListDefinition columns) (list_kept q) (λ names depth start end. refl) refl
-      (kept_kept names q (opened_kept r.tree r.tree.current forest refl h))
+      opened_whole names (list_kept q).tree start (DefinitionListDefinition columns) (λ names depth start end. refl) refl
+      (like_kept_whole names q.tree (list_kept q).tree (like_kept q) (opened_kept r.tree r.tree.current forest refl h))
 
   -- a possible title is kept
   end_kept : (f : Forest Item) (e : ℕ) (s : List TreeIndex) → f.spine ≡ s → IsKept names f → IsKept names (with_end f e (slice_get s 0))
@@ -160,37 +158,3 @@ module _ (names : Names) where
   pub title_kept_whole : (e : ℕ) (r : Reading) → current_body r.tree ≡ Some Paragraph → IsReadWhole names r → IsReadWhole names (title_kept e r)
   unfolding title_kept
   title_kept_whole e r is h = kept_by e r r.tree.current refl is h
-
-  -- before a block that ends a list, where no item is empty: what is last then shows nothing if a definition list may take it in
-  loosened_last : (f : Forest Item) (ix : TreeIndex) (b : Option ItemBody) → IsSilentLast f.nodes f.current
-      → IsSilentLast (loosened_by f ix b).nodes (loosened_by f ix b).current
-  loosened_last f ix (Some (ListBody flags byte number)) h =
-      body_last names f.nodes ix.0 f.current (ListBody (list_flags false) byte number) (λ names depth start end. refl) refl h
-  loosened_last f ix (Some (DefinitionList flags)) h =
-      body_last names f.nodes ix.0 f.current (DefinitionList (list_flags false)) (λ names depth start end. refl) refl h
-  loosened_last f ix None h = h
-  loosened_last f ix (Some b) h = h
-
-  gap_last : (f : Forest Item) (s : List TreeIndex) → IsSilentLast f.nodes f.current → IsSilentLast (gap_tree f s).nodes (gap_tree f s).current
-  gap_last f [] h = h
-  gap_last f (ix ∷ []) h = h
-  gap_last f (ix ∷ outer ∷ rest) h = loosened_last f outer (body_at f.nodes outer.0) h
-
-  noted_last : (r : Reading) → IsSilentLast r.tree.nodes r.tree.current → IsSilentLast (gap_noted r).tree.nodes (gap_noted r).tree.current
-  noted_last r h =
-      cond_both r.blank (record r { tree = gap_tree r.tree r.tree.spine; blank = false }) r (λ (q : Reading). IsSilentLast q.tree.nodes q.tree.current)
-      (λ b. gap_last r.tree r.tree.spine h) (λ b. h)
-
-  pub noted_whole : (r : Reading) → IsReadWhole names r → IsReadWhole names (gap_noted r)
-  noted_whole r h =
-      let k = gap_kept names r (kept_of names r.tree h) in record { whole = k.whole; none_open = k.none_open; last = noted_last r h.last }
-
-  left_whole : (e : ℕ) (r : Reading) → IsForest r.tree → IsReadWhole names r → IsReadWhole names (list_left e r)
-  left_whole e r forest h =
-      cond_both (is_list (top_body r.tree)) (popped e r) r (λ (q : Reading). IsReadWhole names q) (λ b. popped_whole names e r forest h) (λ b. h)
-
-  pub list_finished_read : (e : ℕ) (r : Reading) → IsForest r.tree → r.empty_item ≡ None → IsReadWhole names r → IsReadWhole names (list_finished e r)
-  unfolding list_finished item_finished
-  list_finished_read e r forest none h =
-      let same : item_finished_by r r.empty_item ≡ r = ap (item_finished_by r) none in
-      subst (λ (q : Reading). IsReadWhole names (gap_noted (list_left e q))) (sym same) (noted_whole (list_left e r) (left_whole e r forest h))

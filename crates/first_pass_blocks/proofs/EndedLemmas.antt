@@ -1,5 +1,5 @@
 -- What ends a footnote definition in the old form at a line adds no node, and keeps names, whole tables and order.
-use Rattle.std.proofs.Common.{◌≡◌, inl, inr, ℕ, ◌≤◌, true, false, List, length, IsCharBoundary, refl, sym, ap, subst, ◌∙◌, arith}
+use Rattle.std.proofs.Common.{◌≡◌, inl, inr, ℕ, ◌≤◌, true, false, List, length, IsCharBoundary, sym, ap, subst, ◌∙◌, arith}
 use Rattle.first_pass_items.specs.declared.option_set.Options.{Options}
 use Rattle.first_pass_grammar.specs.Names.{Names}
 use Rattle.first_pass_grammar.specs.Containers.{in_old_footnote}
@@ -22,8 +22,8 @@ ended_holds options e r P here closed = elim (ended_as options e r) [
   | inr left ↦ subst P (sym left.0) closed
 ]
 
-pub ended_count : (options : Options) (e : ℕ) (r : Reading) → count (footnote_ended options e r) ≡ count r
-ended_count options e r = ended_holds options e r (λ q. count q ≡ count r) refl (popped_count e r)
+pub ended_count : (options : Options) (e : ℕ) (r : Reading) → count (footnote_ended options e r) ≤ count r
+ended_count options e r = ended_holds options e r (λ q. count q ≤ count r) (omega arith) (popped_count e (count r) r (omega arith))
 
 pub ended_named : (options : Options) (names : Names) (e : ℕ) (r : Reading) → AreReadNamed names r → AreReadNamed names (footnote_ended options e r)
 ended_named options names e r h = ended_holds options e r (λ q. AreReadNamed names q) h (popped_named names e r h)

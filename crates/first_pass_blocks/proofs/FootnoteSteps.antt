@@ -125,6 +125,6 @@ module _ (old new : BlockPass) (p q : Place) (head : ℕ × List ℕ) (utf8 : Is
         footnote_written text (allocs_of old) (allocs_of new) around nested start head opened.text here_is opened.label opened.borrowed opened.tells h;
     whole = λ h k.
         subst (λ (z : Reading). HasWholeTables (names_of (allocs_of new)) z.tree) (sym opened.opened)
-        (note_whole (names_of (allocs_of new)) start opened.index (reading_of old)
+        (note_whole (names_of (allocs_of new)) start opened.index (reading_of old) forest
         (more_whole (names_of (allocs_of new)) (names_of (allocs_of old)) (tree_of old) more_names h k));
   }

@@ -31,7 +31,7 @@ use Rattle.first_pass_blocks.proofs.NamedLemmas.{block_added, list_finished_name
 use Rattle.first_pass_blocks.proofs.Nests.{list_finished_outside, added_outside}
 use Rattle.first_pass_blocks.proofs.OrderSteps.{block_ordered, ordered_finished, unindented_later}
 use Rattle.first_pass_blocks.proofs.RawFits.{to_blank_between, to_blank_ends, to_blank_few}
-use Rattle.first_pass_blocks.proofs.WholeKept.{list_finished_whole, block_whole, kind_whole}
+use Rattle.first_pass_blocks.proofs.WholeKept.{kept_of, list_finished_whole, block_whole, kind_whole}
 use Rattle.first_pass_blocks.proofs.WrittenLemmas.{written_stay}
 
 -- the block's place, at the offset after the columns
@@ -94,6 +94,6 @@ html_read old new p at columns next u i empty forest forest_after kind columns_i
       whole = λ h k. block_whole now (names_of (allocs_of old)) q.tree tree added.items adds.names added.tree_is
           (kind_whole text options now p HtmlToBlank false q.tree tree next i added)
           (kind_silent text options now p HtmlToBlank false q.tree tree next added)
-          (list_finished_named (names_of (allocs_of old)) p.line r h) (list_finished_whole (names_of (allocs_of old)) p.line r k);
+          (list_finished_named (names_of (allocs_of old)) p.line r h) (kept_of (names_of (allocs_of old)) (list_finished p.line r).tree (list_finished_whole (names_of (allocs_of old)) p.line r forest k));
       few = omega arith;
     }

@@ -19,7 +19,7 @@ use Rattle.first_pass_blocks.proofs.OrderSteps.{ordered_leaf}
 use Rattle.first_pass_blocks.proofs.KindBlocks.{ready_kind}
 use Rattle.first_pass_blocks.proofs.WrittenLemmas.{written_stay}
 use Rattle.first_pass_blocks.proofs.NamedLemmas.{block_added, list_finished_named, kind_named}
-use Rattle.first_pass_blocks.proofs.WholeKept.{list_finished_whole, block_whole, kind_whole}
+use Rattle.first_pass_blocks.proofs.WholeKept.{kept_of, list_finished_whole, block_whole, kind_whole}
 use Rattle.first_pass_blocks.proofs.FirstItems.{kind_silent}
 use Rattle.first_pass_blocks.proofs.CountLemmas.{list_finished_count, block_count, leaf_left, left_before}
 
@@ -60,6 +60,6 @@ leaf_read old new p kind next i empty forest is some other no_run e =
           (tree_of new) next i e.block)
           (kind_silent text (source_options old) (names_of (allocs_of new)) p kind (reading_of new).blank (list_finished p.line r).tree
           (tree_of new) next e.block)
-          (list_finished_named (names_of (allocs_of old)) p.line r h) (list_finished_whole (names_of (allocs_of old)) p.line r k);
+          (list_finished_named (names_of (allocs_of old)) p.line r h) (kept_of (names_of (allocs_of old)) (list_finished p.line r).tree (list_finished_whole (names_of (allocs_of old)) p.line r forest k));
       few = omega arith;
     }

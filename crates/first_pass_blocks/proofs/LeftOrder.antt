@@ -1,20 +1,13 @@
 -- Order where a definition list is closed before its last child, which is moved out of it.
-use Rattle.std.proofs.Common.{◌≡◌, ℕ, zero, suc, ◌+◌, ◌<◌, ◌≤◌, ◌==◌, true, false, List, [], ◌∷◌, ◌++◌, length}
-use Rattle.std.proofs.Common.{map, take, drop, slice_get, Option, Some, None, IsCharBoundary, refl, sym, ap, subst, ◌∙◌, arith}
+use Rattle.std.proofs.Common.{◌≡◌, ℕ, zero, suc, ◌+◌, ◌<◌, ◌≤◌, false, List, [], ◌∷◌, ◌++◌, length}
+use Rattle.std.proofs.Common.{take, drop, slice_get, None, IsCharBoundary, refl, sym, ap, subst, ◌∙◌, arith}
 use Rattle.std.proofs.Common.{length-append}
 use Rattle.std.proofs.lemmas.List.{take-append-drop, length-take-le}
-use Rattle.std.proofs.lemmas.Option.{slice_get_within}
-use Rattle.std.proofs.lemmas.Bool.{cond_both}
-use Rattle.std.specs.Int.RustNames.{bit_and}
 use Rattle.std.specs.Option.{option_map, option_map_or}
 use Rattle.first_pass_items.specs.declared.item.Item.{Item}
-use Rattle.first_pass_items.specs.declared.item.ItemBody.{ItemBody}
-use Rattle.first_pass_items.specs.declared.item.ItemBody.TheVariants.{List as ListBody, ListItem as ListItemBody, Paragraph, DefinitionList}
-use Rattle.first_pass_items.specs.declared.item.ItemBody.TheVariants.{DefinitionListDefinition, MaybeDefinitionListTitle}
 use Rattle.first_pass_tree.specs.declared.tree_index.TreeIndex.{TreeIndex}
-use Rattle.first_pass_tree.specs.Forest.{Forest, modify, with_body_at, body_at, map_from}
+use Rattle.first_pass_tree.specs.Forest.{Forest, modify, map_from}
 use Rattle.first_pass_tree.specs.Forest.{shallower}
-use Rattle.first_pass_tree.specs.Tight.{tight_items}
 use Rattle.first_pass_grammar.specs.Order.{Extent, extent_of, extents, Siblings, laid, Elsewhere}
 use Rattle.first_pass_grammar.specs.Order.{Fits}
 use Rattle.first_pass_grammar.specs.OpenOrder.{laid_open, AreAt, within_top, IsOrderedTo}
@@ -22,46 +15,15 @@ use Rattle.first_pass_grammar.proofs.Orders.{ended_at, extents-append, length-ex
 use Rattle.first_pass_grammar.proofs.Orders.{fits-any, fits-later}
 use Rattle.first_pass_grammar.proofs.RowSplits.{laid-shallower, extents-moved}
 use Rattle.first_pass_open.specs.OpenBlock.{closed_by}
-use Rattle.first_pass_lists.specs.Closing.{remembered, with_tree, popped_by, popped_at, current_moved, top_end}
-use Rattle.first_pass_lists.specs.Closing.{definitions_closed, possible_title, title_closed}
-use Rattle.first_pass_lists.specs.Closing.{is_definition_list as is_definitions}
+use Rattle.first_pass_lists.specs.Closing.{remembered, top_end}
 use Rattle.first_pass_lists.specs.declared.reading.Reading.{Reading}
-use Rattle.first_pass_blocks.specs.Ordered.{top_of, EndsBeforeLast, EndsBeforeTitle}
-use Rattle.first_pass_blocks.proofs.Nests.{TitleThere, title_there}
-use Rattle.first_pass_blocks.proofs.OrderLemmas.{ordered_more, ordered_closed, extents-tight, extents-body}
-
--- what closes the innermost open node, by extents alone
-extents_closed : (r : Reading) (f : Forest Item) (ix : TreeIndex) (b : Option ItemBody) → extents (popped_by r f ix b).tree.nodes ≡ extents f.nodes
-extents_closed r f ix (Some (ListBody flags byte number)) =
-    cond_both (bit_and flags.0 1 == 1) (tight_items f ix) f (λ (g : Forest Item). extents g.nodes ≡ extents f.nodes) (λ b. extents-tight _ (ix.0 + 1) f.nodes)
-    (λ b. refl)
-extents_closed r f ix (Some (DefinitionList flags)) =
-    cond_both (bit_and flags.0 1 == 1) (tight_items f ix) f (λ (g : Forest Item). extents g.nodes ≡ extents f.nodes) (λ b. extents-tight _ (ix.0 + 1) f.nodes)
-    (λ b. refl)
-extents_closed r f ix (Some (ListItemBody columns)) = refl
-extents_closed r f ix (Some (DefinitionListDefinition columns)) = refl
-extents_closed r f ix None = refl
-extents_closed r f ix (Some b) = refl
-
-spine_closed : (r : Reading) (f : Forest Item) (ix : TreeIndex) (b : Option ItemBody) → (popped_by r f ix b).tree.spine ≡ f.spine
-spine_closed r f ix (Some (ListBody flags byte number)) =
-    cond_both (bit_and flags.0 1 == 1) (tight_items f ix) f (λ (g : Forest Item). g.spine ≡ f.spine) (λ b. refl) (λ b. refl)
-spine_closed r f ix (Some (DefinitionList flags)) =
-    cond_both (bit_and flags.0 1 == 1) (tight_items f ix) f (λ (g : Forest Item). g.spine ≡ f.spine) (λ b. refl) (λ b. refl)
-spine_closed r f ix (Some (ListItemBody columns)) = refl
-spine_closed r f ix (Some (DefinitionListDefinition columns)) = refl
-spine_closed r f ix None = refl
-spine_closed r f ix (Some b) = refl
-
--- the same, and the last child is moved out of it
-extents_left : (r : Reading) (e : ℕ) (ix c : TreeIndex) (rest : List TreeIndex) (front more : List (ℕ × Extent))
-    → extents (closed_by r.tree e (ix ∷ rest)).nodes ≡ front ++ more → c.0 ≡ length front
-    → extents (current_moved (popped_at e r (ix ∷ rest)) (Some c)).tree.nodes ≡ front ++ map shallower more
-extents_left r e ix c rest front more is at =
-    let f : Forest Item = closed_by r.tree e (ix ∷ rest) in
-    let q : Reading = popped_at e r (ix ∷ rest) in
-    ap (λ k. extents (map_from shallower k q.tree.nodes)) at
-    ∙ extents-moved front more q.tree.nodes (extents_closed r f ix (body_at f.nodes ix.0) ∙ is)
+use Rattle.first_pass_blocks.specs.Ordered.{EndsBeforeTitle}
+use Rattle.first_pass_blocks.proofs.OrderLemmas.{ordered_more, ordered_closed}
+use Rattle.std.proofs.Common.{Bool}
+use Rattle.first_pass_blocks.specs.Ordered.{reached, IsOrderedAt}
+use Rattle.first_pass_blocks.proofs.OrderLemmas.{flags_of, ordered_same, ordered_later, ordered_begun}
+use Rattle.first_pass_blocks.proofs.AlikeNodes.{AreAlike, NoNodes, OneMore}
+use Rattle.first_pass_blocks.proofs.PropertyKept.{IsLeft, Property, MayLeave, HoldsAt}
 
 -- ends at a place, by extents
 pub extents-end : (nodes : List (ℕ × Item)) (k e : ℕ) → extents (modify nodes k (λ x. record x { «end» = e })) ≡ modify (extents nodes) k (λ x. ended_at x e)
@@ -85,36 +47,6 @@ end_there [] k e low = absurd (omega arith)
 end_there (n ∷ nodes) zero e low = refl
 end_there (n ∷ nodes) (suc k) e low = end_there nodes k e (omega arith)
 
--- A definition list ends at an offset up to which what is before a place is in order; the node there, which is last in it, is after that offset.
-module _ (text : List ℕ) (old : Forest Item) (ix c : TreeIndex) (rest : List TreeIndex) (spine : old.spine ≡ ix ∷ rest) (place : c.0 ≡ length old.nodes)
-    (row : Siblings) (e next : ℕ) (o : IsOrderedTo text old e) (boundary : IsCharBoundary text e) (fits : Fits text Elsewhere e next row)
-    (within : next ≤ length text) where
-  -- the extents of what is before it, once the list has that end
-  abbrev pub ends_front : List (ℕ × Extent)
-  ends_front = extents (modify old.nodes ix.0 (λ x. record x { «end» = e }))
-
-  abbrev pub HasLeft : Forest Item → Type 0
-  HasLeft f = (f.spine ≡ ix ∷ rest) × (f.current ≡ Some c)
-      × (extents (modify f.nodes ix.0 (λ x. record x { «end» = e })) ≡ ends_front ++ laid (suc (suc (length rest))) row)
-
-  -- the list closed, with that node after it
-  pub left_ordered : (q : Reading) (d : ℕ) → d ≡ e → HasLeft q.tree → IsOrderedTo text (definitions_closed d q).tree next
-  unfolding definitions_closed
-  left_ordered q d d_is (q_spine, current, closed) =
-      let shut : IsOrderedTo text (closed_by old e (ix ∷ rest)) e = ordered_closed text old e e ix rest spine (omega arith) o.within boundary o in
-      let at : c.0 ≡ length ends_front =
-      place ∙ sym (length-extents (modify old.nodes ix.0 (λ x. record x { «end» = e })) ∙ length-changed old.nodes ix.0 (λ x. record x { «end» = e })) in
-      let f : Forest Item = closed_by q.tree e (ix ∷ rest) in
-      let g : Reading = current_moved (popped_at e q (ix ∷ rest)) (Some c) in
-      let same : (definitions_closed d q) ≡ g =
-      ap (λ z. definitions_closed z q) d_is ∙ ap (λ s. current_moved (popped_at e q s) q.tree.current) q_spine
-      ∙ ap (current_moved (popped_at e q (ix ∷ rest))) current in
-      subst (λ (z : Reading). IsOrderedTo text z.tree next) (sym same)
-      (ordered_more text (closed_by old e (ix ∷ rest)) g.tree e next row
-      (extents_left q e ix c rest ends_front (laid (suc (suc (length rest))) row) closed at
-      ∙ ap (λ (z : List (ℕ × Extent)). ends_front ++ z) (laid-shallower (suc (length rest)) row))
-      (spine_closed q f ix (body_at f.nodes ix.0)) (fits-any text (within_top (closed_by old e (ix ∷ rest))) e next row fits) within shut)
-
 -- the innermost open node stands among the nodes
 open_by : (nodes : List (ℕ × Item)) (ix : TreeIndex) (rest : List TreeIndex) (root : Extent) (levels : List (Siblings × Extent)) (row : Siblings)
     → extents nodes ≡ laid_open root levels row → AreAt root levels (ix ∷ rest) → ix.0 < length nodes
@@ -133,44 +65,88 @@ open_there : (text : List ℕ) (f : Forest Item) (a : ℕ) (ix : TreeIndex) (res
     → ix.0 < length f.nodes
 open_there text f a ix rest spine h = open_by f.nodes ix rest h.root h.levels h.row h.nodes (subst (AreAt h.root h.levels) spine h.places)
 
-body_within : (o : Option (ℕ × Item)) (b : ItemBody) → option_map (λ n. n.1.body) o ≡ Some b → (n : ℕ × Item) × (o ≡ Some n)
-body_within None b is = cc
-body_within (Some n) b is = (n, refl)
+extent_alike : (x y : Item) → y.start ≡ x.start → y.«end» ≡ x.«end» → flags_of y.body ≡ flags_of x.body → extent_of y ≡ extent_of x
+extent_alike x y start end flags =
+    let with_flags : ℕ → ℕ → Bool × Bool × Bool × Bool → Extent =
+    λ s e z. record { start = s; «end» = e; text_block = z.0; marker = z.1; item = z.2; definitions = z.3 } in
+    ap (λ s. with_flags s y.«end» (flags_of y.body)) start ∙ ap (λ e. with_flags x.start e (flags_of y.body)) end
+    ∙ ap (with_flags x.start x.«end») flags
 
-titled_at : (text : List ℕ) (f : Forest Item) (at : ℕ) (title : TreeIndex) (s : List TreeIndex) → f.spine ≡ s
-    → is_definitions (top_of f.nodes s) ≡ true → TitleThere f title → EndsBeforeLast text f at title.0 → at ≤ length text
-    → IsOrderedTo text (title_closed (remembered f None false) title).tree at
-titled_at text f at title [] spine list t h within = cc
-titled_at text f at title (ix ∷ rest) spine list t h within =
-    let old : Forest Item = record f { nodes = take title.0 f.nodes } in
-    let e : ℕ = top_end f in
-    let there = body_within (slice_get f.nodes title.0) MaybeDefinitionListTitle t.body in
-    let low : title.0 < length f.nodes = slice_get_within f.nodes title.0 there.0 there.1 in
-    let place : title.0 ≡ length old.nodes = sym (length-take-le title.0 f.nodes (omega arith)) in
-    let open_low : ix.0 < length old.nodes = open_there text old e ix rest spine h.before in
+pub extents_alike : (old new : List (ℕ × Item)) → AreAlike old new → extents new ≡ extents old
+extents_alike old new NoNodes = refl
+extents_alike old new (OneMore n m xs ys a h) =
+    ap (λ (z : List (ℕ × Extent)). (m.0, extent_of m.1) ∷ z) (extents_alike xs ys h)
+    ∙ ap (λ (x : Extent). (m.0, x) ∷ extents xs) (extent_alike n.1 m.1 a.start a.«end» (ap (λ t. t.2) a.body.0))
+    ∙ ap (λ (d : ℕ). (d, extent_of n.1) ∷ extents xs) a.depth
+
+-- The node at a place is the last child of the innermost open node: what is before it is in order up to an offset, and it lies, with what is below it, between
+-- that and another.
+pub record EndsAt (text : List ℕ) (f : Forest Item) (e at place : ℕ) : Type 0 where
+  pub before : IsOrderedTo text (record f { nodes = take place f.nodes }) e
+  pub ends : IsCharBoundary text e
+  pub row : Siblings
+  pub last : extents (drop place f.nodes) ≡ laid (suc (length f.spine)) row
+  pub fits : Fits text Elsewhere e at row
+
+-- so it stands after what is closed at the first of these
+pub left_ordered : (text : List ℕ) (f g : Forest Item) (at e : ℕ) (c : TreeIndex) → IsLeft f g e c → EndsAt text f e at c.0 → at ≤ length text
+    → IsOrderedTo text g at
+left_ordered text f g at e c l h within =
+    let ix : TreeIndex = l.list in
+    let rest : List TreeIndex = l.rest in
+    let old : Forest Item = record f { nodes = take c.0 f.nodes } in
+    let low : c.0 ≤ length f.nodes = l.within in
+    let place : c.0 ≡ length old.nodes = sym (length-take-le c.0 f.nodes low) in
+    let open_low : ix.0 < length old.nodes = open_there text old e ix rest l.spine h.before in
     let extents_low : ix.0 < length (extents old.nodes) = (let n = length-extents old.nodes in omega arith) in
-    let deep : suc (length f.spine) ≡ suc (suc (length rest)) = ap (λ (s : List TreeIndex). suc (length s)) spine in
+    let deep : suc (length f.spine) ≡ suc (suc (length rest)) = ap (λ (s : List TreeIndex). suc (length s)) l.spine in
     let more : List (ℕ × Extent) = laid (suc (length f.spine)) h.row in
     let ended : List (ℕ × Extent) → List (ℕ × Extent) = λ xs. modify xs ix.0 (λ x. ended_at x e) in
-    let p : List (ℕ × Item) = modify f.nodes title.0 (λ x. record x { body = Paragraph }) in
-    let same : extents p ≡ extents f.nodes = extents-body f.nodes title.0 MaybeDefinitionListTitle Paragraph t.body refl in
+    let shut : Forest Item = closed_by old e (ix ∷ rest) in
+    let front : List (ℕ × Extent) = extents shut.nodes in
+    let at_front : c.0 ≡ length front = place ∙ sym (length-extents shut.nodes ∙ length-changed old.nodes ix.0 (λ x. record x { «end» = e })) in
     let split : extents f.nodes ≡ extents old.nodes ++ more =
-    ap (λ (z : List (ℕ × Item)). extents z) (sym (take-append-drop title.0 f.nodes)) ∙ extents-append old.nodes (drop title.0 f.nodes)
+    ap (λ (z : List (ℕ × Item)). extents z) (sym (take-append-drop c.0 f.nodes)) ∙ extents-append old.nodes (drop c.0 f.nodes)
     ∙ ap (λ (z : List (ℕ × Extent)). extents old.nodes ++ z) h.last in
-    let closed : extents (modify p ix.0 (λ x. record x { «end» = e }))
-    ≡ extents (modify old.nodes ix.0 (λ x. record x { «end» = e })) ++ laid (suc (suc (length rest))) h.row =
-    extents-end p ix.0 e ∙ ap ended (same ∙ split) ∙ modify-front (extents old.nodes) more ix.0 (λ x. ended_at x e) extents_low
-    ∙ ap (λ (z : List (ℕ × Extent)). z ++ more) (sym (extents-end old.nodes ix.0 e))
-    ∙ ap (λ k. extents (modify old.nodes ix.0 (λ x. record x { «end» = e })) ++ laid k h.row) deep in
-    left_ordered text old ix title rest spine place h.row e at h.before h.ends h.fits within
-    (with_tree (remembered f None false) (with_body_at f title Paragraph)) e refl (spine, t.current, closed)
+    let closed : extents l.mid ≡ front ++ laid (suc (suc (length rest))) h.row =
+    extents_alike _ l.mid l.alike ∙ extents-end f.nodes ix.0 e ∙ ap ended split ∙ modify-front (extents old.nodes) more ix.0 (λ x. ended_at x e) extents_low
+    ∙ ap (λ (z : List (ℕ × Extent)). z ++ more) (sym (extents-end old.nodes ix.0 e)) ∙ ap (λ k. front ++ laid k h.row) deep in
+    ordered_more text shut g e at h.row
+    (ap (λ (z : List (ℕ × Item)). extents z) l.nodes ∙ ap (λ k. extents (map_from shallower k l.mid)) at_front
+    ∙ extents-moved front (laid (suc (suc (length rest))) h.row) l.mid closed
+    ∙ ap (λ (z : List (ℕ × Extent)). front ++ z) (laid-shallower (suc (length rest)) h.row))
+    l.outer (fits-any text (within_top shut) e at h.row h.fits) within
+    (ordered_closed text old e e ix rest l.spine (omega arith) h.before.within h.ends h.before)
 
--- a tree in which a possible title is last, which is none
-pub ordered_untitled : (text : List ℕ) (f : Forest Item) (at : ℕ) (title : TreeIndex) → possible_title f ≡ Some title → EndsBeforeTitle text f at
-    → at ≤ length text → IsOrderedTo text (title_closed (remembered f None false) title).tree at
-ordered_untitled text f at title is h within =
-    let t = title_there f title is in
-    titled_at text f at title f.spine refl t.list t (h title is) within
+abbrev pub order_kept : List ℕ → Property
+order_kept text = record {
+  Holds = λ a k f. IsOrderedTo text f a;
+  Goes = λ a b. (a ≤ b) × (b ≤ length text);
+  Bounds = λ e. IsCharBoundary text e;
+  Leaves = λ a e f c. EndsAt text f e a c.0;
+  Opens = λ b. Unit {0};
+  more = λ a k f h. h;
+  later = λ a b k f goes h. ordered_later text f a b goes.0 goes.1 h;
+  like = λ a k f g l h. ordered_same text f g a (extents_alike f.nodes g.nodes l.nodes) l.spine h;
+  closed = λ a e k f ix rest spine goes ends h. ordered_closed text f a e ix rest spine goes.0 goes.1 ends h;
+  left = λ a e k f g c l leaves h. left_ordered text f g a e c l leaves h.within;
+  opened = λ a start k f body goes ends opens h. ordered_begun text (remembered f None false) a start body goes.0 goes.1 ends h;
+}
+
+pub may_leave : (text : List ℕ) (f : Forest Item) (at : ℕ) → EndsBeforeTitle text f at → MayLeave (order_kept text) at f
+may_leave text f at h title is = (let l = h title is in record { before = l.before; ends = l.ends; row = l.row; last = l.last; fits = l.fits })
+
+-- so of what is remembered
+pub ordered_at : (text : List ℕ) (r : Reading) (at : ℕ) → IsOrderedAt text r at → HoldsAt (order_kept text) at 0 r
+ordered_at text r at h = record {
+  holds = h.ordered;
+  goes = (h.later, h.within);
+  marked = λ e is.
+      let here : reached r.empty_item at ≡ e = ap (λ o. reached o at) is in
+      let later : reached r.empty_item at ≤ at = h.later in
+      let within : at ≤ length text = h.within in
+      ((omega arith, omega arith), (h.innermost e is).1);
+}
 
 -- up to a later offset
 pub title_later : (text : List ℕ) (f : Forest Item) (a b : ℕ) → a ≤ b → EndsBeforeTitle text f a → EndsBeforeTitle text f b

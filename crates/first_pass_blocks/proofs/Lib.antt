@@ -1,5 +1,7 @@
 pub mod AddedLemmas
+pub mod AlikeNodes
 pub mod BegunLemmas
+pub mod BlankLines
 pub mod BlockRead
 pub mod ClosedIn
 pub mod CountLemmas
@@ -25,6 +27,7 @@ pub mod LeafAdded
 pub mod LeafLemmas
 pub mod LeafRead
 pub mod LeftBlocks
+pub mod LeftOrder
 pub mod Levels
 pub mod LineLemmas
 pub mod ListLemmas
@@ -35,10 +38,10 @@ pub mod OldFootnotes
 pub mod OpenLemmas
 pub mod OpenerLemmas
 pub mod OrderLemmas
-pub mod LeftOrder
-pub mod PopOrder
 pub mod OrderSteps
 pub mod PopLemmas
+pub mod PopOrder
+pub mod PropertyKept
 pub mod RawFits
 pub mod ReadyCompleted
 pub mod ReadyWhole
@@ -57,4 +60,3 @@ pub mod TitleMoved
 pub mod TitlePops
 pub mod WholeKept
 pub mod WrittenLemmas
-pub mod BlankLines

@@ -1,19 +1,16 @@
 -- Each index that nodes keep names an entry: what closes nodes and notes blank lines changes no index, and what opens a container adds none.
-use Rattle.std.proofs.Common.{◌≡◌, ℕ, zero, suc, ◌+◌, ◌<◌, ◌==◌, ◌&&◌, Bool, true, false, if◌then◌else◌, List, ◌∷◌, ◌++◌, length, nat_lt, slice_index, []}
+use Rattle.std.proofs.Common.{◌≡◌, ℕ, zero, suc, ◌+◌, ◌<◌, Bool, true, false, List, [], ◌∷◌, ◌++◌, length}
 use Rattle.std.proofs.Common.{slice_get}
 use Rattle.std.proofs.Common.{Option, Some, map, take, drop}
-use Rattle.std.proofs.Common.{None, is_some, refl, sym, subst}
-use Rattle.std.specs.Int.RustNames.{bit_and}
-use Rattle.std.proofs.lemmas.Bool.{cond_both}
+use Rattle.std.proofs.Common.{None, refl, sym, ap, subst}
 use Rattle.first_pass_items.specs.declared.item.Item.{Item}
 use Rattle.first_pass_items.specs.declared.item.ItemBody.{ItemBody}
-use Rattle.first_pass_items.specs.declared.item.ItemBody.TheVariants.{BlockQuote as BlockQuoteBody, List as ListBody, ListItem as ListItemBody, Paragraph}
+use Rattle.first_pass_items.specs.declared.item.ItemBody.TheVariants.{Paragraph}
 use Rattle.first_pass_items.specs.declared.item.ItemBody.TheVariants.{TaskListMarker, DefinitionList, DefinitionListTitle, DefinitionListDefinition}
 use Rattle.first_pass_items.specs.declared.item.ItemBody.TheVariants.{MaybeDefinitionListTitle}
 use Rattle.first_pass_tree.specs.declared.tree_index.TreeIndex.{TreeIndex}
-use Rattle.first_pass_tree.specs.Forest.{Forest, empty_forest, with_end_at, with_end, with_body_at, depths, body_at, item_at, is_text, added, at_depth}
+use Rattle.first_pass_tree.specs.Forest.{Forest, modify, empty_forest, with_end_at, with_end, with_body_at, item_at, is_text, added, at_depth}
 use Rattle.first_pass_tree.specs.Forest.{map_from, deeper, shallower}
-use Rattle.first_pass_tree.specs.Tight.{tight_body, tightened, tight_run, tight_at, tight_items}
 use Rattle.first_pass_grammar.specs.Names.{Names, Extends, index_of, NamesEntry, AreNamed}
 use Rattle.first_pass_grammar.specs.Derivation.{list_flags}
 use Rattle.first_pass_grammar.specs.Order.{is_task_marker}
@@ -27,14 +24,16 @@ use Rattle.first_pass_grammar.specs.Completion.{lines_from}
 use Rattle.first_pass_names.proofs.NameLemmas.{extends_none}
 use Rattle.first_pass_open.specs.Path.{path_of}
 use Rattle.first_pass_blocks.specs.Adding.{AddsKind}
-use Rattle.first_pass_open.specs.OpenBlock.{closed_by, with_child}
-use Rattle.first_pass_lists.specs.Closing.{loosened_by, top_body, is_list, is_list_of, is_item, popped_by, popped_at, popped, item_finished_by, item_finished}
-use Rattle.first_pass_lists.specs.Closing.{list_left, gap_tree, gap_noted, list_finished, loosened_top, list_kept, begun, list_continued, emptied}
-use Rattle.first_pass_lists.specs.Closing.{blank_read_by, blank_read, is_footnote, footnote_left, footnote_begun, with_tree, current_moved}
-use Rattle.first_pass_lists.specs.Closing.{definitions_closed, top_end, possible_title, popped_after, with_current, title_kept}
-use Rattle.first_pass_lists.specs.Closing.{definitions_by, definitions_at, definitions_opened, definition_begun, emptied_definition}
+use Rattle.first_pass_blocks.proofs.AlikeNodes.{AreAlike, NoNodes, OneMore}
+use Rattle.first_pass_blocks.proofs.PropertyKept.{IsLeft, Property, HoldsAt, popped_at_keeps, popped_keeps, item_finished_keeps, kept_keeps, blank_keeps}
+use Rattle.first_pass_blocks.proofs.PropertyKept.{list_finished_keeps, quote_keeps, item_keeps, note_keeps}
+use Rattle.first_pass_open.specs.OpenBlock.{with_child, begun_item}
+use Rattle.first_pass_lists.specs.Closing.{popped_at, popped, item_finished}
+use Rattle.first_pass_lists.specs.Closing.{list_finished, list_kept, begun}
+use Rattle.first_pass_lists.specs.Closing.{blank_read, footnote_begun, with_tree, current_moved}
+use Rattle.first_pass_lists.specs.Closing.{with_current, title_kept}
+use Rattle.first_pass_lists.specs.Closing.{definitions_by, definitions_at, definitions_opened, definition_begun}
 use Rattle.first_pass_items.specs.declared.item.CowIndex.{CowIndex}
-use Rattle.first_pass_items.specs.declared.item.ItemBody.TheVariants.{FootnoteDefinition as FootnoteDefinitionBody}
 use Rattle.first_pass_lists.specs.declared.reading.Reading.{Reading}
 use Rattle.first_pass_blocks.proofs.OpenerLemmas.{item_opened}
 
@@ -52,51 +51,6 @@ module _ (names : Names) where
   abbrev pub AreReadNamed : Reading → Type 0
   AreReadNamed r = AreNamed names r.tree.nodes
 
-  body_tight : (body : ItemBody) → NamesEntry names (index_of body) → NamesEntry names (index_of (tight_body body))
-  body_tight Paragraph h = tt
-  body_tight body h = h
-
-  node_by : (t : Bool) (x : Item) → IsNamed names x → IsNamed names (if t then record { start = x.start; «end» = x.«end»; body = tight_body x.body } else x)
-  node_by true x h = body_tight x.body h
-  node_by false x h = h
-
-  -- paragraphs of a list made tight
-  run_by : (t : Bool) (depth : ℕ) (n : ℕ × Item) (nodes : List (ℕ × Item)) → AreNamed names (n ∷ nodes) → AreNamed names (tight_run depth nodes)
-      → AreNamed names (if t then tightened (depth + 2) n ∷ tight_run depth nodes else n ∷ nodes)
-  unfolding AreNamed
-  run_by true depth n nodes h further = (node_by (n.0 == depth + 2) n.1 h.0, further)
-  run_by false depth n nodes h further = h
-
-  run_named : (depth : ℕ) (nodes : List (ℕ × Item)) → AreNamed names nodes → AreNamed names (tight_run depth nodes)
-  unfolding tight_run AreNamed
-  run_named depth [] h = h
-  run_named depth (n ∷ nodes) h = run_by (nat_lt depth n.0) depth n nodes h (run_named depth nodes h.1)
-
-  tight_named : (depth from : ℕ) (nodes : List (ℕ × Item)) → AreNamed names nodes → AreNamed names (tight_at depth from nodes)
-  unfolding tight_at AreNamed
-  tight_named depth zero nodes h = run_named depth nodes h
-  tight_named depth (suc from) [] h = h
-  tight_named depth (suc from) (n ∷ nodes) h = (h.0, tight_named depth from nodes h.1)
-
-  items_by : (t : Bool) (f : Forest Item) (ix : TreeIndex) → AreNamed names f.nodes → AreNamed names (if t then tight_items f ix else f).nodes
-  items_by true f ix h = tight_named (slice_index (depths f.nodes) ix.0) (ix.0 + 1) f.nodes h
-  items_by false f ix h = h
-
-  -- what closes the innermost open node
-  closed_named : (r : Reading) (f : Forest Item) (ix : TreeIndex) (b : Option ItemBody) → AreNamed names f.nodes → AreReadNamed (popped_by r f ix b)
-  closed_named r f ix None h = h
-  closed_named r f ix (Some (ListBody flags byte number)) h = items_by (bit_and flags.0 1 == 1) f ix h
-  closed_named r f ix (Some (DefinitionList flags)) h = items_by (bit_and flags.0 1 == 1) f ix h
-  closed_named r f ix (Some (ListItemBody columns)) h = h
-  closed_named r f ix (Some (DefinitionListDefinition columns)) h = h
-  closed_named r f ix (Some b) h = h
-
-  popped_at_named : (e : ℕ) (r : Reading) (s : List TreeIndex) → AreReadNamed r → AreReadNamed (popped_at e r s)
-  popped_at_named e r [] h = h
-  popped_at_named e r (ix ∷ rest) h =
-      closed_named r (closed_by r.tree e (ix ∷ rest)) ix (body_at (closed_by r.tree e (ix ∷ rest)).nodes ix.0)
-      (named_modified names r.tree.nodes ix.0 (λ x. record x { «end» = e }) (λ x k. k) h)
-
   -- nodes moved out of the one that is closed
   shallower_named : (nodes : List (ℕ × Item)) → AreNamed names nodes → AreNamed names (map shallower nodes)
   unfolding AreNamed
@@ -109,56 +63,74 @@ module _ (names : Names) where
   moved_from_named (suc place) [] h = tt
   moved_from_named (suc place) (n ∷ nodes) h = (h.0, moved_from_named place nodes h.1)
 
-  moved_named : (r : Reading) (o : Option TreeIndex) → AreReadNamed r → AreReadNamed (current_moved r o)
-  moved_named r None h = h
-  moved_named r (Some c) h = moved_from_named c.0 r.tree.nodes h
-
-  definitions_closed_named : (e : ℕ) (r : Reading) → AreReadNamed r → AreReadNamed (definitions_closed e r)
-  unfolding definitions_closed
-  definitions_closed_named e r h = moved_named (popped_at e r r.tree.spine) r.tree.current (popped_at_named e r r.tree.spine h)
-
   -- another body that keeps no index
   body_named : (f : Forest Item) (c : TreeIndex) (b : ItemBody) → NamesEntry names (index_of b) → AreNamed names f.nodes
       → AreNamed names (with_body_at f c b).nodes
   body_named f c b none h = named_modified names f.nodes c.0 (λ x. record x { body = b }) (λ x k. none) h
 
-  popped_after_named : (e : ℕ) (r : Reading) (o : Option TreeIndex) → AreReadNamed r → AreReadNamed (popped_after e r o)
-  popped_after_named e r None h = popped_at_named e r r.tree.spine h
-  popped_after_named e r (Some title) h =
-      definitions_closed_named (top_end r.tree) (with_tree r (with_body_at r.tree title Paragraph)) (body_named r.tree title Paragraph tt h)
+  pub named_alike : (old new : List (ℕ × Item)) → AreAlike old new → AreNamed names old → AreNamed names new
+  unfolding AreNamed
+  named_alike old new NoNodes h = tt
+  named_alike old new (OneMore n m xs ys a l) h = (subst (NamesEntry names) (sym (ap (λ t. t.4) a.body.0)) h.0, named_alike xs ys l h.1)
+
+  pub one_named : (nodes : List (ℕ × Item)) (n : ℕ × Item) → IsNamed names n.1 → AreNamed names nodes → AreNamed names (nodes ++ n ∷ [])
+  unfolding AreNamed
+  one_named nodes n own h = named_both names nodes (n ∷ []) h (own, tt)
+
+  pub ended_named : (nodes : List (ℕ × Item)) (i e : ℕ) → AreNamed names nodes → AreNamed names (modify nodes i (λ x. record x { «end» = e }))
+  ended_named nodes i e h = named_modified names nodes i (λ x. record x { «end» = e }) (λ x k. k) h
+
+  pub moved_named : (f g : Forest Item) (e : ℕ) (c : TreeIndex) → IsLeft f g e c → AreNamed names f.nodes → AreNamed names g.nodes
+  moved_named f g e c l h =
+      subst (AreNamed names) (sym l.nodes) (moved_from_named c.0 l.mid (named_alike _ l.mid l.alike (ended_named f.nodes l.list.0 e h)))
+
+  abbrev pub named_kept : Property
+  named_kept = record {
+    Holds = λ a k f. AreNamed names f.nodes;
+    Goes = λ a b. Unit {0};
+    Bounds = λ e. Unit {0};
+    Leaves = λ a e f c. Unit {0};
+    Opens = λ b. NamesEntry names (index_of b);
+    more = λ a k f h. h;
+    later = λ a b k f goes h. h;
+    like = λ a k f g l h. named_alike f.nodes g.nodes l.nodes h;
+    closed = λ a e k f ix rest spine goes ends h. ended_named f.nodes ix.0 e h;
+    left = λ a e k f g c l leaves h. moved_named f g e c l h;
+    opened = λ a start k f body goes ends opens h. one_named f.nodes (length f.spine + 1, begun_item start body) opens h;
+  }
+
+  named_at : (r : Reading) → AreReadNamed r → HoldsAt named_kept 0 0 r
+  named_at r h = record { holds = h; goes = tt; marked = λ e is. (tt, tt) }
 
   pub popped_named : (e : ℕ) (r : Reading) → AreReadNamed r → AreReadNamed (popped e r)
-  unfolding popped
-  popped_named e r h = popped_after_named e r (possible_title r.tree) h
-
-  -- what finishes an empty item
-  finished_by_named : (r : Reading) (o : Option ℕ) → AreReadNamed r → AreReadNamed (item_finished_by r o)
-  finished_by_named r None h = h
-  finished_by_named r (Some e) h =
-      cond_both (r.blank && is_item (top_body r.tree)) (popped e r) r (λ (q : Reading). AreReadNamed q) (λ b. popped_named e r h) (λ b. h)
+  popped_named e r h = popped_keeps named_kept 0 e 0 r (λ t is. tt) tt tt h
 
   pub item_finished_named : (r : Reading) → AreReadNamed r → AreReadNamed (item_finished r)
-  unfolding item_finished
-  item_finished_named r h = finished_by_named r r.empty_item h
+  item_finished_named r h = item_finished_keeps named_kept 0 0 r (named_at r h)
 
-  -- what makes a list loose
-  loosened_named : (f : Forest Item) (ix : TreeIndex) (b : Option ItemBody) → AreNamed names f.nodes → AreNamed names (loosened_by f ix b).nodes
-  loosened_named f ix None h = h
-  loosened_named f ix (Some (ListBody flags byte number)) h =
-      named_modified names f.nodes ix.0 (λ x. record x { body = ListBody (list_flags false) byte number }) (λ x k. tt) h
-  loosened_named f ix (Some (DefinitionList flags)) h = body_named f ix (DefinitionList (list_flags false)) tt h
-  loosened_named f ix (Some b) h = h
+  pub list_finished_named : (e : ℕ) (r : Reading) → AreReadNamed r → AreReadNamed (list_finished e r)
+  list_finished_named e r h = list_finished_keeps named_kept 0 e 0 0 r (named_at r h) (λ t is. tt) (λ list. tt) tt tt tt
 
-  gap_tree_named : (f : Forest Item) (s : List TreeIndex) → AreNamed names f.nodes → AreNamed names (gap_tree f s).nodes
-  gap_tree_named f [] h = h
-  gap_tree_named f (ix ∷ []) h = h
-  gap_tree_named f (ix ∷ outer ∷ rest) h = loosened_named f outer (body_at f.nodes outer.0) h
+  pub blank_named : (r : Reading) → AreReadNamed r → AreReadNamed (blank_read r)
+  blank_named r h = blank_keeps named_kept 0 0 r h
 
-  gap_named : (r : Reading) → AreReadNamed r → AreReadNamed (gap_noted r)
-  gap_named r h = cond_both r.blank (record r { tree = gap_tree r.tree r.tree.spine; blank = false }) r (λ (q : Reading). AreReadNamed q)
-      (λ b. gap_tree_named r.tree r.tree.spine h) (λ b. h)
+  pub item_named : (start byte number columns : ℕ) (r : Reading) → AreReadNamed r → AreReadNamed (item_opened start byte number columns r)
+  item_named start byte number columns r h =
+      item_keeps named_kept 0 start byte number columns 0 r (named_at r h) (λ t is. tt) tt tt tt tt tt tt
 
-  -- what ends a definition list before a heading or a table, or keeps a possible title
+  pub quote_named : (line start : ℕ) (body : ItemBody) (r : Reading)
+      → NamesEntry names (index_of body) → AreReadNamed r → AreReadNamed (begun start body (list_finished line r))
+  quote_named line start body r own h =
+      quote_keeps named_kept 0 line 0 start 0 body r (named_at r h) (λ t is. tt) (λ list. tt) tt tt tt tt tt own
+
+  pub note_named : (start : ℕ) (index : CowIndex) (r : Reading) → index.0 < length names.texts → AreReadNamed r → AreReadNamed (footnote_begun start index r)
+  note_named start index r own h = note_keeps named_kept 0 start 0 index r (named_at r h) (λ t is. tt) tt tt tt own
+
+  -- what ends a definition list before a heading or a table
+  closed_named : (e : ℕ) (r : Reading) (o : Option TreeIndex) → AreReadNamed r → AreReadNamed (current_moved (popped_at e r r.tree.spine) o)
+  closed_named e r None h = popped_at_keeps named_kept 0 e 0 r r.tree.spine refl tt tt h
+  closed_named e r (Some c) h =
+      moved_from_named c.0 (popped_at e r r.tree.spine).tree.nodes (popped_at_keeps named_kept 0 e 0 r r.tree.spine refl tt tt h)
 
   end_named : (f : Forest Item) (e : ℕ) (o : Option TreeIndex) → AreNamed names f.nodes → AreNamed names (with_end f e o).nodes
   end_named f e None h = h
@@ -172,64 +144,6 @@ module _ (names : Names) where
   unfolding title_kept
   title_kept_named e r h =
       end_named (with_current r.tree MaybeDefinitionListTitle r.tree.current) e (slice_get r.tree.spine 0) (title_named r.tree r.tree.current h)
-
-  -- what finishes a list
-  left_named : (e : ℕ) (r : Reading) → AreReadNamed r → AreReadNamed (list_left e r)
-  left_named e r h = cond_both (is_list (top_body r.tree)) (popped e r) r (λ (q : Reading). AreReadNamed q) (λ b. popped_named e r h) (λ b. h)
-
-  pub list_finished_named : (e : ℕ) (r : Reading) → AreReadNamed r → AreReadNamed (list_finished e r)
-  unfolding list_finished
-  list_finished_named e r h = gap_named (list_left e (item_finished r)) (left_named e (item_finished r) (item_finished_named r h))
-
-  top_named : (f : Forest Item) (s : List TreeIndex) → AreNamed names f.nodes → AreNamed names (loosened_top f s).nodes
-  top_named f [] h = h
-  top_named f (ix ∷ rest) h = loosened_named f ix (body_at f.nodes ix.0) h
-
-  kept_named : (r : Reading) → AreReadNamed r → AreReadNamed (list_kept r)
-  kept_named r h = cond_both r.blank (record r { tree = loosened_top r.tree r.tree.spine; blank = false }) r (λ (q : Reading). AreReadNamed q)
-      (λ b. top_named r.tree r.tree.spine h) (λ b. h)
-
-  -- a blank line
-  emptied_named : (f : Forest Item) (s : List TreeIndex) → AreNamed names f.nodes → AreNamed names (emptied f s).nodes
-  emptied_named f [] h = h
-  emptied_named f (ix ∷ rest) h = named_modified names f.nodes ix.0 (λ x. record x { body = ListItemBody 0 }) (λ x k. tt) h
-
-  emptied_definition_named : (f : Forest Item) (s : List TreeIndex) → AreNamed names f.nodes → AreNamed names (emptied_definition f s).nodes
-  emptied_definition_named f [] h = h
-  emptied_definition_named f (ix ∷ rest) h = body_named f ix (DefinitionListDefinition 0) tt h
-
-  blank_by_named : (r : Reading) (b : Option ItemBody) → AreReadNamed r → AreReadNamed (blank_read_by r b)
-  blank_by_named r None h = h
-  blank_by_named r (Some (BlockQuoteBody kind)) h = h
-  blank_by_named r (Some (ListItemBody columns)) h =
-      cond_both (is_some r.empty_item) (emptied r.tree r.tree.spine) r.tree (λ (f : Forest Item). AreNamed names f.nodes)
-      (λ b. emptied_named r.tree r.tree.spine h) (λ b. h)
-  blank_by_named r (Some (DefinitionListDefinition columns)) h =
-      cond_both (is_some r.empty_item) (emptied_definition r.tree r.tree.spine) r.tree (λ (f : Forest Item). AreNamed names f.nodes)
-      (λ b. emptied_definition_named r.tree r.tree.spine h) (λ b. h)
-  blank_by_named r (Some b) h = h
-
-  pub blank_named : (r : Reading) → AreReadNamed r → AreReadNamed (blank_read r)
-  unfolding blank_read
-  blank_named r h = blank_by_named r (top_body r.tree) h
-
-  -- what opens a container
-  begun_named : (start : ℕ) (body : ItemBody) (r : Reading) → NamesEntry names (index_of body) → AreReadNamed r → AreReadNamed (begun start body r)
-  unfolding AreNamed
-  begun_named start body r own h = named_both names r.tree.nodes ((length r.tree.spine + 1, record { start = start; «end» = 0; body = body }) ∷ []) h (own, tt)
-
-  continued_named : (start byte number : ℕ) (r : Reading) → AreReadNamed r → AreReadNamed (list_continued start byte number r)
-  unfolding list_continued
-  continued_named start byte number r h =
-      let s : Reading = item_finished r in
-      let k = item_finished_named r h in
-      cond_both (is_list_of byte (top_body s.tree)) (list_kept s) (begun start (ListBody (list_flags true) byte number) (list_finished start s))
-      (λ (q : Reading). AreReadNamed q) (λ b. kept_named s k)
-      (λ b. begun_named start (ListBody (list_flags true) byte number) (list_finished start s) tt (list_finished_named start s k))
-
-  pub item_named : (start byte number columns : ℕ) (r : Reading) → AreReadNamed r → AreReadNamed (item_opened start byte number columns r)
-  item_named start byte number columns r h =
-      begun_named start (ListItemBody columns) (list_continued start byte number r) tt (continued_named start byte number r h)
 
   -- a definition, in the list that is open or in a new one
   deeper_named : (nodes : List (ℕ × Item)) → AreNamed names nodes → AreNamed names (map deeper nodes)
@@ -263,21 +177,8 @@ module _ (names : Names) where
   unfolding definition_begun
   definition_named start columns r h =
       let q : Reading = with_tree r (definitions_opened r.tree r.tree.current) in
-      begun_named start (DefinitionListDefinition columns) (list_kept q) tt (kept_named q (opened_named r.tree r.tree.current h))
-
-  pub quote_named : (line start : ℕ) (body : ItemBody) (r : Reading)
-      → NamesEntry names (index_of body) → AreReadNamed r → AreReadNamed (begun start body (list_finished line r))
-  quote_named line start body r own h = begun_named start body (list_finished line r) own (list_finished_named line r h)
-
-  note_left_named : (e : ℕ) (r : Reading) → AreReadNamed r → AreReadNamed (footnote_left e r)
-  note_left_named e r h = cond_both (is_footnote (top_body r.tree)) (popped e r) r (λ (q : Reading). AreReadNamed q) (λ b. popped_named e r h) (λ b. h)
-
-  pub note_named : (start : ℕ) (index : CowIndex) (r : Reading) → index.0 < length names.texts → AreReadNamed r → AreReadNamed (footnote_begun start index r)
-  unfolding footnote_begun
-  note_named start index r own h =
-      let l : Reading = list_left start (item_finished r) in
-      begun_named start (FootnoteDefinitionBody index) (gap_noted (footnote_left start l)) own
-      (gap_named (footnote_left start l) (note_left_named start l (left_named start (item_finished r) (item_finished_named r h))))
+      named_kept.opened 0 start 0 (list_kept q).tree (DefinitionListDefinition columns) tt tt tt
+      (kept_keeps named_kept 0 0 q (opened_named r.tree r.tree.current h))
 
   -- the marker of a task
   none_named : (o : Option Item) (f : Forest Item)

@@ -1,10 +1,9 @@
 -- What is open directly in a list is an item, as nodes are opened and closed and blank lines are noted; and no possible title is last where a node was closed.
-use Rattle.std.proofs.Common.{◌≡◌, inl, inr, ℕ, zero, suc, ◌+◌, ◌<◌, ◌≤◌, ◌==◌, ◌&&◌, Bool, true, false, if◌then◌else◌, List, [], ◌∷◌, ◌++◌, length, map}
-use Rattle.std.proofs.Common.{slice_get, slice_index, nat_lt, Option, Some, None, is_some, refl, sym, ap, subst, ◌∙◌, arith, length-append}
+use Rattle.std.proofs.Common.{◌≡◌, inl, inr, ℕ, zero, suc, ◌+◌, ◌<◌, ◌≤◌, ◌&&◌, Bool, true, false, if◌then◌else◌, List, [], ◌∷◌, ◌++◌, length, map}
+use Rattle.std.proofs.Common.{slice_get, Option, Some, None, is_some, refl, sym, ap, subst, ◌∙◌, arith, length-append}
 use Rattle.std.proofs.lemmas.Bool.{cond_both, cases_Bool, true≢false, and_parts}
 use Rattle.std.proofs.lemmas.List.{length-map}
 use Rattle.std.proofs.lemmas.Option.{slice_get-map}
-use Rattle.std.specs.Int.RustNames.{bit_and}
 use Rattle.std.specs.Option.{option_and_then, option_map}
 use Rattle.first_pass_items.specs.declared.item.CowIndex.{CowIndex}
 use Rattle.first_pass_items.specs.declared.item.Item.{Item}
@@ -14,8 +13,7 @@ use Rattle.first_pass_items.specs.declared.item.ItemBody.TheVariants.{FootnoteDe
 use Rattle.first_pass_items.specs.declared.item.ItemBody.TheVariants.{DefinitionListDefinition, MaybeDefinitionListTitle}
 use Rattle.first_pass_tree.specs.declared.tree_index.TreeIndex.{TreeIndex}
 use Rattle.first_pass_tree.proofs.BodyLemmas.{body-changed}
-use Rattle.first_pass_tree.specs.Forest.{Forest, empty_forest, with_end_at, modify, with_body_at, body_at, depths, map_from, shallower, added}
-use Rattle.first_pass_tree.specs.Tight.{tight_body, tightened, tight_run, tight_at, tight_items}
+use Rattle.first_pass_tree.specs.Forest.{Forest, empty_forest, with_end_at, modify, with_body_at, body_at, map_from, shallower, added}
 use Rattle.std.specs.Prelude.{IsSomeAnd}
 use Rattle.first_pass_grammar.specs.Derivation.{list_flags}
 use Rattle.first_pass_grammar.specs.Order.{is_task_marker}
@@ -23,20 +21,22 @@ use Rattle.first_pass_open.specs.OpenBlock.{closed_by, with_child}
 use Rattle.first_pass_open.proofs.PathLemmas.{get_front}
 use Rattle.first_pass_lists.specs.Closing.{remembered, with_tree, loosened_by, loosened_at, top_body, is_definition_list, is_list, is_list_of, is_item}
 use Rattle.first_pass_lists.specs.Closing.{is_footnote}
-use Rattle.first_pass_lists.specs.Closing.{popped_by, popped_at, current_moved, definitions_closed, title_by, possible_title, title_closed, top_end}
+use Rattle.first_pass_lists.specs.Closing.{popped_at, current_moved, definitions_closed, title_by, possible_title, title_closed, top_end}
 use Rattle.first_pass_lists.specs.Closing.{popped_after}
-use Rattle.first_pass_lists.specs.Closing.{popped, item_finished_by, item_finished, list_left, footnote_left, gap_tree, gap_noted, list_finished}
-use Rattle.first_pass_lists.specs.Closing.{loosened_top, list_kept, begun, footnote_begun, list_continued, emptied, emptied_definition, blank_read_by}
+use Rattle.first_pass_lists.specs.Closing.{popped, item_finished_by, item_finished, list_left, footnote_left, gap_noted, list_finished}
+use Rattle.first_pass_lists.specs.Closing.{loosened_top, list_kept, begun, footnote_begun, list_continued, blank_read_by}
 use Rattle.first_pass_lists.specs.Closing.{blank_read}
 use Rattle.first_pass_lists.specs.declared.reading.Reading.{Reading}
+use Rattle.first_pass_blocks.proofs.AlikeNodes.{class_of, AreAlike, NoNodes, OneMore, LooksAlike, like_popped, like_loosened, like_noted, like_kept, like_blank}
 use Rattle.first_pass_blocks.specs.Ordered.{top_of, AreNested, HasDefinition, CanClose}
-
--- whether a node is a list, and whether it is an item
-abbrev pub class_of : ItemBody → Bool × Bool
-class_of b = (is_list (Some b), is_item (Some b))
 
 abbrev pub classes : List (ℕ × Item) → List (Bool × Bool)
 classes nodes = map (λ n. class_of n.1.body) nodes
+
+classes_alike : (old new : List (ℕ × Item)) → AreAlike old new → classes new ≡ classes old
+classes_alike old new NoNodes = refl
+classes_alike old new (OneMore n m xs ys a h) =
+    ap (λ z. z ∷ classes ys) (ap (λ t. t.3) a.body.0) ∙ ap (λ z. class_of n.1.body ∷ z) (classes_alike xs ys h)
 
 -- nodes of the same classes are nested alike
 listed : Option (Bool × Bool) → Bool
@@ -132,32 +132,6 @@ classes_body (n ∷ nodes) zero a b is same =
     (let e : n.1.body ≡ a = cc in ap (λ z. z ∷ classes nodes) (sym same) ∙ ap (λ z. class_of z ∷ classes nodes) (sym e))
 classes_body (n ∷ nodes) (suc k) a b is same = ap (λ z. class_of n.1.body ∷ z) (classes_body nodes k a b is same)
 
-class_tight : (b : ItemBody) → class_of (tight_body b) ≡ class_of b
-class_tight Paragraph = refl
-class_tight b = refl
-
-class_by : (t : Bool) (x : Item)
-    → (let y : Item = if t then record { start = x.start; «end» = x.«end»; body = tight_body x.body } else x in class_of y.body ≡ class_of x.body)
-class_by true x = class_tight x.body
-class_by false x = refl
-
-classes_run_by : (t : Bool) (depth : ℕ) (n : ℕ × Item) (nodes : List (ℕ × Item)) → classes (tight_run depth nodes) ≡ classes nodes
-    → classes (if t then tightened (depth + 2) n ∷ tight_run depth nodes else n ∷ nodes) ≡ classes (n ∷ nodes)
-classes_run_by true depth n nodes h =
-    ap (λ z. z ∷ classes (tight_run depth nodes)) (class_by (n.0 == depth + 2) n.1) ∙ ap (λ z. class_of n.1.body ∷ z) h
-classes_run_by false depth n nodes h = refl
-
-classes_run : (depth : ℕ) (nodes : List (ℕ × Item)) → classes (tight_run depth nodes) ≡ classes nodes
-unfolding tight_run
-classes_run depth [] = refl
-classes_run depth (n ∷ nodes) = classes_run_by (nat_lt depth n.0) depth n nodes (classes_run depth nodes)
-
-classes_tight : (depth from : ℕ) (nodes : List (ℕ × Item)) → classes (tight_at depth from nodes) ≡ classes nodes
-unfolding tight_at
-classes_tight depth zero nodes = classes_run depth nodes
-classes_tight depth (suc from) [] = refl
-classes_tight depth (suc from) (n ∷ nodes) = ap (λ z. class_of n.1.body ∷ z) (classes_tight depth from nodes)
-
 classes_shallower : (nodes : List (ℕ × Item)) → classes (map shallower nodes) ≡ classes nodes
 classes_shallower [] = refl
 classes_shallower (n ∷ nodes) = ap (λ z. class_of n.1.body ∷ z) (classes_shallower nodes)
@@ -208,35 +182,11 @@ pub record PopsTo (r q : Reading) (ix : TreeIndex) (rest : List TreeIndex) : Typ
   pub spine : q.tree.spine ≡ rest
   pub current : q.tree.current ≡ Some ix
 
-tight_pops : (t : Bool) (f : Forest Item) (ix : TreeIndex) → classes (if t then tight_items f ix else f).nodes ≡ classes f.nodes
-tight_pops true f ix = classes_tight (slice_index (depths f.nodes) ix.0) (ix.0 + 1) f.nodes
-tight_pops false f ix = refl
-
-tight_spine : (t : Bool) (f : Forest Item) (ix : TreeIndex) → (if t then tight_items f ix else f).spine ≡ f.spine
-tight_spine true f ix = refl
-tight_spine false f ix = refl
-
-tight_current : (t : Bool) (f : Forest Item) (ix : TreeIndex) → (if t then tight_items f ix else f).current ≡ f.current
-tight_current true f ix = refl
-tight_current false f ix = refl
-
-pops_by : (r : Reading) (e : ℕ) (ix : TreeIndex) (rest : List TreeIndex) (b : Option ItemBody)
-    → PopsTo r (popped_by r (closed_by r.tree e (ix ∷ rest)) ix b) ix rest
-pops_by r e ix rest (Some (ListBody flags byte number)) =
-    let f : Forest Item = closed_by r.tree e (ix ∷ rest) in
-    let t : Bool = bit_and flags.0 1 == 1 in
-    record { same = tight_pops t f ix ∙ classes_ended r.tree.nodes ix.0 e; spine = tight_spine t f ix; current = tight_current t f ix }
-pops_by r e ix rest (Some (DefinitionList flags)) =
-    let f : Forest Item = closed_by r.tree e (ix ∷ rest) in
-    let t : Bool = bit_and flags.0 1 == 1 in
-    record { same = tight_pops t f ix ∙ classes_ended r.tree.nodes ix.0 e; spine = tight_spine t f ix; current = tight_current t f ix }
-pops_by r e ix rest (Some (ListItemBody columns)) = record { same = classes_ended r.tree.nodes ix.0 e; spine = refl; current = refl }
-pops_by r e ix rest (Some (DefinitionListDefinition columns)) = record { same = classes_ended r.tree.nodes ix.0 e; spine = refl; current = refl }
-pops_by r e ix rest None = record { same = classes_ended r.tree.nodes ix.0 e; spine = refl; current = refl }
-pops_by r e ix rest (Some b) = record { same = classes_ended r.tree.nodes ix.0 e; spine = refl; current = refl }
-
 pub pops_at : (e : ℕ) (r : Reading) (ix : TreeIndex) (rest : List TreeIndex) → PopsTo r (popped_at e r (ix ∷ rest)) ix rest
-pops_at e r ix rest = pops_by r e ix rest (body_at (closed_by r.tree e (ix ∷ rest)).nodes ix.0)
+pops_at e r ix rest =
+    let f : Forest Item = closed_by r.tree e (ix ∷ rest) in
+    let like = like_popped r f ix (body_at f.nodes ix.0) in
+    record { same = classes_alike f.nodes _ like.nodes ∙ classes_ended r.tree.nodes ix.0 e; spine = like.spine; current = like.current }
 
 -- nested, and no possible title is last, but something is in a definition list that is innermost
 pub record IsSettled (r : Reading) : Type 0 where
@@ -486,59 +436,18 @@ note_left_by e r false none h = h
 pub footnote_left_outside : (e : ℕ) (r : Reading) → IsOutside r → IsOutside (footnote_left e r)
 footnote_left_outside e r h = note_left_by e r (is_footnote (top_body r.tree)) refl h
 
--- a list made loose
-loosened_same : (f : Forest Item) (ix : TreeIndex) (b : Option ItemBody) → body_at f.nodes ix.0 ≡ b → classes (loosened_by f ix b).nodes ≡ classes f.nodes
-loosened_same f ix (Some (ListBody flags byte number)) is =
-    classes_body f.nodes ix.0 (ListBody flags byte number) (ListBody (list_flags false) byte number) is refl
-loosened_same f ix (Some (DefinitionList flags)) is = classes_body f.nodes ix.0 (DefinitionList flags) (DefinitionList (list_flags false)) is refl
-loosened_same f ix None is = refl
-loosened_same f ix (Some b) is = refl
+-- nodes that are alike
+pub like_nested : (f g : Forest Item) → LooksAlike f g → AreNested f.nodes f.spine → AreNested g.nodes g.spine
+like_nested f g a h = subst (AreNested g.nodes) (sym a.spine) (nested_same f.nodes g.nodes f.spine (classes_alike f.nodes g.nodes a.nodes) h)
 
-loosened_spine : (f : Forest Item) (ix : TreeIndex) (b : Option ItemBody) → (loosened_by f ix b).spine ≡ f.spine
-loosened_spine f ix (Some (ListBody flags byte number)) = refl
-loosened_spine f ix (Some (DefinitionList flags)) = refl
-loosened_spine f ix None = refl
-loosened_spine f ix (Some b) = refl
+pub like_list : (f g : Forest Item) → LooksAlike f g → is_list (top_body g) ≡ is_list (top_body f)
+like_list f g a = ap (λ s. is_list (top_of g.nodes s)) a.spine ∙ top_list_same f.nodes g.nodes f.spine (classes_alike f.nodes g.nodes a.nodes)
 
--- the same nodes but for what their classes don't tell
-pub record IsLike (f g : Forest Item) : Type 0 where
-  pub same : classes g.nodes ≡ classes f.nodes
-  pub spine : g.spine ≡ f.spine
-
-pub like_nested : (f g : Forest Item) → IsLike f g → AreNested f.nodes f.spine → AreNested g.nodes g.spine
-like_nested f g a h = subst (AreNested g.nodes) (sym a.spine) (nested_same f.nodes g.nodes f.spine a.same h)
-
-pub like_list : (f g : Forest Item) → IsLike f g → is_list (top_body g) ≡ is_list (top_body f)
-like_list f g a = ap (λ s. is_list (top_of g.nodes s)) a.spine ∙ top_list_same f.nodes g.nodes f.spine a.same
-
-pub like_item : (f g : Forest Item) → IsLike f g → is_item (top_body g) ≡ is_item (top_body f)
-like_item f g a = ap (λ s. is_item (top_of g.nodes s)) a.spine ∙ top_item_same f.nodes g.nodes f.spine a.same
-
-pub like_itself : (f : Forest Item) → IsLike f f
-like_itself f = record { same = refl; spine = refl }
-
-loosened_like : (f : Forest Item) (ix : TreeIndex) → IsLike f (loosened_at f ix)
-loosened_like f ix = record { same = loosened_same f ix (body_at f.nodes ix.0) refl; spine = loosened_spine f ix (body_at f.nodes ix.0) }
-
-gap_like : (f : Forest Item) (s : List TreeIndex) → IsLike f (gap_tree f s)
-gap_like f [] = like_itself f
-gap_like f (ix ∷ []) = like_itself f
-gap_like f (ix ∷ outer ∷ rest) = loosened_like f outer
-
-pub noted_like : (r : Reading) → IsLike r.tree (gap_noted r).tree
-noted_like r = cond_both r.blank (record r { tree = gap_tree r.tree r.tree.spine; blank = false }) r (λ (q : Reading). IsLike r.tree q.tree)
-    (λ b. gap_like r.tree r.tree.spine) (λ b. like_itself r.tree)
-
-top_like : (f : Forest Item) (s : List TreeIndex) → IsLike f (loosened_top f s)
-top_like f [] = like_itself f
-top_like f (ix ∷ rest) = loosened_like f ix
-
-pub kept_like : (r : Reading) → IsLike r.tree (list_kept r).tree
-kept_like r = cond_both r.blank (record r { tree = loosened_top r.tree r.tree.spine; blank = false }) r (λ (q : Reading). IsLike r.tree q.tree)
-    (λ b. top_like r.tree r.tree.spine) (λ b. like_itself r.tree)
+pub like_item : (f g : Forest Item) → LooksAlike f g → is_item (top_body g) ≡ is_item (top_body f)
+like_item f g a = ap (λ s. is_item (top_of g.nodes s)) a.spine ∙ top_item_same f.nodes g.nodes f.spine (classes_alike f.nodes g.nodes a.nodes)
 
 pub noted_outside : (r : Reading) → IsOutside r → IsOutside (gap_noted r)
-noted_outside r h = (like_nested r.tree (gap_noted r).tree (noted_like r) h.0, like_list r.tree (gap_noted r).tree (noted_like r) ∙ h.1)
+noted_outside r h = (like_nested r.tree (gap_noted r).tree (like_noted r) h.0, like_list r.tree (gap_noted r).tree (like_noted r) ∙ h.1)
 
 -- before a block that ends a list
 pub list_finished_outside : (e : ℕ) (r : Reading) → AreNested r.tree.nodes r.tree.spine → IsOutside (list_finished e r)
@@ -595,7 +504,7 @@ top_other f [] spine other = other
 top_other f (ix ∷ rest) spine other =
     let g : Forest Item = loosened_at f ix in
     let top : top_body g ≡ body_at g.nodes ix.0 =
-    ap (λ (s : List TreeIndex). option_and_then (λ ix. body_at g.nodes ix.0) (slice_get s 0)) (loosened_spine f ix (body_at f.nodes ix.0) ∙ spine) in
+    ap (λ (s : List TreeIndex). option_and_then (λ ix. body_at g.nodes ix.0) (slice_get s 0)) ((like_loosened f ix).spine ∙ spine) in
     let here : is_definition_list (body_at f.nodes ix.0) ≡ false =
     sym (ap (λ (s : List TreeIndex). is_definition_list (option_and_then (λ ix. body_at f.nodes ix.0) (slice_get s 0))) spine) ∙ other in
     ap is_definition_list top ∙ loosened_other f ix (body_at f.nodes ix.0) refl here
@@ -614,7 +523,7 @@ list_continued_settled start byte number r h =
     let kept : is_list_of byte (top_body s.tree) ≡ true → IsSettled (list_kept s) =
     (λ list. let other = kept_other s (list_of_other byte (top_body s.tree) list) in
     record {
-      nested = like_nested s.tree (list_kept s).tree (kept_like s) k;
+      nested = like_nested s.tree (list_kept s).tree (like_kept s) k;
       none = untitled_top (list_kept s).tree (list_kept s).tree.current other;
       last = λ is. absurd (true≢false (sym is ∙ other));
     }) in
@@ -628,33 +537,6 @@ footnote_begun_settled start index r h =
     let q : Reading = footnote_left start (list_left start s) in
     begun_outside start (FootnoteDefinitionBody index) (gap_noted q) refl
     (noted_outside q (footnote_left_outside start (list_left start s) (list_left_outside start s (item_finished_nested r h))))
-
--- a blank line
-emptied_same : (f : Forest Item) (s : List TreeIndex) (columns : ℕ) → option_and_then (λ (ix : TreeIndex). body_at f.nodes ix.0) (slice_get s 0)
-    ≡ Some (ListItemBody columns) → IsLike f (emptied f s)
-emptied_same f [] columns is = like_itself f
-emptied_same f (ix ∷ rest) columns is = record { same = classes_body f.nodes ix.0 (ListItemBody columns) (ListItemBody 0) is refl; spine = refl }
-
-emptied_definition_same : (f : Forest Item) (s : List TreeIndex) (columns : ℕ) → option_and_then (λ (ix : TreeIndex). body_at f.nodes ix.0) (slice_get s 0)
-    ≡ Some (DefinitionListDefinition columns) → IsLike f (emptied_definition f s)
-emptied_definition_same f [] columns is = like_itself f
-emptied_definition_same f (ix ∷ rest) columns is =
-    record { same = classes_body f.nodes ix.0 (DefinitionListDefinition columns) (DefinitionListDefinition 0) is refl; spine = refl }
-
-blank_by_like : (r : Reading) (b : Option ItemBody) → top_body r.tree ≡ b → IsLike r.tree (blank_read_by r b).tree
-blank_by_like r None is = like_itself r.tree
-blank_by_like r (Some (BlockQuoteBody kind)) is = like_itself r.tree
-blank_by_like r (Some (ListItemBody columns)) is =
-    cond_both (is_some r.empty_item) (emptied r.tree r.tree.spine) r.tree (IsLike r.tree) (λ b. emptied_same r.tree r.tree.spine columns is)
-    (λ b. like_itself r.tree)
-blank_by_like r (Some (DefinitionListDefinition columns)) is =
-    cond_both (is_some r.empty_item) (emptied_definition r.tree r.tree.spine) r.tree (IsLike r.tree)
-    (λ b. emptied_definition_same r.tree r.tree.spine columns is) (λ b. like_itself r.tree)
-blank_by_like r (Some b) is = like_itself r.tree
-
-pub blank_like : (r : Reading) → IsLike r.tree (blank_read r).tree
-unfolding blank_read
-blank_like r = blank_by_like r (top_body r.tree) refl
 
 -- the marker of a task, and a block that is added
 pub child_outside : (f : Forest Item) (marker : Option Item) → AreNested f.nodes f.spine → is_list (top_body f) ≡ false
@@ -692,7 +574,7 @@ blank_by_last r (Some b) is h item = h
 
 pub blank_last : (r : Reading) → HasDefinition r.tree → HasDefinition (blank_read r).tree
 unfolding blank_read
-blank_last r h = blank_by_last r (top_body r.tree) refl h (like_item r.tree (blank_read_by r (top_body r.tree)).tree (blank_like r))
+blank_last r h = blank_by_last r (top_body r.tree) refl h (like_item r.tree (blank_read_by r (top_body r.tree)).tree (like_blank r))
 
 -- before the first block
 pub first_closes : (text : List ℕ) (tree : Forest Item) (root : TreeIndex) (e at : ℕ) → tree ≡ with_end_at empty_forest root e → CanClose text tree at

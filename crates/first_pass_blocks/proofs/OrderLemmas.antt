@@ -1,8 +1,7 @@
 -- Order is kept as nodes are added and opened, and as the innermost open node is closed.
-use Rattle.std.proofs.Common.{◌≡◌, ◌⊎◌, inl, inr, ℕ, zero, suc, ◌+◌, ◌≤◌, ◌==◌, nat_lt, Bool, true, false, if◌then◌else◌, List, [], ◌∷◌, ◌++◌, length}
+use Rattle.std.proofs.Common.{◌≡◌, ◌⊎◌, inl, inr, ℕ, zero, suc, ◌+◌, ◌≤◌, Bool, true, false, if◌then◌else◌, List, [], ◌∷◌, ◌++◌, length}
 use Rattle.std.proofs.Common.{slice_get, Option, Some, None, IsUtf8, IsCharBoundary, refl, sym, ap, subst, ◌∙◌, arith}
 use Rattle.std.proofs.lemmas.Str.{IsCharBoundary-start, IsCharBoundary-end}
-use Rattle.std.specs.Int.RustNames.{bit_and}
 use Rattle.std.specs.Option.{option_and_then}
 use Rattle.first_pass_items.specs.declared.item.Item.{Item}
 use Rattle.first_pass_items.specs.declared.item.ItemBody.{ItemBody}
@@ -10,19 +9,17 @@ use Rattle.first_pass_items.specs.declared.item.ItemBody.TheVariants.{List as Li
 use Rattle.first_pass_items.specs.declared.item.ItemBody.TheVariants.{DefinitionList, DefinitionListDefinition}
 use Rattle.first_pass_tree.specs.declared.tree_index.TreeIndex.{TreeIndex}
 use Rattle.first_pass_tree.specs.Forest.{Forest, empty_forest, with_end_at, body_at, modify, at_depth, appended, added}
-use Rattle.first_pass_tree.specs.Tight.{tightened, tight_run, tight_at, tight_items}
 use Rattle.first_pass_grammar.specs.Order.{Extent, is_text_block, is_task_marker, is_list_item, is_definition_list, extent_of, extents, Siblings, Empty, Node, laid}
 use Rattle.first_pass_grammar.specs.Order.{IsBetween, Elsewhere, InItem, Fits, FitsBetween, IsOrdered}
 use Rattle.first_pass_grammar.specs.OpenOrder.{laid_open, AreAt, open_within, FitsOpen, item_on_top, within_top, IsOrderedTo}
 use Rattle.first_pass_grammar.proofs.Orders.{beside, ended_at, extents-append, length-extents, extents-at_depth, laid-at_depth, laid-one, laid_open-beside}
 use Rattle.first_pass_grammar.proofs.Orders.{laid_open-pushed, laid_open-level, laid_open-popped, laid_open-root, length-places, fits-one, fits_open-later}
-use Rattle.first_pass_grammar.proofs.Orders.{fits_open-beside, fits_open-pushed, fits_open-popped, extents-ended, extents-kept, extent-tightened, fits-whole}
+use Rattle.first_pass_grammar.proofs.Orders.{fits_open-beside, fits_open-pushed, fits_open-popped, extents-ended, extents-kept, fits-whole}
 use Rattle.first_pass_open.specs.OpenBlock.{closed_by}
-use Rattle.first_pass_lists.specs.Closing.{top_body, is_item, popped_by, popped_at}
+use Rattle.first_pass_lists.specs.Closing.{is_item, popped_by}
 use Rattle.first_pass_lists.specs.Closing.{begun}
 use Rattle.first_pass_lists.specs.declared.reading.Reading.{Reading}
 use Rattle.first_pass_blocks.specs.Ordered.{reached, IsOrderedAt}
-use Rattle.first_pass_tree.proofs.BodyLemmas.{body-kept}
 
 -- a forest with the same extents and open nodes
 pub ordered_same : (text : List ℕ) (f g : Forest Item) (a : ℕ)
@@ -197,40 +194,6 @@ ordered_closed text f at e ix rest spine later within ends h =
     closed_levels text f at e ix rest h.root h.levels h.row h.nodes
     (subst (λ (s : List TreeIndex). AreAt h.root h.levels s) spine h.places) h.fits h.whole later within ends
 
--- paragraphs made tight keep their extents
-run_by : (t : Bool) (depth : ℕ) (n : ℕ × Item) (nodes : List (ℕ × Item))
-    → extents (tight_run depth nodes) ≡ extents nodes → extents (if t then tightened (depth + 2) n ∷ tight_run depth nodes else n ∷ nodes) ≡ extents (n ∷ nodes)
-run_by true depth n nodes h =
-    ap (λ (x : Extent). (n.0, x) ∷ extents (tight_run depth nodes)) (extent-tightened (depth + 2) n)
-    ∙ ap (λ (z : List (ℕ × Extent)). (n.0, extent_of n.1) ∷ z) h
-run_by false depth n nodes h = refl
-
-extents-run : (depth : ℕ) (nodes : List (ℕ × Item)) → extents (tight_run depth nodes) ≡ extents nodes
-unfolding tight_run
-extents-run depth [] = refl
-extents-run depth (n ∷ nodes) = run_by (nat_lt depth n.0) depth n nodes (extents-run depth nodes)
-
--- the paragraphs of a list made tight keep their extents
-pub extents-tight : (depth from : ℕ) (nodes : List (ℕ × Item)) → extents (tight_at depth from nodes) ≡ extents nodes
-unfolding tight_at
-extents-tight depth zero nodes = extents-run depth nodes
-extents-tight depth (suc from) [] = refl
-extents-tight depth (suc from) (n ∷ nodes) = ap (λ (z : List (ℕ × Extent)). (n.0, extent_of n.1) ∷ z) (extents-tight depth from nodes)
-
-tight_by : (text : List ℕ) (t : Bool) (f : Forest Item) (ix : TreeIndex) (a : ℕ) → IsOrderedTo text f a → IsOrderedTo text (if t then tight_items f ix else f) a
-tight_by text true f ix a h = ordered_same text f (tight_items f ix) a (extents-tight _ (ix.0 + 1) f.nodes) refl h
-tight_by text false f ix a h = h
-
--- what closing makes of the tree and of an empty item
-popped_tree : (text : List ℕ) (r : Reading) (f : Forest Item) (ix : TreeIndex) (a : ℕ) (b : Option ItemBody)
-    → IsOrderedTo text f a → IsOrderedTo text (popped_by r f ix b).tree a
-popped_tree text r f ix a None h = h
-popped_tree text r f ix a (Some (ListBody flags byte number)) h = tight_by text (bit_and flags.0 1 == 1) f ix a h
-popped_tree text r f ix a (Some (DefinitionList flags)) h = tight_by text (bit_and flags.0 1 == 1) f ix a h
-popped_tree text r f ix a (Some (DefinitionListDefinition columns)) h = h
-popped_tree text r f ix a (Some (ListItemBody columns)) h = h
-popped_tree text r f ix a (Some b) h = h
-
 pub popped_empty : (r : Reading) (f : Forest Item) (ix : TreeIndex) (b : Option ItemBody)
     → (r.empty_item ≡ None) ⊎ (is_item b ≡ true) → (popped_by r f ix b).empty_item ≡ None
 popped_empty r f ix None (inl none) = none
@@ -243,10 +206,6 @@ popped_empty r f ix (Some (ListItemBody columns)) h = refl
 popped_empty r f ix (Some (DefinitionListDefinition columns)) h = refl
 popped_empty r f ix (Some b) (inl none) = none
 popped_empty r f ix (Some b) (inr item) = cc
-
--- up to an offset, with no item empty
-abbrev pub IsPlainTo : List ℕ → Reading → ℕ → Type 0
-IsPlainTo text r at = IsOrderedTo text r.tree at × (r.empty_item ≡ None)
 
 no_some : (o : Option ℕ) (e : ℕ) → o ≡ None → o ≡ Some e → ⊥
 no_some o e a b = cc
@@ -275,30 +234,6 @@ pub ordered_at_later : (text : List ℕ) (r : Reading) (at b : ℕ) → at ≤ b
 ordered_at_later text r at b later within h =
     let l = later_by text r at b r.empty_item refl later within h.ordered h.later in
     record { ordered = l.0; later = l.1; within = within; innermost = h.innermost }
-
--- the innermost open node closed
-popped_at_is : (e : ℕ) (r : Reading) (ix : TreeIndex) (rest : List TreeIndex)
-    → popped_at e r (ix ∷ rest) ≡ popped_by r (closed_by r.tree e (ix ∷ rest)) ix (body_at r.tree.nodes ix.0)
-popped_at_is e r ix rest =
-    ap (popped_by r (closed_by r.tree e (ix ∷ rest)) ix)
-    (body-kept r.tree.nodes ix.0 ix.0 (λ x. record { start = x.start; «end» = e; body = x.body }) (λ x. refl))
-
-pub popped_at_plain : (text : List ℕ) (r : Reading) (at e : ℕ) (s : List TreeIndex)
-    → r.tree.spine ≡ s → (r.empty_item ≡ None) ⊎ (is_item (top_body r.tree) ≡ true) → at ≤ e → e ≤ length text → IsCharBoundary text e
-    → IsOrderedTo text r.tree at → IsPlainTo text (popped_at e r s) e
-popped_at_plain text r at e [] spine (inl none) later within ends h = (ordered_later text r.tree at e later within h, none)
-popped_at_plain text r at e [] spine (inr item) later within ends h =
-    let none : is_item (top_body r.tree) ≡ false =
-    ap (λ (s : List TreeIndex). is_item (option_and_then (λ ix. body_at r.tree.nodes ix.0) (slice_get s 0))) spine in
-    absurd (false_true (is_item (top_body r.tree)) none item)
-popped_at_plain text r at e (ix ∷ rest) spine empty later within ends h =
-    let f : Forest Item = closed_by r.tree e (ix ∷ rest) in
-    let b : Option ItemBody = body_at r.tree.nodes ix.0 in
-    let top : is_item (top_body r.tree) ≡ is_item b =
-    ap (λ (s : List TreeIndex). is_item (option_and_then (λ ix. body_at r.tree.nodes ix.0) (slice_get s 0))) spine in
-    let none : (r.empty_item ≡ None) ⊎ (is_item b ≡ true) = elim empty [ inl x ↦ inl x | inr item ↦ inr (sym top ∙ item) ] in
-    subst (λ (q : Reading). IsPlainTo text q e) (sym (popped_at_is e r ix rest))
-    (popped_tree text r f ix e b (ordered_closed text r.tree at e ix rest spine later within ends h), popped_empty r f ix b none)
 
 -- what the extent of a node tells of its body
 abbrev pub flags_of : ItemBody → Bool × Bool × Bool × Bool

@@ -177,7 +177,7 @@ module _ (source : Source) (r : Reading) (p : Place) (utf8 : IsUtf8 source.text.
                   offset_before text p.line behind rest k.0 j.0 (mark_shorter source.options p.line behind rest marker x same refl is_mark),
                 ));
             named = λ names h. item_named names (offset p) byte number columns r h;
-            whole = λ names h. item_whole names (offset p) byte number columns r h;
+            whole = λ names h. item_whole names (offset p) byte number columns r forest h;
           },
         )
 
@@ -212,7 +212,7 @@ module _ (source : Source) (r : Reading) (p : Place) (utf8 : IsUtf8 source.text.
                 let one = child_count opened_item.tree marker in
                 omega arith;
             named = λ names h. child_named names opened_item.tree marker (is_task marker same) (item_named names (offset p) byte number columns r h);
-            whole = λ names h. child_whole names opened_item.tree marker (is_task marker same) (item_whole names (offset p) byte number columns r h);
+            whole = λ names h. child_whole names opened_item.tree marker (is_task marker same) (item_whole names (offset p) byte number columns r forest h);
           },
         )
 
@@ -264,7 +264,7 @@ module _ (source : Source) (r : Reading) (p : Place) (utf8 : IsUtf8 source.text.
             );
             few = λ first grows. omega arith;
             named = λ names h. quote_named names p.line (quote_start p) (BlockQuoteBody None) r tt h;
-            whole = λ names h. quote_whole names p.line (quote_start p) (BlockQuoteBody None) r (λ names depth start end. refl) refl h;
+            whole = λ names h. quote_whole names p.line (quote_start p) (BlockQuoteBody None) r (λ names depth start end. refl) refl forest h;
           },
         )
     quote_by (Some kind) tag =
@@ -288,7 +288,7 @@ module _ (source : Source) (r : Reading) (p : Place) (utf8 : IsUtf8 source.text.
                 (ordered_quote text r p.line (offset p) (quote_start p) (Some kind) (omega arith) s.0 s.2.0 ordered.0 s.2 none ordered.1);
             few = λ first grows. omega arith;
             named = λ names h. quote_named names p.line (quote_start p) (BlockQuoteBody (Some kind)) r tt h;
-            whole = λ names h. quote_whole names p.line (quote_start p) (BlockQuoteBody (Some kind)) r (λ names depth start end. refl) refl h;
+            whole = λ names h. quote_whole names p.line (quote_start p) (BlockQuoteBody (Some kind)) r (λ names depth start end. refl) refl forest h;
           },
         )
 

@@ -56,7 +56,7 @@ use Rattle.first_pass_blocks.proofs.NamedLemmas.{block_added, list_finished_name
 use Rattle.first_pass_blocks.proofs.OrderSteps.{line_or-below, ordered_finished, ordered_leaf, upto_later, place_before_end, unindented_later}
 use Rattle.first_pass_blocks.proofs.TextsFlat.{text_flat}
 use Rattle.first_pass_blocks.proofs.TitleLemmas.{ready_kept, away_left}
-use Rattle.first_pass_blocks.proofs.DefinitionsWhole.{list_finished_read, title_kept_whole}
+use Rattle.first_pass_blocks.proofs.DefinitionsWhole.{title_kept_whole}
 use Rattle.first_pass_blocks.proofs.WholeKept.{IsReadWhole, list_finished_whole, kept_of, block_whole, added_text_whole}
 use Rattle.first_pass_blocks.proofs.WrittenLemmas.{written_stay}
 
@@ -124,7 +124,8 @@ run_line old mid new p nested line next u i empty forest kind nest source names 
     let here = place_before_end q in
     let last = w.says.2 in
     let high = last.0 in
-    let same = ap count behind ∙ list_finished_count q.line r in
+    let same = ap count behind in
+    let few = list_finished_count q.line r in
     let before = place_before_end p in
     record {
       source = source' ∙ source;
@@ -145,7 +146,7 @@ run_line old mid new p nested line next u i empty forest kind nest source names 
           (ordered_finished text r q.line (offset q) q.line next (omega arith) (omega arith) (inl (refl, later_line text p q o.0 w.later)) high last empty
           (later_ordered text r.tree p q further w.later w.stands o.1)));
       whole = λ h k. subst (IsReadWhole (names_of (allocs_of new))) (sym behind)
-          (subst (λ z. IsReadWhole z (list_finished q.line r)) (sym named) (list_finished_read (names_of (allocs_of old)) q.line r forest empty k));
+          (subst (λ z. IsReadWhole z (list_finished q.line r)) (sym named) (list_finished_whole (names_of (allocs_of old)) q.line r forest k));
       few = omega arith;
     }
 
@@ -238,7 +239,7 @@ module _ (old new : BlockPass) (p : Place) (ends at next : ℕ) (empty : (readin
             let is = block.is_text own (extends_none own) q stands (sym at_is) in
             block_whole own (names_of (allocs_of old)) f (tree_of new) block.items more block.tree_is
             (added_text_whole (document text options own) _ q None _ _ stands tt is) (text_silent_first (document text options own) _ q None _ _ tt is)
-            (list_finished_named (names_of (allocs_of old)) ends r h) (list_finished_whole (names_of (allocs_of old)) ends r k);
+            (list_finished_named (names_of (allocs_of old)) ends r h) (kept_of (names_of (allocs_of old)) (list_finished ends r).tree (list_finished_whole (names_of (allocs_of old)) ends r forest k));
       }
 
 -- a text that is not right after a definition
@@ -351,7 +352,8 @@ module _ (old new : BlockPass) (p : Place) (at next : ℕ) (empty : (reading_of 
       (read_definitions_left text r read (line_or r.tree q.line (offset q)) at next forest after empty o.0 o.1 (in_order q at_is) fits block.boundary.0
       last refl))
       (λ from low apart. let g = grown from low apart in
-      let same = ap count is ∙ definitions_left_count last (with_tree r read) in
+      let same = ap count is in
+      let few = definitions_left_count last (with_tree r read) in
       omega arith)
 
   title_by : (q : Place) → IsPlaceOf text q → at ≡ offset q → (t : Bool) → is_paragraph_last read ≡ t

@@ -30,7 +30,7 @@ pub record ClosesAt (old new : Reading) (kept ix : ℕ) : Type 0 where
   pub ready : (d : Document) (defined : Tables) (lines : List Place) → start_of (length d.text) lines ≡ ix → NoMore d.options old.tree kept lines
       → Ready d defined old lines → Ready d defined new lines
   pub order : (text : List ℕ) → ix ≤ length text → IsCharBoundary text ix → IsReadTo text old ix → IsReadTo text new ix
-  pub count : own_nodes new.tree.nodes ≡ own_nodes old.tree.nodes
+  pub count : own_nodes new.tree.nodes ≤ own_nodes old.tree.nodes
   pub named : (names : Names) → AreNamed names old.tree.nodes → AreNamed names new.tree.nodes
   pub whole : (names : Names) → HasWholeTables names old.tree → HasWholeTables names new.tree
   pub all_kept : kept ≡ length old.tree.spine → new ≡ old

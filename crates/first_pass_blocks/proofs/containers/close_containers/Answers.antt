@@ -1,4 +1,4 @@
-use Rattle.std.proofs.Common.{length, refl, sym, ap, subst, ◌∙◌, arith}
+use Rattle.std.proofs.Common.{◌≤◌, length, refl, sym, ap, subst, arith}
 use Rattle.first_pass_lists.specs.declared.reading.Reading.{Reading}
 use Rattle.first_pass_blocks.specs.Ordered.{IsReadTo}
 use Rattle.first_pass_blocks.proofs.NamedLemmas.{AreReadNamed, popped_named}
@@ -12,7 +12,7 @@ pub loop-reading-init : goal.loop-reading-init
 loop-reading-init c = record {
   closed = closed_none c.args.reading.now c.args.kept c.args.ix c.requires;
   order = λ text within boundary ordered. ordered;
-  none_added = refl;
+  none_added = omega arith;
   named = λ names h. h;
   whole = λ names h. h;
   all_kept = λ all. refl;
@@ -28,7 +28,7 @@ loop-reading-preserved c =
       closed = one.0;
       order = λ text within boundary ordered. subst (λ (q : Reading). IsReadTo text q c.args.ix) (sym c.pop.ensures)
           (read_popped text _ c.args.ix c.args.ix (omega arith) within boundary (i.order text within boundary ordered));
-      none_added = ap count c.pop.ensures ∙ popped_count c.args.ix _ ∙ i.none_added;
+      none_added = subst (λ (q : Reading). count q ≤ count c.args.reading.now) (sym c.pop.ensures) (popped_count c.args.ix _ _ i.none_added);
       named = λ names h. subst (AreReadNamed names) (sym c.pop.ensures) (popped_named names c.args.ix _ (i.named names h));
       whole = λ names h. subst (IsReadWhole names) (sym c.pop.ensures) (popped_whole names c.args.ix _ c.is_forest.ensures (i.whole names h));
       all_kept = λ all. (let none = ap (λ (q : Reading). length q.tree.spine) (i.all_kept all) in absurd (omega arith));

@@ -11,7 +11,7 @@ abbrev pub invariant-loop-reading : goal.invariant-loop-reading
 invariant-loop-reading l = record {
   closed : ClosedSoFar l.initial.reading l.reading l.kept l.ix;
   order : (text : List ℕ) → l.ix ≤ length text → IsCharBoundary text l.ix → IsReadTo text l.initial.reading l.ix → IsReadTo text l.reading l.ix;
-  none_added : own_nodes l.reading.tree.nodes ≡ own_nodes l.initial.reading.tree.nodes;
+  none_added : own_nodes l.reading.tree.nodes ≤ own_nodes l.initial.reading.tree.nodes;
   named : (names : Names) → AreNamed names l.initial.reading.tree.nodes → AreNamed names l.reading.tree.nodes;
   whole : (names : Names) → HasWholeTables names l.initial.reading.tree → HasWholeTables names l.reading.tree;
   all_kept : l.kept ≡ length l.initial.reading.tree.spine → l.reading ≡ l.initial.reading;

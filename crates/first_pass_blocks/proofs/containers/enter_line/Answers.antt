@@ -53,7 +53,11 @@ returns-then-is_some-clause-entered c =
     let is : now ≡ footnote_ended options start closed = c.end_old_footnote.ensures in
     let kept = c.close_containers.ensures.kept in
     let w = c.requires.within in
-    let same = ap count c.read_blank_line.ensures ∙ blank_count now ∙ ap count is ∙ ended_count options start closed ∙ kept.count in
+    let same = ap count c.read_blank_line.ensures in
+    let unchanged = blank_count now in
+    let before = ap count is in
+    let few = ended_count options start closed in
+    let first = kept.count in
     record {
       ready = λ names defined ready.
           let d : Document = document text source.options names in
@@ -88,7 +92,11 @@ returns-clause-entered c =
     let is : now ≡ footnote_ended options start closed = c.end_old_footnote.ensures in
     let kept = c.close_containers.ensures.kept in
     let w = c.requires.within in
-    let same = ap count c.finish_empty_list_item.ensures ∙ item_finished_count now ∙ ap count is ∙ ended_count options start closed ∙ kept.count in
+    let same = ap count c.finish_empty_list_item.ensures in
+    let item = item_finished_count now in
+    let before = ap count is in
+    let few = ended_count options start closed in
+    let first = kept.count in
     let here = line_kept source.options text start c.scan_front-front.result.kept c.args.reading.now.tree (left a) c.scan_front-front.ensures.utf8
     c.requires.boundary c.scan_front-front.ensures.taken in (
       (here.0, refl, here.1),

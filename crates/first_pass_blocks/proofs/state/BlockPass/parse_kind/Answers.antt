@@ -54,7 +54,8 @@ returns-in-Blank c =
     let below : from ≤ offset p = line_or-below old.tree p.line (offset p) (omega arith) in
     let here = place_before_end p in
     let high = last.0 in
-    let same = ap count c.read_blank_line.ensures ∙ blank_count old in
+    let same = ap count c.read_blank_line.ensures in
+    let unchanged = blank_count old in
     record {
       source = refl;
       names = extends_none _;
