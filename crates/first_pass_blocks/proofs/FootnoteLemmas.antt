@@ -18,12 +18,11 @@ use Rattle.first_pass_grammar.specs.declared.kind.Container.TheVariants.{BlockQu
 use Rattle.first_pass_grammar.specs.Before.{Before}
 use Rattle.first_pass_grammar.specs.Blocks.{FootnoteMarker}
 use Rattle.first_pass_grammar.specs.Containers.{footnote_columns, in_footnote}
-use Rattle.first_pass_grammar.specs.Footnotes.{footnote_head_at, place_behind, behind_head, ends_footnote}
+use Rattle.first_pass_grammar.specs.Footnotes.{footnote_head_at, label_bytes, NamesLabel, place_behind, behind_head, ends_footnote}
 use Rattle.first_pass_grammar.specs.Kinds.{unindented}
 use Rattle.first_pass_grammar.specs.LinkRuns.{lines_beyond}
 use Rattle.first_pass_items.specs.OptionWords.{gfm_footnotes}
 use Rattle.first_pass_grammar.specs.Leaves.{Document, around}
-use Rattle.first_pass_grammar.specs.Names.{NamesText}
 use Rattle.first_pass_grammar.specs.Openers.{start_at}
 use Rattle.first_pass_grammar.specs.Skeleton.{Inside, Opening, Level, level, may_define, footnote_opening, OpensFootnote, OpensBy, Opens}
 use Rattle.first_pass_grammar.specs.Derivation.{Tables, told_label, node_of}
@@ -154,8 +153,8 @@ module _ (d : Document) (defined : Tables) (r : Reading) (p : Place) (lines : Li
   ended_by (ix ∷ rest) None inside spine is ready = still (ap (λ z. is_list (top_in r.tree.nodes z)) spine ∙ ap is_list is) ready
   ended_by (ix ∷ rest) (Some b) inside spine is ready = still (ap (λ z. is_list (top_in r.tree.nodes z)) spine ∙ ap is_list is) ready
 
-  list_ended : (t : Bool) (index : CowIndex) → NamesText d.names index head.1 → in_footnote (path_of d.options r.tree) ≡ t
-      → ReadyAt d defined r.tree r.blank (Inside p) lines → Left (list_left at r).tree
+  list_ended : (t : Bool) (index : CowIndex) → NamesLabel d.names index (label_bytes head.0 (unindented p).rest.left) head.1
+      → in_footnote (path_of d.options r.tree) ≡ t → ReadyAt d defined r.tree r.blank (Inside p) lines → Left (list_left at r).tree
   unfolding OpensFootnote
   list_ended true index named inside ready = ended_by r.tree.spine (top_body r.tree) inside refl refl ready
   list_ended false index named out ready =
@@ -226,8 +225,8 @@ pub record NoteIsOpen (d : Document) (defined : Tables) (q : Reading) (there : P
   pub none : q.empty_item ≡ None
 
 module _ (d : Document) (defined : Tables) (r : Reading) (p : Place) (lines : List Place) (head : ℕ × List ℕ) (index : CowIndex) (forest : IsForest r.tree)
-    (is_head : footnote_head_at (around d (path_of d.options r.tree)) p ≡ Some head) (named : NamesText d.names index head.1)
-    (none : r.empty_item ≡ None) where
+    (is_head : footnote_head_at (around d (path_of d.options r.tree)) p ≡ Some head)
+    (named : NamesLabel d.names index (label_bytes head.0 (unindented p).rest.left) head.1) (none : r.empty_item ≡ None) where
   abbrev opening : Opening
   opening = footnote_opening d p lines head.0 (FootnoteMarker (footnote_columns d.options) index head.1)
 

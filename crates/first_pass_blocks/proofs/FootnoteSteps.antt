@@ -2,14 +2,16 @@
 use Rattle.std.proofs.Common.{Bool, drop, Some, ◌≡◌, ℕ, ◌+◌, ◌<◌, ◌≤◌, false, List, [], ◌∷◌, length, Some, None}
 use Rattle.std.proofs.Common.{IsUtf8, IsCharBoundary, sym, ap, subst, ◌∙◌, arith, length-append}
 use Rattle.first_pass_items.specs.declared.item.ItemBody.TheVariants.{FootnoteDefinition as FootnoteDefinitionBody}
+use Rattle.first_pass_items.specs.CowText.{text_of}
 use Rattle.first_pass_tree.specs.Forest.{IsForest, in_table}
 use Rattle.first_pass_lines.specs.Places.{Place, offset, line_end, IsPlaceOf}
+use Rattle.first_pass_links.specs.Texts.{Borrows}
 use Rattle.first_pass_grammar.specs.Kinds.{unindented}
 use Rattle.first_pass_grammar.specs.Leaves.{Document, document}
-use Rattle.first_pass_grammar.specs.Names.{Names, Extends, NamesText, AreNamed}
+use Rattle.first_pass_grammar.specs.Names.{Names, Extends, AreNamed}
 use Rattle.first_pass_grammar.specs.Derivation.{Tables, told_label}
 use Rattle.first_pass_grammar.specs.Completion.{lines_from}
-use Rattle.first_pass_grammar.specs.Footnotes.{footnote_at, footnote_head_at}
+use Rattle.first_pass_grammar.specs.Footnotes.{footnote_at, footnote_head_at, label_bytes, NamesLabel}
 use Rattle.first_pass_grammar.specs.Order.{GrowsBy}
 use Rattle.first_pass_grammar.specs.Skeleton.{Inside}
 use Rattle.first_pass_grammar.specs.WholeTables.{HasWholeTables}
@@ -64,6 +66,11 @@ module _ (old new : BlockPass) (p q : Place) (head : ℕ × List ℕ) (utf8 : Is
       let last = opened.last in
       omega arith
 
+  -- the label as it stands in what is left of the line
+  borrowed_at : (left : List ℕ) → left ≡ drop start text → text_of opened.text ≡ label_bytes head.0 left → Borrows (label_bytes head.0 left) opened.text
+  borrowed_at left is = subst (λ (bs : List ℕ). text_of opened.text ≡ label_bytes head.0 bs → Borrows (label_bytes head.0 bs) opened.text) (sym is)
+      opened.borrowed
+
   ready_then : (more : Names) → Extends more (names_of (allocs_of new))
       → (let d : Document = document text (source_of old).options more in
       ReadyAt d (tables_of (allocs_of old)) (tree_of old) (reading_of old).blank (Inside p) (lines_from text (line_end p))
@@ -72,11 +79,12 @@ module _ (old new : BlockPass) (p q : Place) (head : ℕ × List ℕ) (utf8 : Is
       let d : Document = document text (source_of old).options more in
       let lines = lines_from text (line_end p) in
       let is_head = begins (no_table d.options (tree_of old).nodes (tree_of old).spine ready.frames ready.are_open) in
-      let named : NamesText more opened.index head.1 = (
-        opened.text,
-        text_last (names_of (allocs_of old)) (names_of (allocs_of new)) more opened.index opened.text opened.last opened.names extends,
-        opened.label,
-      ) in
+      let named : NamesLabel more opened.index (label_bytes head.0 (unindented p).rest.left) head.1 = record {
+        named = opened.text;
+        at = text_last (names_of (allocs_of old)) (names_of (allocs_of new)) more opened.index opened.text opened.last opened.names extends;
+        text = opened.label;
+        borrowed = λ plain. borrowed_at (unindented p).rest.left here.left (opened.label ∙ plain);
+      } in
       let o = note_is_open d (tables_of (allocs_of old)) (reading_of old) p lines head opened.index forest is_head named none ready in
       let now : Reading = footnote_begun start opened.index (reading_of old) in
       let unblank : ReadyAt d (told_label (tables_of (allocs_of old)) head.1) now.tree now.blank (Inside (behind_note d p lines head.0).0)

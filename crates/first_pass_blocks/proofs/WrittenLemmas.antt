@@ -12,10 +12,10 @@ use Rattle.first_pass_names.specs.TableEntries.{Entries, entries, with_definitio
 use Rattle.first_pass_links.specs.Texts.{Borrows}
 use Rattle.first_pass_items.specs.CowText.{text_of}
 use Rattle.first_pass_labels.specs.declared.label_table.FootnoteDef.{FootnoteDef}
-use Rattle.first_pass_grammar.specs.Footnotes.{footnote_at}
+use Rattle.first_pass_grammar.specs.Footnotes.{footnote_at, label_bytes}
 use Rattle.first_pass_names.proofs.LinkLemmas.{each_first}
 use Rattle.first_pass_definitions.specs.Found.{IsReference, BorrowsLabel, IsWritten, AreWritten}
-use Rattle.first_pass_blocks.specs.Written.{label_bytes, IsFootnoteWritten, AreFootnotesWritten, TablesAreWritten}
+use Rattle.first_pass_blocks.specs.Written.{IsFootnoteWritten, AreFootnotesWritten, TablesAreWritten}
 use Rattle.first_pass_blocks.specs.declared.state.BlockPass.{BlockPass}
 use Rattle.first_pass_blocks.specs.Views.{context_in, source_text, tree_of}
 use Rattle.first_pass_blocks.proofs.DefinitionLemmas.{Answers, found_by}
@@ -51,7 +51,7 @@ one_written text old new label definition is one each =
 -- one footnote more, whose label is a copy of that of a head
 pub footnote_written : (text : List ℕ) (old new : Allocations) (around : Context) (nested : Bool) (start : ℕ) (head : ℕ × List ℕ) (label : CowStr)
     → footnote_at nested around (drop start text) ≡ Some head → text_of label ≡ head.1
-    → (text_of label ≡ label_bytes start head.0 text → Borrows (label_bytes start head.0 text) label)
+    → (text_of label ≡ label_bytes head.0 (drop start text) → Borrows (label_bytes head.0 (drop start text)) label)
     → TellsFootnote (entries old) (entries new) label → TablesAreWritten text old → TablesAreWritten text new
 footnote_written text old new around nested start head label here is borrowed tells each =
     let same = tells.is_copy.same in
@@ -62,7 +62,7 @@ footnote_written text old new around nested start head label here is borrowed te
       head = head;
       here = here;
       label = same ∙ is;
-      borrowed = λ plain. tells.is_copy.borrowed (label_bytes start head.0 text) (borrowed (sym same ∙ plain));
+      borrowed = λ plain. tells.is_copy.borrowed (label_bytes head.0 (drop start text)) (borrowed (sym same ∙ plain));
       unused = refl;
     } in
     subst (EntriesAreWritten text) (sym tells.told)

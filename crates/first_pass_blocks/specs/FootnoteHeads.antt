@@ -18,14 +18,13 @@ use Rattle.first_pass_items.specs.CowText.{text_of}
 use Rattle.first_pass_grammar.specs.Kinds.{unindented}
 use Rattle.first_pass_grammar.specs.Derivation.{told_label}
 use Rattle.first_pass_grammar.specs.Completion.{lines_from}
-use Rattle.first_pass_grammar.specs.Footnotes.{footnote_at, footnote_head_at, behind_head}
+use Rattle.first_pass_grammar.specs.Footnotes.{footnote_at, footnote_head_at, label_bytes, behind_head}
 use Rattle.first_pass_names.specs.TableEntries.{entries, TellsFootnote, tables_of, names_of, refdefs_of}
 use Rattle.first_pass_lists.specs.Closing.{footnote_begun}
 use Rattle.first_pass_open.specs.declared.source.Source.{Source}
 use Rattle.first_pass_blocks.specs.declared.state.BlockPass.{BlockPass}
 use Rattle.first_pass_blocks.specs.Positions.{InLine, IsFrom}
 use Rattle.first_pass_blocks.specs.Progress.{PassesTo}
-use Rattle.first_pass_blocks.specs.Written.{label_bytes}
 use Rattle.first_pass_blocks.specs.Views.{allocs_of, context_in, reading_of, source_of, source_text, tree_of}
 
 -- the offset at which `[^` stands at a place at under four columns, where the options have footnotes (this project)
@@ -51,7 +50,7 @@ pub record OpenedFootnote (start : ℕ) (head : ℕ × List ℕ) (old new : Bloc
   pub last : index.0 ≡ length (names_of (allocs_of old)).texts
   pub names : names_of (allocs_of new) ≡ with_named (names_of (allocs_of old)) text
   pub label : text_of text ≡ head.1
-  pub borrowed : text_of text ≡ label_bytes start head.0 (source_text old) → Borrows (label_bytes start head.0 (source_text old)) text
+  pub borrowed : text_of text ≡ label_bytes head.0 (drop start (source_text old)) → Borrows (label_bytes head.0 (drop start (source_text old))) text
   pub tells : TellsFootnote (entries (allocs_of old)) (entries (allocs_of new)) text
   pub told : tables_of (allocs_of new) ≡ told_label (tables_of (allocs_of old)) head.1
   pub links : refdefs_of (allocs_of new) ≡ refdefs_of (allocs_of old)

@@ -1,18 +1,14 @@
 -- What stands in the tables of a pass: what the text says, borrowed from it where nothing changes (CommonMark 4.7, and this project).
-use Rattle.std.specs.Prelude.{◌≡◌, ℕ, ◌+◌, ◌-◌, Bool, List, take, drop, Some, All}
+use Rattle.std.specs.Prelude.{◌≡◌, ℕ, Bool, List, drop, Some, All}
 use Rattle.first_pass_items.specs.declared.cow_str.CowStr.{CowStr}
 use Rattle.first_pass_items.specs.CowText.{text_of}
 use Rattle.first_pass_links.specs.Texts.{Borrows}
 use Rattle.first_pass_labels.specs.declared.label_table.FootnoteDef.{FootnoteDef}
 use Rattle.first_pass_grammar.specs.Containers.{Context}
-use Rattle.first_pass_grammar.specs.Footnotes.{footnote_at}
+use Rattle.first_pass_grammar.specs.Footnotes.{footnote_at, label_bytes}
 use Rattle.first_pass_names.specs.TableEntries.{refdefs_of, footdefs_of}
 use Rattle.first_pass_names.specs.declared.items.Allocations.{Allocations}
 use Rattle.first_pass_definitions.specs.Found.{AreWritten}
-
--- what stands in the text between the `[^` and the `]` of the head of a footnote definition that begins at an offset and has so many bytes
-abbrev pub label_bytes : ℕ → ℕ → List ℕ → List ℕ
-label_bytes start n text = take (n - 4) (drop (start + 2) text)
 
 -- An entry is the label of a head that stands in the text, read in lines of some containers, and inside a table of the text or not; it is borrowed from the
 -- text where nothing in it changes, and no use of it is counted (this project).
@@ -23,7 +19,7 @@ pub record IsFootnoteWritten (text : List ℕ) (entry : CowStr × FootnoteDef) :
   pub head : ℕ × List ℕ
   pub here : footnote_at nested around (drop start text) ≡ Some head
   pub label : text_of entry.0 ≡ head.1
-  pub borrowed : text_of entry.0 ≡ label_bytes start head.0 text → Borrows (label_bytes start head.0 text) entry.0
+  pub borrowed : text_of entry.0 ≡ label_bytes head.0 (drop start text) → Borrows (label_bytes head.0 (drop start text)) entry.0
   pub unused : entry.1.use_count ≡ 0
 
 -- each entry is so

@@ -1,10 +1,10 @@
 //! The head of a footnote definition.
 
-ghost use Rattle.std.specs.Prelude.{◌≡◌, ℕ, ◌+◌, ◌-◌, ◌<◌, take, drop, None, true, false, IfOk, IfSome, OnErr, IsSomeAnd, MatchOption, IsCharBoundary};
+ghost use Rattle.std.specs.Prelude.{◌≡◌, ℕ, ◌+◌, ◌<◌, drop, None, true, false, IfOk, IfSome, OnErr, IsSomeAnd, MatchOption, IsCharBoundary};
 ghost use Rattle.first_pass_items.specs.CowText.{text_of};
 ghost use Rattle.first_pass_links.specs.Texts.{Borrows};
 ghost use Rattle.first_pass_tree.specs.Forest.{in_table};
-ghost use Rattle.first_pass_grammar.specs.Footnotes.{footnote_prefix, footnote_at};
+ghost use Rattle.first_pass_grammar.specs.Footnotes.{footnote_prefix, footnote_at, label_bytes};
 ghost use Rattle.first_pass_open.specs.Path.{context_of};
 ghost use Rattle.first_pass_items.specs.OptionWords.{gfm_footnotes};
 ghost use Rattle.first_pass_lines.specs.Places.{line_rest};
@@ -39,8 +39,8 @@ pub fn scan_footnote<'a>(
     ensures fits { IfOk result (λ answer. IfSome answer (λ found.
         (3 < found.0) × IsCharBoundary source.now.text.now (start + found.0))) }
     ensures borrowed { IfOk result (λ answer. IfSome answer (λ found.
-        text_of found.1 ≡ take (found.0 - 4) (drop (start + 2) source.now.text.now)
-        → Borrows (take (found.0 - 4) (drop (start + 2) source.now.text.now)) found.1)) }
+        text_of found.1 ≡ label_bytes found.0 (drop start source.now.text.now)
+        → Borrows (label_bytes found.0 (drop start source.now.text.now)) found.1)) }
     ensures err { OnErr result (FootnoteAsks (context_of source.now.options tree.now)
         (in_table tree.now.nodes tree.now.spine) (drop start source.now.text.now)) }
 {

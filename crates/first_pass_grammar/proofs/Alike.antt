@@ -16,6 +16,7 @@ use Rattle.first_pass_tree.specs.Tight.{tight_body, tightened}
 use Rattle.first_pass_lines.specs.Places.{Place, offset, line_end}
 use Rattle.first_pass_tokens.specs.TreeTokens.{leaves}
 use Rattle.first_pass_tokens.specs.Chains.{touches, add_token, add_tokens}
+use Rattle.first_pass_grammar.specs.Footnotes.{NamesLabel}
 use Rattle.first_pass_grammar.specs.Names.{Names, NamesText, NamesAlignments, NamesAttributes, TextAt, AlignmentsAt, AttributesAt, Named, AText, Alignments}
 use Rattle.first_pass_grammar.specs.Names.{OfHeading, index_of, kind_alone, named, read, read_nodes}
 use Rattle.first_pass_grammar.specs.Leaves.{Document, document, block_with}
@@ -264,11 +265,12 @@ table_alike m n start end i j alignments h k =
     indexed_alike m n start end (Table i) (Table j) refl (named_alignments m i alignments h ∙ sym (named_alignments n j alignments k))
 
 -- footnote definitions whose indices name one label
-pub label_named : (m n : Names) (columns : ℕ) (i j : CowIndex) (label : List ℕ) → NamesText m i label → NamesText n j label
+pub label_named : (m n : Names) (columns : ℕ) (i j : CowIndex) (written label : List ℕ) → NamesLabel m i written label → NamesLabel n j written label
     → AlikeNodes m n (label_node (FootnoteMarker columns i label)) (label_node (FootnoteMarker columns j label))
-label_named m n columns i j label h k =
+label_named m n columns i j written label h k =
     ap (λ (z : Item × Option Named). (0, z) ∷ [])
-    (indexed_alike m n 0 0 (FootnoteDefinition i) (FootnoteDefinition j) refl (named_text m i label h ∙ sym (named_text n j label k)))
+    (indexed_alike m n 0 0 (FootnoteDefinition i) (FootnoteDefinition j) refl
+    (named_text m i label (h.named, h.at, h.text) ∙ sym (named_text n j label (k.named, k.at, k.text))))
 
 pub heading_alike : (m n : Names) (start «end» : ℕ) (level : HeadingLevel) (i j : Option HeadingIndex) (attributes : Option Attributes)
     → NamesAttributes m i attributes

@@ -16,6 +16,7 @@ use Rattle.first_pass_grammar.specs.Names.{Names, NamesText, NamesAlignments, Na
 use Rattle.first_pass_attributes.specs.Attributes.{Attributes}
 use Rattle.first_pass_grammar.specs.Leaves.{document}
 use Rattle.first_pass_grammar.specs.CodeBlocks.{NamesInfo}
+use Rattle.first_pass_grammar.specs.Footnotes.{NamesLabel}
 use Rattle.first_pass_grammar.proofs.MoreNames.{extends_none, extends_both, extends_named, extends_alignments, extends_heading, text_last, alignments_last}
 use Rattle.first_pass_grammar.proofs.MoreNames.{heading_last}
 use Rattle.first_pass_grammar.specs.RawLines.{spaces, AreColumns, Ranges, raw_items, AreRawLines}
@@ -51,6 +52,17 @@ pub named_info : (names : Names) (info : List ℕ) → Found names CowIndex (λ 
 unfolding borrowed
 named_info names info =
     let cow : CowStr = borrowed (unescaped false info) in
+    record {
+      value = next_index names;
+      more = with_named names cow;
+      extends = extends_named names (with_named names cow) cow refl;
+      holds = λ later e. record { named = cow; at = next_named names later cow e; text = refl; borrowed = λ same. same };
+    }
+
+pub named_label : (names : Names) (written label : List ℕ) → Found names CowIndex (λ later ix. NamesLabel later ix written label)
+unfolding borrowed
+named_label names written label =
+    let cow : CowStr = borrowed label in
     record {
       value = next_index names;
       more = with_named names cow;

@@ -13,9 +13,9 @@ use Rattle.first_pass_items.specs.OptionWords.{has, tasklists, footnotes, gfm_fo
 use Rattle.first_pass_items.specs.Bytes.{colon, left_bracket, circumflex}
 use Rattle.first_pass_links.specs.Footnotes.{begins_footnote, head_behind, footnote_head}
 use Rattle.first_pass_links.specs.Labels.{label_at}
-use Rattle.first_pass_grammar.specs.Footnotes.{footnote_prefix, footnote_at, footnote_head_at, place_behind, behind_head}
+use Rattle.first_pass_grammar.specs.Footnotes.{footnote_prefix, footnote_at, footnote_head_at, label_bytes, place_behind, behind_head}
 use Rattle.first_pass_grammar.specs.LinkRuns.{lines_beyond}
-use Rattle.first_pass_grammar.proofs.Found.{named_text}
+use Rattle.first_pass_grammar.proofs.Found.{named_label}
 use Rattle.first_pass_lines.specs.Lines.{is_content, begins, is_white}
 use Rattle.first_pass_lines.specs.Rest.{Rest, indent, after_columns, past_bytes, past_quote}
 use Rattle.first_pass_lines.specs.Places.{Place, offset, start_of}
@@ -225,7 +225,7 @@ leads_footnote : (text : List ℕ) (options : Options) (names : Names) (most : �
     → Leads names most lines (λ later x. OpensFootnote (document text options later) p lines head x)
 unfolding OpensFootnote
 leads_footnote text options names most p lines (size, label) less =
-    let ix = named_text names label in
+    let ix = named_label names (label_bytes size (unindented p).rest.left) label in
     let d : Document = document text options names in
     let q : Place = place_behind size (unindented p) in
     record {

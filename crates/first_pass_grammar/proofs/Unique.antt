@@ -317,7 +317,7 @@ unfolding OpensFootnote
 by_head d n l p lines None o o' e f =
     opens_by d n l.path p lines (start_at d.options (may_define d l) p) o o' (start_free d.options (may_define d l) p) e f
 by_head d n l p lines (Some (size, label)) o o' (i, named, e) (j, named', f) =
-    alike_by d.names n o o' _ _ e f ((refl, label_named d.names n (footnote_columns d.options) i j label named named'), refl, tt, refl)
+    alike_by d.names n o o' _ _ e f ((refl, label_named d.names n (footnote_columns d.options) i j _ label named named'), refl, tt, refl)
 
 -- a place opens one thing, read alike
 pub one_opening : (d : Document) (n : Names) (l : Level) (p : Place) (lines : List Place) (o o' : Opening)

@@ -1,13 +1,19 @@
 -- Heads of footnote definitions in a document (this project).
-use Rattle.std.specs.Prelude.{ℕ, ◌+◌, ◌&&◌, Bool, true, false, nat_lt, List, [], ◌∷◌, drop, Option, None, is_some, if◌then◌else◌}
+use Rattle.std.specs.Prelude.{◌≡◌, ℕ, ◌+◌, ◌-◌, ◌&&◌, Bool, true, false, nat_lt, List, [], ◌∷◌, take, drop, slice_get, Option, Some, None, is_some}
+use Rattle.std.specs.Prelude.{if◌then◌else◌}
 use Rattle.std.specs.List.{prefix_len}
+use Rattle.first_pass_items.specs.declared.cow_str.CowStr.{CowStr}
+use Rattle.first_pass_items.specs.declared.item.CowIndex.{CowIndex}
+use Rattle.first_pass_items.specs.CowText.{text_of}
 use Rattle.first_pass_items.specs.OptionWords.{has, footnotes, gfm_footnotes}
 use Rattle.first_pass_lines.specs.Rest.{indent}
 use Rattle.first_pass_lines.specs.Lines.{is_white}
 use Rattle.first_pass_lines.specs.Places.{Place, offset, line_place}
 use Rattle.first_pass_links.specs.Footnotes.{footnote_head}
+use Rattle.first_pass_links.specs.Texts.{Borrows}
 use Rattle.first_pass_grammar.specs.Containers.{Context, in_footnote}
 use Rattle.first_pass_grammar.specs.Kinds.{unindented, is_blank_rest}
+use Rattle.first_pass_grammar.specs.Names.{Names}
 use Rattle.first_pass_grammar.specs.Definitions.{prefix_crossed}
 
 -- Where the label of a footnote continues in a line: as GitHub has footnotes, nowhere; in their old form where that of a link reference definition does
@@ -23,6 +29,18 @@ footnote_at in_table around bs = footnote_head (footnote_prefix around) in_table
 unfoldable pub footnote_head_at : Context → Place → Option (ℕ × List ℕ)
 footnote_head_at around p =
     if has around.options footnotes && nat_lt (indent p.rest) 4 then footnote_at false around (unindented p).rest.left else None
+
+-- what stands between the `[^` and the `]` of the head that begins here and has so many bytes (this project)
+abbrev pub label_bytes : ℕ → List ℕ → List ℕ
+label_bytes size bs = take (size - 4) (drop 2 bs)
+
+-- The index names the label of a footnote definition's head. A label that is as it is written between `[^` and `]` is borrowed from the text there (this
+-- project).
+pub record NamesLabel (names : Names) (ix : CowIndex) (written label : List ℕ) : Type 0 where
+  pub named : CowStr
+  pub at : slice_get names.texts ix.0 ≡ Some named
+  pub text : text_of named ≡ label
+  pub borrowed : label ≡ written → Borrows written named
 
 -- Where reading continues so many bytes after a place, as at the start of a line: tab stops count anew there, and no column is owed (this project).
 abbrev pub place_behind : ℕ → Place → Place

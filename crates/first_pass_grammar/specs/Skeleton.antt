@@ -5,7 +5,6 @@ use Rattle.first_pass_items.specs.declared.item.HeadingIndex.{HeadingIndex}
 use Rattle.first_pass_items.specs.declared.option_set.Options.{Options}
 use Rattle.first_pass_items.specs.declared.item.CowIndex.{CowIndex}
 use Rattle.first_pass_items.specs.OptionWords.{has, gfm_footnotes, definition_list}
-use Rattle.first_pass_grammar.specs.Names.{NamesText}
 use Rattle.first_pass_lines.specs.Lines.{level_number}
 use Rattle.first_pass_lines.specs.Rest.{Rest, indent}
 use Rattle.first_pass_lines.specs.Places.{Place, offset, start_of, moved_columns}
@@ -17,7 +16,7 @@ use Rattle.first_pass_grammar.specs.Openers.{AfterMarker, OnLine, TaskText, Line
 use Rattle.first_pass_grammar.specs.Before.{Before, nothing, list_is_open, takes_definition, after_leaf, after_container, before_end}
 use Rattle.first_pass_grammar.specs.Containers.{Context, context, at_rest, after, front, taken, next_goes_on, is_quote, in_quote, in_old_footnote}
 use Rattle.first_pass_grammar.specs.Containers.{footnote_columns}
-use Rattle.first_pass_grammar.specs.Footnotes.{footnote_head_at, place_behind, behind_head, ends_footnote}
+use Rattle.first_pass_grammar.specs.Footnotes.{footnote_head_at, label_bytes, NamesLabel, place_behind, behind_head, ends_footnote}
 use Rattle.first_pass_grammar.specs.Kinds.{Kind, Blank, IndentedCode, Metadata, HtmlToEnd, HtmlToBlank, ThematicBreak, AtxHeading, FencedCode, LinkDefinitions}
 use Rattle.first_pass_grammar.specs.Kinds.{Paragraph, all_taken, unindented, is_blank_rest, IsKind, ends_tag}
 use Rattle.first_pass_html.specs.Ends.{BlockEnd}
@@ -170,10 +169,12 @@ footnote_opening d p lines size opener =
     let there : Place × List Place = behind_head (gfm_footnotes d.options) q (lines_beyond (offset q) lines) in
     OpensNode (record { opener = opener; line = p.line; start = offset (unindented p) }) (Inside there.0) there.1
 
--- A footnote definition opens whose head has so many bytes and this label, which its index names (this project).
+-- A footnote definition opens whose head has so many bytes and this label, which its index names, borrowed from the text if it is written so there (this
+-- project).
 unfoldable pub OpensFootnote : Document → Place → List Place → ℕ × List ℕ → Opening → Type 0
 OpensFootnote d p lines (size, label) opening =
-    (index : CowIndex) × NamesText d.names index label × (opening ≡ footnote_opening d p lines size (FootnoteMarker (footnote_columns d.options) index label))
+    (index : CowIndex) × NamesLabel d.names index (label_bytes size (unindented p).rest.left) label
+    × (opening ≡ footnote_opening d p lines size (FootnoteMarker (footnote_columns d.options) index label))
 
 -- What begins at a place where no footnote definition does: a container where one does, else what the kind of the place says.
 unfoldable pub OpensBy : Document → List Container → Place → List Place → Option Start → Opening → Type 0

@@ -1,12 +1,11 @@
-use Rattle.std.proofs.Common.{rules, OnErr, refl, sym, ◌≡◌, ℕ, ◌+◌, ◌-◌, List, take, drop, IfOk, IfSome, ap, subst, ◌∙◌}
-use Rattle.std.proofs.lemmas.List.{drop-drop}
+use Rattle.std.proofs.Common.{rules, OnErr, refl, sym, ◌≡◌, ℕ, ◌+◌, List, drop, IfOk, IfSome, ap, subst, ◌∙◌}
 use Rattle.first_pass_items.specs.CowText.{text_of}
 use Rattle.first_pass_links.specs.Texts.{Borrows}
 use Rattle.std.proofs.lemmas.Result.{on_err_weaker}
 use Rattle.first_pass_lines.specs.Places.{line_rest}
 use Rattle.first_pass_links.proofs.Footnotes.{behind_mark}
 use Rattle.first_pass_tree.specs.Forest.{in_table}
-use Rattle.first_pass_grammar.specs.Footnotes.{footnote_prefix}
+use Rattle.first_pass_grammar.specs.Footnotes.{footnote_prefix, label_bytes}
 use Rattle.first_pass_open.specs.Path.{context_of}
 use Rattle.first_pass_kinds.specs.Memory.{line_may_head}
 use Rattle.first_pass_definitions.specs.Memory.{FootnoteAsks}
@@ -15,11 +14,9 @@ use Rattle.first_pass_definitions.proofs.footnote.scan_footnote.Goals as goal
 
 pub returns-clause-borrowed : goal.returns-clause-borrowed
 returns-clause-borrowed c =
-    let there : drop 2 c.range_from.result.now ≡ drop (c.args.start + 2) c.args.source.now.text.now =
-    ap (drop 2) c.range_from.ensures.value ∙ drop-drop 2 c.args.start c.args.source.now.text.now in
     subst (λ (xs : List ℕ).
-    IfOk c.scan_footnote_head.result (λ answer. IfSome answer (λ found. text_of found.1 ≡ take (found.0 - 4) xs → Borrows (take (found.0 - 4) xs) found.1)))
-    there
+    IfOk c.scan_footnote_head.result (λ answer. IfSome answer (λ found. text_of found.1 ≡ label_bytes found.0 xs → Borrows (label_bytes found.0 xs) found.1)))
+    c.range_from.ensures.value
     c.scan_footnote_head.ensures.borrowed
 
 pub returns-clause-err : goal.returns-clause-err
