@@ -139,18 +139,11 @@ fn raw_text_without_its_end(rt: HostRuntime) -> Result<(), Fail> {
     assert_counted(&rt, rt.alloc(), cases)
 }
 
-// The tree of a table of 1,025 columns with 256 rows of one cell that is not filled in, which fill in all that may be,
-// and then a line.
-fn wide(alloc: Global, line: &[(&str, usize)]) -> Result<Tree<Item>, AllocError> {
-    let head = &[
-        ("a|", 1025),
-        ("\n", 1),
-        ("-|", 1025),
-        ("\n", 1),
-        ("a\n", 256),
-    ];
+// The tree of a table of so many columns, and of lines after its delimiter row.
+fn wide(alloc: Global, columns: usize, lines: &[(&str, usize)]) -> Result<Tree<Item>, AllocError> {
+    let head = &[("a|", columns), ("\n", 1), ("-|", columns), ("\n", 1)];
     let mut text = repeated(alloc, head)?;
-    text.push_str(repeated(alloc, line)?.as_str())?;
+    text.push_str(repeated(alloc, lines)?.as_str())?;
     let (tree, _allocs) = run_first_pass(alloc, text.as_str(), Options::ENABLE_TABLES)?;
     Ok(tree)
 }
@@ -175,18 +168,32 @@ fn is_node(tree: &Tree<Item>, place: usize, depth: usize, item: Item) -> bool {
 #[test]
 fn tables_of_1025_columns(rt: HostRuntime) -> Result<(), Fail> {
     // The root, the table, the head, its cells with a text each, the rows with a text each, the paragraph and its text.
-    let tree = wide(rt.alloc(), &[("a\n", 1)])?;
+    // Of 256 rows each has one cell that is not filled in, and they fill in all that may be.
+    let tree = wide(rt.alloc(), 1025, &[("a\n", 257)])?;
     assert_eq!(rt; tree.node_count(), 264_967);
     assert_eq!(rt; count_filled(&tree), 262_144);
     let table = ItemBody::Table(AlignmentIndex(0));
     assert!(rt; is_node(&tree, 1, 1, item(0, 4614, table)));
     assert!(rt; is_node(&tree, 264_965, 1, item(4614, 4616, ItemBody::Paragraph)));
     // A row of all cells in the place of the paragraph.
-    let tree = wide(rt.alloc(), &[("a|", 1025), ("\n", 1)])?;
+    let tree = wide(rt.alloc(), 1025, &[("a\n", 256), ("a|", 1025), ("\n", 1)])?;
     assert_eq!(rt; tree.node_count(), 267_016);
     assert_eq!(rt; count_filled(&tree), 262_144);
     assert!(rt; is_node(&tree, 1, 1, item(0, 6665, table)));
     assert!(rt; is_node(&tree, 264_965, 2, item(4614, 6665, ItemBody::TableRow)));
+    Ok(())
+}
+
+// Of 300 lines the first 262 are rows, and fill in 999 cells each; the next one would fill in more than may be. The
+// others are a paragraph of 38 texts and the breaks between them.
+#[test]
+fn a_table_of_1000_columns(rt: HostRuntime) -> Result<(), Fail> {
+    let tree = wide(rt.alloc(), 1000, &[("a\n", 300)])?;
+    assert_eq!(rt; tree.node_count(), 264_603);
+    assert_eq!(rt; count_filled(&tree), 261_738);
+    let table = ItemBody::Table(AlignmentIndex(0));
+    assert!(rt; is_node(&tree, 1, 1, item(0, 4526, table)));
+    assert!(rt; is_node(&tree, 264_527, 1, item(4526, 4602, ItemBody::Paragraph)));
     Ok(())
 }
 
