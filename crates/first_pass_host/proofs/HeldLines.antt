@@ -5,8 +5,9 @@ use Rattle.std.proofs.KnownBytes.{Appends-nil, Appends-trans}
 use Rattle.std.proofs.lemmas.List.{drop_more}
 use Rattle.std.specs.Io.KnownBytes.{Appends}
 use Rattle.std.specs.List.{flat_map}
+use Rattle.first_pass_host.specs.declared.fault.BlocksFault.{BlocksFault}
 use Rattle.first_pass_host.specs.Held.{AreUnderWay}
-use Rattle.first_pass_host.specs.Streams.{Stream, stream_between, AppendsFront}
+use Rattle.first_pass_host.specs.Streams.{Stream, stream_between, AppendsFront, WritesText}
 
 -- before the first line, where all are left
 pub none_written : (lines held left : List ℕ) (known : Option (List ℕ)) → held ≡ [] → left ≡ lines
@@ -88,3 +89,24 @@ line_at line xs i d within = ap (flat_map line) (drop_more xs i d within)
 pub on_any : {T E P : Type 0} (r : Result T E) → P → OnErr r P
 on_any (Ok x) p = tt
 on_any (Err e) p = p
+
+-- a text that is written is written under another name
+pub written_as : (lines same : List ℕ) (output : Stream) (result : Result (Unit {0}) BlocksFault) → lines ≡ same → WritesText lines output result
+    → WritesText same output result
+written_as lines same output result is writes = subst (λ l. WritesText l output result) is writes
+
+-- a fault in the first of two texts
+pub first_failed : (lines others : List ℕ) (old new : Option (List ℕ)) (fault : BlocksFault) (result : Result (Unit {0}) BlocksFault)
+    → result ≡ Err fault → WritesText lines (stream_between old new) (Err fault) → WritesText (lines ++ others) (stream_between old new) result
+first_failed lines others old new fault result is writes =
+    subst (WritesText (lines ++ others) (stream_between old new)) (sym is)
+    record { ok = tt; front = front_first lines others old new writes.front; fault = writes.fault }
+
+-- the second of two texts, after the first
+pub then_written : (lines others : List ℕ) (old mid new : Option (List ℕ)) (result : Result (Unit {0}) BlocksFault)
+    → WritesText lines (stream_between old mid) (Ok tt) → WritesText others (stream_between mid new) result
+    → WritesText (lines ++ others) (stream_between old new) result
+then_written lines others old mid new (Ok x) first writes =
+    record { ok = Appends-trans old mid new lines others first.ok writes.ok; front = tt; fault = tt }
+then_written lines others old mid new (Err fault) first writes =
+    record { ok = tt; front = front_after lines others old mid new first.ok writes.front; fault = writes.fault }

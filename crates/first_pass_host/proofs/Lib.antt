@@ -1,2 +1,3 @@
 pub mod HeldLines
+pub mod ItemLines
 mod WordLemmas

@@ -1,5 +1,5 @@
 -- What is read from a reader and written to a writer, and the faults of both (this project).
-use Rattle.std.specs.Prelude.{◌≡◌, ◌⊎◌, ℕ, List, ◌++◌, Option}
+use Rattle.std.specs.Prelude.{◌≡◌, ◌⊎◌, ℕ, List, ◌++◌, Option, Result, OnOk, OnErr, IfErr}
 use Rattle.std.specs.Io.KnownBytes.{Appends, Consumes, IsAtEnd, Keeps}
 use Rattle.first_pass_host.specs.declared.fault.BlocksFault.{BlocksFault}
 use Rattle.first_pass_host.specs.declared.fault.BlocksFault.TheVariants.{OutOfMemory, ReadFailed, WriteFailed}
@@ -35,3 +35,9 @@ IsReadFault fault = (fault ≡ ReadFailed) ⊎ (fault ≡ OutOfMemory)
 -- a fault of the writes
 abbrev pub IsWriteFault : BlocksFault → Type 0
 IsWriteFault fault = (fault ≡ WriteFailed) ⊎ (fault ≡ OutOfMemory)
+
+-- a text is written to an output, or a fault ends the writes after a beginning of it
+pub record WritesText (text : List ℕ) (output : Stream) (result : Result (Unit {0}) BlocksFault) : Type 0 where
+  pub ok : OnOk result (Appends output.old output.new text)
+  pub front : OnErr result (AppendsFront output.old output.new text)
+  pub fault : IfErr result IsWriteFault

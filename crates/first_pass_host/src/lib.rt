@@ -2,6 +2,7 @@
 //! fault that ends it.
 #![tactic(auto)]
 
+pub mod exit;
 pub mod fault;
 pub mod input;
 pub mod option_word;

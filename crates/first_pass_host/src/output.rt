@@ -1,12 +1,14 @@
 //! Writing a text, and lines in pieces.
 
-ghost use Rattle.std.specs.Prelude.{◌≡◌, ◌<◌, [], length, IfErr, OnErr, OnOk};
+ghost use Rattle.std.specs.Iterator.{IsFinite};
+ghost use Rattle.std.specs.Prelude.{◌≡◌, ◌<◌, ℕ, List, [], length, IfErr, OnErr, OnOk};
 ghost use Rattle.std.specs.Io.KnownBytes.{Appends};
 ghost use Rattle.first_pass_host.specs.declared.fault.BlocksFault.TheVariants.{WriteFailed};
-ghost use Rattle.first_pass_host.specs.Held.{AreUnderWay};
-ghost use Rattle.first_pass_host.specs.Streams.{AppendsFront, stream_between};
+ghost use Rattle.first_pass_host.specs.Held.{AreLines, AreUnderWay};
+ghost use Rattle.first_pass_host.specs.Streams.{AppendsFront, WritesText, stream_between};
 
 use crate::fault::BlocksFault;
+use std::alloc::{AllocError, Global};
 use std::io::Write;
 
 /// How many bytes are held back before they are written.
@@ -45,4 +47,31 @@ pub fn write_piece<W: Write>(output: &mut W, held: &mut Vec<u8>) -> Result<(), B
         held.clear();
     }
     Ok(())
+}
+
+/// Writes a line for each item of an iterator, in order, in pieces. `append` appends the line of an item to what is
+/// held back. A fault is `WriteFailed`, or `OutOfMemory` if a request was refused; a beginning of the lines may be
+/// written then. The contract holds for every way to read items as lines.
+pub fn write_each<I, F, W>(
+    alloc: Global,
+    items: I,
+    append: F,
+    output: &mut W,
+) -> Result<(), BlocksFault>
+where
+    I: Iterator + Drop,
+    F: Fn(&mut Vec<u8>, I::Item) -> Result<(), AllocError>,
+    W: Write,
+    requires can { I.can_next items }
+    requires ends { IsFinite (I.remaining items) }
+    requires callable { F.IsAlwaysCallable append }
+    ensures { (line : I.Item → List ℕ) (lines : I → List ℕ) → AreLines I.next_gives (F.post append) line lines
+        → WritesText (lines items) (stream_between (W.contents output.old) (W.contents output.new)) result }
+{
+    let mut held = Vec::new(alloc);
+    for item in items {
+        append(&mut held, item)?;
+        write_piece(output, &mut held)?;
+    }
+    write_whole(output, held.as_slice())
 }
