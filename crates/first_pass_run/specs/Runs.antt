@@ -1,6 +1,6 @@
 -- What a run of a program over a text reads and writes, whatever it is that the program says of a text (this project). It is said by a relation: under
 -- options, a text and the whole output for it.
-use Rattle.std.specs.Prelude.{◌⊎◌, ℕ, List, String, IsUtf8}
+use Rattle.std.specs.Prelude.{◌≡◌, ◌⊎◌, ℕ, List, String, Result, Err, OnOk, IfErr, IsUtf8}
 use Rattle.std.specs.Io.KnownBytes.{Appends}
 use Rattle.first_pass_items.specs.declared.option_set.Options.{Options}
 use Rattle.first_pass_host.specs.declared.fault.BlocksFault.{BlocksFault}
@@ -57,3 +57,11 @@ Leaves Says OutOfMemory words input output =
     (((bits : ℕ) × StandFor words bits) × IsUntouched output) ⊎ LeavesRead Says OutOfMemory words input output
 Leaves Says NotUtf8 words input output = LeavesRead Says NotUtf8 words input output
 Leaves Says WriteFailed words input output = LeavesRead Says WriteFailed words input output
+
+-- the result of a run with these words over a reader and a writer
+pub record Runs {A : Type 0} (Says : Options → List ℕ → List ℕ → Type 0) (words : List (String A)) (input output : Stream)
+    (result : Result (Unit {0}) BlocksFault) : Type 0 where
+  pub ok : OnOk result (WritesWhole Says words input output)
+  pub fault : IfErr result (λ fault. Leaves Says fault words input output)
+  pub bad_options : ((bits : ℕ) → StandFor words bits → ⊥) → result ≡ Err BadOptions
+  pub options : (bits : ℕ) → StandFor words bits → result ≡ Err BadOptions → ⊥

@@ -1,11 +1,9 @@
 //! Reading a text, and writing what a program says of it.
 
-ghost use Rattle.std.specs.Prelude.{◌≡◌, ℕ, List, OnOk, IfErr, Err, IsUtf8};
+ghost use Rattle.std.specs.Prelude.{ℕ, List, OnOk, IfErr, IsUtf8};
 ghost use Rattle.first_pass_items.specs.declared.option_set.Options.{Options as OptionSet};
-ghost use Rattle.first_pass_host.specs.declared.fault.BlocksFault.TheVariants.{BadOptions};
-ghost use Rattle.first_pass_host.specs.OptionWord.{StandFor};
 ghost use Rattle.first_pass_host.specs.Streams.{stream_between};
-ghost use Rattle.first_pass_run.specs.Runs.{WritesOutput, LeavesReport, LeavesBytes, WritesWhole, Leaves};
+ghost use Rattle.first_pass_run.specs.Runs.{WritesOutput, LeavesReport, LeavesBytes, Runs};
 
 use first_pass_host::fault::BlocksFault;
 use first_pass_host::input::read_whole;
@@ -49,14 +47,8 @@ pub fn run_report<P: Report, R: Read, W: Write>(
     input: &mut R,
     output: &mut W,
 ) -> Result<(), BlocksFault>
-    ensures ok { OnOk result (WritesWhole (P.says report.now) words.now
-        (stream_between (R.remaining input.old) (R.remaining input.new))
-        (stream_between (W.contents output.old) (W.contents output.new))) }
-    ensures fault { IfErr result (λ fault. Leaves (P.says report.now) fault words.now
-        (stream_between (R.remaining input.old) (R.remaining input.new))
-        (stream_between (W.contents output.old) (W.contents output.new))) }
-    ensures bad_options { ((bits : ℕ) → StandFor words.now bits → ⊥) → result ≡ Err BadOptions }
-    ensures options { (bits : ℕ) → StandFor words.now bits → result ≡ Err BadOptions → ⊥ }
+    ensures { Runs (P.says report.now) words.now (stream_between (R.remaining input.old) (R.remaining input.new))
+        (stream_between (W.contents output.old) (W.contents output.new)) result }
 {
     let Some(options) = parse_options(words) else {
         return Err(BlocksFault::BadOptions);

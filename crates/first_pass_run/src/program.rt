@@ -1,0 +1,28 @@
+//! The `main` of a program over a text.
+
+use crate::report::{Report, run_report};
+use first_pass_host::exit::exit_code;
+use first_pass_host::fault::BlocksFault;
+use first_pass_host::words::words_of;
+use std::alloc::Global;
+use std::process::ExitCode;
+
+/// What `main` does in a program that writes a report: it runs the report with the words after the program's name,
+/// over standard input and standard output. The status is that of `exit_code`.
+pub fn run_program<P: Report>(rt: &HostRuntime, report: &P) -> ExitCode {
+    exit_code(rt, run_on_host(rt, report))
+}
+
+// Runs a report with the words after the program's name, over standard input and standard output.
+fn run_on_host<P: Report>(rt: &HostRuntime, report: &P) -> Result<(), BlocksFault> {
+    let words = words_of(rt)?;
+    let mut input = rt.stdin();
+    let mut output = rt.stdout();
+    run_report(
+        report,
+        rt.alloc(),
+        words.as_slice(),
+        &mut input,
+        &mut output,
+    )
+}
