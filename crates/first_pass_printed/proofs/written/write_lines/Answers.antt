@@ -1,20 +1,21 @@
-use Rattle.std.proofs.Common.{map, subst}
+use Rattle.std.proofs.Common.{map, ap, ◌∙◌, rules, of_calls}
 use Rattle.std.specs.List.{flat_map}
-use Rattle.std.proofs.lemmas.Result.{on_err_weaker}
-use Rattle.first_pass_host.specs.Streams.{AppendsFront}
-use Rattle.first_pass_host.proofs.HeldLines.{front_first, front_after, on_any}
-use Rattle.first_pass_names.specs.TableEntries.{link_entry}
-use Rattle.first_pass_printed.specs.Printed.{link_line}
+use Rattle.first_pass_host.proofs.HeldLines.{written_as, first_failed, then_written}
+use Rattle.first_pass_host.proofs.ItemLines.{element_lines, entry_lines}
+use Rattle.first_pass_names.specs.TableEntries.{names_of, link_entry}
+use Rattle.first_pass_printed.specs.Printed.{node_line, link_line}
 use Rattle.first_pass_printed.proofs.written.write_lines.Goals as goal
 
-pub returns-in_err-write_nodes-clause-front : goal.returns-in_err-write_nodes-clause-front
-returns-in_err-write_nodes-clause-front g c = on_any c.from_residual.result (front_first _ _ _ _ c.in_err-write_nodes.ensures.front)
+pub returns-in_err-write_each : goal.returns-in_err-write_each
+returns-in_err-write_each g c =
+    let line = node_line (names_of c.args.allocs.now) in
+    let nodes = c.in_err-write_each.ensures _ _ (element_lines _ line (λ old new x call. search of_calls)) in
+    first_failed _ _ _ _ _ _ (search rules) (written_as _ _ _ _ (ap (flat_map line) c.iter.ensures.rest) nodes)
 
-pub returns-clause-front : goal.returns-clause-front
-returns-clause-front g c =
-    let contents = g.W.Write.contents in
-    let mid = contents c.write_nodes.new.output in
-    let new = contents c.write_links.new.output in
-    on_err_weaker c.write_links.result (λ front. front_after _ _ _ _ _ c.in_ok-write_nodes.ensures.ok
-    (subst (λ links. AppendsFront mid new (flat_map link_line (map link_entry links))) c.refdefs.ensures front))
-    c.write_links.ensures.front
+pub returns : goal.returns
+returns g c =
+    let line = node_line (names_of c.args.allocs.now) in
+    let nodes = c.in_ok-write_each.ensures _ _ (element_lines _ line (λ old new x call. search of_calls)) in
+    let links = c.write_each-2.ensures _ _ (entry_lines _ link_line link_entry (λ old new x call. search of_calls)) in
+    let links_are = ap (λ l. flat_map link_line (map link_entry l)) (c.iter-2.ensures.entries ∙ c.refdefs.ensures) in
+    then_written _ _ _ _ _ _ (written_as _ _ _ _ (ap (flat_map line) c.iter.ensures.rest) nodes) (written_as _ _ _ _ links_are links)
