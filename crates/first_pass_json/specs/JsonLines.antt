@@ -35,7 +35,10 @@ definition_line link = codes "{" ++ link_members link ++ range_members link.star
 abbrev pub footnote_line : List ℕ → List ℕ
 footnote_line label = codes "{\"footnote\":" ++ json_string label ++ codes "}\n"
 
--- the lines of a tree's nodes, after them those of the link definitions, and then those of the footnotes, in the order of their tables
+-- the lines of the link definitions, and after them those of the footnotes, in the order of their tables
+abbrev pub tables_lines : Tables → List ℕ
+tables_lines tables = flat_map definition_line tables.links ++ flat_map footnote_line tables.footnotes
+
+-- the lines of a tree's nodes, and after them those of its tables
 abbrev pub json_lines : Names → List (ℕ × Item) → Tables → List ℕ
-json_lines names nodes tables =
-    flat_map (node_line names) nodes ++ (flat_map definition_line tables.links ++ flat_map footnote_line tables.footnotes)
+json_lines names nodes tables = flat_map (node_line names) nodes ++ tables_lines tables

@@ -1,10 +1,7 @@
 //! The work of the program `tree`.
 
-ghost use Rattle.std.specs.Prelude.{◌≡◌, ℕ, OnOk, IfErr, Err};
-ghost use Rattle.first_pass_host.specs.declared.fault.BlocksFault.TheVariants.{BadOptions};
-ghost use Rattle.first_pass_host.specs.OptionWord.{StandFor};
 ghost use Rattle.first_pass_host.specs.Streams.{stream_between};
-ghost use Rattle.first_pass_run.specs.Runs.{WritesWhole, Leaves};
+ghost use Rattle.first_pass_run.specs.Runs.{Runs};
 ghost use Rattle.first_pass_json.specs.Told.{IsTold};
 
 use crate::written::write_json;
@@ -16,7 +13,7 @@ use std::alloc::Global;
 use std::io::{Read, Write};
 
 /// The tree of a text's blocks and its tables as lines of JSON.
-struct JsonTree;
+pub struct JsonTree;
 
 impl Report for JsonTree {
     ghost says = { λ _ options text output. IsTold options text output };
@@ -47,13 +44,8 @@ pub fn tree_run<R: Read, W: Write>(
     input: &mut R,
     output: &mut W,
 ) -> Result<(), BlocksFault>
-    ensures ok { OnOk result (WritesWhole IsTold words.now (stream_between (R.remaining input.old) (R.remaining input.new))
-        (stream_between (W.contents output.old) (W.contents output.new))) }
-    ensures fault { IfErr result (λ fault. Leaves IsTold fault words.now
-        (stream_between (R.remaining input.old) (R.remaining input.new))
-        (stream_between (W.contents output.old) (W.contents output.new))) }
-    ensures bad_options { ((bits : ℕ) → StandFor words.now bits → ⊥) → result ≡ Err BadOptions }
-    ensures options { (bits : ℕ) → StandFor words.now bits → result ≡ Err BadOptions → ⊥ }
+    ensures { Runs IsTold words.now (stream_between (R.remaining input.old) (R.remaining input.new))
+        (stream_between (W.contents output.old) (W.contents output.new)) result }
 {
     run_report(&JsonTree, alloc, words, input, output)
 }

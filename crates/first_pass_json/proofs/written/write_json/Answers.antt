@@ -1,10 +1,19 @@
-use Rattle.std.proofs.lemmas.Result.{on_err_weaker}
-use Rattle.first_pass_host.proofs.HeldLines.{front_first, front_after, on_any}
+use Rattle.std.proofs.Common.{ap, rules, of_calls}
+use Rattle.std.specs.List.{flat_map}
+use Rattle.first_pass_host.proofs.HeldLines.{written_as, first_failed, then_written}
+use Rattle.first_pass_host.proofs.ItemLines.{element_lines}
+use Rattle.first_pass_names.specs.TableEntries.{names_of}
+use Rattle.first_pass_json.specs.JsonLines.{node_line}
 use Rattle.first_pass_json.proofs.written.write_json.Goals as goal
 
-pub returns-in_err-write_nodes-clause-front : goal.returns-in_err-write_nodes-clause-front
-returns-in_err-write_nodes-clause-front g c = on_any c.from_residual.result (front_first _ _ _ _ c.in_err-write_nodes.ensures.front)
+pub returns-in_err-write_each : goal.returns-in_err-write_each
+returns-in_err-write_each g c =
+    let line = node_line (names_of c.args.allocs.now) in
+    let nodes = c.in_err-write_each.ensures _ _ (element_lines _ line (λ old new x call. search of_calls)) in
+    first_failed _ _ _ _ _ _ (search rules) (written_as _ _ _ _ (ap (flat_map line) c.iter.ensures.rest) nodes)
 
-pub returns-clause-front : goal.returns-clause-front
-returns-clause-front g c =
-    on_err_weaker c.write_tables.result (λ front. front_after _ _ _ _ _ c.in_ok-write_nodes.ensures.ok front) c.write_tables.ensures.front
+pub returns : goal.returns
+returns g c =
+    let line = node_line (names_of c.args.allocs.now) in
+    let nodes = c.in_ok-write_each.ensures _ _ (element_lines _ line (λ old new x call. search of_calls)) in
+    then_written _ _ _ _ _ _ (written_as _ _ _ _ (ap (flat_map line) c.iter.ensures.rest) nodes) c.write_tables.ensures
