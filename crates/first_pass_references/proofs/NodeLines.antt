@@ -1,20 +1,45 @@
 -- The lines of nodes, one node after the other.
-use Rattle.std.proofs.Common.{◌≡◌, ℕ, List, [], ◌∷◌, ◌++◌, length, arith, refl, sym, ap, ◌∙◌}
+use Rattle.std.proofs.Common.{◌≡◌, ℕ, zero, suc, ◌+◌, ◌-◌, ◌<◌, List, [], ◌∷◌, ◌++◌, length, drop, arith, refl, sym, ap, ◌∙◌}
+use Rattle.std.proofs.lemmas.List.{drop-drop}
+use Rattle.std.specs.Range.{range_steps}
 use Rattle.first_pass_items.specs.declared.item.Item.{Item}
 use Rattle.first_pass_grammar.specs.Names.{Names}
 use Rattle.first_pass_grammar.specs.LinkTables.{LinkEntry}
+use Rattle.first_pass_host.specs.Held.{Calls, AppendsLine, AreLines}
 use Rattle.first_pass_references.specs.Lines.{first_lines, node_lines}
 
--- those of the first node, and those of the others
-pub next_node : (text : List ℕ) (names : Names) (links : List LinkEntry) (nodes rest : List (ℕ × Item)) (first : ℕ × Item) → nodes ≡ first ∷ rest
-    → node_lines text names links nodes ≡ first_lines text names links nodes ++ node_lines text names links rest
-unfolding node_lines
-next_node text names links nodes rest first is =
-    ap (node_lines text names links) is ∙ ap (λ l. first_lines text names links l ++ node_lines text names links rest) (sym is)
+-- the lines of as many numbers, from one on
+pub lines_from : (ℕ → List ℕ) → ℕ → ℕ → List ℕ
+lines_from line first zero = []
+lines_from line first (suc count) = line first ++ lines_from line (first + 1) count
 
--- where no node is left
-pub no_node : (text : List ℕ) (names : Names) (links : List LinkEntry) (nodes : List (ℕ × Item)) → length nodes ≡ 0
-    → node_lines text names links nodes ≡ []
-unfolding node_lines
-no_node text names links [] none = refl
-no_node text names links (first ∷ nodes) none = absurd (omega arith)
+one_more : (line : ℕ → List ℕ) (i n x j m : ℕ) → 0 < n → x ≡ i → j ≡ i + 1 → m ≡ n - 1 → lines_from line i n ≡ line x ++ lines_from line j m
+unfolding lines_from
+one_more line i zero x j m some here next left = absurd (omega arith)
+one_more line i (suc n) x j m some here next left = let is : m ≡ n = omega (arith, left) in cc
+
+none_left : (line : ℕ → List ℕ) (i n : ℕ) → n ≡ 0 → lines_from line i n ≡ []
+unfolding lines_from
+none_left line i n none = ap (lines_from line i) none
+
+-- the numbers of a range
+pub number_lines : (calls : Calls ℕ) (line : ℕ → List ℕ) → AppendsLine calls line
+    → AreLines (range_steps (λ x y. y - x) (λ x y. y ≡ x + 1)) calls line (λ s. lines_from line s.start (s.«end» - s.start))
+number_lines calls line appends = record {
+  appended = appends;
+  next = λ s t x step. one_more line s.start (s.«end» - s.start) x t.start (t.«end» - t.start) step.1.0 step.1.1 step.1.2
+      (omega (arith, step.0, step.1.2));
+  none = λ s t step. none_left line s.start (s.«end» - s.start) step.1.0;
+}
+
+module _ (text : List ℕ) (names : Names) (links : List LinkEntry) (all : List (ℕ × Item)) where
+  abbrev pub line_from : ℕ → List ℕ
+  line_from i = first_lines text names links (drop i all)
+
+  pub rest_lines : (rest : List (ℕ × Item)) (i : ℕ) → drop i all ≡ rest → lines_from line_from i (length rest) ≡ node_lines text names links rest
+  unfolding lines_from node_lines
+  rest_lines [] i is = refl
+  rest_lines (first ∷ rest) i is =
+      let more = rest_lines rest (i + 1) (sym (drop-drop 1 i all) ∙ ap (drop 1) is) in
+      ap (λ l. first_lines text names links l ++ lines_from line_from (i + 1) (length rest)) is
+      ∙ ap (λ l. first_lines text names links (first ∷ rest) ++ l) more

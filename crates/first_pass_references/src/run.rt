@@ -1,10 +1,7 @@
 //! The work of the program `links`.
 
-ghost use Rattle.std.specs.Prelude.{◌≡◌, ℕ, OnOk, IfErr, Err};
-ghost use Rattle.first_pass_host.specs.declared.fault.BlocksFault.TheVariants.{BadOptions};
-ghost use Rattle.first_pass_host.specs.OptionWord.{StandFor};
 ghost use Rattle.first_pass_host.specs.Streams.{stream_between};
-ghost use Rattle.first_pass_run.specs.Runs.{WritesWhole, Leaves};
+ghost use Rattle.first_pass_run.specs.Runs.{Runs};
 ghost use Rattle.first_pass_references.specs.Runs.{AreListed};
 
 use crate::written::write_links;
@@ -16,7 +13,7 @@ use std::alloc::Global;
 use std::io::{Read, Write};
 
 /// The link definitions of a text, its footnote definitions and its references.
-struct ListedLinks;
+pub struct ListedLinks;
 
 impl Report for ListedLinks {
     ghost says = { λ _ options text output. AreListed options text output };
@@ -48,14 +45,8 @@ pub fn links_run<R: Read, W: Write>(
     input: &mut R,
     output: &mut W,
 ) -> Result<(), BlocksFault>
-    ensures ok { OnOk result (WritesWhole AreListed words.now
-        (stream_between (R.remaining input.old) (R.remaining input.new))
-        (stream_between (W.contents output.old) (W.contents output.new))) }
-    ensures fault { IfErr result (λ fault. Leaves AreListed fault words.now
-        (stream_between (R.remaining input.old) (R.remaining input.new))
-        (stream_between (W.contents output.old) (W.contents output.new))) }
-    ensures bad_options { ((bits : ℕ) → StandFor words.now bits → ⊥) → result ≡ Err BadOptions }
-    ensures options { (bits : ℕ) → StandFor words.now bits → result ≡ Err BadOptions → ⊥ }
+    ensures { Runs AreListed words.now (stream_between (R.remaining input.old) (R.remaining input.new))
+        (stream_between (W.contents output.old) (W.contents output.new)) result }
 {
     run_report(&ListedLinks, alloc, words, input, output)
 }

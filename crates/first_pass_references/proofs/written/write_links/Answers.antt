@@ -1,24 +1,26 @@
-use Rattle.std.proofs.Common.{map, subst}
-use Rattle.std.proofs.lemmas.Result.{on_err_weaker}
+use Rattle.std.proofs.Common.{◌≡◌, ◌-◌, map, length, ap, refl, ◌∙◌, arith, rules, of_calls}
 use Rattle.std.specs.List.{flat_map}
-use Rattle.std.specs.Io.KnownBytes.{Appends}
-use Rattle.first_pass_host.specs.Streams.{AppendsFront}
-use Rattle.first_pass_names.specs.TableEntries.{link_entry}
+use Rattle.first_pass_host.proofs.HeldLines.{written_as, first_failed, then_written}
+use Rattle.first_pass_host.proofs.ItemLines.{entry_lines}
+use Rattle.first_pass_names.specs.TableEntries.{names_of, tables_of, link_entry}
 use Rattle.first_pass_references.specs.Lines.{definition_line}
-use Rattle.first_pass_host.proofs.HeldLines.{front_first, front_after, on_any}
+use Rattle.first_pass_references.proofs.NodeLines.{lines_from, line_from, number_lines, rest_lines}
 use Rattle.first_pass_references.proofs.written.write_links.Goals as goal
 
-pub returns-in_err-write_definitions-clause-front : goal.returns-in_err-write_definitions-clause-front
-returns-in_err-write_definitions-clause-front g c =
-    let old = g.W.Write.contents c.args.output.now in
-    let new = g.W.Write.contents c.write_definitions.new.output in
-    on_any c.from_residual.result (front_first _ _ old new
-    (subst (λ links. AppendsFront old new (flat_map definition_line (map link_entry links))) c.refdefs.ensures c.in_err-write_definitions.ensures.front))
+pub returns-in_err-write_each : goal.returns-in_err-write_each
+returns-in_err-write_each g c =
+    let links = c.in_err-write_each.ensures _ _ (entry_lines _ definition_line link_entry (λ old new x call. search of_calls)) in
+    let links_are = ap (λ l. flat_map definition_line (map link_entry l)) (c.iter.ensures.entries ∙ c.refdefs.ensures) in
+    first_failed _ _ _ _ _ _ (search rules) (written_as _ _ _ _ links_are links)
 
-pub returns-clause-front : goal.returns-clause-front
-returns-clause-front g c =
-    let old = g.W.Write.contents c.args.output.now in
-    let mid = g.W.Write.contents c.write_definitions.new.output in
-    on_err_weaker c.write_nodes.result (front_after _ _ old mid (g.W.Write.contents c.write_nodes.new.output)
-    (subst (λ links. Appends old mid (flat_map definition_line (map link_entry links))) c.refdefs.ensures c.in_ok-write_definitions.ensures.ok))
-    c.write_nodes.ensures.front
+pub returns : goal.returns
+returns g c =
+    let links = c.in_ok-write_each.ensures _ _ (entry_lines _ definition_line link_entry (λ old new x call. search of_calls)) in
+    let links_are = ap (λ l. flat_map definition_line (map link_entry l)) (c.iter.ensures.entries ∙ c.refdefs.ensures) in
+    let tables = tables_of c.args.allocs.now in
+    let line = line_from c.args.text.now (names_of c.args.allocs.now) tables.links c.args.nodes.now in
+    let nodes = c.write_each-2.ensures _ _ (number_lines _ line (λ old new x call. search of_calls)) in
+    let count : length c.args.nodes.now - 0 ≡ length c.args.nodes.now = omega arith in
+    let nodes_are = ap (lines_from line 0) count
+    ∙ rest_lines c.args.text.now (names_of c.args.allocs.now) tables.links c.args.nodes.now c.args.nodes.now 0 refl in
+    then_written _ _ _ _ _ _ (written_as _ _ _ _ links_are links) (written_as _ _ _ _ nodes_are nodes)
