@@ -1,16 +1,15 @@
 //! The lines of an outline, written.
 
 ghost use Rattle.std.specs.Option.{option_map};
-ghost use Rattle.std.specs.Prelude.{◌≡◌, ◌++◌, map, OnOk, OnErr, IfErr};
+ghost use Rattle.std.specs.Prelude.{◌≡◌, ◌++◌, map, OnOk};
 ghost use Rattle.std.specs.List.{flat_map};
-ghost use Rattle.std.specs.Io.KnownBytes.{Appends};
-ghost use Rattle.first_pass_host.specs.Streams.{AppendsFront, IsWriteFault};
+ghost use Rattle.first_pass_host.specs.Streams.{WritesText, stream_between};
 ghost use Rattle.first_pass_outline.specs.Entries.{entry_in};
 ghost use Rattle.first_pass_outline.specs.Lines.{entry_line, id_text};
 
 use crate::outline::OutlineEntry;
 use first_pass_host::fault::BlocksFault;
-use first_pass_host::output::{write_piece, write_whole};
+use first_pass_host::output::write_each;
 use first_pass_lines::lines::level_number;
 use first_pass_printed::node::append_number;
 use std::alloc::{AllocError, Global};
@@ -48,23 +47,20 @@ fn append_id(line: &mut Vec<u8>, id: Option<&str>) -> Result<(), AllocError>
     }
 }
 
-/// Writes the lines of entries, in their order. A fault is `WriteFailed`, or `OutOfMemory` where a request was
-/// refused; a beginning of the lines may be written then.
+/// Writes the lines of entries, in their order. A fault is `WriteFailed`, or `OutOfMemory` if a request was refused; a
+/// beginning of the lines may be written then.
 pub fn write_entries<W: Write>(
     alloc: Global,
     entries: &[OutlineEntry<'_>],
     output: &mut W,
 ) -> Result<(), BlocksFault>
-    ensures ok { OnOk result (Appends (W.contents output.old) (W.contents output.new)
-        (flat_map entry_line (map entry_in entries.now))) }
-    ensures front { OnErr result (AppendsFront (W.contents output.old) (W.contents output.new)
-        (flat_map entry_line (map entry_in entries.now))) }
-    ensures fault { IfErr result IsWriteFault }
+    ensures { WritesText (flat_map entry_line (map entry_in entries.now))
+        (stream_between (W.contents output.old) (W.contents output.new)) result }
 {
-    let mut held = Vec::new(alloc);
-    for entry in entries {
-        append_entry(&mut held, entry)?;
-        write_piece(output, &mut held)?;
-    }
-    write_whole(output, held.as_slice())
+    write_each(
+        alloc,
+        entries.iter(),
+        |line, entry| append_entry(line, entry),
+        output,
+    )
 }

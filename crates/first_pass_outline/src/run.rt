@@ -1,23 +1,19 @@
 //! The work of the program `outline`.
 
-ghost use Rattle.std.specs.Prelude.{◌≡◌, ℕ, OnOk, IfErr, Err};
-ghost use Rattle.first_pass_host.specs.declared.fault.BlocksFault.TheVariants.{BadOptions};
-ghost use Rattle.first_pass_host.specs.OptionWord.{StandFor};
 ghost use Rattle.first_pass_host.specs.Streams.{stream_between};
-ghost use Rattle.first_pass_run.specs.Runs.{WritesWhole, Leaves};
+ghost use Rattle.first_pass_run.specs.Runs.{Runs};
 ghost use Rattle.first_pass_outline.specs.Lines.{IsListed};
 
 use crate::lines::write_entries;
 use crate::outline::outline_text;
-/// Why a run of the program `outline` ended without its whole output.
-pub use first_pass_host::fault::BlocksFault as OutlineFault;
+use first_pass_host::fault::BlocksFault;
 use first_pass_items::option_set::Options;
 use first_pass_run::report::{Report, run_report};
 use std::alloc::Global;
 use std::io::{Read, Write};
 
 /// The outline of a text, a heading a line in reading order.
-struct ListedOutline;
+pub struct ListedOutline;
 
 impl Report for ListedOutline {
     ghost says = { λ _ options text output. IsListed options text output };
@@ -28,7 +24,7 @@ impl Report for ListedOutline {
         text: &str,
         options: Options,
         output: &mut W,
-    ) -> Result<(), OutlineFault> {
+    ) -> Result<(), BlocksFault> {
         let entries = outline_text(alloc, text, options)?;
         write_entries(alloc, entries.as_slice(), output)
     }
@@ -46,15 +42,9 @@ pub fn outline_run<R: Read, W: Write>(
     words: &[String],
     input: &mut R,
     output: &mut W,
-) -> Result<(), OutlineFault>
-    ensures ok { OnOk result (WritesWhole IsListed words.now
-        (stream_between (R.remaining input.old) (R.remaining input.new))
-        (stream_between (W.contents output.old) (W.contents output.new))) }
-    ensures fault { IfErr result (λ fault. Leaves IsListed fault words.now
-        (stream_between (R.remaining input.old) (R.remaining input.new))
-        (stream_between (W.contents output.old) (W.contents output.new))) }
-    ensures bad_options { ((bits : ℕ) → StandFor words.now bits → ⊥) → result ≡ Err BadOptions }
-    ensures options { (bits : ℕ) → StandFor words.now bits → result ≡ Err BadOptions → ⊥ }
+) -> Result<(), BlocksFault>
+    ensures { Runs IsListed words.now (stream_between (R.remaining input.old) (R.remaining input.new))
+        (stream_between (W.contents output.old) (W.contents output.new)) result }
 {
     run_report(&ListedOutline, alloc, words, input, output)
 }
