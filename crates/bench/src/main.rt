@@ -1,6 +1,7 @@
 //! `bench [BITS [RUNS]]`: times the pass over the Markdown text on standard input.
 #![tactic(auto)]
 
+use first_pass_host::exit::exit_code;
 use first_pass_host::fault::BlocksFault;
 use first_pass_host::words::words_of;
 use first_pass_program::bench::bench_run;
@@ -23,11 +24,6 @@ fn bench(rt: &HostRuntime) -> Result<(), BlocksFault> {
 }
 
 fn main(rt: HostRuntime) -> ExitCode {
-    match bench(&rt) {
-        Ok(()) => ExitCode::SUCCESS,
-        Err(fault) => {
-            let _ = eprintln!(rt; "{}", fault.message());
-            ExitCode::from(fault.status())
-        }
-    }
+    let ended = bench(&rt);
+    exit_code(&rt, ended)
 }

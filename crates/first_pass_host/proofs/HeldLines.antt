@@ -1,10 +1,8 @@
 -- Lines that are written, held or left, and what a step does to them.
-use Rattle.std.proofs.Common.{◌≡◌, ℕ, ◌+◌, ◌<◌, List, [], ◌++◌, Option, Result, Ok, Err, OnErr, length, drop, get_or, refl, sym, ap, subst, ◌∙◌}
+use Rattle.std.proofs.Common.{◌≡◌, ℕ, List, [], ◌++◌, Option, Result, Ok, Err, OnErr, refl, sym, ap, subst, ◌∙◌}
 use Rattle.std.proofs.Common.{append_assoc, append-nil}
 use Rattle.std.proofs.KnownBytes.{Appends-nil, Appends-trans}
-use Rattle.std.proofs.lemmas.List.{drop_more}
 use Rattle.std.specs.Io.KnownBytes.{Appends}
-use Rattle.std.specs.List.{flat_map}
 use Rattle.first_pass_host.specs.declared.fault.BlocksFault.{BlocksFault}
 use Rattle.first_pass_host.specs.Held.{AreUnderWay}
 use Rattle.first_pass_host.specs.Streams.{Stream, stream_between, AppendsFront, WritesText}
@@ -79,11 +77,6 @@ front_after lines others old mid new appended front = record {
   split = ap (λ l. lines ++ l) front.split ∙ sym (append_assoc lines front.written front.left);
   appended = Appends-trans old mid new lines front.written appended front.appended;
 }
-
--- the lines of the elements from a place on: the line of the one there, and those of the others
-pub line_at : {A : Type 0} (line : A → List ℕ) (xs : List A) (i : ℕ) (d : A) → i < length xs
-    → flat_map line (drop i xs) ≡ line (get_or xs i d) ++ flat_map line (drop (i + 1) xs)
-line_at line xs i d within = ap (flat_map line) (drop_more xs i d within)
 
 -- a fact that holds anyway
 pub on_any : {T E P : Type 0} (r : Result T E) → P → OnErr r P

@@ -1,10 +1,7 @@
 //! The work of the program `blocks`.
 
-ghost use Rattle.std.specs.Prelude.{◌≡◌, ℕ, OnOk, IfErr, Err};
-ghost use Rattle.first_pass_host.specs.declared.fault.BlocksFault.TheVariants.{BadOptions};
-ghost use Rattle.first_pass_host.specs.OptionWord.{StandFor};
 ghost use Rattle.first_pass_host.specs.Streams.{stream_between};
-ghost use Rattle.first_pass_run.specs.Runs.{WritesWhole, Leaves};
+ghost use Rattle.first_pass_run.specs.Runs.{Runs};
 ghost use Rattle.first_pass_program.specs.Runs.{IsPrinted};
 
 use first_pass_blocks::pass::run_first_pass;
@@ -17,7 +14,7 @@ use std::io::{Read, Write};
 
 /// The tree of a text's blocks, one node a line in reading order, and then each of its link definitions, one a line in
 /// the byte order of the foldings of their labels.
-struct PrintedBlocks;
+pub struct PrintedBlocks;
 
 impl Report for PrintedBlocks {
     ghost says = { λ _ options text output. IsPrinted options text output };
@@ -48,13 +45,8 @@ pub fn blocks_run<R: Read, W: Write>(
     input: &mut R,
     output: &mut W,
 ) -> Result<(), BlocksFault>
-    ensures ok { OnOk result (WritesWhole IsPrinted words.now (stream_between (R.remaining input.old) (R.remaining input.new))
-        (stream_between (W.contents output.old) (W.contents output.new))) }
-    ensures fault { IfErr result (λ fault. Leaves IsPrinted fault words.now
-        (stream_between (R.remaining input.old) (R.remaining input.new))
-        (stream_between (W.contents output.old) (W.contents output.new))) }
-    ensures bad_options { ((bits : ℕ) → StandFor words.now bits → ⊥) → result ≡ Err BadOptions }
-    ensures options { (bits : ℕ) → StandFor words.now bits → result ≡ Err BadOptions → ⊥ }
+    ensures { Runs IsPrinted words.now (stream_between (R.remaining input.old) (R.remaining input.new))
+        (stream_between (W.contents output.old) (W.contents output.new)) result }
 {
     run_report(&PrintedBlocks, alloc, words, input, output)
 }
