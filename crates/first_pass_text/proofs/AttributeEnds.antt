@@ -193,7 +193,7 @@ clipped text start to =
     ]
 
 -- what is cut off with a block
-cut_place : (broken : Bool) (start opening content_end white : ℕ) (bs content : List ℕ) → content_end ≡ start + opening → content ≡ take opening bs
+pub cut_place : (broken : Bool) (start opening content_end white : ℕ) (bs content : List ℕ) → content_end ≡ start + opening → content ≡ take opening bs
     → white ≡ (if broken then 0 else suffix_len is_white content) → start + kept_before broken opening bs ≡ content_end - white
 cut_place true start opening content_end white bs content e f g = omega arith
 cut_place false start opening content_end white bs content e f g =

@@ -1,18 +1,18 @@
 -- The chain of a heading's text without its attribute block.
-use Rattle.std.specs.Prelude.{◌≡◌, ℕ, ◌+◌, Bool, List, length, Option, None, IfSome}
-use Rattle.std.specs.Option.{option_map_or}
+use Rattle.std.specs.Prelude.{◌≡◌, ◌⊎◌, ℕ, ◌+◌, ◌≤◌, Bool, List, length, Option, None, IfSome, IsSomeAnd, IsCharBoundary}
+use Rattle.std.specs.Option.{option_map, option_map_or}
 use Rattle.first_pass_items.specs.declared.item.HeadingIndex.{HeadingIndex}
 use Rattle.first_pass_items.specs.declared.item.HeadingLevel.{HeadingLevel}
 use Rattle.first_pass_items.specs.declared.item.Item.{Item}
 use Rattle.first_pass_items.specs.declared.item.ItemBody.TheVariants.{Heading}
 use Rattle.first_pass_items.specs.declared.option_set.Options.{Options}
 use Rattle.first_pass_tree.specs.declared.tree_index.TreeIndex.{TreeIndex}
-use Rattle.first_pass_tree.specs.Forest.{Forest, open_place, item_at, with_body_at}
+use Rattle.first_pass_tree.specs.Forest.{Forest, open_place, item_at, with_body_at, cut_siblings}
 use Rattle.first_pass_tokens.specs.Chains.{cut}
 use Rattle.first_pass_tokens.specs.TreeTokens.{chained}
 use Rattle.first_pass_grammar.specs.Headings.{heading_braces, heading_attributes_of, chain_bytes, kept_before}
 use Rattle.first_pass_grammar.specs.Leaves.{Document}
-use Rattle.first_pass_grammar.specs.Names.{Names, NamesAttributes, Extends}
+use Rattle.first_pass_grammar.specs.Names.{Names, NamesAttributes, NamesEntry, AttributesAt, Extends}
 
 -- the innermost open node is the last one, and nothing stands in it
 pub record IsBare (f : Forest Item) : Type 0 where
@@ -33,10 +33,16 @@ CutsBlock d start broken old new index =
     → (new ≡ chained f (cut_chain d.text d.options start broken chain))
     × ((more : Names) → Extends more d.names → NamesAttributes more index (heading_attributes_of d.options (chain_bytes d.text start chain)))
 
+-- A tree is as it was, or the children of its innermost open node are cut between two characters, at an offset that is not before another one.
+abbrev pub CutsChildren : List ℕ → ℕ → Forest Item → Forest Item → Type 0
+CutsChildren text start old new = (new ≡ old) ⊎ ((e : ℕ) × (start ≤ e) × IsCharBoundary text e × (new ≡ cut_siblings old e))
+
 -- An open block is a heading of this level now, whose attribute block is cut off the chain that stands in it; a backslash breaks its text's last line, or
--- doesn't (CommonMark 4.3, and this project).
+-- doesn't. Whatever stands in it is cut at the most, and an index of the heading names attributes (CommonMark 4.3, and this project).
 pub record BecomesHeading (d : Document) (level : HeadingLevel) (broken : Bool) (block : TreeIndex) (old new : Forest Item) : Type 0 where
   pub index : Option HeadingIndex
   pub cut : Forest Item
   pub cuts : IfSome (item_at old block) (λ x. CutsBlock d x.start broken old cut index)
+  pub children : IsSomeAnd (item_at old block) (λ x. CutsChildren d.text x.start old cut)
+  pub entry : NamesEntry d.names (option_map AttributesAt index)
   pub tree_is : new ≡ with_body_at cut block (Heading level index)

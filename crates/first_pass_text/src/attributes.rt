@@ -10,9 +10,9 @@ ghost use Rattle.first_pass_tokens.specs.TreeTokens.{chained};
 ghost use Rattle.first_pass_attributes.specs.Attributes.{attributes_in};
 ghost use Rattle.first_pass_grammar.specs.Headings.{before_attributes, heading_attributes_of, chain_end as chain_end_of};
 ghost use Rattle.first_pass_grammar.specs.Leaves.{document};
-ghost use Rattle.first_pass_grammar.specs.Names.{Names, Extends, NamesAttributes};
+ghost use Rattle.first_pass_grammar.specs.Names.{Names, Extends, NamesAttributes, NamesEntry, AttributesAt};
 ghost use Rattle.first_pass_names.specs.TableEntries.{names_of, NamesMore};
-ghost use Rattle.first_pass_text.specs.CutTexts.{IsBare, CutsBlock, BecomesHeading};
+ghost use Rattle.first_pass_text.specs.CutTexts.{IsBare, CutsBlock, CutsChildren, BecomesHeading};
 
 use bitflags::Flags;
 use first_pass_attributes::attrs::{
@@ -126,6 +126,8 @@ pub fn cut_attributes<'a>(
     ensures cut { IfOk result (λ index.
         CutsBlock (document source.now.text.now source.now.options (names_of allocs.new)) start broken tree.old
         tree.new index) }
+    ensures children { OnOk result (CutsChildren source.now.text.now start tree.old tree.new) }
+    ensures entry { IfOk result (λ index. NamesEntry (names_of allocs.new) (option_map AttributesAt index)) }
     ensures open { OnOk result (tree.new.spine ≡ tree.old.spine) }
     ensures few { OnOk result (length tree.new.nodes ≤ length tree.old.nodes) }
 {

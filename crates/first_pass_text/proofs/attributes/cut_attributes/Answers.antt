@@ -1,15 +1,19 @@
-use Rattle.std.proofs.Common.{◌≡◌, ◌+◌, ◌-◌, ◌≤◌, ℕ, arith, List, length, is_some, true, min, sym, ap, subst, ◌∙◌}
+use Rattle.std.proofs.Common.{inl, inr, drop, take, length-take, ◌≡◌, ◌+◌, ◌-◌, ◌≤◌, ℕ, arith, List, length, is_some, true, min, sym, ap, subst, ◌∙◌}
 use Rattle.std.specs.List.{slice_range}
+use Rattle.std.proofs.lemmas.List.{take-take}
 use Rattle.std.specs.Option.{option_map}
 use Rattle.first_pass_items.specs.declared.item.Item.{Item}
 use Rattle.first_pass_tree.specs.Forest.{Forest, cut_siblings}
 use Rattle.first_pass_tokens.specs.TreeTokens.{chained}
 use Rattle.first_pass_tokens.proofs.ChainLemmas.{cut_siblings-chained}
 use Rattle.first_pass_attributes.specs.Attributes.{attributes_in}
-use Rattle.first_pass_grammar.specs.Headings.{before_attributes, heading_attributes_of, chain_end, chain_bytes}
+use Rattle.first_pass_grammar.specs.Headings.{before_attributes, heading_attributes_of, chain_end, chain_bytes, kept_before}
 use Rattle.first_pass_grammar.specs.Names.{Names, Extends, NamesAttributes}
 use Rattle.first_pass_names.specs.TableEntries.{names_of}
-use Rattle.first_pass_text.proofs.AttributeEnds.{clipped, block_given, none_given, cut_by, cut_none, siblings_fewer}
+use Rattle.first_pass_text.proofs.AttributeEnds.{braces_within, clipped, cut_place, length_some, block_given, none_given, cut_by, cut_none, siblings_fewer}
+use Rattle.first_pass_text.proofs.OrderPlain.{kept_place}
+use Rattle.first_pass_grammar.proofs.MoreNames.{extends_none}
+use Rattle.first_pass_grammar.proofs.TextsNamed.{given_entry}
 use Rattle.first_pass_text.proofs.attributes.cut_attributes.Goals.{then-is_some, else-is_some}
 use Rattle.first_pass_text.proofs.attributes.cut_attributes.Goals as goal
 
@@ -42,6 +46,39 @@ returns-clause-cut c f chain bare is =
           let none = none_given options bs c.in_ok-content_end.attributes given (sym c.is_some.ensures ∙ w.if-is_some.false) in
           (w.tree-is ∙ is ∙ ap (chained f) (sym (cut_none text options start c.args.broken chain none)), named)
     ]
+
+-- where the attribute block is cut off
+pub returns-clause-children : goal.returns-clause-children
+returns-clause-children c =
+    let text : List ℕ = c.args.source.now.text.now in
+    let options = c.args.source.now.options in
+    let start : ℕ = c.args.start in
+    let last : ℕ = c.min-end.result in
+    let bs : List ℕ = slice_range text start last in
+    elim c.if-is_some.branch [
+      | then-is_some w ↦
+          let some : is_some c.in_ok-content_end.attributes ≡ true = sym c.is_some.ensures ∙ w.if-is_some.true in
+          let (block, at) = block_given options bs c.in_ok-content_end.attributes c.in_ok-content_end.ensures.attributes some in
+          let within : last ≤ length text = omega (arith, c.min-end.ensures) in
+          let p = kept_place text options start last c.args.broken block within at in
+          let e : ℕ = start + kept_before c.args.broken block.opening bs in
+          let ends = c.in_ok-content_end.ensures.content ∙ ap (λ n. start + n) (length_some options bs block at) in
+          let stop : ℕ = c.in_ok-content_end.content_end in
+          let inside = braces_within options bs block at in
+          let most = length-take (last - start) (drop start text) in
+          let size : stop - start ≡ block.opening = omega arith in
+          let content_is = ap (λ xs. slice_range xs start stop) w.as_bytes.ensures.value ∙ ap (λ n. take n (drop start text)) size
+          ∙ sym (take-take block.opening (last - start) (drop start text) (omega (arith, inside.0, inside.1))) in
+          let same : e ≡ stop - w.white_at_cut.result =
+          cut_place c.args.broken start block.opening stop w.white_at_cut.result bs _ ends content_is w.white_at_cut.ensures.value in
+          inr (e, p.0, p.2, w.tree-is ∙ w.truncate_siblings.ensures ∙ ap (cut_siblings c.args.tree.now) (sym same))
+      | else-is_some w ↦ inl w.tree-is
+    ]
+
+pub returns-clause-entry : goal.returns-clause-entry
+returns-clause-entry c =
+    given_entry (names_of c.name_attributes.new.allocs) c.in_ok-index.index _
+    (c.in_ok-index.ensures.named (names_of c.name_attributes.new.allocs) (extends_none (names_of c.name_attributes.new.allocs)))
 
 pub returns-clause-few : goal.returns-clause-few
 returns-clause-few c =

@@ -1,4 +1,4 @@
-use Rattle.std.proofs.Common.{◌≤◌, sym, ap, ◌∙◌, slice_get, subst, length, Option, IfSome}
+use Rattle.std.proofs.Common.{◌≤◌, sym, ap, ◌∙◌, slice_get, subst, length, Option, IfSome, IsSomeAnd}
 use Rattle.first_pass_items.specs.declared.item.Item.{Item}
 use Rattle.first_pass_grammar.proofs.Tightening.{length-modify}
 use Rattle.first_pass_items.specs.declared.item.ItemBody.TheVariants.{Heading}
@@ -6,7 +6,7 @@ use Rattle.first_pass_open.proofs.BlockLemmas.{open_node_in}
 use Rattle.first_pass_tree.specs.Forest.{Forest}
 use Rattle.first_pass_names.specs.TableEntries.{names_of}
 use Rattle.first_pass_grammar.specs.Leaves.{document}
-use Rattle.first_pass_text.specs.CutTexts.{CutsBlock}
+use Rattle.first_pass_text.specs.CutTexts.{CutsBlock, CutsChildren}
 use Rattle.first_pass_text.proofs.attributes.make_heading.Goals as goal
 
 pub index-requires : goal.index-requires
@@ -25,6 +25,9 @@ returns-clause-heading c =
       cuts = subst (λ (o : Option Item). IfSome o (λ x. CutsBlock d x.start c.args.underlined.broken c.args.tree.now c.cut_attributes.new.tree
           c.in_ok-index.index))
           (sym c.index.ensures) c.in_ok-index.ensures.cut;
+      children = subst (λ (o : Option Item). IsSomeAnd o (λ x. CutsChildren d.text x.start c.args.tree.now c.cut_attributes.new.tree))
+          (sym c.index.ensures) c.in_ok-index.ensures.children;
+      entry = c.in_ok-index.ensures.entry;
       tree_is = c.set_body.ensures;
     }
 
