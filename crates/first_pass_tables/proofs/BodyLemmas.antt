@@ -61,16 +61,6 @@ is_row_of : (t u : Bool) (table : TableSoFar) (cells : List (List (ℕ × Item))
     → is_row table cells ≡ u
 is_row_of t u table cells e h = ap (λ t. keeps_row t table.columns table.room cells) (sym e) ∙ h
 
-both_true : (a b : Bool) → (a && b) ≡ true → b ≡ true
-both_true true b h = h
-both_true false b h = cc
-
-few_filled : (table : TableSoFar) (cells : List (List (ℕ × Item))) → is_row table cells ≡ true → filled table.columns cells ≤ table.room
-few_filled table cells h =
-    let t = both_true (nat_lt 0 (length cells)) (nat_le (filled table.columns cells) table.room) h in
-    let k : nat_le (filled table.columns cells) table.room ≡ true = t in
-    grind (arith, nat_tests, k)
-
 -- one more row, before the rows after it
 row_more : (d : Document) (path : List Container) (table : TableSoFar) (at : ℕ) (row : FoundRow) (more : Taken) → at < length d.text
     → row.row_end ≡ at + line_len (drop at d.text) → HasCells d path (line_place at (drop at d.text)) table.braces row → is_row table row.cells ≡ true
@@ -112,14 +102,13 @@ left_by d path table at h =
     ]
 
 -- no row is read yet
-pub body_none : (d : Document) (columns start : ℕ) (old : OpenTable) → (old.tree.current ≡ None → ⊥) → old.filled_in ≤ most_filled → IsCharBoundary d.text start
+pub body_none : (d : Document) (columns start : ℕ) (old : OpenTable) → (old.tree.current ≡ None → ⊥) → IsCharBoundary d.text start
     → BodySoFar d columns start old old start
-body_none d columns start old some few boundary = record {
+body_none d columns start old some boundary = record {
   body = [];
   nodes = sym (append-nil old.tree.nodes);
   spine = refl;
   some = some;
-  few = few;
   later = omega arith;
   boundary = boundary;
   goes_on = λ later e t rows. rows;
@@ -155,8 +144,6 @@ module _ (d : Document) (before : Names) (columns start : ℕ) (old now new : Op
       (subst (λ k. AreCells d (spot begin now.braces) r.cells (spot k r.after)) (sym stop_is) r.are_cells) in
       let new_is : new.tree ≡ _ = a.1 ∙ ap (λ e. added now.tree (row_block TableRow columns begin r.cells e)) (sym stop_is) in
       let is = is_row_of (is_some now.tree.current) true (so_far columns now) r.cells (some_by now.tree.current s.some) a.0 in
-      let fits = few_filled (so_far columns now) r.cells is in
-      let few = s.few in
       let after : new.filled_in ≡ now.filled_in + filled columns r.cells = a.2 in
       let left : most_filled - new.filled_in ≡ most_filled - now.filled_in - filled columns r.cells = omega (arith, after) in
       let later = line_len-within d.text at within in
@@ -166,7 +153,6 @@ module _ (d : Document) (before : Names) (columns start : ℕ) (old now new : Op
           nodes = more-added old.tree now.tree new.tree s.body block s.nodes s.spine new_is;
           spine = ap (λ (f : Forest Item). f.spine) new_is ∙ s.spine;
           some = λ e. absurd (let z : Some (record { 0 = length now.tree.nodes }) ≡ None = sym (ap (λ (f : Forest Item). f.current) new_is) ∙ e in cc);
-          few = omega arith;
           later = omega arith;
           boundary = subst (IsCharBoundary d.text) (sym next_is) (line_end_boundary d.text at utf8 s.boundary within);
           goes_on = λ later e t rows.
@@ -218,35 +204,25 @@ module _ (d : Document) (before : Names) (columns start : ℕ) (old now new : Op
       (lines_from d.text (at + line_len (drop at d.text))) has
       (is_row_of (is_some now.tree.current) false (so_far columns now) r.cells (some_by now.tree.current s.some) a.0)))
 
--- what is left of the cells that may be filled in, after those of a header row or as many as may be
-least_by : (n most : ℕ) (t u : Bool) → nat_lt most n ≡ t → most - (if is_lt (if t then Less else (if u then Equal else Greater)) then most else n) ≡ most - n
-least_by n most true u h = grind (arith, nat_tests, h)
-least_by n most false true h = refl
-least_by n most false false h = refl
-
-pub left_behind : (n most some : ℕ) → some ≡ ord_min nat_cmp n most → most - some ≡ most - n
-left_behind n most some h = ap (λ k. most - k) h ∙ least_by n most (nat_lt most n) (most == n) refl
-
 -- The table is closed after its rows.
 closed_as : (f g : Forest Item) (e : ℕ) (ix : TreeIndex) (rest s : List TreeIndex) → f.nodes ≡ g.nodes → s ≡ ix ∷ rest → closed_by f e s ≡ closed_by g e s
 closed_as f g e ix rest [] nodes is = cc
 closed_as f g e ix rest (i ∷ is) nodes same = ap (λ (ns : List (ℕ × Item)). with_end_at (record { nodes = ns; spine = is; current = Some i }) i e) nodes
 
-pub rows_closed : (d : Document) (before : Names) (columns head_start body_start some next : ℕ) (old : Forest Item) (headed_table : OpenTable)
+pub rows_closed : (d : Document) (before : Names) (columns head_start body_start next : ℕ) (old : Forest Item) (headed_table : OpenTable)
     (bodied new : Forest Item)
     → Extends d.names before → (ix : TreeIndex) × IsJustPushed old ix → AreIn (length old.nodes) old.spine
     → AddsHead (document d.text d.options before) columns (spot head_start no_braces) old headed_table
-    → most_filled - some ≡ most_filled - headed_table.filled_in
-    → AppendsBody d columns body_start (open_table headed_table.tree some headed_table.braces) bodied next → new ≡ closed_by bodied next bodied.spine
+    → AppendsBody d columns body_start headed_table bodied next → new ≡ closed_by bodied next bodied.spine
     → AppendsRows d columns head_start body_start old new next
-rows_closed d before columns head_start body_start some next old headed_table bodied new grown (ix, pushed) there head left body new_is =
+rows_closed d before columns head_start body_start next old headed_table bodied new grown (ix, pushed) there head body new_is =
     let headed : Forest Item = headed_table.tree in
     let after : MathBraces = headed_table.braces in
     let row : List (ℕ × Item) = row_block TableHead columns head_start head.cells head.row_end in
     let nodes : headed.nodes ≡ old.nodes ++ at_depth (length old.spine + 1) row = ap (λ (f : Forest Item). f.nodes) head.tree_is in
     let spine : headed.spine ≡ old.spine = ap (λ (f : Forest Item). f.spine) head.tree_is in
     let path : path_of d.options headed ≡ path_of d.options old = same_path d.options old headed (at_depth (length old.spine + 1) row) nodes spine there in
-    let budget : most_filled - some ≡ most_filled - filled columns head.cells = left ∙ ap (λ n. most_filled - n) head.missing_is in
+    let budget : most_filled - headed_table.filled_in ≡ most_filled - filled columns head.cells = ap (λ n. most_filled - n) head.missing_is in
     let all : bodied.nodes ≡ old.nodes ++ at_depth (length old.spine + 1) (row ++ body.body) =
     body.nodes ∙ ap (λ (s : List TreeIndex). headed.nodes ++ at_depth (length s + 1) body.body) spine
     ∙ ap (λ ns. ns ++ at_depth (length old.spine + 1) body.body) nodes
@@ -260,7 +236,7 @@ rows_closed d before columns head_start body_start some next old headed_table bo
       body = body.body;
       are_rows = subst (λ most. AreRows d (path_of d.options old) (table_so_far columns most after) (lines_from d.text body_start)
           (taking body.body (lines_from d.text next))) budget
-          (subst (λ path. AreRows d path (table_so_far columns (most_filled - some) after) (lines_from d.text body_start)
+          (subst (λ path. AreRows d path (table_so_far columns (most_filled - headed_table.filled_in) after) (lines_from d.text body_start)
           (taking body.body (lines_from d.text next))) path body.are_rows);
       tree_is = new_is ∙ ap (closed_by bodied next) (body.spine ∙ spine)
           ∙ closed_as bodied (with_below old (row ++ body.body)) next ix pushed.rest old.spine all pushed.innermost;

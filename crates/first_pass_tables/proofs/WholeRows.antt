@@ -71,8 +71,10 @@ added_whole d columns head_start body_start old new next r =
     record {
       items = head ++ r.body;
       tree_is = r.tree_is;
-      rows = first ∷ rows;
+      head = first;
+      body = rows;
       show = λ names. marks_free names d.names (head ++ r.body) (subst HasNoTable (sym all) (rows_no_table 0 (first ∷ rows))) ∙ all;
       have_cells = (size, apart, have);
-      few = λ on as_many. let least = head_has_cells d begin r.cells stop on r.are_cells in omega arith;
+      few = omega arith;
+      full_head = λ on as_many. let least = head_has_cells d begin r.cells stop on r.are_cells in omega arith;
     }

@@ -1,5 +1,5 @@
 -- What is appended to an open row of a table.
-use Rattle.std.specs.Prelude.{◌≡◌, ◌⊎◌, ℕ, ◌+◌, ◌-◌, ◌≤◌, ◌&&◌, ◌||◌, not, Bool, true, false, nat_lt, nat_le, List, ◌∷◌, ◌++◌, length, drop, take, Option, Some}
+use Rattle.std.specs.Prelude.{◌≡◌, ◌⊎◌, ℕ, ◌+◌, ◌-◌, ◌≤◌, ◌&&◌, ◌||◌, not, Bool, true, false, nat_lt, nat_le, max, List, [], ◌∷◌, ◌++◌, length, drop, take, Option, Some}
 use Rattle.std.specs.Prelude.{None, is_some, slice_get, IsCharBoundary}
 use Rattle.first_pass_items.specs.declared.item.Item.{Item}
 use Rattle.first_pass_items.specs.declared.item.ItemBody.TheVariants.{TableHead, TableRow, TableCell}
@@ -134,12 +134,14 @@ pub record ClosesBetween (text : List ℕ) (from to : ℕ) (old new : Forest Ite
   pub tree_is : new ≡ closed_by (with_below old items) to old.spine
   pub fits : FitsBetween text (within_top old) from to items
 
--- Rows were added to a table, which was closed after them: each has as many cells as the table has columns. With tables, and where the line of the header
--- row has as many columns, no more of them are filled in than may be (GFM 4.10, and this project).
+-- Rows were added to a table, which was closed after them: each has as many cells as the table has columns. No more of them are filled in than may be, or
+-- than are into the header row alone; with tables, none is into that if its line has as many columns at least (GFM 4.10, and this project).
 pub record AddsWholeRows (d : Document) (columns head_start : ℕ) (old new : Forest Item) (next : ℕ) : Type 0 where
   pub items : List (ℕ × Item)
   pub tree_is : new ≡ closed_by (with_below old items) next old.spine
-  pub rows : List RowCells
-  pub show : (names : Names) → marks names items ≡ row_marks 0 rows
-  pub have_cells : HaveCells columns rows
-  pub few : has d.options tables ≡ true → head_columns (drop head_start d.text) ≡ columns → filled_in rows ≤ most_filled
+  pub head : RowCells
+  pub body : List RowCells
+  pub show : (names : Names) → marks names items ≡ row_marks 0 (head ∷ body)
+  pub have_cells : HaveCells columns (head ∷ body)
+  pub few : filled_in (head ∷ body) ≤ max most_filled (filled_in (head ∷ []))
+  pub full_head : has d.options tables ≡ true → columns ≤ head_columns (drop head_start d.text) → filled_in (head ∷ []) ≡ 0

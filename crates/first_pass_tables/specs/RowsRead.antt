@@ -5,7 +5,7 @@ use Rattle.first_pass_tree.specs.Forest.{Forest, at_depth}
 use Rattle.first_pass_grammar.specs.Names.{Names, Extends}
 use Rattle.first_pass_grammar.specs.Leaves.{Document, document}
 use Rattle.first_pass_grammar.specs.Completion.{lines_from}
-use Rattle.first_pass_grammar.specs.Tables.{Taken, taking, AreRows, most_filled}
+use Rattle.first_pass_grammar.specs.Tables.{Taken, taking, AreRows}
 use Rattle.first_pass_open.specs.Path.{path_of}
 use Rattle.first_pass_tables.specs.Appends.{OpenTable, so_far}
 
@@ -25,7 +25,6 @@ pub record BodySoFar (d : Document) (columns start : ℕ) (old now : OpenTable) 
   pub nodes : now.tree.nodes ≡ old.tree.nodes ++ at_depth (length old.tree.spine + 1) body
   pub spine : now.tree.spine ≡ old.tree.spine
   pub some : now.tree.current ≡ None → ⊥
-  pub few : now.filled_in ≤ most_filled
   pub later : start ≤ at
   pub boundary : IsCharBoundary d.text at
   pub goes_on : (later : Names) → Extends later d.names → (t : Taken)

@@ -5,7 +5,6 @@ ghost use Rattle.first_pass_tree.specs.declared.tree_index.TreeIndex.{TreeIndex}
 ghost use Rattle.first_pass_tokens.specs.LineTokens.{spot};
 ghost use Rattle.first_pass_names.specs.TableEntries.{names_of, AddsTexts, NamesMore};
 ghost use Rattle.first_pass_grammar.specs.Leaves.{document};
-ghost use Rattle.first_pass_grammar.specs.Tables.{most_filled};
 ghost use Rattle.first_pass_open.specs.OpenBlock.{IsJustPushed};
 ghost use Rattle.first_pass_open.specs.Between.{AddsBetween};
 ghost use Rattle.first_pass_tables.specs.Appends.{AppendsCells, AddsHead, IsOpenNode, open_table, ReadsRow};
@@ -184,7 +183,6 @@ pub fn parse_table_row_inner(
 ) -> Result<Option<(usize, TreeIndex)>, AllocError>
     requires within { wanted.start ≤ length source.now.text.now }
     requires open { IsOpenNode tree.old }
-    requires few { table.old.missing_empty_cells ≤ most_filled }
     ensures row { IfOk result (λ row.
         ReadsRow (document source.now.text.now source.now.options (names_of allocs.new)) wanted.most wanted.start
         (open_table tree.old table.old.missing_empty_cells table.old.braces)
@@ -200,7 +198,7 @@ pub fn parse_table_row_inner(
     open_block(tree, wanted.start, ItemBody::TableRow)?;
     let (end, count) = append_cells(source, tree, allocs, &mut table.braces, wanted)?;
     let missing = wanted.most.saturating_sub(count);
-    let most = MAX_AUTOCOMPLETED_CELLS - table.missing_empty_cells;
+    let most = MAX_AUTOCOMPLETED_CELLS.saturating_sub(table.missing_empty_cells);
     if !is_kept(before.is_some(), count, missing, most) {
         tree.pop();
         drop_behind(tree, before);

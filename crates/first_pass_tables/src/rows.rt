@@ -5,7 +5,7 @@ ghost use Rattle.first_pass_lines.specs.Places.{line_place};
 ghost use Rattle.first_pass_tree.specs.declared.tree_index.TreeIndex.{TreeIndex};
 ghost use Rattle.first_pass_names.specs.TableEntries.{names_of, AddsTexts, NamesMore};
 ghost use Rattle.first_pass_grammar.specs.Leaves.{document};
-ghost use Rattle.first_pass_grammar.specs.Tables.{most_filled, interrupts_row, row_text};
+ghost use Rattle.first_pass_grammar.specs.Tables.{interrupts_row, row_text};
 ghost use Rattle.first_pass_open.specs.OpenBlock.{IsJustPushed};
 ghost use Rattle.first_pass_open.specs.Path.{context_of};
 ghost use Rattle.first_pass_open.specs.Between.{line_end_at};
@@ -13,9 +13,7 @@ ghost use Rattle.first_pass_open.specs.Between.{AddsBetween};
 ghost use Rattle.first_pass_tables.specs.Appends.{IsOpenNode, open_table, ReadsRowLine, AppendsRows, AddsWholeRows, ClosesBetween};
 ghost use Rattle.first_pass_tables.specs.RowsRead.{AppendsBody};
 
-use crate::row::{
-    CellsWanted, MAX_AUTOCOMPLETED_CELLS, TableSoFar, append_head_row, parse_table_row_inner,
-};
+use crate::row::{CellsWanted, TableSoFar, append_head_row, parse_table_row_inner};
 use bitflags::Flags;
 use first_pass_items::item::Item;
 use first_pass_items::option_set::Options;
@@ -28,7 +26,6 @@ use first_pass_tokens::braces::BraceContexts;
 use first_pass_tree::forest::Tree;
 use first_pass_tree::tree_index::TreeIndex;
 use std::alloc::AllocError;
-use std::cmp::min;
 
 // Whether `bytes`, what is left of a line after its columns, end a table before it: they interrupt a paragraph, as any
 // list item does here, but for tables (GFM 4.10, and this project).
@@ -74,7 +71,6 @@ pub fn parse_table_row(
 ) -> Result<Option<(usize, TreeIndex)>, AllocError>
     requires boundary { IsCharBoundary source.now.text.now wanted.start }
     requires open { IsOpenNode tree.old }
-    requires few { table.old.missing_empty_cells ≤ most_filled }
     ensures row { IfOk result (λ row.
         ReadsRowLine (document source.now.text.now source.now.options (names_of allocs.new)) wanted.most wanted.start
         (open_table tree.old table.old.missing_empty_cells table.old.braces)
@@ -109,7 +105,6 @@ fn append_body(
     requires boundary { IsCharBoundary source.now.text.now wanted.start }
     requires open { IsOpenNode tree.old }
     requires some { tree.old.current ≡ None → ⊥ }
-    requires few { table.old.missing_empty_cells ≤ most_filled }
     ensures body { IfOk result (λ next.
         AppendsBody (document source.now.text.now source.now.options (names_of allocs.new)) wanted.most wanted.start
         (open_table tree.old table.old.missing_empty_cells table.old.braces) tree.new next) }
@@ -148,8 +143,9 @@ pub struct TableRows {
 /// put among `allocs`. No brace context is open before the header row; the rows after it have those that it leaves
 /// (GFM 4.10).
 ///
-/// Each row has as many cells as the table has columns then. Where the line at `head_start` has as many columns as a
-/// header row, at most 262,144 of them are filled in (this project).
+/// Each row has as many cells as the table has columns then. At most 262,144 of them are filled in, or those that are
+/// filled into the header row if these are more: none are with tables, where the line at `head_start` has as many
+/// columns as a header row (this project).
 pub fn parse_table(
     source: &Source<'_>,
     tree: &mut Tree<Item>,
@@ -181,7 +177,6 @@ pub fn parse_table(
         most: rows.columns,
     };
     append_head_row(source, tree, allocs, &mut table, head)?;
-    table.missing_empty_cells = min(table.missing_empty_cells, MAX_AUTOCOMPLETED_CELLS);
     let body = CellsWanted {
         start: rows.body_start,
         most: rows.columns,

@@ -1,4 +1,4 @@
-use Rattle.std.proofs.Common.{rules, ◌≡◌, ℕ, ◌-◌, Bool, Option, IfSome, is_some, ◌+◌, sym, ap, subst, ◌∙◌}
+use Rattle.std.proofs.Common.{rules, not, ◌&&◌, ◌||◌, nat_lt, nat_le, ◌≡◌, ℕ, ◌-◌, Bool, Option, IfSome, is_some, ◌+◌, sym, ap, subst, ◌∙◌}
 use Rattle.first_pass_items.specs.declared.item.Item.{Item}
 use Rattle.first_pass_items.specs.declared.item.ItemBody.TheVariants.{TableRow}
 use Rattle.first_pass_tree.specs.declared.tree_index.TreeIndex.{TreeIndex}
@@ -12,6 +12,11 @@ use Rattle.first_pass_tables.proofs.RowDrops.{current_is_child, dropped}
 use Rattle.first_pass_tables.proofs.RowClosed.{row_place, row_opened, row_is_open, row_closed, same_test, row_behind, row_read}
 use Rattle.first_pass_tables.proofs.RowsAdded.{row_between}
 use Rattle.first_pass_tables.proofs.row.parse_table_row_inner.Goals as goal
+
+-- the test of a row, where the cells that may be filled in are as many as is said
+kept_by : (kept behind : Bool) (count missing some : ℕ) {most : ℕ} → kept ≡ ((not behind || nat_lt 0 count) && nat_le missing some) → some ≡ most
+    → kept ≡ ((not behind || nat_lt 0 count) && nat_le missing most)
+kept_by kept behind count missing some value same = value ∙ ap (λ n. (not behind || nat_lt 0 count) && nat_le missing n) same
 
 pub append_cells-requires-clause-fresh : goal.append_cells-requires-clause-fresh
 append_cells-requires-clause-fresh c =
@@ -49,13 +54,15 @@ returns-then-not-is_kept-clause-row c =
     let missing_is = c.saturating_sub-missing.ensures ∙ ap (λ (n : ℕ). c.args.wanted.most - n) adds.count in
     let behind : c.is_some.result ≡ is_some old.current = c.is_some.ensures ∙ ap (λ (o : Option TreeIndex). is_some o) c.cur-before.ensures in
     let test = same_test c.is_some.result c.args.wanted.most most c.in_ok-end.count c.saturating_sub-missing.result adds.cells adds.count missing_is in
+    let kept = kept_by c.is_kept.result c.is_some.result c.in_ok-end.count c.saturating_sub-missing.result c.saturating_sub-most.result
+    c.is_kept.ensures.value c.saturating_sub-most.ensures in
     record {
       cells = adds.cells;
       row_end = c.in_ok-end.end;
       after = c.append_cells.new.braces;
       are_cells = adds.are_cells;
       adds = (
-        ap (λ (t : Bool). keeps_row t c.args.wanted.most most adds.cells) (sym behind) ∙ sym test ∙ sym c.is_kept.ensures.value ∙ c.if-not-is_kept.true,
+        ap (λ (t : Bool). keeps_row t c.args.wanted.most most adds.cells) (sym behind) ∙ sym test ∙ sym kept ∙ c.if-not-is_kept.true,
         ap (λ (f : Forest Item). open_table f c.args.table.now.missing_empty_cells c.append_cells.new.braces)
             (c.drop_behind.ensures ∙ ap (without_behind back) c.cur-before.ensures ∙ dropped old back c.is_forest.ensures c.requires.open more),
       );
@@ -70,11 +77,13 @@ returns-clause-row c =
     let missing_is = c.saturating_sub-missing.ensures ∙ ap (λ (n : ℕ). c.args.wanted.most - n) adds.count in
     let behind : c.is_some.result ≡ is_some old.current = c.is_some.ensures ∙ ap (λ (o : Option TreeIndex). is_some o) c.cur-before.ensures in
     let test = same_test c.is_some.result c.args.wanted.most most c.in_ok-end.count c.saturating_sub-missing.result adds.cells adds.count missing_is in
+    let kept = kept_by c.is_kept.result c.is_some.result c.in_ok-end.count c.saturating_sub-missing.result c.saturating_sub-most.result
+    c.is_kept.ensures.value c.saturating_sub-most.ensures in
     row_read d c.args.wanted.most c.args.wanted.start c.in_ok-end.end (open_table old c.args.table.now.missing_empty_cells c.args.table.now.braces)
     (open_table c.close_block.new.tree (c.args.table.now.missing_empty_cells + c.saturating_sub-missing.result) c.append_cells.new.braces) adds.cells
     c.cur.result
     c.map.result adds.are_cells
-    (ap (λ (t : Bool). keeps_row t c.args.wanted.most most adds.cells) (sym behind) ∙ sym test ∙ sym c.is_kept.ensures.value ∙ c.if-not-is_kept.false)
+    (ap (λ (t : Bool). keeps_row t c.args.wanted.most most adds.cells) (sym behind) ∙ sym test ∙ sym kept ∙ c.if-not-is_kept.false)
     (row_closed d c.args.wanted.most (spot c.args.wanted.start c.args.table.now.braces) (spot c.in_ok-end.end c.append_cells.new.braces) c.in_ok-end.count
     c.saturating_sub-missing.result TableRow old
     c.open_block.new.tree c.append_cells.new.tree c.fill_row.new.tree c.in_ok-open_block.ensures.tree adds c.saturating_sub-missing.ensures

@@ -11,7 +11,7 @@ use Rattle.first_pass_tables.proofs.rows.append_body.Goals as goal
 pub rows-init : goal.rows-init
 rows-init c = record {
   read = body_none (document c.args.source.now.text.now c.args.source.now.options (names_of c.args.allocs.now)) c.args.wanted.most c.args.wanted.start
-      (open_table c.args.tree.now c.args.table.now.missing_empty_cells c.args.table.now.braces) c.requires.some c.requires.few c.requires.boundary;
+      (open_table c.args.tree.now c.args.table.now.missing_empty_cells c.args.table.now.braces) c.requires.some c.requires.boundary;
   grown = texts_none (names_of c.args.allocs.now);
   entries = refl;
 }

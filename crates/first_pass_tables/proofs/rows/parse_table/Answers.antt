@@ -2,11 +2,10 @@ use Rattle.std.proofs.Common.{subst, ◌∙◌}
 use Rattle.first_pass_names.specs.TableEntries.{names_of}
 use Rattle.first_pass_tokens.specs.LineTokens.{spot}
 use Rattle.first_pass_grammar.specs.Leaves.{document}
-use Rattle.first_pass_grammar.specs.Tables.{most_filled}
 use Rattle.first_pass_open.proofs.PathLemmas.{open_are_in}
 use Rattle.first_pass_names.proofs.NameLemmas.{extends_both, texts_both}
 use Rattle.first_pass_tables.specs.Appends.{AddsHead, open_table}
-use Rattle.first_pass_tables.proofs.BodyLemmas.{left_behind, rows_closed}
+use Rattle.first_pass_tables.proofs.BodyLemmas.{rows_closed}
 use Rattle.first_pass_tables.proofs.RowsAdded.{rows_between}
 use Rattle.first_pass_tables.proofs.WholeRows.{added_whole}
 use Rattle.first_pass_tables.proofs.rows.parse_table.Goals as goal
@@ -14,15 +13,14 @@ use Rattle.first_pass_tables.proofs.rows.parse_table.Goals as goal
 pub returns-clause-rows : goal.returns-clause-rows
 returns-clause-rows c =
     rows_closed (document c.args.source.now.text.now c.args.source.now.options (names_of c.append_body.new.allocs)) (names_of c.append_head_row.new.allocs)
-    c.args.rows.columns c.args.rows.head_start c.args.rows.body_start c.min.result c.in_ok-next.next
+    c.args.rows.columns c.args.rows.head_start c.args.rows.body_start c.in_ok-next.next
     c.args.tree.now (open_table c.append_head_row.new.tree c.append_head_row.new.table.missing_empty_cells c.append_head_row.new.table.braces)
     c.append_body.new.tree
     c.close_block.new.tree c.in_ok-next.ensures.more.names c.requires.open (open_are_in c.args.tree.now.nodes c.args.tree.now.spine c.is_forest.ensures.opened)
     (subst (λ b. AddsHead (document c.args.source.now.text.now c.args.source.now.options (names_of c.append_head_row.new.allocs)) c.args.rows.columns
     (spot c.args.rows.head_start b) c.args.tree.now
     (open_table c.append_head_row.new.tree c.append_head_row.new.table.missing_empty_cells c.append_head_row.new.table.braces)) c.new.ensures
-    c.in_ok-append_head_row.ensures.head)
-    (left_behind c.append_head_row.new.table.missing_empty_cells most_filled c.min.result c.min.ensures) c.in_ok-next.ensures.body c.close_block.ensures.tree
+    c.in_ok-append_head_row.ensures.head) c.in_ok-next.ensures.body c.close_block.ensures.tree
 
 pub returns-clause-fits : goal.returns-clause-fits
 returns-clause-fits c = λ from low behind.
