@@ -3,8 +3,7 @@
 #![tactic(auto)]
 
 use anyhow::Result;
-use first_pass::below::{ItemBody, Options};
-use first_pass::pass::run_first_pass;
+use first_pass::{ItemBody, Options, run_first_pass};
 use std::io;
 use std::ops::DerefStr;
 

@@ -1,3 +1,6 @@
+pub mod Added
+pub mod CallsNamed
+pub mod CutOrder
 pub mod OrderJoin
 pub mod RowsOrdered
-pub mod UnderlinedOrder
+pub mod TextTokens

@@ -1,24 +1,51 @@
--- What an open paragraph holds, and where reading continues after the row of a table.
-use Rattle.std.specs.Prelude.{◌≡◌, ℕ, ◌<◌, ◌++◌, [], Option, Some, None, IfSome, IsCharBoundary}
+-- What an open paragraph holds, what becomes of it where it is underlined, and where reading continues after the row of a table.
+use Rattle.std.specs.Prelude.{◌≡◌, ℕ, ◌+◌, ◌-◌, ◌<◌, ◌≤◌, true, Bool, List, [], ◌∷◌, ◌++◌, length, drop, max, slice_index, Option, Some, None, MatchOption}
+use Rattle.std.specs.Prelude.{IsCharBoundary}
+use Rattle.std.specs.Option.{option_map}
+use Rattle.first_pass_items.specs.Bytes.{backslash}
 use Rattle.first_pass_items.specs.declared.item.Item.{Item}
 use Rattle.first_pass_items.specs.declared.item.ItemBody.TheVariants.{Paragraph}
 use Rattle.first_pass_tree.specs.declared.tree_index.TreeIndex.{TreeIndex}
-use Rattle.first_pass_tree.specs.Forest.{Forest, item_at}
-use Rattle.first_pass_grammar.specs.Leaves.{Document, TextLines, AreTextLines, marker_items}
-use Rattle.first_pass_grammar.specs.Completion.{lines_from}
-use Rattle.first_pass_grammar.specs.OpenOrder.{IsOrderedTo}
-use Rattle.first_pass_open.specs.OpenBlock.{IsJustPushed, begun_item, with_child}
-use Rattle.first_pass_open.specs.Path.{path_of}
+use Rattle.first_pass_tree.specs.Forest.{Forest, is_escaped, item_at}
+use Rattle.first_pass_scan.specs.LeafLines.{setext_underline}
 use Rattle.first_pass_tokens.specs.Braces.{no_braces}
 use Rattle.first_pass_tokens.specs.LineTokens.{spot}
 use Rattle.first_pass_tokens.specs.TreeTokens.{chained}
-use Rattle.first_pass_open.specs.Between.{line_end_at}
-use Rattle.first_pass_open.specs.Between.{StandsBefore}
+use Rattle.first_pass_grammar.specs.Completion.{lines_from}
+use Rattle.first_pass_grammar.specs.Leaves.{Document, document, TextLines, AreTextLines, marker_items}
+use Rattle.first_pass_grammar.specs.OpenOrder.{IsOrderedTo}
+use Rattle.first_pass_grammar.specs.Order.{is_text_block}
+use Rattle.first_pass_names.specs.TableEntries.{names_of}
+use Rattle.first_pass_open.specs.Between.{line_end_at, StandsBefore}
+use Rattle.first_pass_open.specs.OpenBlock.{IsJustPushed, begun_item, with_child}
+use Rattle.first_pass_open.specs.Path.{path_of}
+use Rattle.first_pass_text.specs.CutTexts.{BecomesHeading}
+use Rattle.first_pass.specs.declared.state.FirstPass.{FirstPass}
+use Rattle.first_pass.specs.Kept.{KeepsNames}
+use Rattle.first_pass.specs.Views.{allocs_of, reading_of, source_options, source_text, tree_of, with_tree}
 
 -- where reading continues after the row of a table: at its end, or at an offset where there is none (this project)
 abbrev pub behind_row : Option (ℕ × TreeIndex) → ℕ → ℕ
 behind_row None at = at
 behind_row (Some row) at = row.0
+
+-- a text that is marked as after a backslash stands directly after one, and that after an offset (CommonMark 2.4)
+abbrev pub StandsAfterBackslash : List ℕ → ℕ → Item → Type 0
+StandsAfterBackslash text from x = is_escaped x.body ≡ true → (from < x.start) × (slice_index text (x.start - 1) ≡ backslash)
+
+-- These nodes are tokens of a depth: no node is below one of them, and a backslash before a text is in none of them, nor before an offset (CommonMark 2.4, and
+-- this project).
+abbrev pub AreTokens : List ℕ → ℕ → ℕ → List (ℕ × Item) → Type 0
+AreTokens text depth from [] = Unit {0}
+AreTokens text depth from (n ∷ nodes) =
+    (n.0 ≡ depth) × StandsAfterBackslash text from n.1 × AreTokens text depth (max from n.1.«end») nodes
+
+-- A paragraph, or another block that has a text, is innermost, and what stands in it are tokens (CommonMark 4.8, and this project).
+pub record HoldsTokens (text : List ℕ) (f : Forest Item) (block : TreeIndex) : Type 0 where
+  pub node : Item
+  pub there : item_at f block ≡ Some node
+  pub has_text : is_text_block node.body ≡ true
+  pub tokens : AreTokens text (length f.spine + 1) node.start (drop (block.0 + 1) f.nodes)
 
 -- The chain of a text's lines stands in a paragraph that is open, after the marker of its task list item, if it has one, and the tree is in order up to the
 -- text (CommonMark 4.8, GFM 5.3).
@@ -31,7 +58,19 @@ pub record HoldsText (d : Document) (f : Forest Item) (block : TreeIndex) (l : T
   pub paragraph : item_at before block ≡ Some (begun_item start Paragraph)
   pub boundary : IsCharBoundary d.text start
   pub stands : StandsBefore d.text from start marker
-  pub ahead : IfSome marker (λ x. x.start < start)
   pub lines : AreTextLines d (path_of d.options before) (spot start no_braces) [] (lines_from d.text (line_end_at d.text start)) l
   pub tree_is : f ≡ chained before (marker_items marker ++ l.chain)
   pub ordered : IsOrderedTo d.text (with_child before marker) start
+
+-- A block that is innermost becomes a heading where an underline begins at an offset; nothing changes where none does. No node is added, and a tree that is in
+-- order stays so, if tokens stand in the block (CommonMark 4.3, and this project).
+pub record MakesHeading (old new : FirstPass) (ix : ℕ) (block : TreeIndex) (broken : Bool) (next : Option ℕ) : Type 0 where
+  pub kept : KeepsNames old new
+  pub reading : reading_of new ≡ with_tree (reading_of old) (tree_of new)
+  pub value : next ≡ option_map (λ underline. ix + underline.0) (setext_underline (drop ix (source_text old)))
+  pub heading : MatchOption (setext_underline (drop ix (source_text old))) (tree_of new ≡ tree_of old)
+      (λ underline. BecomesHeading (document (source_text old) (source_options old) (names_of (allocs_of new))) underline.1 broken block (tree_of old)
+      (tree_of new))
+  pub few : length (tree_of new).nodes ≤ length (tree_of old).nodes
+  pub order : (at : ℕ) → HoldsTokens (source_text old) (tree_of old) block → IsOrderedTo (source_text old) (tree_of old) at
+      → IsOrderedTo (source_text old) (tree_of new) at

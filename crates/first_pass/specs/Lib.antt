@@ -1,3 +1,4 @@
+pub mod Calls
 pub mod Holds
 pub mod Interrupts
 pub mod Kept

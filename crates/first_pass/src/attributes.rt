@@ -1,21 +1,13 @@
 //! Headings that are underlined, and the attributes of a heading, as calls of the pass.
 
-ghost use Rattle.std.specs.Prelude.{◌≡◌, ◌+◌, ◌≤◌, drop, length, slice_get, Some, IfOk, IfSome, OnOk, MatchOption};
+ghost use Rattle.std.specs.Prelude.{◌≡◌, ◌+◌, ◌≤◌, length, slice_get, Some, IfOk, IfSome};
 ghost use Rattle.std.specs.List.{slice_range};
 ghost use Rattle.std.specs.Option.{option_map};
 ghost use Rattle.first_pass_tree.specs.Forest.{item_at};
-ghost use Rattle.first_pass_lines.specs.Places.{start_of};
-ghost use Rattle.first_pass_scan.specs.LeafLines.{setext_underline};
 ghost use Rattle.first_pass_attributes.specs.Attributes.{attributes_in};
 ghost use Rattle.first_pass_grammar.specs.Headings.{before_attributes, heading_attributes_of};
-ghost use Rattle.first_pass_grammar.specs.Leaves.{document, TextLines};
-ghost use Rattle.first_pass_grammar.specs.OpenOrder.{IsOrderedTo};
-ghost use Rattle.first_pass_grammar.specs.Texts.{by_backslash};
-ghost use Rattle.first_pass_names.specs.TableEntries.{names_of, no_names};
-ghost use Rattle.first_pass_text.specs.CutTexts.{BecomesHeading};
-ghost use Rattle.first_pass.specs.Holds.{HoldsText};
-ghost use Rattle.first_pass.specs.Kept.{KeepsNames};
-ghost use Rattle.first_pass.specs.Views.{allocs_of, reading_of, source_options, source_text, tree_of, with_tree};
+ghost use Rattle.first_pass.specs.Holds.{MakesHeading};
+ghost use Rattle.first_pass.specs.Views.{source_options, source_text, tree_of};
 
 use crate::state::FirstPass;
 use first_pass_attributes::attrs::HeadingAttributes;
@@ -57,7 +49,8 @@ impl<'a> FirstPass<'a> {
     /// offset after the underline's line; `None`, and nothing changes, where no underline begins at `ix`
     /// (CommonMark 4.3, and this project).
     ///
-    /// No node is added. The error is want of memory.
+    /// No node is added. Where tokens stand in the paragraph, a tree that is in order stays so. The error is want of
+    /// memory.
     pub fn parse_setext_heading(
         &mut self,
         ix: usize,
@@ -67,20 +60,8 @@ impl<'a> FirstPass<'a> {
         requires place { ix ≤ length (source_text self.old) }
         requires open { slice_get (tree_of self.old).spine 0 ≡ Some node_ix }
         requires start { IfSome (item_at (tree_of self.old) node_ix) (λ x. x.start ≤ length (source_text self.old)) }
-        ensures kept { OnOk result (KeepsNames self.old self.new) }
-        ensures reading { OnOk result (reading_of self.new ≡ with_tree (reading_of self.old) (tree_of self.new)) }
-        ensures value { IfOk result (λ next. next
-            ≡ option_map (λ underline. ix + underline.0) (setext_underline (drop ix (source_text self.old)))) }
-        ensures heading { OnOk result (MatchOption (setext_underline (drop ix (source_text self.old)))
-            (tree_of self.new ≡ tree_of self.old)
-            (λ underline. BecomesHeading
-            (document (source_text self.old) (source_options self.old) (names_of (allocs_of self.new))) underline.1
-            has_trailing_content node_ix (tree_of self.old) (tree_of self.new))) }
-        ensures few { OnOk result (length (tree_of self.new).nodes ≤ length (tree_of self.old).nodes) }
-        ensures order { OnOk result ((l : TextLines) → has_trailing_content ≡ by_backslash l.break
-            → HoldsText (document (source_text self.old) (source_options self.old) no_names) (tree_of self.old)
-            node_ix l
-            → IsOrderedTo (source_text self.old) (tree_of self.new) (start_of (length (source_text self.old)) l.left)) }
+        ensures { IfOk result (λ next.
+            MakesHeading self.old self.new ix node_ix has_trailing_content next) }
     {
         let pass = &mut self.pass;
         let bytes = rest_of(pass.source.text.as_bytes(), ix);

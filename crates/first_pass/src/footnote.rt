@@ -1,9 +1,8 @@
 //! Footnote definitions, as a call of the pass (this project).
 
-ghost use Rattle.std.specs.Prelude.{◌≡◌, ◌≤◌, ◌+◌, ◌<◌, ℕ, IfOk, IfSome, IsCharBoundary};
-ghost use Rattle.first_pass_blocks.specs.FootnoteHeads.{ReadsFootnote};
-ghost use Rattle.first_pass_blocks.specs.Ordered.{IsReadTo};
-ghost use Rattle.first_pass.specs.Views.{pass_of, reading_of, source_of, source_text};
+ghost use Rattle.std.specs.Prelude.{IfOk, IsCharBoundary};
+ghost use Rattle.first_pass.specs.Calls.{SeeksFootnote};
+ghost use Rattle.first_pass.specs.Views.{source_text};
 
 use crate::state::FirstPass;
 use std::alloc::AllocError;
@@ -17,13 +16,7 @@ impl<'a> FirstPass<'a> {
     /// a request for memory was refused (this project).
     pub fn parse_footnote(&mut self, start: usize) -> Result<Option<usize>, AllocError>
         requires { IsCharBoundary (source_text self.old) start }
-        ensures source { source_of self.new ≡ source_of self.old }
-        ensures head { IfOk result (λ size. ReadsFootnote (pass_of self.old) (pass_of self.new) start size) }
-        ensures within { IfOk result (λ size. IfSome size (λ n.
-            (3 < n) × IsCharBoundary (source_text self.old) (start + n))) }
-        ensures order { IfOk result (λ size. IfSome size (λ n. (at : ℕ) → at ≤ start
-            → IsReadTo (source_text self.old) (reading_of self.old) at
-            → IsReadTo (source_text self.old) (reading_of self.new) start)) }
+        ensures { IfOk result (λ size. SeeksFootnote self.old self.new start size) }
     {
         let pass = &mut self.pass;
         let size = pass.parse_footnote(start)?;

@@ -1,16 +1,13 @@
 //! Paragraphs and tables, headings and thematic breaks, as calls of the pass.
 
-ghost use Rattle.std.specs.Prelude.{◌≡◌, ℕ, ◌+◌, ◌≤◌, drop, Some, false, length, IfOk, IfSome, OnOk, IsCharBoundary};
+ghost use Rattle.std.specs.Prelude.{◌≡◌, ◌+◌, ◌≤◌, drop, Some, false, length, IfOk, IfSome, IsCharBoundary};
 ghost use Rattle.first_pass_lines.specs.Lines.{atx_level as atx_level_of};
-ghost use Rattle.first_pass_tree.specs.Forest.{added, is_text};
+ghost use Rattle.first_pass_tree.specs.Forest.{is_text};
 ghost use Rattle.first_pass_names.specs.TableEntries.{names_of};
-ghost use Rattle.first_pass_grammar.specs.Leaves.{document, rule_block};
-ghost use Rattle.first_pass_lists.specs.Closing.{with_block};
+ghost use Rattle.first_pass_grammar.specs.Leaves.{document};
 ghost use Rattle.first_pass_text.specs.Appends.{AddsHeading};
 ghost use Rattle.first_pass_blocks.specs.TextsAdded.{AddsText};
-ghost use Rattle.first_pass_open.specs.Between.{AddsBetween, IsInItem, StandsBefore};
-ghost use Rattle.first_pass_blocks.specs.Ordered.{IsOrderedAt};
-ghost use Rattle.first_pass.specs.Kept.{KeepsNames, KeepsTables};
+ghost use Rattle.first_pass.specs.Calls.{AddsLeafBlock, AddsParagraph, AddsRule};
 ghost use Rattle.first_pass.specs.Views.{allocs_of, reading_of, source_options, source_text, tree_of};
 
 use crate::state::FirstPass;
@@ -31,18 +28,10 @@ impl<'a> FirstPass<'a> {
     ) -> Result<usize, AllocError>
         requires boundary { IsCharBoundary (source_text self.old) start_ix }
         requires marker { IfSome tasklist_marker (λ x. is_text x.body ≡ false) }
-        ensures kept { OnOk result (KeepsNames self.old self.new) }
-        ensures reading { OnOk result (reading_of self.new ≡ with_block (reading_of self.old) (tree_of self.new)) }
         ensures block { IfOk result (λ next.
             AddsText (document (source_text self.old) (source_options self.old) (names_of (allocs_of self.new)))
             start_ix tasklist_marker (tree_of self.old) (tree_of self.new) next) }
-        ensures fits { IfOk result (λ next. IsInItem (tree_of self.old) tasklist_marker → (from : ℕ)
-            → StandsBefore (source_text self.old) from start_ix tasklist_marker
-            → AddsBetween (source_text self.old) from next (tree_of self.old) (tree_of self.new)) }
-        ensures order { IfOk result (λ next. IsInItem (tree_of self.old) tasklist_marker → (at : ℕ)
-            → StandsBefore (source_text self.old) at start_ix tasklist_marker
-            → IsOrderedAt (source_text self.old) (reading_of self.old) at
-            → IsOrderedAt (source_text self.old) (reading_of self.new) next) }
+        ensures leaf { IfOk result (λ next. AddsParagraph self.old self.new start_ix tasklist_marker next) }
     {
         let pass = &mut self.pass;
         let next = text::parse_paragraph(
@@ -65,16 +54,10 @@ impl<'a> FirstPass<'a> {
     ) -> Result<usize, AllocError>
         requires within { start ≤ length (source_text self.old) }
         requires heading { atx_level_of (drop start (source_text self.old)) ≡ Some atx_level }
-        ensures kept { OnOk result (KeepsNames self.old self.new) }
-        ensures reading { OnOk result (reading_of self.new ≡ with_block (reading_of self.old) (tree_of self.new)) }
         ensures block { IfOk result (λ next.
             AddsHeading (document (source_text self.old) (source_options self.old) (names_of (allocs_of self.new)))
             start atx_level (tree_of self.old) (tree_of self.new) next) }
-        ensures fits { IfOk result (λ next. (from : ℕ) → from ≤ start → IsCharBoundary (source_text self.old) start
-            → AddsBetween (source_text self.old) from next (tree_of self.old) (tree_of self.new)) }
-        ensures order { IfOk result (λ next. (at : ℕ) → at ≤ start → IsCharBoundary (source_text self.old) start
-            → IsOrderedAt (source_text self.old) (reading_of self.old) at
-            → IsOrderedAt (source_text self.old) (reading_of self.new) next) }
+        ensures leaf { IfOk result (λ next. AddsLeafBlock self.old self.new start next (reading_of self.old).blank) }
     {
         let pass = &mut self.pass;
         let next = heading::parse_atx_heading(
@@ -92,17 +75,7 @@ impl<'a> FirstPass<'a> {
     /// into the text, and returns the offset after it (CommonMark 4.1).
     pub fn parse_hrule(&mut self, hrule_size: usize, ix: usize) -> Result<usize, AllocError>
         requires { ix + hrule_size ≤ length (source_text self.old) }
-        ensures kept { OnOk result (KeepsTables self.old self.new) }
-        ensures reading { OnOk result (reading_of self.new ≡ with_block (reading_of self.old) (tree_of self.new)) }
-        ensures block { OnOk result (tree_of self.new ≡ added (tree_of self.old) (rule_block ix hrule_size)) }
-        ensures fits { OnOk result ((from : ℕ) → from ≤ ix → IsCharBoundary (source_text self.old) ix
-            → IsCharBoundary (source_text self.old) (ix + hrule_size)
-            → AddsBetween (source_text self.old) from (ix + hrule_size) (tree_of self.old) (tree_of self.new)) }
-        ensures order { IfOk result (λ next. (at : ℕ) → at ≤ ix → IsCharBoundary (source_text self.old) ix
-            → IsCharBoundary (source_text self.old) (ix + hrule_size)
-            → IsOrderedAt (source_text self.old) (reading_of self.old) at
-            → IsOrderedAt (source_text self.old) (reading_of self.new) next) }
-        ensures behind { IfOk result (λ next. next ≡ ix + hrule_size) }
+        ensures { IfOk result (λ next. AddsRule self.old self.new ix hrule_size next) }
     {
         let pass = &mut self.pass;
         pass.source.is_short();

@@ -1,12 +1,13 @@
-//! The block pass of CommonMark: a text goes in, the tree of its blocks comes out
-//! (`pass::run_first_pass`). The original's calls are methods of `pass::FirstPass`, each of which reads a part of the
-//! pass's work by itself; the names of the crates below are handed out too.
+//! The block pass of CommonMark: a text goes in, the tree of its blocks comes out (`run_first_pass`). The original's
+//! calls are methods of `pass::FirstPass`, each of which reads a part of the pass's work by itself; the names of the
+//! crates below are handed out too.
 #![tactic(auto)]
 
 mod attributes;
 mod definition;
 mod footnote;
 mod interrupt;
+mod laws;
 mod leaf;
 mod line;
 mod list;
@@ -15,9 +16,12 @@ mod raw;
 mod state;
 mod table;
 
+pub use crate::laws::lines_are_tokens;
 pub use first_pass_attributes::attrs;
+pub use first_pass_below::below::{Item, ItemBody, Options, Tree};
 pub use first_pass_below::{below, flank, walk};
 pub use first_pass_blocks::laws::{ready_is_completed, ready_is_whole};
+pub use first_pass_blocks::pass::run_first_pass;
 pub use first_pass_names::items;
 
 /// The open containers, and how far a line continues them (CommonMark 5).

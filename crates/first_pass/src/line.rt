@@ -1,12 +1,10 @@
 //! A line of a paragraph, or a cell of a table's row, as a call of the pass (CommonMark 2.4, 4.8, GFM 4.10).
 
-ghost use Rattle.std.specs.Prelude.{◌≡◌, ◌≤◌, ◌+◌, ◌-◌, ℕ, length, None, Some, IfOk, IfSome, OnOk, IsUtf8, IsCharBoundary};
+ghost use Rattle.std.specs.Prelude.{◌≤◌, length, IfOk, IfSome, OnOk, IsUtf8};
 ghost use Rattle.first_pass_tokens.specs.Pieces.{text_upto};
-ghost use Rattle.first_pass_lists.specs.Closing.{with_block};
-ghost use Rattle.first_pass_blocks.specs.Ordered.{IsOrderedAt};
+ghost use Rattle.first_pass.specs.Calls.{AppendsTokens};
 ghost use Rattle.first_pass.specs.Lines.{ReadsLine, ReadsCell, ReadsPossibleHead, ReadsInMode};
-ghost use Rattle.first_pass.specs.Kept.{KeepsNames};
-ghost use Rattle.first_pass.specs.Views.{reading_of, source_text, tree_of};
+ghost use Rattle.first_pass.specs.Views.{source_text};
 
 use crate::state::FirstPass;
 use first_pass_flank::flank::TableParseMode;
@@ -40,17 +38,8 @@ impl<'a> FirstPass<'a> {
     ) -> Result<(usize, Option<Item>), AllocError>
         requires start { start ≤ length (source_text self.old) }
         requires end { IfSome end (λ e. (start ≤ e) × (e ≤ length (source_text self.old))) }
-        ensures kept { OnOk result (KeepsNames self.old self.new) }
-        ensures reading { OnOk result (reading_of self.new ≡ with_block (reading_of self.old) (tree_of self.new)) }
         ensures line { IfOk result (λ answer. ReadsInMode mode self.old self.new start end answer) }
-        ensures boundary { IfOk result (λ answer. end ≡ None → IsCharBoundary (source_text self.old) start
-            → IsCharBoundary (source_text self.old) answer.0) }
-        ensures order { IfOk result (λ answer. IfSome end (λ e. IsCharBoundary (source_text self.old) e)
-            → IsCharBoundary (source_text self.old) start → (at : ℕ) → at ≤ start
-            → IsOrderedAt (source_text self.old) (reading_of self.old) at
-            → IsOrderedAt (source_text self.old) (reading_of self.new) answer.0) }
-        ensures few { IfOk result (λ answer.
-            length (tree_of self.new).nodes ≤ length (tree_of self.old).nodes + (answer.0 - start)) }
+        ensures tokens { IfOk result (λ answer. AppendsTokens self.old self.new start end answer.0) }
     {
         match mode {
             TableParseMode::Disabled => {
@@ -76,18 +65,9 @@ impl<'a> FirstPass<'a> {
     ) -> Result<(usize, Option<Item>), AllocError>
         requires start { start ≤ length (source_text self.old) }
         requires end { IfSome end (λ e. (start ≤ e) × (e ≤ length (source_text self.old))) }
-        ensures kept { OnOk result (KeepsNames self.old self.new) }
-        ensures reading { OnOk result (reading_of self.new ≡ with_block (reading_of self.old) (tree_of self.new)) }
-        ensures utf8 { OnOk result (IsUtf8 (source_text self.old)) }
         ensures line { IfOk result (λ answer. ReadsLine self.old self.new start end answer) }
-        ensures boundary { IfOk result (λ answer. end ≡ None → IsCharBoundary (source_text self.old) start
-            → IsCharBoundary (source_text self.old) answer.0) }
-        ensures order { IfOk result (λ answer. IfSome end (λ e. IsCharBoundary (source_text self.old) e)
-            → IsCharBoundary (source_text self.old) start → (at : ℕ) → at ≤ start
-            → IsOrderedAt (source_text self.old) (reading_of self.old) at
-            → IsOrderedAt (source_text self.old) (reading_of self.new) answer.0) }
-        ensures few { IfOk result (λ answer.
-            length (tree_of self.new).nodes ≤ length (tree_of self.old).nodes + (answer.0 - start)) }
+        ensures tokens { IfOk result (λ answer. AppendsTokens self.old self.new start end answer.0) }
+        ensures utf8 { OnOk result (IsUtf8 (source_text self.old)) }
         ensures later { IfOk result (λ answer. start ≤ answer.0) }
         ensures within { IfOk result (λ answer. answer.0 ≤ length (text_upto (source_text self.old) end)) }
     {
@@ -113,16 +93,8 @@ impl<'a> FirstPass<'a> {
     fn append_cell_content(&mut self, start: usize, end: Option<usize>) -> Result<usize, AllocError>
         requires start { start ≤ length (source_text self.old) }
         requires end { IfSome end (λ e. (start ≤ e) × (e ≤ length (source_text self.old))) }
-        ensures kept { OnOk result (KeepsNames self.old self.new) }
-        ensures reading { OnOk result (reading_of self.new ≡ with_block (reading_of self.old) (tree_of self.new)) }
         ensures cell { IfOk result (λ stop. ReadsCell self.old self.new start end stop) }
-        ensures boundary { IfOk result (λ stop. end ≡ None → IsCharBoundary (source_text self.old) stop) }
-        ensures order { IfOk result (λ stop. IfSome end (λ e. IsCharBoundary (source_text self.old) e)
-            → IsCharBoundary (source_text self.old) start → (at : ℕ) → at ≤ start
-            → IsOrderedAt (source_text self.old) (reading_of self.old) at
-            → IsOrderedAt (source_text self.old) (reading_of self.new) stop) }
-        ensures few { IfOk result (λ stop.
-            length (tree_of self.new).nodes ≤ length (tree_of self.old).nodes + (stop - start)) }
+        ensures tokens { IfOk result (λ stop. AppendsTokens self.old self.new start end stop) }
     {
         let pass = &mut self.pass;
         pass.reading.tree.is_forest();
@@ -151,17 +123,8 @@ impl<'a> FirstPass<'a> {
     ) -> Result<(usize, Option<Item>), AllocError>
         requires start { start ≤ length (source_text self.old) }
         requires end { IfSome end (λ e. (start ≤ e) × (e ≤ length (source_text self.old))) }
-        ensures kept { OnOk result (KeepsNames self.old self.new) }
-        ensures reading { OnOk result (reading_of self.new ≡ with_block (reading_of self.old) (tree_of self.new)) }
         ensures line { IfOk result (λ answer. ReadsPossibleHead self.old self.new start end answer) }
-        ensures boundary { IfOk result (λ answer. end ≡ None → IsCharBoundary (source_text self.old) start
-            → IsCharBoundary (source_text self.old) answer.0) }
-        ensures order { IfOk result (λ answer. IfSome end (λ e. IsCharBoundary (source_text self.old) e)
-            → IsCharBoundary (source_text self.old) start → (at : ℕ) → at ≤ start
-            → IsOrderedAt (source_text self.old) (reading_of self.old) at
-            → IsOrderedAt (source_text self.old) (reading_of self.new) answer.0) }
-        ensures few { IfOk result (λ answer.
-            length (tree_of self.new).nodes ≤ length (tree_of self.old).nodes + (answer.0 - start)) }
+        ensures tokens { IfOk result (λ answer. AppendsTokens self.old self.new start end answer.0) }
     {
         let bytes = text_upto(self.pass.source.text, end);
         let line = rest_of(bytes, start);

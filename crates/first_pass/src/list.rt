@@ -1,11 +1,10 @@
 //! Lists and definition lists, and their items, as calls of the pass: how they continue, become loose and are closed
 //! (CommonMark 5.2, 5.3).
 
-ghost use Rattle.std.specs.Prelude.{◌≡◌, ◌≤◌, ℕ, length, IsSome, IsCharBoundary, slice_get, OnOk};
-ghost use Rattle.first_pass_lists.specs.Closing.{popped, item_finished, list_finished, list_continued};
-ghost use Rattle.first_pass_blocks.specs.Ordered.{IsReadTo};
-ghost use Rattle.first_pass.specs.Kept.{KeepsTables};
-ghost use Rattle.first_pass.specs.Views.{reading_of, source_text, tree_of};
+ghost use Rattle.std.specs.Prelude.{IsSome, slice_get, OnOk};
+ghost use Rattle.first_pass_lists.specs.Closing.{popped, list_finished, list_continued};
+ghost use Rattle.first_pass.specs.Calls.{FinishesItem, RemembersAt};
+ghost use Rattle.first_pass.specs.Views.{reading_of, tree_of};
 
 use crate::state::FirstPass;
 use std::alloc::AllocError;
@@ -17,11 +16,7 @@ impl<'a> FirstPass<'a> {
     /// project).
     pub fn pop(&mut self, ix: usize)
         requires { IsSome (slice_get (tree_of self.old).spine 0) }
-        ensures kept { KeepsTables self.old self.new }
-        ensures reading { reading_of self.new ≡ popped ix (reading_of self.old) }
-        ensures order { (at : ℕ) → at ≤ ix → ix ≤ length (source_text self.old)
-            → IsCharBoundary (source_text self.old) ix → IsReadTo (source_text self.old) (reading_of self.old) at
-            → IsReadTo (source_text self.old) (reading_of self.new) ix }
+        ensures { RemembersAt self.old self.new ix (popped ix (reading_of self.old)) }
     {
         let pass = &mut self.pass;
         pass.reading.pop(ix);
@@ -30,10 +25,7 @@ impl<'a> FirstPass<'a> {
     /// Closes the innermost open node, if it is an item or a definition that began with two blank lines, after the line
     /// of its marker (CommonMark 5.2, and this project). No item is empty then.
     pub fn finish_empty_list_item(&mut self)
-        ensures kept { KeepsTables self.old self.new }
-        ensures reading { reading_of self.new ≡ item_finished (reading_of self.old) }
-        ensures order { (at : ℕ) → IsReadTo (source_text self.old) (reading_of self.old) at
-            → IsReadTo (source_text self.old) (reading_of self.new) at }
+        ensures { FinishesItem self.old self.new }
     {
         let pass = &mut self.pass;
         pass.reading.finish_empty_list_item();
@@ -43,11 +35,7 @@ impl<'a> FirstPass<'a> {
     /// list in which a possible title is last ends where its last definition does. Where a blank line stands before the
     /// block, the list becomes loose in whose item it stands.
     pub fn finish_list(&mut self, ix: usize)
-        ensures kept { KeepsTables self.old self.new }
-        ensures reading { reading_of self.new ≡ list_finished ix (reading_of self.old) }
-        ensures order { (at : ℕ) → at ≤ ix → ix ≤ length (source_text self.old)
-            → IsCharBoundary (source_text self.old) ix → IsReadTo (source_text self.old) (reading_of self.old) at
-            → IsReadTo (source_text self.old) (reading_of self.new) ix }
+        ensures { RemembersAt self.old self.new ix (list_finished ix (reading_of self.old)) }
     {
         let pass = &mut self.pass;
         pass.reading.finish_list(ix);
@@ -56,13 +44,11 @@ impl<'a> FirstPass<'a> {
     /// Continues the list that is innermost, where its byte is `ch`: it is loose if a blank line stands
     /// before. Else a list with that byte and the number `index` is opened at the offset `start`.
     pub fn continue_list(&mut self, start: usize, ch: u8, index: u64) -> Result<(), AllocError>
-        ensures kept { OnOk result (KeepsTables self.old self.new) }
-        ensures reading { OnOk result (reading_of self.new ≡ list_continued start ch index (reading_of self.old)) }
-        ensures order { OnOk result ((at : ℕ) → at ≤ start → start ≤ length (source_text self.old)
-            → IsCharBoundary (source_text self.old) start → IsReadTo (source_text self.old) (reading_of self.old) at
-            → IsReadTo (source_text self.old) (reading_of self.new) start) }
+        ensures { OnOk result
+            (RemembersAt self.old self.new start (list_continued start ch index (reading_of self.old))) }
     {
         let pass = &mut self.pass;
-        pass.reading.continue_list(start, ch, index)
+        pass.reading.continue_list(start, ch, index)?;
+        Ok(())
     }
 }

@@ -1,22 +1,17 @@
 //! Leaf blocks whose lines are raw: code, metadata and HTML.
 
-ghost use Rattle.std.specs.Prelude.{◌≡◌, ◌≤◌, ◌<◌, ℕ, Some, None, true, false, max, length, drop, IfOk, OnOk, IsCharBoundary};
+ghost use Rattle.std.specs.Prelude.{◌≡◌, ◌≤◌, Some, true, false, max, length, drop, IfOk, OnOk, IsCharBoundary};
 ghost use Rattle.first_pass_html.specs.Ends.{end_of};
 ghost use Rattle.first_pass_lines.specs.Lines.{is_blank_line, is_content};
 ghost use Rattle.first_pass_scan.specs.LeafLines.{code_fence};
-ghost use Rattle.first_pass_lines.specs.Rest.{indent};
 ghost use Rattle.first_pass_lines.specs.Places.{Place};
 ghost use Rattle.first_pass_grammar.specs.Leaves.{document};
 ghost use Rattle.first_pass_grammar.specs.RawLines.{range_text, range_html};
 ghost use Rattle.first_pass_grammar.specs.CodeBlocks.{IsFencedCode, IsMetadata};
 ghost use Rattle.first_pass_grammar.specs.HtmlBlocks.{IsHtml};
 ghost use Rattle.first_pass_names.specs.TableEntries.{names_of};
-ghost use Rattle.first_pass_raw.specs.RawBlocks.{range_of, AppendsRaw, IsPlaceAt, AddsIndented, AddsRaw, behind_line_at, fenced_behind, metadata_behind, html_to_end, html_to_blank};
-ghost use Rattle.first_pass_grammar.specs.Order.{GrowsBy};
-ghost use Rattle.first_pass_lists.specs.Closing.{with_block};
-ghost use Rattle.first_pass_open.specs.Between.{AddsBetween};
-ghost use Rattle.first_pass_blocks.specs.Ordered.{IsOrderedAt, IsOrderedFrom};
-ghost use Rattle.first_pass.specs.Kept.{KeepsNames};
+ghost use Rattle.first_pass_raw.specs.RawBlocks.{range_of, AppendsRaw, IsPlaceAt, AddsIndented, AddsRaw, fenced_behind, metadata_behind, html_to_end, html_to_blank};
+ghost use Rattle.first_pass.specs.Calls.{AddsHtmlToBlank, AddsLineBlock, AppendsBytes};
 ghost use Rattle.first_pass.specs.Views.{allocs_of, context_in, reading_of, source_options, source_text, tree_of};
 
 use crate::state::FirstPass;
@@ -40,13 +35,9 @@ impl<'a> FirstPass<'a> {
         requires owed { remaining_space ≤ 3 }
         requires order { start ≤ end }
         requires within { end ≤ length (source_text self.old) }
-        ensures kept { OnOk result (KeepsNames self.old self.new) }
-        ensures reading { OnOk result (reading_of self.new ≡ with_block (reading_of self.old) (tree_of self.new)) }
         ensures line { OnOk result (AppendsRaw range_text (source_text self.old) (names_of (allocs_of self.new))
             remaining_space start end (tree_of self.old) (tree_of self.new)) }
-        ensures order { OnOk result ((at : ℕ) → at ≤ start → IsCharBoundary (source_text self.old) start
-            → IsCharBoundary (source_text self.old) end → IsOrderedAt (source_text self.old) (reading_of self.old) at
-            → IsOrderedAt (source_text self.old) (reading_of self.new) end) }
+        ensures bytes { OnOk result (AppendsBytes self.old self.new start end) }
     {
         self.append_line_of(RawKind::Code, remaining_space, start, end)
     }
@@ -62,13 +53,9 @@ impl<'a> FirstPass<'a> {
         requires owed { remaining_space ≤ 3 }
         requires order { start ≤ end }
         requires within { end ≤ length (source_text self.old) }
-        ensures kept { OnOk result (KeepsNames self.old self.new) }
-        ensures reading { OnOk result (reading_of self.new ≡ with_block (reading_of self.old) (tree_of self.new)) }
         ensures line { OnOk result (AppendsRaw range_html (source_text self.old) (names_of (allocs_of self.new))
             remaining_space start end (tree_of self.old) (tree_of self.new)) }
-        ensures order { OnOk result ((at : ℕ) → at ≤ start → IsCharBoundary (source_text self.old) start
-            → IsCharBoundary (source_text self.old) end → IsOrderedAt (source_text self.old) (reading_of self.old) at
-            → IsOrderedAt (source_text self.old) (reading_of self.new) end) }
+        ensures bytes { OnOk result (AppendsBytes self.old self.new start end) }
     {
         self.append_line_of(RawKind::Html, remaining_space, start, end)
     }
@@ -84,13 +71,9 @@ impl<'a> FirstPass<'a> {
         requires owed { remaining_space ≤ 3 }
         requires order { start ≤ end }
         requires within { end ≤ length (source_text self.old) }
-        ensures kept { OnOk result (KeepsNames self.old self.new) }
-        ensures reading { OnOk result (reading_of self.new ≡ with_block (reading_of self.old) (tree_of self.new)) }
         ensures line { OnOk result (AppendsRaw (range_of kind) (source_text self.old) (names_of (allocs_of self.new))
             remaining_space start end (tree_of self.old) (tree_of self.new)) }
-        ensures order { OnOk result ((at : ℕ) → at ≤ start → IsCharBoundary (source_text self.old) start
-            → IsCharBoundary (source_text self.old) end → IsOrderedAt (source_text self.old) (reading_of self.old) at
-            → IsOrderedAt (source_text self.old) (reading_of self.new) end) }
+        ensures bytes { OnOk result (AppendsBytes self.old self.new start end) }
     {
         let pass = &mut self.pass;
         pass.reading.tree.is_forest();
@@ -122,19 +105,12 @@ impl<'a> FirstPass<'a> {
         requires boundary { IsCharBoundary (source_text self.old) start_ix }
         requires owed { remaining_space ≤ 3 }
         requires code { is_blank_line (drop start_ix (source_text self.old)) ≡ false }
-        ensures kept { OnOk result (KeepsNames self.old self.new) }
-        ensures empty_item { OnOk result ((reading_of self.new).empty_item ≡ None) }
         ensures block { IfOk result (λ next. (p : Place) → IsPlaceAt (source_text self.old) start_ix p
             → p.rest.owed ≡ remaining_space
             → AddsIndented (document (source_text self.old) (source_options self.old) (names_of (allocs_of self.new))) p
             (tree_of self.old) (tree_of self.new) next (reading_of self.new).blank) }
-        ensures boundary { IfOk result (λ next. (behind_line_at (source_text self.old) start_ix ≤ next)
-            × IsCharBoundary (source_text self.old) next) }
-        ensures fits { IfOk result (λ next. (from : ℕ) → from ≤ start_ix
-            → AddsBetween (source_text self.old) from next (tree_of self.old) (tree_of self.new)) }
-        ensures order { IfOk result (λ next. (at : ℕ) → at ≤ start_ix
-            → IsOrderedAt (source_text self.old) (reading_of self.old) at
-            → IsOrderedAt (source_text self.old) (reading_of self.new) next) }
+        ensures leaf { IfOk result (λ next.
+            AddsLineBlock self.old self.new start_ix next (reading_of self.new).blank) }
     {
         let pass = &mut self.pass;
         let (next, blank) = indented_code::parse_indented_code_block(
@@ -161,20 +137,13 @@ impl<'a> FirstPass<'a> {
     ) -> Result<usize, AllocError>
         requires boundary { IsCharBoundary (source_text self.old) start_ix }
         requires fence { code_fence (drop start_ix (source_text self.old)) ≡ Some (n_fence_char, fence_ch) }
-        ensures kept { OnOk result (KeepsNames self.old self.new) }
-        ensures reading { OnOk result (reading_of self.new ≡ with_block (reading_of self.old) (tree_of self.new)) }
         ensures block { IfOk result (λ next. let e = fenced_behind (source_text self.old)
             (context_in self.old).path indent fence_ch n_fence_char start_ix in
             AddsRaw (document (source_text self.old) (source_options self.old) (names_of (allocs_of self.new))) (λ d.
             IsFencedCode d start_ix n_fence_char e.places e.«end») e.left (tree_of self.old) (tree_of self.new)
             next) }
-        ensures boundary { IfOk result (λ next. (behind_line_at (source_text self.old) start_ix ≤ next)
-            × IsCharBoundary (source_text self.old) next) }
-        ensures fits { IfOk result (λ next. (from : ℕ) → from ≤ start_ix
-            → AddsBetween (source_text self.old) from next (tree_of self.old) (tree_of self.new)) }
-        ensures order { IfOk result (λ next. (at : ℕ) → at ≤ start_ix
-            → IsOrderedAt (source_text self.old) (reading_of self.old) at
-            → IsOrderedAt (source_text self.old) (reading_of self.new) next) }
+        ensures leaf { IfOk result (λ next.
+            AddsLineBlock self.old self.new start_ix next (reading_of self.old).blank) }
     {
         let pass = &mut self.pass;
         let fence = Fence {
@@ -202,20 +171,13 @@ impl<'a> FirstPass<'a> {
     ) -> Result<usize, AllocError>
         requires boundary { IsCharBoundary (source_text self.old) start_ix }
         requires byte { is_content metadata_block_ch ≡ true }
-        ensures kept { OnOk result (KeepsNames self.old self.new) }
-        ensures reading { OnOk result (reading_of self.new ≡ with_block (reading_of self.old) (tree_of self.new)) }
         ensures block { IfOk result (λ next. let e = metadata_behind (source_text self.old)
             (context_in self.old).path metadata_block_ch start_ix in
             AddsRaw (document (source_text self.old) (source_options self.old) (names_of (allocs_of self.new))) (λ d.
             IsMetadata d start_ix metadata_block_ch e.places e.«end») e.left (tree_of self.old) (tree_of self.new)
             next) }
-        ensures boundary { IfOk result (λ next. (behind_line_at (source_text self.old) start_ix ≤ next)
-            × IsCharBoundary (source_text self.old) next) }
-        ensures fits { IfOk result (λ next. (from : ℕ) → from ≤ start_ix
-            → AddsBetween (source_text self.old) from next (tree_of self.old) (tree_of self.new)) }
-        ensures order { IfOk result (λ next. (at : ℕ) → at ≤ start_ix
-            → IsOrderedAt (source_text self.old) (reading_of self.old) at
-            → IsOrderedAt (source_text self.old) (reading_of self.new) next) }
+        ensures leaf { IfOk result (λ next.
+            AddsLineBlock self.old self.new start_ix next (reading_of self.old).blank) }
     {
         let pass = &mut self.pass;
         let next = metadata_block::parse_metadata_block(
@@ -242,20 +204,13 @@ impl<'a> FirstPass<'a> {
         requires boundary { IsCharBoundary (source_text self.old) start_ix }
         requires owed { remaining_space ≤ 3 }
         requires indent { indent ≤ 3 }
-        ensures kept { OnOk result (KeepsNames self.old self.new) }
-        ensures reading { OnOk result (reading_of self.new ≡ with_block (reading_of self.old) (tree_of self.new)) }
         ensures block { IfOk result (λ next. (p : Place) → IsPlaceAt (source_text self.old) start_ix p
             → let e = html_to_end (source_text self.old) (context_in self.old).path (end_of html_end) p in
             AddsRaw (document (source_text self.old) (source_options self.old) (names_of (allocs_of self.new))) (λ d.
             IsHtml d start_ix (max remaining_space indent) e.places e.«end») e.left (tree_of self.old)
             (tree_of self.new) next) }
-        ensures boundary { IfOk result (λ next. (behind_line_at (source_text self.old) start_ix ≤ next)
-            × IsCharBoundary (source_text self.old) next) }
-        ensures fits { IfOk result (λ next. (from : ℕ) → from ≤ start_ix
-            → AddsBetween (source_text self.old) from next (tree_of self.old) (tree_of self.new)) }
-        ensures order { IfOk result (λ next. (at : ℕ) → at ≤ start_ix
-            → IsOrderedAt (source_text self.old) (reading_of self.old) at
-            → IsOrderedAt (source_text self.old) (reading_of self.new) next) }
+        ensures leaf { IfOk result (λ next.
+            AddsLineBlock self.old self.new start_ix next (reading_of self.old).blank) }
     {
         let pass = &mut self.pass;
         let start = HtmlStart {
@@ -285,23 +240,12 @@ impl<'a> FirstPass<'a> {
         requires boundary { IsCharBoundary (source_text self.old) start_ix }
         requires owed { remaining_space ≤ 3 }
         requires indent { indent ≤ 3 }
-        ensures kept { OnOk result (KeepsNames self.old self.new) }
-        ensures reading { OnOk result (reading_of self.new ≡ with_block (reading_of self.old) (tree_of self.new)) }
         ensures block { IfOk result (λ next. (p : Place) → IsPlaceAt (source_text self.old) start_ix p
             → let e = html_to_blank (source_text self.old) (context_in self.old).path p in
             AddsRaw (document (source_text self.old) (source_options self.old) (names_of (allocs_of self.new))) (λ d.
             IsHtml d start_ix (max remaining_space indent) e.places e.«end») e.left (tree_of self.old)
             (tree_of self.new) next) }
-        ensures boundary { IfOk result (λ next. (behind_line_at (source_text self.old) start_ix ≤ next)
-            × IsCharBoundary (source_text self.old) next) }
-        ensures fits { IfOk result (λ next. (p : Place) → IsPlaceAt (source_text self.old) start_ix p → (from : ℕ)
-            → from ≤ start_ix → AddsBetween (source_text self.old) from (html_to_blank (source_text self.old)
-            (context_in self.old).path p).«end» (tree_of self.old) (tree_of self.new)) }
-        ensures order { IfOk result (λ next. (at : ℕ) → at ≤ start_ix
-            → IsOrderedAt (source_text self.old) (reading_of self.old) at
-            → IsOrderedFrom (source_options self.old) (source_text self.old) (reading_of self.new) next) }
-        ensures few { IfOk result (λ next. (from : ℕ) → from ≤ start_ix → from < next
-            → GrowsBy from next (tree_of self.old).nodes (tree_of self.new).nodes) }
+        ensures leaf { IfOk result (λ next. AddsHtmlToBlank self.old self.new start_ix next) }
     {
         let pass = &mut self.pass;
         pass.reading.tree.is_forest();

@@ -6,7 +6,10 @@ use first_pass_tokens::braces::BraceContexts;
 /// A pass over a text: the tree so far, and what its nodes name.
 #[derive(Drop)]
 pub struct FirstPass<'a> {
-    pub(crate) pass: BlockPass<'a>,
-    // The brace contexts that `parse_line` and the calls for a table's row take and leave.
-    pub(crate) braces: BraceContexts,
+    /// The pass over blocks: the text and the options that it reads under, the tree and what else it remembers between
+    /// two lines, and what the tree's nodes name.
+    pub pass: BlockPass<'a>,
+    /// The brace contexts that `parse_line`, `parse_table_row` and `parse_table_row_inner` take and leave: between
+    /// which braces a dollar sign stands (this project).
+    pub braces: BraceContexts,
 }

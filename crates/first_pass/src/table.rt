@@ -1,18 +1,14 @@
 //! Tables, as calls of the pass (GFM 4.10).
 
-ghost use Rattle.std.specs.Prelude.{◌≡◌, ◌<◌, ◌≤◌, ℕ, length, IfOk, IsSomeAnd, OnOk, IsCharBoundary};
+ghost use Rattle.std.specs.Prelude.{◌≤◌, length, IfOk, IsSomeAnd, IsCharBoundary};
 ghost use Rattle.first_pass_tree.specs.declared.tree_index.TreeIndex.{TreeIndex};
-ghost use Rattle.first_pass_names.specs.TableEntries.{names_of, AddsTexts};
+ghost use Rattle.first_pass_names.specs.TableEntries.{names_of};
 ghost use Rattle.first_pass_grammar.specs.Leaves.{document};
-ghost use Rattle.first_pass_grammar.specs.OpenOrder.{IsOrderedTo};
-ghost use Rattle.first_pass_grammar.specs.Order.{GrowsBy};
-ghost use Rattle.first_pass_grammar.specs.Tables.{most_filled};
 ghost use Rattle.first_pass_open.specs.OpenBlock.{IsJustPushed};
-ghost use Rattle.first_pass_open.specs.Between.{line_end_at};
+ghost use Rattle.first_pass_tables.specs.Appends.{IsOpenNode, open_table, ReadsRow, ReadsRowLine};
+ghost use Rattle.first_pass.specs.Calls.{ClosesTable, ReadsRowFrom};
 ghost use Rattle.first_pass.specs.Holds.{behind_row};
-ghost use Rattle.first_pass_tables.specs.Appends.{IsOpenNode, open_table, ReadsRow, ReadsRowLine, AppendsRows, AddsWholeRows};
-ghost use Rattle.first_pass.specs.Kept.{KeepsNames};
-ghost use Rattle.first_pass.specs.Views.{allocs_of, braces_of, reading_of, source_options, source_text, tree_of, with_tree};
+ghost use Rattle.first_pass.specs.Views.{allocs_of, braces_of, source_options, source_text, tree_of};
 
 use crate::state::FirstPass;
 use first_pass_tables::row::{self, CellsWanted, TableSoFar};
@@ -28,8 +24,9 @@ impl<'a> FirstPass<'a> {
     /// the rows among the lines from the offset `body_start` on, up to the first line that is none. Returns the offset
     /// at which that line begins, or the text's length, and never `None` (GFM 4.10).
     ///
-    /// Each row has `table_cols` cells then. Where the line at `head_start` has as many columns as a header row, at
-    /// most 262,144 of them are filled in (this project).
+    /// Each row has `table_cols` cells then. At most 262,144 of them are filled in, or those that are filled into the
+    /// header row if these are more: none are with tables, where the line at `head_start` has as many columns as a
+    /// header row (this project).
     pub fn parse_table(
         &mut self,
         table_cols: usize,
@@ -39,23 +36,8 @@ impl<'a> FirstPass<'a> {
         requires head { IsCharBoundary (source_text self.old) head_start }
         requires body { IsCharBoundary (source_text self.old) body_start }
         requires open { (ix : TreeIndex) × IsJustPushed (tree_of self.old) ix }
-        ensures kept { OnOk result (KeepsNames self.old self.new) }
-        ensures texts { OnOk result (AddsTexts (names_of (allocs_of self.new)) (names_of (allocs_of self.old))) }
-        ensures braces { OnOk result (braces_of self.new ≡ braces_of self.old) }
-        ensures reading { OnOk result (reading_of self.new ≡ with_tree (reading_of self.old) (tree_of self.new)) }
-        ensures rows { IfOk result (λ answer. IsSomeAnd answer (λ next.
-            AppendsRows (document (source_text self.old) (source_options self.old) (names_of (allocs_of self.new)))
-            table_cols head_start body_start (tree_of self.old) (tree_of self.new) next)) }
-        ensures order { IfOk result (λ answer. IsSomeAnd answer (λ next. (at : ℕ) → at ≤ head_start
-            → line_end_at (source_text self.old) head_start ≤ body_start
-            → IsOrderedTo (source_text self.old) (tree_of self.old) at
-            → IsOrderedTo (source_text self.old) (tree_of self.new) next)) }
-        ensures few { IfOk result (λ answer. IsSomeAnd answer (λ next. (from : ℕ) → from ≤ head_start
-            → line_end_at (source_text self.old) head_start ≤ body_start → from < next
-            → GrowsBy from next (tree_of self.old).nodes (tree_of self.new).nodes)) }
-        ensures whole { IfOk result (λ answer. IsSomeAnd answer (λ next.
-            AddsWholeRows (document (source_text self.old) (source_options self.old) (names_of (allocs_of self.new)))
-            table_cols head_start (tree_of self.old) (tree_of self.new) next)) }
+        ensures { IfOk result (λ answer. IsSomeAnd answer (λ next.
+            ClosesTable self.old self.new table_cols head_start body_start next)) }
     {
         let pass = &mut self.pass;
         let rows = TableRows {
@@ -79,20 +61,12 @@ impl<'a> FirstPass<'a> {
     ) -> Result<Option<(usize, TreeIndex)>, AllocError>
         requires boundary { IsCharBoundary (source_text self.old) ix }
         requires open { IsOpenNode (tree_of self.old) }
-        requires few { missing_empty_cells.old ≤ most_filled }
-        ensures kept { OnOk result (KeepsNames self.old self.new) }
-        ensures texts { OnOk result (AddsTexts (names_of (allocs_of self.new)) (names_of (allocs_of self.old))) }
-        ensures reading { OnOk result (reading_of self.new ≡ with_tree (reading_of self.old) (tree_of self.new)) }
         ensures row { IfOk result (λ row.
             ReadsRowLine (document (source_text self.old) (source_options self.old) (names_of (allocs_of self.new)))
             row_cells ix
             (open_table (tree_of self.old) missing_empty_cells.old (braces_of self.old))
             (open_table (tree_of self.new) missing_empty_cells.new (braces_of self.new)) row) }
-        ensures order { IfOk result (λ row. (at : ℕ) → at ≤ ix
-            → IsOrderedTo (source_text self.old) (tree_of self.old) at
-            → IsOrderedTo (source_text self.old) (tree_of self.new) (behind_row row ix)) }
-        ensures few { IfOk result (λ row. (from : ℕ) → from ≤ ix → from < behind_row row ix
-            → GrowsBy from (behind_row row ix) (tree_of self.old).nodes (tree_of self.new).nodes) }
+        ensures kept { IfOk result (λ row. ReadsRowFrom self.old self.new ix (behind_row row ix)) }
     {
         let mut table = TableSoFar {
             missing_empty_cells: *missing_empty_cells,
@@ -129,21 +103,12 @@ impl<'a> FirstPass<'a> {
     ) -> Result<Option<(usize, TreeIndex)>, AllocError>
         requires within { ix ≤ length (source_text self.old) }
         requires open { IsOpenNode (tree_of self.old) }
-        requires few { missing_empty_cells.old ≤ most_filled }
-        ensures kept { OnOk result (KeepsNames self.old self.new) }
-        ensures texts { OnOk result (AddsTexts (names_of (allocs_of self.new)) (names_of (allocs_of self.old))) }
-        ensures reading { OnOk result (reading_of self.new ≡ with_tree (reading_of self.old) (tree_of self.new)) }
         ensures row { IfOk result (λ row.
             ReadsRow (document (source_text self.old) (source_options self.old) (names_of (allocs_of self.new)))
             row_cells ix
             (open_table (tree_of self.old) missing_empty_cells.old (braces_of self.old))
             (open_table (tree_of self.new) missing_empty_cells.new (braces_of self.new)) row) }
-        ensures order { IfOk result (λ row. IsCharBoundary (source_text self.old) ix → (at : ℕ) → at ≤ ix
-            → IsOrderedTo (source_text self.old) (tree_of self.old) at
-            → IsOrderedTo (source_text self.old) (tree_of self.new) (behind_row row ix)) }
-        ensures few { IfOk result (λ row. IsCharBoundary (source_text self.old) ix → (from : ℕ) → from ≤ ix
-            → from < behind_row row ix
-            → GrowsBy from (behind_row row ix) (tree_of self.old).nodes (tree_of self.new).nodes) }
+        ensures kept { IfOk result (λ row. ReadsRowFrom self.old self.new ix (behind_row row ix)) }
     {
         let mut table = TableSoFar {
             missing_empty_cells: *missing_empty_cells,

@@ -26,9 +26,9 @@ use Rattle.first_pass_open.specs.Path.{path_of}
 use Rattle.first_pass_blocks.specs.Adding.{AddsKind}
 use Rattle.first_pass_blocks.proofs.AlikeNodes.{AreAlike, NoNodes, OneMore}
 use Rattle.first_pass_blocks.proofs.PropertyKept.{IsLeft, Property, HoldsAt, popped_at_keeps, popped_keeps, item_finished_keeps, kept_keeps, blank_keeps}
-use Rattle.first_pass_blocks.proofs.PropertyKept.{list_finished_keeps, quote_keeps, item_keeps, note_keeps}
+use Rattle.first_pass_blocks.proofs.PropertyKept.{list_finished_keeps, list_continued_keeps, quote_keeps, item_keeps, note_keeps}
 use Rattle.first_pass_open.specs.OpenBlock.{with_child, begun_item}
-use Rattle.first_pass_lists.specs.Closing.{popped_at, popped, item_finished}
+use Rattle.first_pass_lists.specs.Closing.{list_continued, popped_at, popped, item_finished}
 use Rattle.first_pass_lists.specs.Closing.{list_finished, list_kept, begun}
 use Rattle.first_pass_lists.specs.Closing.{blank_read, footnote_begun, with_tree, current_moved}
 use Rattle.first_pass_lists.specs.Closing.{with_current, title_kept}
@@ -113,6 +113,9 @@ module _ (names : Names) where
 
   pub blank_named : (r : Reading) → AreReadNamed r → AreReadNamed (blank_read r)
   blank_named r h = blank_keeps named_kept 0 0 r h
+
+  pub continued_named : (start byte number : ℕ) (r : Reading) → AreReadNamed r → AreReadNamed (list_continued start byte number r)
+  continued_named start byte number r h = list_continued_keeps named_kept 0 start byte number 0 r (named_at r h) (λ t is. tt) tt tt tt tt tt
 
   pub item_named : (start byte number columns : ℕ) (r : Reading) → AreReadNamed r → AreReadNamed (item_opened start byte number columns r)
   item_named start byte number columns r h =

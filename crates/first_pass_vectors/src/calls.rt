@@ -35,6 +35,13 @@ fn block_end(alloc: Global) -> Result<usize, AllocError> {
     pass.parse_block(0)
 }
 
+// How many nodes the tree of a pass has after the first block.
+fn nodes_after_block(alloc: Global) -> Result<usize, AllocError> {
+    let mut pass = FirstPass::new(alloc, TEXT, Options::empty())?;
+    pass.parse_block(0)?;
+    Ok(pass.pass.reading.tree.nodes().len())
+}
+
 // How many bytes the head of a footnote definition has that a text of one line begins with.
 fn head_size(alloc: Global, text: &str, options: Options) -> Result<Option<usize>, AllocError> {
     let mut pass = FirstPass::new(alloc, text, options)?;
@@ -78,6 +85,7 @@ fn blocks_of_a_text(rt: HostRuntime) -> Result<(), Fail> {
     assert_eq!(rt; bytes_before_rest(rt.alloc(), " \ta\n")?, Some(2));
     assert_eq!(rt; bytes_before_rest(rt.alloc(), "     \n")?, None);
     assert_eq!(rt; block_end(rt.alloc())?, 4);
+    assert_eq!(rt; nodes_after_block(rt.alloc())?, 3);
     Ok(())
 }
 

@@ -18,10 +18,16 @@ pub use first_pass::items::{
     Allocations, FootDefs, FootnoteDef, HeadingAttributes, LabelKey, LinkDef, RefDefs,
 };
 pub use first_pass::pass::{
-    FirstPass, HtmlEnd, count_header_cols, fixup_end_of_definition_list, get_html_end_tag,
-    run_first_pass, scan_paragraph_interrupt_no_table, surgerize_tight_list,
+    BlockPass, BraceContexts, FirstPass, HtmlEnd, Reading, Source, count_header_cols,
+    fixup_end_of_definition_list, get_html_end_tag, run_first_pass,
+    scan_paragraph_interrupt_no_table, surgerize_tight_list,
 };
 pub use first_pass::walk::{LoopInstruction, iterate_special_bytes, next_special, special_bytes};
+
+/// The names that a program needs first, which the root of `first_pass` hands out.
+pub mod root {
+    pub use first_pass::{Item, ItemBody, Options, Tree, run_first_pass};
+}
 
 /// Some names of the lower crate, by its own modules: `first_pass` hands out these modules whole.
 pub mod lower {

@@ -10,6 +10,7 @@ use Rattle.first_pass_raw.proofs.RawOrder.{text_line_in_order, html_line_in_orde
 use Rattle.first_pass_names.proofs.NameLemmas.{extends_none}
 use Rattle.first_pass_names.specs.TableEntries.{names_of}
 use Rattle.first_pass_lists.specs.declared.reading.Reading.{Reading}
+use Rattle.first_pass.proofs.CallsNamed.{raw_line_named}
 use Rattle.first_pass.proofs.OrderJoin.{tokens_ordered}
 use Rattle.first_pass.proofs.state.FirstPass.append_line_of.Goals as goal
 
@@ -18,8 +19,8 @@ line_in_order : (kind : RawKind) (d : Document) (owed from to : ℕ) (items : Li
 line_in_order Code d owed from to items order b c line = text_line_in_order d owed from to items order b c line
 line_in_order Html d owed from to items order b c line = html_line_in_order d owed from to items order b c line
 
-pub returns-clause-order : goal.returns-clause-order
-returns-clause-order c = λ at low begins ends o.
+pub returns-clause-bytes : goal.returns-clause-bytes
+returns-clause-bytes c =
     let self = c.args.self.now in
     let text = self.pass.source.text.now in
     let from = c.args.start in
@@ -28,7 +29,19 @@ returns-clause-order c = λ at low begins ends o.
     let new : Reading = record old { tree = c.append_raw_line.new.tree; empty_item = None } in
     let names = names_of c.append_raw_line.new.allocs in
     let d = document text self.pass.source.options names in
-    let line = c.in_ok-append_raw_line.ensures.line in
-    let are = line.are self.pass.source.options names (extends_none names) in
-    let tokens = line_in_order c.args.kind d c.args.remaining_space from to line.items c.requires.order begins ends are in
-    tokens_ordered text old new at from to line.items c.is_forest.ensures o low tokens ends.0 line.tree_is refl
+    let e = c.in_ok-append_raw_line.ensures in
+    let are = e.line.are self.pass.source.options names (extends_none names) in
+    record {
+      kept = record {
+        entries = record {
+          source = refl;
+          more = e.more;
+          named = raw_line_named d c.args.kind c.args.remaining_space from to (names_of self.pass.allocs) old.tree new.tree e.more.names e.line;
+        };
+        braces = refl;
+      };
+      reading = refl;
+      order = λ at low begins ends o.
+          tokens_ordered text old new at from to e.line.items c.is_forest.ensures o low
+          (line_in_order c.args.kind d c.args.remaining_space from to e.line.items c.requires.order begins ends are) ends.0 e.line.tree_is refl;
+    }

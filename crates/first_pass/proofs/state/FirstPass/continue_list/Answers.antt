@@ -1,19 +1,22 @@
-use Rattle.std.proofs.Common.{◌≡◌, ◌≤◌, ℕ, List, length, Result, Ok, Err, IsCharBoundary, OnOk}
-use Rattle.std.specs.declared.alloc.AllocError.{AllocError}
-use Rattle.first_pass_lists.specs.Closing.{list_continued}
-use Rattle.first_pass_lists.specs.declared.reading.Reading.{Reading}
-use Rattle.first_pass_blocks.specs.Ordered.{IsReadTo}
+use Rattle.std.proofs.Common.{sym, refl, subst}
+use Rattle.first_pass_names.specs.TableEntries.{names_of}
+use Rattle.first_pass_blocks.proofs.NamedLemmas.{AreReadNamed, continued_named}
 use Rattle.first_pass_blocks.proofs.PopOrder.{continue_list_keeps_order}
 use Rattle.first_pass.proofs.state.FirstPass.continue_list.Goals as goal
 
-by_result : {T : Type 0} (result : Result T AllocError) (text : List ℕ) (r q : Reading) (start ch index : ℕ) → OnOk result (q ≡ list_continued start ch index r)
-    → OnOk result ((at : ℕ) → at ≤ start → start ≤ length text → IsCharBoundary text start → IsReadTo text r at → IsReadTo text q start)
-by_result (Ok x) text r q start ch index is =
-    λ at later within starts h. continue_list_keeps_order text r q at start ch index is later within starts h
-by_result (Err e) text r q start ch index is = tt
-
-pub returns-clause-order : goal.returns-clause-order
-returns-clause-order c =
-    by_result c.continue_list.result c.args.self.now.pass.source.text.now c.args.self.now.pass.reading c.continue_list.new.self c.args.start c.args.ch
-    c.args.index
-    c.continue_list.ensures
+pub returns : goal.returns
+returns c =
+    let pass = c.args.self.now.pass in
+    let names = names_of pass.allocs in
+    let is = c.in_ok-continue_list.ensures in
+    record {
+      kept = record {
+        source = refl;
+        tables = refl;
+        named = λ h. subst (AreReadNamed names) (sym is) (continued_named names c.args.start c.args.ch c.args.index pass.reading h);
+        braces = refl;
+      };
+      reading = is;
+      order = λ at later within starts h.
+          continue_list_keeps_order pass.source.text.now pass.reading _ at c.args.start c.args.ch c.args.index is later within starts h;
+    }

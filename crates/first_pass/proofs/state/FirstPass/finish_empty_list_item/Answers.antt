@@ -1,6 +1,20 @@
+use Rattle.std.proofs.Common.{sym, refl, subst}
+use Rattle.first_pass_names.specs.TableEntries.{names_of}
+use Rattle.first_pass_blocks.proofs.NamedLemmas.{AreReadNamed, item_finished_named}
 use Rattle.first_pass_blocks.proofs.PopOrder.{finish_item_keeps_order}
 use Rattle.first_pass.proofs.state.FirstPass.finish_empty_list_item.Goals as goal
 
-pub returns-clause-order : goal.returns-clause-order
-returns-clause-order c = λ at h.
-    finish_item_keeps_order c.args.self.now.pass.source.text.now c.args.self.now.pass.reading _ at c.finish_empty_list_item.ensures h
+pub returns : goal.returns
+returns c =
+    let pass = c.args.self.now.pass in
+    let names = names_of pass.allocs in
+    record {
+      kept = record {
+        source = refl;
+        tables = refl;
+        named = λ h. subst (AreReadNamed names) (sym c.finish_empty_list_item.ensures) (item_finished_named names pass.reading h);
+        braces = refl;
+      };
+      reading = c.finish_empty_list_item.ensures;
+      order = λ at h. finish_item_keeps_order pass.source.text.now pass.reading _ at c.finish_empty_list_item.ensures h;
+    }

@@ -1,6 +1,20 @@
+use Rattle.std.proofs.Common.{sym, refl, subst}
+use Rattle.first_pass_names.specs.TableEntries.{names_of}
+use Rattle.first_pass_blocks.proofs.NamedLemmas.{AreReadNamed, list_finished_named}
 use Rattle.first_pass_blocks.proofs.PopOrder.{finish_list_keeps_order}
 use Rattle.first_pass.proofs.state.FirstPass.finish_list.Goals as goal
 
-pub returns-clause-order : goal.returns-clause-order
-returns-clause-order c = λ at later within ends h.
-    finish_list_keeps_order c.args.self.now.pass.source.text.now c.args.self.now.pass.reading _ at c.args.ix c.finish_list.ensures later within ends h
+pub returns : goal.returns
+returns c =
+    let pass = c.args.self.now.pass in
+    let names = names_of pass.allocs in
+    record {
+      kept = record {
+        source = refl;
+        tables = refl;
+        named = λ h. subst (AreReadNamed names) (sym c.finish_list.ensures) (list_finished_named names c.args.ix pass.reading h);
+        braces = refl;
+      };
+      reading = c.finish_list.ensures;
+      order = λ at later within ends h. finish_list_keeps_order pass.source.text.now pass.reading _ at c.args.ix c.finish_list.ensures later within ends h;
+    }

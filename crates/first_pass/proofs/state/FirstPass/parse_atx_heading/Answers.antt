@@ -1,19 +1,30 @@
-use Rattle.std.proofs.Common.{drop, None, refl, arith}
+use Rattle.std.proofs.Common.{drop, refl, arith}
 use Rattle.std.proofs.lemmas.List.{length-drop}
 use Rattle.first_pass_lines.proofs.LineFacts.{line_len-fits}
-use Rattle.first_pass_lists.specs.declared.reading.Reading.{Reading}
-use Rattle.first_pass_blocks.proofs.OrderSteps.{block_ordered}
+use Rattle.first_pass_names.specs.TableEntries.{names_of}
+use Rattle.first_pass_grammar.specs.Leaves.{document, heading_block}
+use Rattle.first_pass.proofs.Added.{adds_leaf}
+use Rattle.first_pass.proofs.CallsNamed.{atx_named}
 use Rattle.first_pass.proofs.state.FirstPass.parse_atx_heading.Goals as goal
 
-pub returns-clause-order : goal.returns-clause-order
-returns-clause-order c = λ at low begins o.
-    let old : Reading = c.args.self.now.pass.reading in
-    let new : Reading = record old { tree = c.parse_atx_heading.new.tree; empty_item = None } in
+pub returns-clause-leaf : goal.returns-clause-leaf
+returns-clause-leaf c =
+    let self = c.args.self.now in
+    let text = self.pass.source.text.now in
+    let d = document text self.pass.source.options (names_of c.parse_atx_heading.new.allocs) in
     let e = c.in_ok-next.ensures in
-    let text = c.args.self.now.pass.source.text.now in
     let line = line_len-fits (drop c.args.start text) in
     let left = length-drop c.args.start text in
     let start = c.requires.within in
     let ends = e.block.end_is in
-    block_ordered c.args.self.now.pass.source.text.now old new at c.args.start c.in_ok-next.next o low (λ from before. e.fits from before begins)
-    (omega arith) refl
+    adds_leaf self _ c.args.start c.in_ok-next.next self.pass.reading.blank
+    (heading_block c.args.start c.in_ok-next.next c.args.atx_level e.block.index e.block.chain)
+    (record {
+      source = refl;
+      braces = refl;
+      reading = refl;
+      more = e.more;
+      tree_is = e.block.tree_is;
+      own = atx_named d c.args.start c.args.atx_level self.pass.reading.tree c.parse_atx_heading.new.tree c.in_ok-next.next e.block;
+    })
+    e.fits (omega arith)

@@ -6,6 +6,7 @@ use Rattle.first_pass_blocks.specs.Views.{reading_of, source_text}
 use Rattle.first_pass_blocks.proofs.LineLemmas.{footnote_begun_none}
 use Rattle.first_pass_blocks.proofs.FootnoteFound.{IsRead, some_found}
 use Rattle.first_pass_blocks.proofs.PopOrder.{footnote_keeps_order}
+use Rattle.first_pass.proofs.CallsNamed.{footnote_named}
 use Rattle.first_pass.proofs.state.FirstPass.parse_footnote.Goals as goal
 
 -- a footnote definition that is opened at an offset keeps order
@@ -18,6 +19,16 @@ order_by old new start (Some n) boundary reads = λ at low o.
     footnote_keeps_order (source_text old) (reading_of old) (reading_of new) at start opened.index opened.opened low boundary.0 boundary
     (footnote_begun_none start opened.index (reading_of old)) o
 
-pub returns-clause-order : goal.returns-clause-order
-returns-clause-order c =
-    order_by c.args.self.now.pass c.parse_footnote.new.self c.args.start c.in_ok-size.size c.requires c.in_ok-size.ensures.head
+pub returns : goal.returns
+returns c =
+    let old : BlockPass = c.args.self.now.pass in
+    let new : BlockPass = c.parse_footnote.new.self in
+    let e = c.in_ok-size.ensures in
+    record {
+      source = e.source;
+      braces = refl;
+      named = λ h. footnote_named old new c.args.start h c.in_ok-size.size e.head;
+      head = e.head;
+      within = e.within;
+      order = order_by old new c.args.start c.in_ok-size.size c.requires e.head;
+    }

@@ -1,57 +1,65 @@
-use Rattle.std.proofs.Common.{◌≡◌, length, None, refl, ap, ◌∙◌, subst}
+use Rattle.std.proofs.Common.{◌≡◌, ℕ, ◌≤◌, length, None, refl, ap, ◌∙◌, subst}
 use Rattle.first_pass_grammar.specs.Extents.{Extent}
 use Rattle.first_pass_grammar.specs.HtmlBlocks.{IsHtml}
 use Rattle.first_pass_grammar.specs.Leaves.{document}
-use Rattle.first_pass_lines.specs.Places.{offset}
+use Rattle.first_pass_lines.specs.Places.{Place, offset}
 use Rattle.first_pass_grammar.specs.Completion.{lines_from}
+use Rattle.first_pass_open.specs.Between.{AddsBetween}
 use Rattle.first_pass_open.specs.Path.{path_of}
-use Rattle.first_pass_raw.specs.RawBlocks.{behind_line_at, html_to_blank, AddsRaw}
+use Rattle.first_pass_raw.specs.RawBlocks.{behind_line_at, html_to_blank, AddsRaw, IsPlaceAt}
 use Rattle.first_pass_lists.specs.declared.reading.Reading.{Reading}
 use Rattle.first_pass_names.specs.TableEntries.{names_of}
+use Rattle.first_pass_names.proofs.NameLemmas.{extends_none}
 use Rattle.first_pass_raw.proofs.IndentedLemmas.{first_at, first_is}
 use Rattle.first_pass_blocks.proofs.HandedOn.{path_added, html_stops, ordered_stopped}
 use Rattle.first_pass_blocks.proofs.OrderSteps.{block_ordered}
 use Rattle.first_pass_blocks.proofs.RawFits.{to_blank_between, to_blank_ends, to_blank_few}
+use Rattle.first_pass.proofs.Added.{adds_kept}
+use Rattle.first_pass.proofs.CallsNamed.{html_named}
 use Rattle.first_pass.proofs.state.FirstPass.parse_html_block_type_6_or_7.Goals as goal
 
-pub returns-clause-fits : goal.returns-clause-fits
-returns-clause-fits c = λ p i from low.
-    let self = c.args.self.now in
-    let e = c.in_ok-next.ensures in
-    to_blank_between self.pass.source.text.now self.pass.source.options (names_of c.parse_html_block_type_6_or_7.new.allocs) self.pass.reading.tree
-    c.parse_html_block_type_6_or_7.new.tree c.args.start_ix c.in_ok-next.next e.utf8 c.requires.boundary e.boundary.1.0
-    c.max.result p i (e.block p i) from low
-
-pub returns-clause-order : goal.returns-clause-order
-returns-clause-order c = λ at low o.
+pub returns-clause-leaf : goal.returns-clause-leaf
+returns-clause-leaf c =
     let self = c.args.self.now in
     let text = self.pass.source.text.now in
+    let options = self.pass.source.options in
+    let names = names_of c.parse_html_block_type_6_or_7.new.allocs in
     let e = c.in_ok-next.ensures in
     let old : Reading = self.pass.reading in
     let new : Reading = record old { tree = c.parse_html_block_type_6_or_7.new.tree; empty_item = None } in
-    let names = names_of c.parse_html_block_type_6_or_7.new.allocs in
     let p = first_at text c.args.start_ix 0 in
     let i = first_is text c.args.start_ix 0 in
     let block = e.block p i in
-    let path : path_of self.pass.source.options new.tree ≡ path_of self.pass.source.options old.tree =
-    ap (path_of self.pass.source.options) block.tree_is ∙ path_added self.pass.source.options old.tree block.items c.is_forest.ensures in
-    let ends = to_blank_ends text self.pass.source.options names old.tree new.tree c.args.start_ix c.in_ok-next.next e.utf8 c.requires.boundary
-    e.boundary.1.0 p i in
-    ordered_stopped self.pass.source.options text new
-    (path_of self.pass.source.options old.tree) (html_to_blank text (path_of self.pass.source.options old.tree) p) c.in_ok-next.next e.boundary.1 refl
-    path
-    (html_stops (length text) (path_of self.pass.source.options old.tree) p (lines_from text (behind_line_at text (offset p)))) block.left_is
-    (block_ordered text old new at c.args.start_ix _ o low (returns-clause-fits c p i) ends.0 refl)
-
-pub returns-clause-few : goal.returns-clause-few
-returns-clause-few c = λ from low apart.
-    let self = c.args.self.now in
-    let e = c.in_ok-next.ensures in
-    let p = first_at self.pass.source.text.now c.args.start_ix 0 in
-    let i = first_is self.pass.source.text.now c.args.start_ix 0 in
-    to_blank_few self.pass.source.text.now self.pass.source.options (names_of c.parse_html_block_type_6_or_7.new.allocs) self.pass.reading.tree
-    c.parse_html_block_type_6_or_7.new.tree c.args.start_ix c.in_ok-next.next e.utf8 c.requires.boundary e.boundary.1.0
-    c.max.result p i (e.block p i) from low apart
+    let fits : (p : Place) → IsPlaceAt text c.args.start_ix p → (from : ℕ) → from ≤ c.args.start_ix
+    → AddsBetween text from (html_to_blank text (path_of options old.tree) p).«end» old.tree new.tree = λ p i from low.
+    to_blank_between text options names old.tree new.tree c.args.start_ix c.in_ok-next.next e.utf8 c.requires.boundary e.boundary.1.0
+    c.max.result p i (e.block p i) from low in
+    let path : path_of options new.tree ≡ path_of options old.tree =
+    ap (path_of options) block.tree_is ∙ path_added options old.tree block.items c.is_forest.ensures in
+    let ends = to_blank_ends text options names old.tree new.tree c.args.start_ix c.in_ok-next.next e.utf8 c.requires.boundary e.boundary.1.0 p i in
+    record {
+      kept = adds_kept self _ old.blank block.items
+          (record {
+            source = refl;
+            braces = refl;
+            reading = refl;
+            more = e.more;
+            tree_is = block.tree_is;
+            own = html_named (document text options names) c.args.start_ix c.max.result _ _ block.items (block.are names (extends_none names));
+          });
+      reading = refl;
+      later = e.boundary.0;
+      boundary = e.boundary.1;
+      fits = fits;
+      order = λ at low o.
+          ordered_stopped options text new (path_of options old.tree) (html_to_blank text (path_of options old.tree) p) c.in_ok-next.next
+          e.boundary.1 refl path
+          (html_stops (length text) (path_of options old.tree) p (lines_from text (behind_line_at text (offset p)))) block.left_is
+          (block_ordered text old new at c.args.start_ix _ o low (fits p i) ends.0 refl);
+      few = λ from low apart.
+          to_blank_few text options names old.tree new.tree c.args.start_ix c.in_ok-next.next e.utf8 c.requires.boundary e.boundary.1.0
+          c.max.result p i block from low apart;
+    }
 
 pub returns-clause-block : goal.returns-clause-block
 returns-clause-block c = λ p i.

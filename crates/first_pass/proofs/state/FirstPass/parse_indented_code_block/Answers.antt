@@ -1,19 +1,29 @@
-use Rattle.std.proofs.Common.{None, refl}
-use Rattle.first_pass_lists.specs.declared.reading.Reading.{Reading}
-use Rattle.first_pass_blocks.proofs.OrderSteps.{block_ordered}
+use Rattle.std.proofs.Common.{refl}
+use Rattle.first_pass_names.specs.TableEntries.{names_of}
+use Rattle.first_pass_names.proofs.NameLemmas.{extends_none}
+use Rattle.first_pass_grammar.specs.Leaves.{document}
+use Rattle.first_pass_raw.proofs.IndentedLemmas.{first_at, first_is}
 use Rattle.first_pass_blocks.proofs.RawFits.{indented_between}
+use Rattle.first_pass.proofs.Added.{adds_lines}
+use Rattle.first_pass.proofs.CallsNamed.{indented_named}
 use Rattle.first_pass.proofs.state.FirstPass.parse_indented_code_block.Goals as goal
 
-pub returns-clause-fits : goal.returns-clause-fits
-returns-clause-fits c =
-    indented_between c.args.self.now.pass.source.text.now c.args.self.now.pass.source.options _ c.args.self.now.pass.reading.tree
-    c.parse_indented_code_block.new.tree
-    c.args.start_ix c.in_ok-next.next c.in_ok-next.ensures.utf8 c.requires.boundary c.in_ok-next.ensures.boundary.1.0 c.args.remaining_space c.in_ok-next.blank
-    c.in_ok-next.ensures.block
-
-pub returns-clause-order : goal.returns-clause-order
-returns-clause-order c = λ at low o.
-    let old : Reading = c.args.self.now.pass.reading in
-    let new : Reading = record { tree = c.parse_indented_code_block.new.tree; empty_item = None; blank = c.in_ok-next.blank } in
-    block_ordered c.args.self.now.pass.source.text.now old new at c.args.start_ix c.in_ok-next.next o low
-    (returns-clause-fits c) c.in_ok-next.ensures.boundary.1.0 refl
+pub returns-clause-leaf : goal.returns-clause-leaf
+returns-clause-leaf c =
+    let self = c.args.self.now in
+    let text = self.pass.source.text.now in
+    let names = names_of c.parse_indented_code_block.new.allocs in
+    let e = c.in_ok-next.ensures in
+    let p = first_at text c.args.start_ix c.args.remaining_space in
+    let block = e.block p (first_is text c.args.start_ix c.args.remaining_space) refl in
+    adds_lines self _ c.args.start_ix c.in_ok-next.next c.in_ok-next.blank block.items
+    (record {
+      source = refl;
+      braces = refl;
+      reading = refl;
+      more = e.more;
+      tree_is = block.tree_is;
+      own = indented_named (document text self.pass.source.options names) p _ block.items (block.is names (extends_none names));
+    })
+    (indented_between text self.pass.source.options names self.pass.reading.tree c.parse_indented_code_block.new.tree
+    c.args.start_ix c.in_ok-next.next e.utf8 c.requires.boundary e.boundary.1.0 c.args.remaining_space c.in_ok-next.blank e.block) e.boundary

@@ -1,21 +1,49 @@
-use Rattle.std.proofs.Common.{refl, subst, IsUtf8}
-use Rattle.first_pass_names.specs.TableEntries.{names_of, no_names}
+use Rattle.std.proofs.Common.{rules, refl, arith}
+use Rattle.first_pass_names.specs.TableEntries.{names_of}
+use Rattle.first_pass_names.proofs.NameLemmas.{extends_none}
 use Rattle.first_pass_grammar.specs.Leaves.{document}
-use Rattle.first_pass_grammar.proofs.MoreNames.{extends_none}
-use Rattle.first_pass.specs.Views.{allocs_of, source_options, source_text, tree_of}
-use Rattle.first_pass.proofs.UnderlinedOrder.{open_ordered, underlined_ordered}
+use Rattle.first_pass.specs.Views.{allocs_of}
+use Rattle.first_pass.proofs.CallsNamed.{heading_named}
+use Rattle.first_pass.proofs.CutOrder.{heading_ordered}
 use Rattle.first_pass.proofs.state.FirstPass.parse_setext_heading.Goals as goal
 
-pub returns-in_default-clause-kept : goal.returns-in_default-clause-kept
-returns-in_default-clause-kept c = record { source = refl; more = record { names = extends_none (names_of (allocs_of c.args.self.now)); entries = refl } }
+pub returns-in_default : goal.returns-in_default
+returns-in_default c = record {
+  kept = record {
+    entries = record {
+      source = refl;
+      more = record { names = extends_none (names_of (allocs_of c.args.self.now)); entries = refl };
+      named = λ h. h;
+    };
+    braces = refl;
+  };
+  reading = refl;
+  value = search rules;
+  heading = search rules;
+  few = omega arith;
+  order = λ at holds o. o;
+}
 
-pub returns-in_default-clause-order : goal.returns-in_default-clause-order
-returns-in_default-clause-order c l by holds =
-    open_ordered (document (source_text c.args.self.now) (source_options c.args.self.now) no_names)
-    (subst IsUtf8 c.as_bytes.ensures.value c.as_bytes.ensures.utf8) (tree_of c.args.self.now) c.args.node_ix l holds
-
-pub returns-clause-order : goal.returns-clause-order
-returns-clause-order c l by holds =
-    underlined_ordered (document (source_text c.args.self.now) (source_options c.args.self.now) no_names)
-    (subst IsUtf8 c.as_bytes.ensures.value c.as_bytes.ensures.utf8) (tree_of c.args.self.now) c.args.node_ix l holds
-    (names_of c.make_heading.new.allocs) c.in-Some.level c.args.has_trailing_content c.make_heading.new.tree by c.in_ok-make_heading.ensures.heading
+pub returns : goal.returns
+returns c =
+    let self = c.args.self.now in
+    let text = self.pass.source.text.now in
+    let old = self.pass.reading.tree in
+    let new = c.make_heading.new.tree in
+    let d = document text self.pass.source.options (names_of c.make_heading.new.allocs) in
+    let e = c.in_ok-make_heading.ensures in
+    record {
+      kept = record {
+        entries = record {
+          source = refl;
+          more = e.more;
+          named = heading_named d c.in-Some.level c.args.has_trailing_content c.args.node_ix old new (names_of self.pass.allocs) e.more.names e.heading;
+        };
+        braces = refl;
+      };
+      reading = refl;
+      value = search rules;
+      heading = search rules;
+      few = e.few;
+      order = λ at holds o. heading_ordered d c.in-Some.level c.args.has_trailing_content c.args.node_ix old new at c.requires.open e.heading holds o;
+    }

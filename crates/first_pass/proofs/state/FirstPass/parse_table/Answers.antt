@@ -1,17 +1,34 @@
+use Rattle.std.proofs.Common.{refl}
+use Rattle.first_pass_names.specs.TableEntries.{names_of}
+use Rattle.first_pass_grammar.specs.Leaves.{document}
+use Rattle.first_pass.proofs.CallsNamed.{rows_named}
 use Rattle.first_pass.proofs.RowsOrdered.{rows_ordered, rows_count}
 use Rattle.first_pass.proofs.state.FirstPass.parse_table.Goals as goal
 
-pub returns-clause-order : goal.returns-clause-order
-returns-clause-order c = λ at low behind o.
+pub returns : goal.returns
+returns c =
     let self = c.args.self.now in
+    let text = self.pass.source.text.now in
+    let old = self.pass.reading.tree in
+    let new = c.parse_table.new.tree in
+    let names = names_of c.parse_table.new.allocs in
     let e = c.in_ok-next.ensures in
-    rows_ordered self.pass.source.text.now self.pass.reading.tree c.parse_table.new.tree at c.in_ok-next.next c.requires.open.0 c.requires.open.1
-    e.rows.boundary
-    (e.fits at low behind) o
-
-pub returns-clause-few : goal.returns-clause-few
-returns-clause-few c = λ from low behind apart.
-    let self = c.args.self.now in
-    let e = c.in_ok-next.ensures in
-    rows_count self.pass.source.text.now self.pass.reading.tree c.parse_table.new.tree from c.in_ok-next.next c.requires.open.0 c.requires.open.1
-    (e.fits from low behind) apart
+    record {
+      kept = record {
+        entries = record {
+          source = refl;
+          more = e.more;
+          named = rows_named (document text self.pass.source.options names) c.args.table_cols c.args.head_start c.args.body_start old new
+              c.in_ok-next.next (names_of self.pass.allocs) e.more.names e.rows;
+        };
+        braces = refl;
+      };
+      texts = e.texts;
+      reading = refl;
+      rows = e.rows;
+      order = λ at low behind o.
+          rows_ordered text old new at c.in_ok-next.next c.requires.open.0 c.requires.open.1 e.rows.boundary (e.fits at low behind) o;
+      few = λ from low behind apart.
+          rows_count text old new from c.in_ok-next.next c.requires.open.0 c.requires.open.1 (e.fits from low behind) apart;
+      whole = e.whole;
+    }

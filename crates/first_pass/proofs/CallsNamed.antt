@@ -1,0 +1,265 @@
+-- Each index that nodes keep names an entry after each call, if each did before.
+use Rattle.std.proofs.Common.{◌≡◌, ◌⊎◌, inl, inr, ℕ, zero, suc, ◌+◌, ◌-◌, ◌<◌, ◌==◌, ◌&&◌, nat_lt, Bool, true, false, if◌then◌else◌, List, [], ◌∷◌, ◌++◌}
+use Rattle.std.proofs.Common.{length, length-append, take, drop, Option, Some, None, IfSome, IsSomeAnd, MatchOption, IsCharBoundary, refl, sym, ap, subst, ◌∙◌, arith}
+use Rattle.std.specs.Option.{option_map}
+use Rattle.std.proofs.lemmas.Bool.{cond_both}
+use Rattle.std.proofs.lemmas.Option.{slice_get_within}
+use Rattle.first_pass_items.specs.declared.cow_str.CowStr.{CowStr}
+use Rattle.first_pass_items.specs.declared.item.HeadingIndex.{HeadingIndex}
+use Rattle.first_pass_items.specs.declared.item.HeadingLevel.{HeadingLevel}
+use Rattle.first_pass_items.specs.declared.item.Item.{Item}
+use Rattle.first_pass_items.specs.declared.item.ItemBody.{ItemBody}
+use Rattle.first_pass_items.specs.declared.item.ItemBody.TheVariants.{Heading, TableHead, TableRow, Text, SynthesizeText}
+use Rattle.first_pass_tree.specs.declared.tree_index.TreeIndex.{TreeIndex}
+use Rattle.first_pass_tree.specs.Forest.{Forest, added, appended, at_depth, cut_item, cut_siblings, cut_tokens, is_escaped, is_text, item_at, joins_at}
+use Rattle.first_pass_tree.specs.Forest.{open_place, with_body_at, with_end}
+use Rattle.first_pass_lines.specs.Places.{Place, offset, line_place}
+use Rattle.first_pass_lines.proofs.PlaceFacts.{line_is_place}
+use Rattle.first_pass_tokens.specs.Braces.{MathBraces, no_braces}
+use Rattle.first_pass_tokens.specs.LineTokens.{spot}
+use Rattle.first_pass_tokens.specs.Pieces.{Inline}
+use Rattle.first_pass_tokens.specs.TreeTokens.{with_token, with_tokens, AppendsLine, AppendsCell}
+use Rattle.first_pass_grammar.specs.Completion.{lines_from}
+use Rattle.first_pass_grammar.specs.CodeBlocks.{IsFencedCode, IsIndentedCode, IsMetadata}
+use Rattle.first_pass_grammar.specs.HtmlBlocks.{IsHtml}
+use Rattle.first_pass_grammar.specs.Leaves.{Document, heading_block, rule_block}
+use Rattle.first_pass_grammar.specs.Names.{Names, Extends, NamesEntry, AreNamed, index_of}
+use Rattle.first_pass_grammar.specs.RawLines.{AreColumns, Ranges, range_text, range_html, IsRawLine}
+use Rattle.first_pass_grammar.specs.Tables.{AreCells, row_block, table_so_far, filled, most_filled, taking}
+use Rattle.first_pass_grammar.proofs.EachToken.{AreEach, both_each, cell_each, heading_each, line_each, raw_each, range_text_each}
+use Rattle.first_pass_grammar.proofs.MoreNames.{extends_none, extends_named}
+use Rattle.first_pass_grammar.proofs.NamedItems.{HasEntry, IsNamed, block_named, each_named, html_is_free, lines_named, named_both, named_deeper, named_modified}
+use Rattle.first_pass_grammar.proofs.NamedItems.{named_more, text_is_free, tokens_entered}
+use Rattle.first_pass_grammar.proofs.TableItems.{both_nodes, cells_nodes, nodes_named, row_nodes, rows_nodes}
+use Rattle.first_pass_grammar.proofs.TextsNamed.{given_entry, text_named}
+use Rattle.first_pass_names.specs.TableEntries.{names_of}
+use Rattle.first_pass_open.specs.OpenBlock.{closed_by}
+use Rattle.first_pass_open.specs.Path.{path_of}
+use Rattle.first_pass_raw.specs.RawBlocks.{AddsIndented, AddsRaw, AppendsRaw, range_of, IsPlaceAt}
+use Rattle.first_pass_raw.specs.declared.raw_line.RawKind.{RawKind}
+use Rattle.first_pass_raw.specs.declared.raw_line.RawKind.TheVariants.{Code, Html}
+use Rattle.first_pass_tables.specs.Appends.{with_below, OpenTable, ReadsRow, ReadsRowLine, AppendsRows}
+use Rattle.first_pass_text.specs.Appends.{AddsHeading}
+use Rattle.first_pass_text.specs.CutTexts.{BecomesHeading, CutsChildren}
+use Rattle.first_pass_blocks.specs.FootnoteHeads.{StaysSame, OpenedFootnote, ReadsFootnote, head_read}
+use Rattle.first_pass_blocks.specs.TextsAdded.{AddsText}
+use Rattle.first_pass_blocks.specs.declared.state.BlockPass.{BlockPass}
+use Rattle.first_pass_blocks.specs.Views as Block
+use Rattle.first_pass_blocks.proofs.NamedLemmas.{block_added, note_named}
+
+-- Tokens stand after the nodes of a tree, the first of them joined to the last node or not.
+end_named : (names : Names) (f : Forest Item) (e : ℕ) (o : Option TreeIndex) → AreNamed names f.nodes → AreNamed names (with_end f e o).nodes
+end_named names f e None h = h
+end_named names f e (Some c) h = named_modified names f.nodes c.0 (λ y. record y { «end» = e }) (λ y k. k) h
+
+token_named : (names : Names) (f : Forest Item) (x : Item) → AreNamed names f.nodes → IsNamed names x → AreNamed names (with_token f x).nodes
+unfolding AreNamed
+token_named names f x h own =
+    cond_both (is_text x.body && joins_at f x.start f.current) (with_end f x.«end» f.current) (appended f x) (λ (g : Forest Item). AreNamed names g.nodes)
+    (λ b. end_named names f x.«end» f.current h) (λ b. named_both names f.nodes ((length f.spine + 1, x) ∷ []) h (own, tt))
+
+tokens_named : (names : Names) (f : Forest Item) (tokens : List Item) → AreNamed names f.nodes → AreEach (HasEntry names) tokens
+    → AreNamed names (with_tokens f tokens).nodes
+tokens_named names f [] h own = h
+tokens_named names f (x ∷ tokens) h own = tokens_named names (with_token f x) tokens (token_named names f x h own.0) own.1
+
+-- a line, and a cell
+pub line_named : {after : MathBraces} (names before : Names) (s : Inline) (old new : Forest Item) (answer : ℕ × Option Item) → Extends names before
+    → AppendsLine names.texts s old new answer after → AreNamed before old.nodes → AreNamed names new.nodes
+line_named names before s old new answer more h own =
+    subst (λ (f : Forest Item). AreNamed names f.nodes) (sym h.tree_is)
+    (tokens_named names old h.tokens (named_more names before old.nodes more own)
+    (line_each names.texts (HasEntry names) (tokens_entered names) s h.tokens answer h.line))
+
+pub cell_named : {after : MathBraces} (names before : Names) (s : Inline) (old new : Forest Item) (stop : ℕ) → Extends names before
+    → AppendsCell names.texts s old new stop after → AreNamed before old.nodes → AreNamed names new.nodes
+cell_named names before s old new stop more h own =
+    subst (λ (f : Forest Item). AreNamed names f.nodes) (sym h.tree_is)
+    (tokens_named names old h.tokens (named_more names before old.nodes more own)
+    (cell_each names.texts (HasEntry names) (tokens_entered names) s h.tokens stop h.cell))
+
+-- a raw line
+owed_each : (names : Names) (owed at : ℕ) (items : List Item) → AreColumns names owed at items → AreEach (HasEntry names) items
+owed_each names zero at items is = subst (AreEach (HasEntry names)) (sym is) tt
+owed_each names (suc n) at items (ix, (named, at_ix, text), is) =
+    subst (AreEach (HasEntry names)) (sym is) (slice_get_within names.texts ix.0 named at_ix, tt)
+
+range_each : (names : Names) (kind : RawKind) (a b : ℕ) → AreEach (HasEntry names) (range_of kind a b)
+range_each names Code a b = range_text_each (HasEntry names) (λ escaped. tt) a b
+range_each names Html a b = (tt, tt)
+
+raw_line_each : (d : Document) (kind : RawKind) (owed from to : ℕ) (items : List Item) → IsRawLine (range_of kind) d owed from to items
+    → AreEach (HasEntry d.names) items
+raw_line_each d kind owed from to items (columns, are, is) =
+    subst (AreEach (HasEntry d.names)) (sym is)
+    (both_each (HasEntry d.names) columns _ (owed_each d.names owed from columns are)
+    (raw_each (HasEntry d.names) (range_of kind) d.text from to (range_each d.names kind)))
+
+pub raw_line_named : (d : Document) (kind : RawKind) (owed from to : ℕ) (before : Names) (old new : Forest Item) → Extends d.names before
+    → AppendsRaw (range_of kind) d.text d.names owed from to old new → AreNamed before old.nodes → AreNamed d.names new.nodes
+raw_line_named d kind owed from to before old new more h own =
+    subst (λ (f : Forest Item). AreNamed d.names f.nodes) (sym h.tree_is)
+    (tokens_named d.names old h.items (named_more d.names before old.nodes more own)
+    (raw_line_each d kind owed from to h.items (h.are d.options d.names (extends_none d.names))))
+
+-- the items of a leaf block
+pub fenced_named : (d : Document) (start count : ℕ) (places : List Place) (e : ℕ) (items : List (ℕ × Item)) → IsFencedCode d start count places e items
+    → AreNamed d.names items
+unfolding AreNamed
+fenced_named d start count places e items is =
+    block_named d.names _ _ _ is.chain items is.items_are (slice_get_within d.names.texts is.info.0 is.names.named is.names.at)
+    (lines_named range_text d [] places is.chain text_is_free tt is.lines)
+
+pub metadata_named : (d : Document) (start byte : ℕ) (places : List Place) (e : ℕ) (items : List (ℕ × Item)) → IsMetadata d start byte places e items
+    → AreNamed d.names items
+unfolding AreNamed
+metadata_named d start byte places e items is =
+    block_named d.names _ _ _ is.chain items is.items_are tt (lines_named range_text d [] places is.chain text_is_free tt is.lines)
+
+pub html_named : (d : Document) (start columns : ℕ) (places : List Place) (e : ℕ) (items : List (ℕ × Item)) → IsHtml d start columns places e items
+    → AreNamed d.names items
+unfolding AreNamed
+html_named d start columns places e items is =
+    block_named d.names _ _ _ is.chain items is.items_are tt (lines_named range_html d [] _ is.chain html_is_free tt is.lines)
+
+pub indented_named : (d : Document) (p : Place) (further : List Place) (items : List (ℕ × Item)) → IsIndentedCode d p further items
+    → AreNamed d.names items
+unfolding AreNamed
+indented_named d p further items is =
+    block_named d.names _ _ _ is.chain items is.items_are tt (lines_named range_text d [] _ is.chain text_is_free tt is.lines)
+
+pub rule_named : (names : Names) (start size : ℕ) → AreNamed names (rule_block start size)
+unfolding AreNamed
+rule_named names start size = (tt, tt)
+
+pub atx_named : (d : Document) (start : ℕ) (level : HeadingLevel) (old new : Forest Item) (next : ℕ) (a : AddsHeading d start level old new next)
+    → AreNamed d.names (heading_block start next level a.index a.chain)
+unfolding AreNamed
+atx_named d start level old new next a =
+    let line = a.line d.names (extends_none d.names) in (
+      given_entry d.names a.index _ line.named,
+      named_deeper d.names 1 _ (each_named d.names a.chain (heading_each (HasEntry d.names) d (tokens_entered d.names) _ a.index a.chain next line)),
+    )
+
+pub text_added : (d : Document) (start : ℕ) (marker : Option Item) (old new : Forest Item) (next : ℕ) (a : AddsText d start marker old new next)
+    → IsCharBoundary d.text start → IfSome marker (λ x. index_of x.body ≡ None) → AreNamed d.names a.items
+text_added d start marker old new next a boundary free =
+    let p : Place = line_place start (drop start d.text) in
+    let there = line_is_place d.text start boundary in
+    text_named d (path_of d.options old) p marker _ (taking a.items (lines_from d.text next)) free
+    (a.is_text d.names (extends_none d.names) p there (omega arith))
+
+-- a row, if one is added, and the rows of a table
+row_by : (d : Document) (columns start : ℕ) (cells : List (List (ℕ × Item))) (stop : ℕ) (before after : MathBraces)
+    → AreCells d (spot start before) cells (spot stop after) → AreNamed d.names (row_block TableRow columns start cells stop)
+row_by d columns start cells stop before after are =
+    nodes_named d.names _ (row_nodes (HasEntry d.names) TableRow columns start cells stop tt tt
+    (cells_nodes (HasEntry d.names) d (tokens_entered d.names) tt (spot start before) cells (spot stop after) are))
+
+pub row_named : (d : Document) (columns start : ℕ) (old new : OpenTable) (answer : Option (ℕ × TreeIndex)) (before : Names) → Extends d.names before
+    → ReadsRow d columns start old new answer → AreNamed before old.tree.nodes → AreNamed d.names new.tree.nodes
+row_named d columns start old new None before more r h =
+    subst (λ (t : OpenTable). AreNamed d.names t.tree.nodes) (sym r.adds.1) (named_more d.names before old.tree.nodes more h)
+row_named d columns start old new (Some (stop, ix)) before more r h =
+    block_added d.names before old.tree new.tree (row_block TableRow columns start r.cells r.row_end) more r.adds.1
+    (row_by d columns start r.cells r.row_end old.braces r.after r.are_cells) h
+
+pub row_line_named : (d : Document) (columns ix : ℕ) (old new : OpenTable) (answer : Option (ℕ × TreeIndex)) (before : Names) → Extends d.names before
+    → ReadsRowLine d columns ix old new answer → AreNamed before old.tree.nodes → AreNamed d.names new.tree.nodes
+row_line_named d columns ix old new answer before more (inl (none, is, same)) h =
+    subst (λ (t : OpenTable). AreNamed d.names t.tree.nodes) (sym same) (named_more d.names before old.tree.nodes more h)
+row_line_named d columns ix old new answer before more (inr (start, at, r)) h = row_named d columns start old new answer before more r h
+
+closed_named : (names : Names) (f : Forest Item) (e : ℕ) (s : List TreeIndex) → AreNamed names f.nodes → AreNamed names (closed_by f e s).nodes
+closed_named names f e [] h = h
+closed_named names f e (ix ∷ rest) h = named_modified names f.nodes ix.0 (λ x. record x { «end» = e }) (λ x k. k) h
+
+pub rows_named : (d : Document) (columns head_start body_start : ℕ) (old new : Forest Item) (next : ℕ) (before : Names) → Extends d.names before
+    → AppendsRows d columns head_start body_start old new next → AreNamed before old.nodes → AreNamed d.names new.nodes
+rows_named d columns head_start body_start old new next before more r h =
+    let P : ItemBody → Type 0 = HasEntry d.names in
+    let holds = tokens_entered d.names in
+    let head : List (ℕ × Item) = row_block TableHead columns head_start r.cells r.head_end in
+    let cells = cells_nodes P d holds tt (spot head_start no_braces) r.cells (spot r.head_end r.after) r.are_cells in
+    let rows = rows_nodes P d holds tt (path_of d.options old) (table_so_far columns (most_filled - filled columns r.cells) r.after)
+    (lines_from d.text body_start) (taking r.body (lines_from d.text next)) tt r.are_rows in
+    let items : List (ℕ × Item) = head ++ r.body in
+    let own = nodes_named d.names items (both_nodes P head r.body (row_nodes P TableHead columns head_start r.cells r.head_end tt tt cells) rows) in
+    subst (λ (f : Forest Item). AreNamed d.names f.nodes) (sym r.tree_is)
+    (closed_named d.names (with_below old items) next old.spine
+    (named_both d.names old.nodes (at_depth (length old.spine + 1) items) (named_more d.names before old.nodes more h)
+    (named_deeper d.names (length old.spine + 1) items own)))
+
+-- A block becomes a heading, and its children are cut.
+cut_step : (names : Names) (t u v : Bool) (n m k : ℕ × Item) (cs : List (ℕ × Item)) → IsNamed names n.1 → IsNamed names m.1 → IsNamed names k.1
+    → AreNamed names cs → AreNamed names (if t then n ∷ cs else (if u then m ∷ cs else (if v then k ∷ [] else [])))
+unfolding AreNamed
+cut_step names true u v n m k cs a b c h = (a, h)
+cut_step names false true v n m k cs a b c h = (b, h)
+cut_step names false false true n m k cs a b c h = (c, tt)
+cut_step names false false false n m k cs a b c h = tt
+
+cut_named : (names : Names) (e d : ℕ) (nodes : List (ℕ × Item)) → AreNamed names nodes → AreNamed names (cut_tokens e d nodes)
+unfolding AreNamed
+cut_named names e d [] h = tt
+cut_named names e d (n ∷ nodes) h =
+    cut_step names (nat_lt d n.0) (nat_lt n.1.start e) (is_escaped n.1.body && (n.1.start == e)) n (n.0, cut_item e n.1)
+    (n.0, record { start = e - 1; «end» = e; body = Text false }) (cut_tokens e d nodes) h.0
+    (cond_both (nat_lt e n.1.«end») (record n.1 { «end» = e }) n.1 (IsNamed names) (λ b. h.0) (λ b. h.0)) tt (cut_named names e d nodes h.1)
+
+front_named : (names : Names) (k : ℕ) (nodes : List (ℕ × Item)) → AreNamed names nodes → AreNamed names (take k nodes)
+unfolding AreNamed
+front_named names zero nodes h = tt
+front_named names (suc k) [] h = tt
+front_named names (suc k) (n ∷ nodes) h = (h.0, front_named names k nodes h.1)
+
+rest_named : (names : Names) (k : ℕ) (nodes : List (ℕ × Item)) → AreNamed names nodes → AreNamed names (drop k nodes)
+unfolding AreNamed
+rest_named names zero nodes h = h
+rest_named names (suc k) [] h = h
+rest_named names (suc k) (n ∷ nodes) h = rest_named names k nodes h.1
+
+children_named : (names : Names) (text : List ℕ) (start : ℕ) (old cut : Forest Item) → CutsChildren text start old cut → AreNamed names old.nodes
+    → AreNamed names cut.nodes
+children_named names text start old cut (inl same) h = subst (λ (f : Forest Item). AreNamed names f.nodes) (sym same) h
+children_named names text start old cut (inr (e, low, b, is)) h =
+    let k : ℕ = open_place old.spine + 1 in
+    subst (λ (f : Forest Item). AreNamed names f.nodes) (sym is)
+    (named_both names (take k old.nodes) (cut_tokens e (length old.spine + 1) (drop k old.nodes)) (front_named names k old.nodes h)
+    (cut_named names e (length old.spine + 1) (drop k old.nodes) (rest_named names k old.nodes h)))
+
+some_children : (names : Names) (text : List ℕ) (old cut : Forest Item) (o : Option Item) → IsSomeAnd o (λ x. CutsChildren text x.start old cut)
+    → AreNamed names old.nodes → AreNamed names cut.nodes
+some_children names text old cut None h own = absurd h
+some_children names text old cut (Some x) h own = children_named names text x.start old cut h own
+
+pub heading_named : (d : Document) (level : HeadingLevel) (broken : Bool) (block : TreeIndex) (old new : Forest Item) (before : Names) → Extends d.names before
+    → BecomesHeading d level broken block old new → AreNamed before old.nodes → AreNamed d.names new.nodes
+heading_named d level broken block old new before more heads h =
+    let own = some_children d.names d.text old heads.cut (item_at old block) heads.children (named_more d.names before old.nodes more h) in
+    subst (λ (f : Forest Item). AreNamed d.names f.nodes) (sym heads.tree_is)
+    (named_modified d.names heads.cut.nodes block.0 (λ x. record x { body = Heading level heads.index }) (λ x k. heads.entry) own)
+
+-- a footnote definition is opened, or none begins
+module _ (old new : BlockPass) (start : ℕ) (h : AreNamed (names_of (Block.allocs_of old)) (Block.tree_of old).nodes) where
+  note_opened : (head : ℕ × List ℕ) → OpenedFootnote start head old new → AreNamed (names_of (Block.allocs_of new)) (Block.tree_of new).nodes
+  note_opened head opened =
+      let names : Names = names_of (Block.allocs_of new) in
+      let before : Names = names_of (Block.allocs_of old) in
+      let size = ap (λ (n : Names). length n.texts) opened.names ∙ length-append before.texts (opened.text ∷ []) in
+      let last = opened.last in
+      subst (λ r. AreNamed names r.tree.nodes) (sym opened.opened)
+      (note_named names start opened.index (Block.reading_of old) (omega arith)
+      (named_more names before (Block.tree_of old).nodes (extends_named before names opened.text opened.names) h))
+
+  note_by : (o : Option (ℕ × List ℕ)) (size : Option ℕ) (Len : ℕ → ℕ × List ℕ → Type 0)
+      → MatchOption o ((size ≡ None) × StaysSame old new) (λ head. IsSomeAnd size (λ n. Len n head × OpenedFootnote start head old new))
+      → AreNamed (names_of (Block.allocs_of new)) (Block.tree_of new).nodes
+  note_by None size Len (none, same) =
+      subst (λ z. AreNamed (names_of z) (Block.tree_of new).nodes) (sym same.2)
+      (subst (λ r. AreNamed (names_of (Block.allocs_of old)) r.tree.nodes) (sym same.1) h)
+  note_by (Some head) None Len opened = absurd opened
+  note_by (Some head) (Some size) Len opened = note_opened head opened.1
+
+  pub footnote_named : (size : Option ℕ) → ReadsFootnote old new start size → AreNamed (names_of (Block.allocs_of new)) (Block.tree_of new).nodes
+  footnote_named size reads = note_by _ size _ reads

@@ -1,0 +1,350 @@
+-- Tokens in an open block are cut, and the block becomes a heading: a tree that is in order stays so.
+use Rattle.std.proofs.Common.{◌≡◌, ◌⊎◌, inl, inr, ℕ, zero, suc, ◌+◌, ◌-◌, ◌<◌, ◌≤◌, ◌==◌, ◌&&◌, nat_lt, min, max, Bool, true, false, if◌then◌else◌}
+use Rattle.std.proofs.Common.{List, [], ◌∷◌, ◌++◌, append_assoc, length, take, drop, slice_get, slice_index, Option, Some, None, IsSomeAnd, IsCharBoundary}
+use Rattle.std.proofs.Common.{refl, sym, ap, subst, ◌∙◌, arith}
+use Rattle.std.specs.Option.{option_map}
+use Rattle.std.proofs.lemmas.Bool.{and_parts, cases_lt, cond-true, cond-false, eqb-true, false≢true, le-ltb, lt-ltb, ltb-true}
+use Rattle.std.proofs.lemmas.Bool.Decides.{nat_tests}
+use Rattle.std.proofs.lemmas.List.{length-take, take-append-drop}
+use Rattle.std.proofs.lemmas.Option.{none-some, same_Some, slice_get_within}
+use Rattle.std.proofs.lemmas.Str.{IsCharBoundary-before_ascii}
+use Rattle.first_pass_items.specs.declared.item.HeadingIndex.{HeadingIndex}
+use Rattle.first_pass_items.specs.declared.item.HeadingLevel.{HeadingLevel}
+use Rattle.first_pass_items.specs.declared.item.Item.{Item}
+use Rattle.first_pass_items.specs.declared.item.ItemBody.{ItemBody}
+use Rattle.first_pass_items.specs.declared.item.ItemBody.TheVariants.{Paragraph, TightParagraph, Heading, DefinitionListTitle, MaybeDefinitionListTitle, Text}
+use Rattle.first_pass_tree.specs.declared.tree_index.TreeIndex.{TreeIndex}
+use Rattle.first_pass_tree.specs.Forest.{Forest, body_at, cut_item, cut_siblings, cut_tokens, is_escaped, item_at, open_place, with_body_at}
+use Rattle.first_pass_grammar.specs.Leaves.{Document}
+use Rattle.first_pass_grammar.specs.OpenOrder.{laid_open, AreAt, open_within, FitsOpen, IsOrderedTo}
+use Rattle.first_pass_grammar.specs.Order.{Extent, extent_of, extents, is_text_block, Siblings, Empty, Node, laid, IsBetween, Within, Elsewhere, InItem, InText}
+use Rattle.first_pass_grammar.specs.Order.{InFirst, below, beyond, IsLead, Fits}
+use Rattle.first_pass_grammar.proofs.Orders.{ended_at, extents-append, fits-one, fits-order, laid-one, length-places}
+use Rattle.first_pass_open.proofs.PathLemmas.{get_front}
+use Rattle.first_pass_text.specs.CutTexts.{BecomesHeading, CutsChildren}
+use Rattle.first_pass_blocks.proofs.OrderLemmas.{extents-body, flags_of, ordered_same}
+use Rattle.first_pass.specs.Holds.{StandsAfterBackslash, AreTokens, HoldsTokens}
+
+-- the nodes before a place, with it, and those after it
+split_places : (nodes : List (ℕ × Item)) (before : List (ℕ × Extent)) (n : ℕ × Extent) (more : List (ℕ × Extent)) (k : ℕ)
+    → extents nodes ≡ before ++ n ∷ more → k ≡ length before
+    → (extents (take (suc k) nodes) ≡ before ++ n ∷ []) × (extents (drop (suc k) nodes) ≡ more)
+split_places [] [] n more k is at = absurd cc
+split_places [] (y ∷ before) n more k is at = absurd cc
+split_places (m ∷ nodes) [] n more zero is at =
+    let x : (m.0, extent_of m.1) ≡ n = cc in
+    let y : extents nodes ≡ more = cc in
+    (ap (λ (z : ℕ × Extent). z ∷ []) x, y)
+split_places (m ∷ nodes) [] n more (suc k) is at = absurd (omega arith)
+split_places (m ∷ nodes) (y ∷ before) n more zero is at = absurd (omega arith)
+split_places (m ∷ nodes) (y ∷ before) n more (suc k) is at =
+    let x : (m.0, extent_of m.1) ≡ y = cc in
+    let z : extents nodes ≡ before ++ n ∷ more = cc in
+    let r = split_places nodes before n more k z (omega arith) in
+    (ap (λ (w : List (ℕ × Extent)). (m.0, extent_of m.1) ∷ w) r.0 ∙ ap (λ (w : ℕ × Extent). w ∷ (before ++ n ∷ [])) x, r.1)
+
+at_place : (nodes : List (ℕ × Item)) (before : List (ℕ × Extent)) (n : ℕ × Extent) (more : List (ℕ × Extent)) (k : ℕ) (x : Item)
+    → extents nodes ≡ before ++ n ∷ more → k ≡ length before → option_map (λ (m : ℕ × Item). m.1) (slice_get nodes k) ≡ Some x → extent_of x ≡ n.1
+at_place [] [] n more k x is at e = absurd cc
+at_place [] (y ∷ before) n more k x is at e = absurd cc
+at_place (m ∷ nodes) [] n more zero x is at e =
+    let y : (m.0, extent_of m.1) ≡ n = cc in
+    let z : m.1 ≡ x = same_Some m.1 x e in
+    ap extent_of (sym z) ∙ ap (λ (w : ℕ × Extent). w.1) y
+at_place (m ∷ nodes) [] n more (suc k) x is at e = absurd (omega arith)
+at_place (m ∷ nodes) (y ∷ before) n more zero x is at e = absurd (omega arith)
+at_place (m ∷ nodes) (y ∷ before) n more (suc k) x is at e =
+    let z : extents nodes ≡ before ++ n ∷ more = cc in
+    at_place nodes before n more k x z (omega arith) e
+
+-- no node is below a token
+leaf_alone : (text : List ℕ) (d low : ℕ) (nodes : List (ℕ × Item)) (kids next : Siblings) → extents nodes ≡ laid (suc d) kids ++ laid d next
+    → AreTokens text d low nodes → kids ≡ Empty
+unfolding laid
+leaf_alone text d low nodes Empty next is h = refl
+leaf_alone text d low [] (Node y more after) next is h = absurd cc
+leaf_alone text d low (n ∷ nodes) (Node y more after) next is h =
+    let e : (n.0, extent_of n.1) ≡ (suc d, y) = cc in
+    let deeper : n.0 ≡ suc d = ap (λ (z : ℕ × Extent). z.0) e in
+    let same : n.0 ≡ d = h.0 in
+    absurd (omega arith)
+
+-- a marker before the block ends before it
+lead_before : (text : List ℕ) (w : Within) (from : ℕ) (x : Extent) → IsLead text w from x → x.«end» ≤ from
+lead_before text Elsewhere from x h = absurd h
+lead_before text InItem from x h = absurd h
+lead_before text (InText before) from x h = h.1.before
+lead_before text (InFirst before) from x h = absurd h
+
+-- an offset or another, the earlier one
+min_boundary : (text : List ℕ) (a b : ℕ) → IsCharBoundary text a → IsCharBoundary text b → IsCharBoundary text (min a b)
+min_boundary text a b h k =
+    elim (cases_lt a b) [
+      | inl less ↦ (let same : a ≡ min a b = omega arith in subst (IsCharBoundary text) same h)
+      | inr past ↦ (let same : b ≡ min a b = omega arith in subst (IsCharBoundary text) same k)
+    ]
+
+lead_cut : (text : List ℕ) (w : Within) (from e : ℕ) (x : Extent) → x.start < e → IsCharBoundary text e → IsLead text w from x
+    → IsLead text w (min from e) (ended_at x (min x.«end» e))
+lead_cut text Elsewhere from e x less b h = absurd h
+lead_cut text InItem from e x less b h = absurd h
+lead_cut text (InText before) from e x less b (marker, h) = (
+  marker,
+  record {
+    behind = h.behind;
+    order = (let o = h.order in omega arith);
+    before = (let o = h.before in omega arith);
+    starts = h.starts;
+    ends = min_boundary text x.«end» e h.ends b;
+  },
+)
+lead_cut text (InFirst before) from e x less b h = absurd h
+
+-- a token that stays
+end_by : (t : Bool) (e : ℕ) (y : Item) → nat_lt e y.«end» ≡ t
+    → extent_of (if t then record y { «end» = e } else y) ≡ ended_at (extent_of y) (min y.«end» e)
+end_by true e y h =
+    let less = ltb-true e y.«end» h in
+    let same : e ≡ min y.«end» e = omega arith in
+    ap (ended_at (extent_of y)) same
+end_by false e y h =
+    let same : y.«end» ≡ min y.«end» e = grind (arith, nat_tests, h) in
+    ap (ended_at (extent_of y)) same
+
+-- such nodes are those of a row that fits as before, but ends at an offset
+abbrev CutFits : List ℕ → Within → ℕ → ℕ → ℕ → ℕ → List (ℕ × Item) → Type 0
+CutFits text w from to e d nodes = (row : Siblings) × (extents nodes ≡ laid d row) × Fits text w (min from e) to row
+
+module _ (text : List ℕ) (w : Within) (from to e d low : ℕ) (n : ℕ × Item) (nodes : List (ℕ × Item)) (next : Siblings)
+    (b : IsCharBoundary text e) (later : from ≤ low) (depth : n.0 ≡ d) (fits : Fits text w from to (Node (extent_of n.1) Empty next))
+    (rest : (v : Within) (f : ℕ) → f ≤ max low n.1.«end» → Fits text v f to next → CutFits text v f to e d (cut_tokens e d nodes)) where
+  abbrev z : Extent
+  z = ended_at (extent_of n.1) (min n.1.«end» e)
+
+  laid_as : (row : Siblings) → extents (cut_tokens e d nodes) ≡ laid d row
+      → extents ((n.0, cut_item e n.1) ∷ cut_tokens e d nodes) ≡ laid d (Node z Empty row)
+  unfolding laid
+  laid_as row is =
+      ap (λ k. (k, extent_of (cut_item e n.1)) ∷ extents (cut_tokens e d nodes)) depth
+      ∙ ap (λ (y : Extent). (d, y) ∷ extents (cut_tokens e d nodes)) (end_by (nat_lt e n.1.«end») e n.1 refl)
+      ∙ ap (λ (r : List (ℕ × Extent)). (d, z) ∷ r) is
+
+  stays_by : n.1.start < e
+      → (IsBetween text from to (extent_of n.1) × Fits text (below w from (extent_of n.1)) n.1.start n.1.«end» Empty × Fits text (beyond w) n.1.«end» to next)
+      ⊎ (IsLead text w from (extent_of n.1) × Fits text Elsewhere n.1.start n.1.«end» Empty × Fits text Elsewhere from to next)
+      → CutFits text w from to e d ((n.0, cut_item e n.1) ∷ cut_tokens e d nodes)
+  unfolding Fits
+  stays_by less (inl (between, inside, more)) =
+      let (row, is, f) = rest (beyond w) n.1.«end» (omega arith) more in
+      let starts = between.behind in
+      let order = between.order in
+      let inner : z.start ≤ z.«end» = omega arith in (
+        Node z Empty row,
+        laid_as row is,
+        inl (
+          record {
+            behind = omega arith;
+            order = inner;
+            before = fits-order text (beyond w) z.«end» to row f;
+            starts = between.starts;
+            ends = min_boundary text n.1.«end» e between.ends b;
+          },
+          inner,
+          f,
+        ),
+      )
+  stays_by less (inr (lead, inside, more)) =
+      let (row, is, f) = rest Elsewhere from (omega arith) more in
+      let whole : n.1.start ≤ n.1.«end» = inside in
+      let inner : z.start ≤ z.«end» = omega arith in
+      (Node z Empty row, laid_as row is, inr (lead_cut text w from e (extent_of n.1) less b lead, inner, f))
+
+  pub stays : n.1.start < e → CutFits text w from to e d ((n.0, cut_item e n.1) ∷ cut_tokens e d nodes)
+  unfolding Fits
+  stays less = stays_by less fits
+
+  -- no token
+  none_left : CutFits text w from to e d []
+  unfolding Fits laid
+  none_left = (let all = fits-order text w from to (Node (extent_of n.1) Empty next) fits in (Empty, refl, omega arith))
+
+  -- a token that starts within the row's end
+  starts_by :
+      (IsBetween text from to (extent_of n.1) × Fits text (below w from (extent_of n.1)) n.1.start n.1.«end» Empty × Fits text (beyond w) n.1.«end» to next)
+      ⊎ (IsLead text w from (extent_of n.1) × Fits text Elsewhere n.1.start n.1.«end» Empty × Fits text Elsewhere from to next)
+      → low < n.1.start → n.1.start ≤ to
+  unfolding Fits
+  starts_by (inl (between, inside, more)) past = (let o = between.order in let k = between.before in omega arith)
+  starts_by (inr (lead, inside, more)) past =
+      let whole : n.1.start ≤ n.1.«end» = inside in
+      let first = lead_before text w from (extent_of n.1) lead in
+      absurd (omega arith)
+
+  starts_within : low < n.1.start → n.1.start ≤ to
+  unfolding Fits
+  starts_within past = starts_by fits past
+
+  -- the backslash of the first that goes, or nothing
+  pub goes : (v : Bool) → (is_escaped n.1.body && (n.1.start == e)) ≡ v → StandsAfterBackslash text low n.1
+      → CutFits text w from to e d (if v then (n.0, record { start = e - 1; «end» = e; body = Text false }) ∷ [] else [])
+  goes false is stands = none_left
+  goes true is stands =
+      let parts = and_parts (is_escaped n.1.body) (n.1.start == e) is in
+      let at : n.1.start ≡ e = eqb-true n.1.start e parts.1 in
+      let (past, byte) = stands parts.0 in
+      let within = starts_within past in
+      let high = b.0 in
+      let y : Item = record { start = e - 1; «end» = e; body = Text false } in
+      let here : slice_index text (e - 1) ≡ 92 = ap (λ k. slice_index text (k - 1)) (sym at) ∙ byte in (
+        Node (extent_of y) Empty Empty,
+        ap (λ k. (k, extent_of y) ∷ []) depth ∙ sym (laid-one d (extent_of y)),
+        fits-one text w (min from e) to (extent_of y)
+            (record {
+              behind = omega arith;
+              order = omega arith;
+              before = omega arith;
+              starts = IsCharBoundary-before_ascii text (e - 1) (omega arith) (omega arith);
+              ends = b;
+            }),
+      )
+
+-- by where a token starts
+cut_by : (t : Bool) (text : List ℕ) (w : Within) (from to e d low : ℕ) (n : ℕ × Item) (nodes : List (ℕ × Item)) (next : Siblings)
+    → IsCharBoundary text e → from ≤ low → n.0 ≡ d → Fits text w from to (Node (extent_of n.1) Empty next) → StandsAfterBackslash text low n.1
+    → ((v : Within) (f : ℕ) → f ≤ max low n.1.«end» → Fits text v f to next → CutFits text v f to e d (cut_tokens e d nodes))
+    → nat_lt n.1.start e ≡ t → CutFits text w from to e d (cut_tokens e d (n ∷ nodes))
+cut_by true text w from to e d low n nodes next b later depth fits stands rest is =
+    let plain : nat_lt d n.0 ≡ false = le-ltb d n.0 (omega arith) in
+    let same : cut_tokens e d (n ∷ nodes) ≡ (n.0, cut_item e n.1) ∷ cut_tokens e d nodes = cond-false _ _ _ plain ∙ cond-true _ _ _ is in
+    subst (CutFits text w from to e d) (sym same)
+    (stays text w from to e d low n nodes next b later depth fits rest (ltb-true n.1.start e is))
+cut_by false text w from to e d low n nodes next b later depth fits stands rest is =
+    let plain : nat_lt d n.0 ≡ false = le-ltb d n.0 (omega arith) in
+    let v : Bool = is_escaped n.1.body && (n.1.start == e) in
+    let same : cut_tokens e d (n ∷ nodes) ≡ (if v then (n.0, record { start = e - 1; «end» = e; body = Text false }) ∷ [] else []) =
+    cond-false _ _ _ plain ∙ cond-false _ _ _ is in
+    subst (CutFits text w from to e d) (sym same) (goes text w from to e d low n nodes next b later depth fits rest v refl stands)
+
+cut_row : (text : List ℕ) (w : Within) (from to e d low : ℕ) (nodes : List (ℕ × Item)) (row : Siblings) → IsCharBoundary text e → from ≤ low
+    → extents nodes ≡ laid d row → AreTokens text d low nodes → Fits text w from to row → CutFits text w from to e d (cut_tokens e d nodes)
+unfolding laid Fits
+cut_row text w from to e d low [] row b later is h fits = (let all = fits-order text w from to row fits in (Empty, refl, omega arith))
+cut_row text w from to e d low (n ∷ nodes) Empty b later is h fits = absurd cc
+cut_row text w from to e d low (n ∷ nodes) (Node x kids next) b later is h fits =
+    let first : (n.0, extent_of n.1) ≡ (d, x) = cc in
+    let tail : extents nodes ≡ laid (suc d) kids ++ laid d next = cc in
+    let none : kids ≡ Empty = leaf_alone text d (max low n.1.«end») nodes kids next tail h.2 in
+    let next_is : extents nodes ≡ laid d next = tail ∙ ap (λ (k : Siblings). laid (suc d) k ++ laid d next) none in
+    let x_is : extent_of n.1 ≡ x = ap (λ (z : ℕ × Extent). z.1) first in
+    let own : Fits text w from to (Node (extent_of n.1) Empty next) =
+    subst (λ (k : Siblings). Fits text w from to (Node (extent_of n.1) k next)) none
+    (subst (λ (y : Extent). Fits text w from to (Node y kids next)) (sym x_is) fits) in
+    cut_by (nat_lt n.1.start e) text w from to e d low n nodes next b later h.0 own h.1
+    (λ v f low' k. cut_row text v f to e d (max low n.1.«end») nodes next b low' next_is h.2 k) refl
+
+-- the children of the innermost open node
+open_as : (s : List TreeIndex) (block : TreeIndex) → slice_get s 0 ≡ Some block → (rest : List TreeIndex) × (s ≡ block ∷ rest)
+open_as [] block e = absurd (none-some block e)
+open_as (ix ∷ rest) block e = (rest, ap (λ (i : TreeIndex). i ∷ rest) (same_Some ix block e))
+
+module _ (text : List ℕ) (f : Forest Item) (at e : ℕ) (block : TreeIndex) (rest : List TreeIndex) (x : Item) (spine : f.spine ≡ block ∷ rest)
+    (there : item_at f block ≡ Some x) (tokens : AreTokens text (length f.spine + 1) x.start (drop (block.0 + 1) f.nodes)) (low : x.start ≤ e)
+    (b : IsCharBoundary text e) where
+  by_levels : (root : Extent) (levels : List (Siblings × Extent)) (row : Siblings) → extents f.nodes ≡ laid_open root levels row
+      → AreAt root levels (block ∷ rest) → FitsOpen text at levels row
+      → (row : Siblings) × (extents (cut_siblings f e).nodes ≡ laid_open root levels row) × FitsOpen text at levels row
+  unfolding laid_open FitsOpen
+  by_levels root [] row nodes places fits = absurd places
+  by_levels root (level ∷ levels) row nodes places (from, before, inside, starts, outer) =
+      let d : ℕ = suc (suc (length levels)) in
+      let front : List (ℕ × Extent) = laid_open root levels level.0 in
+      let mid : ℕ × Extent = (suc (length levels), level.1) in
+      let size = length-places root levels rest places.1 in
+      let long : length f.spine ≡ suc (length rest) = ap length spine in
+      let depth : length f.spine + 1 ≡ d = omega arith in
+      let place : open_place f.spine + 1 ≡ suc block.0 = (let o : open_place f.spine ≡ block.0 = ap open_place spine in omega arith) in
+      let next : block.0 + 1 ≡ suc block.0 = omega arith in
+      let parts = split_places f.nodes front mid (laid d row) block.0 nodes places.0 in
+      let same = at_place f.nodes front mid (laid d row) block.0 x nodes places.0 there in
+      let start_is : x.start ≡ level.1.start = ap (λ (y : Extent). y.start) same in
+      let here : AreTokens text d x.start (drop (suc block.0) f.nodes) =
+      subst (λ k. AreTokens text d x.start (drop k f.nodes)) next
+      (subst (λ k. AreTokens text k x.start (drop (block.0 + 1) f.nodes)) depth tokens) in
+      let w : Within = below (open_within levels) from level.1 in
+      let (cut, is, fits) = cut_row text w level.1.start at e d x.start (drop (suc block.0) f.nodes) row b (omega arith) parts.1 here inside in
+      let first : min level.1.start e ≡ level.1.start = omega arith in
+      let all : (cut_siblings f e).nodes ≡ take (suc block.0) f.nodes ++ cut_tokens e d (drop (suc block.0) f.nodes) =
+      ap (λ k. take k f.nodes ++ cut_tokens e (length f.spine + 1) (drop k f.nodes)) place
+      ∙ ap (λ k. take (suc block.0) f.nodes ++ cut_tokens e k (drop (suc block.0) f.nodes)) depth in (
+        cut,
+        ap extents all ∙ extents-append (take (suc block.0) f.nodes) (cut_tokens e d (drop (suc block.0) f.nodes))
+            ∙ ap (λ (z : List (ℕ × Extent)). z ++ extents (cut_tokens e d (drop (suc block.0) f.nodes))) parts.0
+            ∙ ap (λ (z : List (ℕ × Extent)). (front ++ mid ∷ []) ++ z) is ∙ append_assoc front (mid ∷ []) (laid d cut),
+        (from, before, subst (λ k. Fits text w k at cut) first fits, starts, outer),
+      )
+
+  pub cut_ordered : IsOrderedTo text f at → IsOrderedTo text (cut_siblings f e) at
+  cut_ordered o =
+      let (row, nodes, fits) = by_levels o.root o.levels o.row o.nodes (subst (AreAt o.root o.levels) spine o.places) o.fits in
+      record { root = o.root; levels = o.levels; row = row; nodes = nodes; places = o.places; fits = fits; within = o.within; whole = o.whole }
+
+-- a block with text is a heading, and its extent is as before
+text_flags : (level : HeadingLevel) (index : Option HeadingIndex) (body : ItemBody) → is_text_block body ≡ true → flags_of body ≡ flags_of (Heading level index)
+text_flags level index Paragraph h = refl
+text_flags level index TightParagraph h = refl
+text_flags level index (Heading other ix) h = refl
+text_flags level index DefinitionListTitle h = refl
+text_flags level index MaybeDefinitionListTitle h = refl
+text_flags level index body h = absurd (false≢true h)
+
+some_node : (o : Option (ℕ × Item)) (x : Item) → option_map (λ (n : ℕ × Item). n.1) o ≡ Some x → (n : ℕ × Item) × (o ≡ Some n) × (n.1 ≡ x)
+some_node None x e = absurd (none-some x e)
+some_node (Some n) x e = (n, refl, same_Some n.1 x e)
+
+-- the nodes up to the block are as before
+block_kept : (f : Forest Item) (e : ℕ) (block : TreeIndex) (x : Item) → slice_get f.spine 0 ≡ Some block → item_at f block ≡ Some x
+    → body_at (cut_siblings f e).nodes block.0 ≡ Some x.body
+block_kept f e block x spine there =
+    let (rest, spine_is) = open_as f.spine block spine in
+    let place : open_place f.spine ≡ block.0 = ap open_place spine_is in
+    let (n, at, is) = some_node (slice_get f.nodes block.0) x there in
+    let within = slice_get_within f.nodes block.0 n at in
+    let k : ℕ = open_place f.spine + 1 in
+    let long : length (take k f.nodes) ≡ min k (length f.nodes) = length-take k f.nodes in
+    let cut : List (ℕ × Item) = cut_tokens e (length f.spine + 1) (drop k f.nodes) in
+    let inside : block.0 < length (take k f.nodes) = omega arith in
+    let same : slice_get (take k f.nodes ++ cut) block.0 ≡ Some n =
+    get_front (take k f.nodes) cut block.0 inside ∙ sym (get_front (take k f.nodes) (drop k f.nodes) block.0 inside)
+    ∙ ap (λ (ns : List (ℕ × Item)). slice_get ns block.0) (take-append-drop k f.nodes) ∙ at in
+    ap (option_map (λ (m : ℕ × Item). m.1.body)) same ∙ ap (λ (y : Item). Some y.body) is
+
+body_kept : (f : Forest Item) (block : TreeIndex) (x : Item) → item_at f block ≡ Some x → body_at f.nodes block.0 ≡ Some x.body
+body_kept f block x there =
+    let (n, at, is) = some_node (slice_get f.nodes block.0) x there in
+    ap (option_map (λ (m : ℕ × Item). m.1.body)) at ∙ ap (λ (y : Item). Some y.body) is
+
+body_left : (text : List ℕ) (start : ℕ) (f cut : Forest Item) (block : TreeIndex) (x : Item) → slice_get f.spine 0 ≡ Some block → item_at f block ≡ Some x
+    → CutsChildren text start f cut → body_at cut.nodes block.0 ≡ Some x.body
+body_left text start f cut block x spine there (inl same) =
+    ap (λ (g : Forest Item). body_at g.nodes block.0) same ∙ body_kept f block x there
+body_left text start f cut block x spine there (inr (e, low, b, is)) =
+    ap (λ (g : Forest Item). body_at g.nodes block.0) is ∙ block_kept f e block x spine there
+
+order_left : (text : List ℕ) (f cut : Forest Item) (block : TreeIndex) (at : ℕ) → slice_get f.spine 0 ≡ Some block → (h : HoldsTokens text f block)
+    → CutsChildren text h.node.start f cut → IsOrderedTo text f at → IsOrderedTo text cut at
+order_left text f cut block at spine h (inl same) o = subst (λ (g : Forest Item). IsOrderedTo text g at) (sym same) o
+order_left text f cut block at spine h (inr (e, low, b, is)) o =
+    let (rest, spine_is) = open_as f.spine block spine in
+    subst (λ (g : Forest Item). IsOrderedTo text g at) (sym is) (cut_ordered text f at e block rest h.node spine_is h.there h.tokens low b o)
+
+-- A block in which tokens stand becomes a heading.
+pub heading_ordered : (d : Document) (level : HeadingLevel) (broken : Bool) (block : TreeIndex) (old new : Forest Item) (at : ℕ)
+    → slice_get old.spine 0 ≡ Some block → BecomesHeading d level broken block old new → HoldsTokens d.text old block → IsOrderedTo d.text old at
+    → IsOrderedTo d.text new at
+heading_ordered d level broken block old new at spine heads h o =
+    let children = subst (λ (z : Option Item). IsSomeAnd z (λ x. CutsChildren d.text x.start old heads.cut)) h.there heads.children in
+    let cut = order_left d.text old heads.cut block at spine h children o in
+    let body = body_left d.text h.node.start old heads.cut block h.node spine h.there children in
+    subst (λ (g : Forest Item). IsOrderedTo d.text g at) (sym heads.tree_is)
+    (ordered_same d.text heads.cut (with_body_at heads.cut block (Heading level heads.index)) at
+    (extents-body heads.cut.nodes block.0 h.node.body (Heading level heads.index) body (text_flags level heads.index h.node.body h.has_text)) refl cut)

@@ -1,0 +1,129 @@
+-- What stands in a paragraph whose lines were read are tokens, in order.
+use Rattle.std.proofs.Common.{◌≡◌, ℕ, ◌+◌, ◌<◌, ◌≤◌, max, true, List, [], ◌∷◌, ◌++◌, length, drop, slice_get, Option, Some, None, IsUtf8, IsCharBoundary}
+use Rattle.std.proofs.Common.{refl, sym, ap, subst, ◌∙◌, arith}
+use Rattle.std.specs.Option.{option_map}
+use Rattle.std.proofs.Math.Seq.{drop-append_seam}
+use Rattle.std.proofs.lemmas.Bool.{false≢true}
+use Rattle.first_pass_items.specs.declared.item.Item.{Item}
+use Rattle.first_pass_items.specs.declared.item.ItemBody.{ItemBody}
+use Rattle.first_pass_items.specs.declared.item.ItemBody.TheVariants.{Paragraph, TaskListMarker}
+use Rattle.first_pass_tree.specs.declared.tree_index.TreeIndex.{TreeIndex}
+use Rattle.first_pass_tree.specs.Forest.{Forest, appended, at_depth, is_escaped, item_at}
+use Rattle.first_pass_lines.specs.Places.{start_of}
+use Rattle.first_pass_lines.proofs.PlaceFacts.{start_of-lines}
+use Rattle.first_pass_tokens.specs.Order.{AreInOrder}
+use Rattle.first_pass_tokens.specs.TreeTokens.{chained, leaves}
+use Rattle.first_pass_tokens.proofs.ChainLemmas.{chained-nodes}
+use Rattle.first_pass_tokens.proofs.Escapes.{EscapesStand}
+use Rattle.first_pass_tokens.proofs.OrderLemmas.{order_bound}
+use Rattle.first_pass_grammar.specs.Leaves.{Document, TextLines, marker_items}
+use Rattle.first_pass_grammar.specs.OpenOrder.{IsOrderedTo}
+use Rattle.first_pass_grammar.specs.Order.{extent_of, is_task_marker, IsBetween}
+use Rattle.first_pass_open.specs.OpenBlock.{begun_item, with_child}
+use Rattle.first_pass_open.specs.Path.{path_of}
+use Rattle.first_pass_open.specs.Between.{StandsBefore}
+use Rattle.first_pass_open.proofs.PathLemmas.{get_front}
+use Rattle.first_pass_text.proofs.OrderParagraph.{TextInOrder, text_is_in_order}
+use Rattle.first_pass_blocks.proofs.OrderLemmas.{ordered_appended, ordered_later}
+use Rattle.first_pass.specs.Holds.{AreTokens, HoldsText, HoldsTokens}
+
+-- a chain after
+chain_ordered : (text : List ℕ) (f : Forest Item) (from to : ℕ) (chain : List Item) → AreInOrder text from to chain → to ≤ length text → IsOrderedTo text f from
+    → IsOrderedTo text (chained f chain) to
+chain_ordered text f from to [] h high o = ordered_later text f from to h high o
+chain_ordered text f from to (x ∷ xs) h high o =
+    let rest = order_bound text x.«end» to xs h.4 in
+    let between : IsBetween text from x.«end» (extent_of x) = record { behind = h.0; order = h.1; before = omega arith; starts = h.2; ends = h.3 } in
+    chain_ordered text (appended f x) x.«end» to xs h.4 high (ordered_appended text f from x.«end» x between (omega arith) o)
+
+-- the items before a chain are as before it
+front_kept : (f : Forest Item) (chain : List Item) (ix : TreeIndex) → ix.0 < length f.nodes → slice_get (chained f chain).nodes ix.0 ≡ slice_get f.nodes ix.0
+front_kept f chain ix within =
+    ap (λ (ns : List (ℕ × Item)). slice_get ns ix.0) (chained-nodes f chain) ∙ get_front f.nodes (at_depth (length f.spine + 1) (leaves chain)) ix.0 within
+
+marked_is : (f : Forest Item) (marker : Option Item) (chain : List Item) → chained f (marker_items marker ++ chain) ≡ chained (with_child f marker) chain
+marked_is f None chain = refl
+marked_is f (Some m) chain = refl
+
+chained_spine : (f : Forest Item) (chain : List Item) → (chained f chain).spine ≡ f.spine
+chained_spine f [] = refl
+chained_spine f (x ∷ xs) = chained_spine (appended f x) xs
+
+-- a chain in order, of which each escaped text stands after its backslash
+chain_tokens : (text : List ℕ) (d from to : ℕ) (chain : List Item) → AreInOrder text from to chain → EscapesStand text from chain
+    → AreTokens text d from (at_depth d (leaves chain))
+chain_tokens text d from to [] h e = tt
+chain_tokens text d from to (x ∷ xs) h e =
+    let low = h.0 in
+    let order = h.1 in
+    let same : x.«end» ≡ max from x.«end» = omega arith in
+    (omega arith, e.0, subst (λ k. AreTokens text d k (at_depth d (leaves xs))) same (chain_tokens text d x.«end» to xs h.4 e.1))
+
+marker_escaped : (body : ItemBody) → is_task_marker body ≡ true → is_escaped body ≡ true → ⊥
+marker_escaped (TaskListMarker checked) h e = false≢true e
+marker_escaped body h e = false≢true h
+
+marked_tokens : (text : List ℕ) (d from start to : ℕ) (marker : Option Item) (chain : List Item) → StandsBefore text from start marker
+    → AreInOrder text start to chain → EscapesStand text start chain → AreTokens text d start (at_depth d (leaves (marker_items marker ++ chain)))
+marked_tokens text d from start to None chain stands h e = chain_tokens text d start to chain h e
+marked_tokens text d from start to (Some m) chain stands h e =
+    let b : IsBetween text from start (extent_of m) = stands.1 in
+    let before = b.before in
+    let same : start ≡ max start m.«end» = omega arith in (
+      omega arith,
+      λ escaped. absurd (marker_escaped m.body stands.0 escaped),
+      subst (λ k. AreTokens text d k (at_depth d (leaves chain))) same (chain_tokens text d start to chain h e),
+    )
+
+module _ (d : Document) (utf8 : IsUtf8 d.text) (f : Forest Item) (block : TreeIndex) (l : TextLines) (h : HoldsText d f block l) where
+  abbrev behind : ℕ
+  behind = start_of (length d.text) l.left
+
+  abbrev whole_chain : List Item
+  whole_chain = marker_items h.marker ++ l.chain
+
+  in_order : TextInOrder d h.start l
+  in_order = text_is_in_order d (path_of d.options h.before) h.start l utf8 h.boundary h.lines
+
+  block_in : block.0 < length h.before.nodes
+  block_in = omega (arith, h.opened.last)
+
+  its_item : item_at f block ≡ Some (begun_item h.start Paragraph)
+  its_item =
+      ap (λ (g : Forest Item). item_at g block) h.tree_is ∙ ap (option_map (λ (n : ℕ × Item). n.1)) (front_kept h.before whole_chain block block_in)
+      ∙ h.paragraph
+
+  text_within : (in_order.stop ≤ behind) × (behind ≤ length d.text)
+  text_within =
+      let left : behind ≡ in_order.left_at = ap (start_of (length d.text)) in_order.left_is ∙ start_of-lines d.text in_order.left_at in_order.left_within in
+      (in_order.before, omega (arith, in_order.left_within))
+
+  whole_ordered : IsOrderedTo d.text (chained h.before whole_chain) behind
+  whole_ordered =
+      let up = text_within in
+      subst (λ g. IsOrderedTo d.text g behind) (sym (marked_is h.before h.marker l.chain))
+      (ordered_later d.text (chained (with_child h.before h.marker) l.chain) in_order.stop behind up.0 up.1
+      (chain_ordered d.text (with_child h.before h.marker) h.start in_order.stop l.chain in_order.order (omega (arith, up.0, up.1)) h.ordered))
+
+  -- The paragraph is in order as it stands.
+  pub open_ordered : IsOrderedTo d.text f behind
+  open_ordered = subst (λ g. IsOrderedTo d.text g behind) (sym h.tree_is) whole_ordered
+
+  -- What stands in it are tokens.
+  pub open_tokens : HoldsTokens d.text f block
+  open_tokens =
+      let spine : f.spine ≡ h.before.spine = ap (λ (g : Forest Item). g.spine) h.tree_is ∙ chained_spine h.before whole_chain in
+      let depth : length f.spine + 1 ≡ length h.before.spine + 1 = ap (λ (s : List TreeIndex). length s + 1) spine in
+      let rest : List (ℕ × Item) = at_depth (length h.before.spine + 1) (leaves whole_chain) in
+      let behind : drop (block.0 + 1) f.nodes ≡ rest =
+      ap (λ k. drop k f.nodes) h.opened.last
+      ∙ ap (drop (length h.before.nodes)) (ap (λ (g : Forest Item). g.nodes) h.tree_is ∙ chained-nodes h.before whole_chain)
+      ∙ drop-append_seam h.before.nodes rest in
+      record {
+        node = begun_item h.start Paragraph;
+        there = its_item;
+        has_text = refl;
+        tokens = subst (λ k. AreTokens d.text k h.start (drop (block.0 + 1) f.nodes)) (sym depth)
+            (subst (AreTokens d.text (length h.before.spine + 1) h.start) (sym behind)
+            (marked_tokens d.text (length h.before.spine + 1) h.from h.start in_order.stop h.marker l.chain h.stands in_order.order in_order.escapes));
+      }

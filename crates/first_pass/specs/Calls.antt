@@ -1,0 +1,166 @@
+-- What the calls of a pass do, a record each.
+use Rattle.std.specs.Prelude.{◌≡◌, ℕ, ◌+◌, ◌-◌, ◌≤◌, ◌<◌, Bool, List, length, Option, None, IfSome, IsCharBoundary}
+use Rattle.first_pass_items.specs.declared.item.Item.{Item}
+use Rattle.first_pass_items.specs.declared.option_set.Options.{Options}
+use Rattle.first_pass_tree.specs.Forest.{added}
+use Rattle.first_pass_lines.specs.Places.{Place}
+use Rattle.first_pass_grammar.specs.Completion.{lines_from}
+use Rattle.first_pass_grammar.specs.Derivation.{no_tables}
+use Rattle.first_pass_grammar.specs.Leaves.{document, rule_block}
+use Rattle.first_pass_grammar.specs.Names.{Names, AreNamed, index_of}
+use Rattle.first_pass_grammar.specs.Order.{GrowsBy}
+use Rattle.first_pass_grammar.specs.OpenOrder.{IsOrderedTo}
+use Rattle.first_pass_grammar.specs.WholeTables.{HasWholeTables}
+use Rattle.first_pass_names.specs.TableEntries.{names_of, tables_of, NamesMore, AddsTexts}
+use Rattle.first_pass_tokens.specs.Braces.{no_braces}
+use Rattle.first_pass_open.specs.Between.{line_end_at, AddsBetween, IsInItem, StandsBefore}
+use Rattle.first_pass_lists.specs.Closing.{remembered, with_block, item_finished}
+use Rattle.first_pass_lists.specs.declared.reading.Reading.{Reading}
+use Rattle.first_pass_raw.specs.RawBlocks.{IsPlaceAt, html_to_blank}
+use Rattle.first_pass_tables.specs.Appends.{AppendsRows, AddsWholeRows}
+use Rattle.first_pass_blocks.specs.FootnoteHeads.{ReadsFootnote}
+use Rattle.first_pass_blocks.specs.Ordered.{IsOrderedAt, IsOrderedFrom, IsReadTo}
+use Rattle.first_pass_blocks.specs.Positions.{LineAt}
+use Rattle.first_pass_blocks.specs.Progress.{ReadsBlock}
+use Rattle.first_pass_blocks.specs.State.{Ready}
+use Rattle.first_pass.specs.declared.state.FirstPass.{FirstPass}
+use Rattle.first_pass.specs.Kept.{StayNamed, KeepsEntries, KeepsNames, KeepsTables}
+use Rattle.first_pass.specs.Views.{allocs_of, braces_of, context_in, pass_of, reading_of, source_of, source_options, source_text, tree_of, with_tree}
+use Rattle.first_pass.specs.Holds.{behind_row}
+
+-- A pass over this text under these options has read nothing: its one node is the root, nothing is defined, no brace context is open, and the text's
+-- derivation begins with it (this project).
+pub record StartsPass (text : List ℕ) (options : Options) (pass : FirstPass) : Type 0 where
+  pub text_is : source_text pass ≡ text
+  pub options_are : source_options pass ≡ options
+  pub tables : tables_of (allocs_of pass) ≡ no_tables
+  pub ready : (names : Names) → Ready (document text options names) no_tables (reading_of pass) (lines_from text 0)
+  pub order : IsReadTo text (reading_of pass) 0
+  pub root : length (tree_of pass).nodes ≡ 1
+  pub named : AreNamed (names_of (allocs_of pass)) (tree_of pass).nodes
+  pub whole : HasWholeTables (names_of (allocs_of pass)) (tree_of pass)
+  pub braces : braces_of pass ≡ no_braces
+
+-- the block that begins in the line at an offset is read, and reading continues at another; the brace contexts are as they were (this project)
+pub record ReadsBlockAt (old new : FirstPass) (start next : ℕ) : Type 0 where
+  pub block : ReadsBlock (pass_of old) (pass_of new) (1 + start) (LineAt start) next
+  pub braces : braces_of new ≡ braces_of old
+
+-- Open nodes are closed or opened at an offset, and this is remembered then: what was in order before and could be closed is so up to the offset
+-- (CommonMark 5.2, 5.3, and this project).
+pub record RemembersAt (old new : FirstPass) (ix : ℕ) (r : Reading) : Type 0 where
+  pub kept : KeepsTables old new
+  pub reading : reading_of new ≡ r
+  pub order : (at : ℕ) → at ≤ ix → ix ≤ length (source_text old) → IsCharBoundary (source_text old) ix → IsReadTo (source_text old) (reading_of old) at
+      → IsReadTo (source_text old) (reading_of new) ix
+
+-- an empty item is finished where one is innermost, and what was in order before and could be closed is so (CommonMark 5.2, and this project)
+pub record FinishesItem (old new : FirstPass) : Type 0 where
+  pub kept : KeepsTables old new
+  pub reading : reading_of new ≡ item_finished (reading_of old)
+  pub order : (at : ℕ) → IsReadTo (source_text old) (reading_of old) at → IsReadTo (source_text old) (reading_of new) at
+
+-- A leaf block is added that begins at an offset, and reading continues at another; no item is empty then, and this says whether a blank line that counts is
+-- directly before. Its nodes lie between the two, and what is remembered is in order up to the second, if a character begins at the first (this project).
+pub record AddsLeafBlock (old new : FirstPass) (start next : ℕ) (blank : Bool) : Type 0 where
+  pub kept : KeepsNames old new
+  pub reading : reading_of new ≡ remembered (tree_of new) None blank
+  pub fits : (from : ℕ) → from ≤ start → IsCharBoundary (source_text old) start → AddsBetween (source_text old) from next (tree_of old) (tree_of new)
+  pub order : (at : ℕ) → at ≤ start → IsCharBoundary (source_text old) start → IsOrderedAt (source_text old) (reading_of old) at
+      → IsOrderedAt (source_text old) (reading_of new) next
+
+-- the same of a block that is whole lines from its first character on: reading continues between two characters, after its first line at the earliest
+-- (CommonMark 4.4 to 4.6, and this project)
+pub record AddsLineBlock (old new : FirstPass) (start next : ℕ) (blank : Bool) : Type 0 where
+  pub leaf : AddsLeafBlock old new start next blank
+  pub later : line_end_at (source_text old) start ≤ next
+  pub boundary : IsCharBoundary (source_text old) next
+
+-- An HTML block is added that ends before a blank line. Its nodes lie between an offset and its end, which may be after what the containers take of that line;
+-- reading continues at the line's start, and what is remembered is in order up to there, or the line is handed on (CommonMark 4.6, and this project).
+pub record AddsHtmlToBlank (old new : FirstPass) (start next : ℕ) : Type 0 where
+  pub kept : KeepsNames old new
+  pub reading : reading_of new ≡ with_block (reading_of old) (tree_of new)
+  pub later : line_end_at (source_text old) start ≤ next
+  pub boundary : IsCharBoundary (source_text old) next
+  pub fits : (p : Place) → IsPlaceAt (source_text old) start p → (from : ℕ) → from ≤ start
+      → AddsBetween (source_text old) from (html_to_blank (source_text old) (context_in old).path p).«end» (tree_of old) (tree_of new)
+  pub order : (at : ℕ) → at ≤ start → IsOrderedAt (source_text old) (reading_of old) at
+      → IsOrderedFrom (source_options old) (source_text old) (reading_of new) next
+  pub few : (from : ℕ) → from ≤ start → from < next → GrowsBy from next (tree_of old).nodes (tree_of new).nodes
+
+-- The thematic break of so many bytes is added that begins at an offset, and reading continues after it. It is in order if a character begins at both ends
+-- (CommonMark 4.1, and this project).
+pub record AddsRule (old new : FirstPass) (ix size next : ℕ) : Type 0 where
+  pub kept : KeepsTables old new
+  pub reading : reading_of new ≡ with_block (reading_of old) (tree_of new)
+  pub block : tree_of new ≡ added (tree_of old) (rule_block ix size)
+  pub fits : (from : ℕ) → from ≤ ix → IsCharBoundary (source_text old) ix → IsCharBoundary (source_text old) (ix + size)
+      → AddsBetween (source_text old) from (ix + size) (tree_of old) (tree_of new)
+  pub order : (at : ℕ) → at ≤ ix → IsCharBoundary (source_text old) ix → IsCharBoundary (source_text old) (ix + size)
+      → IsOrderedAt (source_text old) (reading_of old) at → IsOrderedAt (source_text old) (reading_of new) next
+  pub behind : next ≡ ix + size
+
+-- What stands for a text is added, after the marker of its task list item, if it has one. Its nodes lie between an offset before both and that at which
+-- reading continues, and each index names an entry, if the marker's does, where it has one (CommonMark 4.8, GFM 5.3, and this project).
+pub record AddsParagraph (old new : FirstPass) (start : ℕ) (marker : Option Item) (next : ℕ) : Type 0 where
+  pub source : source_of new ≡ source_of old
+  pub more : NamesMore (allocs_of old) (allocs_of new)
+  pub braces : braces_of new ≡ braces_of old
+  pub named : IfSome marker (λ x. index_of x.body ≡ None) → StayNamed old new
+  pub reading : reading_of new ≡ with_block (reading_of old) (tree_of new)
+  pub fits : IsInItem (tree_of old) marker → (from : ℕ) → StandsBefore (source_text old) from start marker
+      → AddsBetween (source_text old) from next (tree_of old) (tree_of new)
+  pub order : IsInItem (tree_of old) marker → (at : ℕ) → StandsBefore (source_text old) at start marker
+      → IsOrderedAt (source_text old) (reading_of old) at → IsOrderedAt (source_text old) (reading_of new) next
+
+-- A raw line from an offset up to another is appended, and what is remembered is in order up to its end, if a character begins at both (this project).
+pub record AppendsBytes (old new : FirstPass) (start «end» : ℕ) : Type 0 where
+  pub kept : KeepsNames old new
+  pub reading : reading_of new ≡ with_block (reading_of old) (tree_of new)
+  pub order : (at : ℕ) → at ≤ start → IsCharBoundary (source_text old) start → IsCharBoundary (source_text old) «end»
+      → IsOrderedAt (source_text old) (reading_of old) at → IsOrderedAt (source_text old) (reading_of new) «end»
+
+-- Tokens are appended that are read from an offset up to another, of a text of which nothing counts from a third on: one for each byte at the most, in order,
+-- and the item to which they are added is empty no more (CommonMark 2.4, GFM 4.10, and this project).
+pub record AppendsTokens (old new : FirstPass) (start : ℕ) (end : Option ℕ) (stop : ℕ) : Type 0 where
+  pub kept : KeepsEntries old new
+  pub reading : reading_of new ≡ with_block (reading_of old) (tree_of new)
+  pub boundary : end ≡ None → IsCharBoundary (source_text old) start → IsCharBoundary (source_text old) stop
+  pub order : IfSome end (λ e. IsCharBoundary (source_text old) e) → IsCharBoundary (source_text old) start → (at : ℕ) → at ≤ start
+      → IsOrderedAt (source_text old) (reading_of old) at → IsOrderedAt (source_text old) (reading_of new) stop
+  pub few : length (tree_of new).nodes ≤ length (tree_of old).nodes + (stop - start)
+
+-- The rows of a table of so many columns are added to it, and it is closed where reading continues: they are whole, in order and few, if the header row's line
+-- ends before the rows of the body may begin (GFM 4.10, and this project).
+pub record ClosesTable (old new : FirstPass) (columns head_start body_start next : ℕ) : Type 0 where
+  pub kept : KeepsNames old new
+  pub texts : AddsTexts (names_of (allocs_of new)) (names_of (allocs_of old))
+  pub reading : reading_of new ≡ with_tree (reading_of old) (tree_of new)
+  pub rows : AppendsRows (document (source_text old) (source_options old) (names_of (allocs_of new))) columns head_start body_start (tree_of old) (tree_of new)
+      next
+  pub order : (at : ℕ) → at ≤ head_start → line_end_at (source_text old) head_start ≤ body_start → IsOrderedTo (source_text old) (tree_of old) at
+      → IsOrderedTo (source_text old) (tree_of new) next
+  pub few : (from : ℕ) → from ≤ head_start → line_end_at (source_text old) head_start ≤ body_start → from < next
+      → GrowsBy from next (tree_of old).nodes (tree_of new).nodes
+  pub whole : AddsWholeRows (document (source_text old) (source_options old) (names_of (allocs_of new))) columns head_start (tree_of old) (tree_of new) next
+
+-- A row of a table is read that begins at an offset, or none is: it is in order and few, if a character begins there, and texts are named after the others
+-- (GFM 4.10, and this project).
+pub record ReadsRowFrom (old new : FirstPass) (ix next : ℕ) : Type 0 where
+  pub kept : KeepsEntries old new
+  pub texts : AddsTexts (names_of (allocs_of new)) (names_of (allocs_of old))
+  pub reading : reading_of new ≡ with_tree (reading_of old) (tree_of new)
+  pub order : IsCharBoundary (source_text old) ix → (at : ℕ) → at ≤ ix → IsOrderedTo (source_text old) (tree_of old) at
+      → IsOrderedTo (source_text old) (tree_of new) next
+  pub few : IsCharBoundary (source_text old) ix → (from : ℕ) → from ≤ ix → from < next → GrowsBy from next (tree_of old).nodes (tree_of new).nodes
+
+-- The head of a footnote definition is sought at an offset, by how many bytes are read with it: where one begins there, its definition is open and in order;
+-- the brace contexts are as they were, and each index names an entry if each did before (this project).
+pub record SeeksFootnote (old new : FirstPass) (start : ℕ) (size : Option ℕ) : Type 0 where
+  pub source : source_of new ≡ source_of old
+  pub braces : braces_of new ≡ braces_of old
+  pub named : StayNamed old new
+  pub head : ReadsFootnote (pass_of old) (pass_of new) start size
+  pub within : IfSome size (λ n. (3 < n) × IsCharBoundary (source_text old) (start + n))
+  pub order : IfSome size (λ n. (at : ℕ) → at ≤ start → IsReadTo (source_text old) (reading_of old) at → IsReadTo (source_text old) (reading_of new) start)
