@@ -1,19 +1,17 @@
 -- A leaf block that is added to a pass, and what is kept beside it.
-use Rattle.std.proofs.Common.{◌≡◌, ℕ, ◌≤◌, Bool, List, length, Option, None, IsCharBoundary, refl, sym, ap, subst}
+use Rattle.std.proofs.Common.{◌≡◌, ℕ, ◌≤◌, Bool, List, length, None, IsCharBoundary, ap}
 use Rattle.first_pass_items.specs.declared.item.Item.{Item}
-use Rattle.first_pass_tree.specs.Forest.{Forest, added}
+use Rattle.first_pass_tree.specs.Forest.{added}
 use Rattle.first_pass_grammar.specs.Names.{AreNamed}
 use Rattle.first_pass_names.specs.TableEntries.{names_of, NamesMore}
-use Rattle.first_pass_names.specs.declared.items.Allocations.{Allocations}
 use Rattle.first_pass_open.specs.Between.{line_end_at, AddsBetween}
 use Rattle.first_pass_lists.specs.Closing.{remembered}
 use Rattle.first_pass_lists.specs.declared.reading.Reading.{Reading}
 use Rattle.first_pass_blocks.proofs.NamedLemmas.{block_added}
 use Rattle.first_pass_blocks.proofs.OrderSteps.{block_ordered}
-use Rattle.first_pass_blocks.specs.Ordered.{IsOrderedAt}
 use Rattle.first_pass.specs.declared.state.FirstPass.{FirstPass}
-use Rattle.first_pass.specs.Calls.{AddsLeafBlock, AddsLineBlock, RemembersAt}
-use Rattle.first_pass.specs.Kept.{StayNamed, KeepsEntries, KeepsNames}
+use Rattle.first_pass.specs.Calls.{AddsLeafBlock, AddsLineBlock}
+use Rattle.first_pass.specs.Kept.{StayNamed, KeepsNames}
 use Rattle.first_pass.specs.Views.{allocs_of, braces_of, reading_of, source_of, source_text, tree_of}
 
 -- these items were added, and nothing else changed but what nodes name, the mark of an empty item, and whether a blank line that counts is before

@@ -1,19 +1,16 @@
 -- Each index that nodes keep names an entry after each call, if each did before.
 use Rattle.std.proofs.Common.{◌≡◌, ◌⊎◌, inl, inr, ℕ, zero, suc, ◌+◌, ◌-◌, ◌<◌, ◌==◌, ◌&&◌, nat_lt, Bool, true, false, if◌then◌else◌, List, [], ◌∷◌, ◌++◌}
-use Rattle.std.proofs.Common.{length, length-append, take, drop, Option, Some, None, IfSome, IsSomeAnd, MatchOption, IsCharBoundary, refl, sym, ap, subst, ◌∙◌, arith}
-use Rattle.std.specs.Option.{option_map}
+use Rattle.std.proofs.Common.{length, length-append, take, drop, Option, Some, None, IfSome, IsSomeAnd, MatchOption, IsCharBoundary, sym, ap, subst, ◌∙◌, arith}
 use Rattle.std.proofs.lemmas.Bool.{cond_both}
 use Rattle.std.proofs.lemmas.Option.{slice_get_within}
-use Rattle.first_pass_items.specs.declared.cow_str.CowStr.{CowStr}
-use Rattle.first_pass_items.specs.declared.item.HeadingIndex.{HeadingIndex}
 use Rattle.first_pass_items.specs.declared.item.HeadingLevel.{HeadingLevel}
 use Rattle.first_pass_items.specs.declared.item.Item.{Item}
 use Rattle.first_pass_items.specs.declared.item.ItemBody.{ItemBody}
-use Rattle.first_pass_items.specs.declared.item.ItemBody.TheVariants.{Heading, TableHead, TableRow, Text, SynthesizeText}
+use Rattle.first_pass_items.specs.declared.item.ItemBody.TheVariants.{Heading, TableHead, TableRow, Text}
 use Rattle.first_pass_tree.specs.declared.tree_index.TreeIndex.{TreeIndex}
-use Rattle.first_pass_tree.specs.Forest.{Forest, added, appended, at_depth, cut_item, cut_siblings, cut_tokens, is_escaped, is_text, item_at, joins_at}
-use Rattle.first_pass_tree.specs.Forest.{open_place, with_body_at, with_end}
-use Rattle.first_pass_lines.specs.Places.{Place, offset, line_place}
+use Rattle.first_pass_tree.specs.Forest.{Forest, added, appended, at_depth, cut_item, cut_tokens, is_escaped, is_text, item_at, joins_at}
+use Rattle.first_pass_tree.specs.Forest.{open_place, with_end}
+use Rattle.first_pass_lines.specs.Places.{Place, line_place}
 use Rattle.first_pass_lines.proofs.PlaceFacts.{line_is_place}
 use Rattle.first_pass_tokens.specs.Braces.{MathBraces, no_braces}
 use Rattle.first_pass_tokens.specs.LineTokens.{spot}
@@ -23,8 +20,8 @@ use Rattle.first_pass_grammar.specs.Completion.{lines_from}
 use Rattle.first_pass_grammar.specs.CodeBlocks.{IsFencedCode, IsIndentedCode, IsMetadata}
 use Rattle.first_pass_grammar.specs.HtmlBlocks.{IsHtml}
 use Rattle.first_pass_grammar.specs.Leaves.{Document, heading_block, rule_block}
-use Rattle.first_pass_grammar.specs.Names.{Names, Extends, NamesEntry, AreNamed, index_of}
-use Rattle.first_pass_grammar.specs.RawLines.{AreColumns, Ranges, range_text, range_html, IsRawLine}
+use Rattle.first_pass_grammar.specs.Names.{Names, Extends, AreNamed, index_of}
+use Rattle.first_pass_grammar.specs.RawLines.{AreColumns, range_text, range_html, IsRawLine}
 use Rattle.first_pass_grammar.specs.Tables.{AreCells, row_block, table_so_far, filled, most_filled, taking}
 use Rattle.first_pass_grammar.proofs.EachToken.{AreEach, both_each, cell_each, heading_each, line_each, raw_each, range_text_each}
 use Rattle.first_pass_grammar.proofs.MoreNames.{extends_none, extends_named}
@@ -35,13 +32,13 @@ use Rattle.first_pass_grammar.proofs.TextsNamed.{given_entry, text_named}
 use Rattle.first_pass_names.specs.TableEntries.{names_of}
 use Rattle.first_pass_open.specs.OpenBlock.{closed_by}
 use Rattle.first_pass_open.specs.Path.{path_of}
-use Rattle.first_pass_raw.specs.RawBlocks.{AddsIndented, AddsRaw, AppendsRaw, range_of, IsPlaceAt}
+use Rattle.first_pass_raw.specs.RawBlocks.{AppendsRaw, range_of}
 use Rattle.first_pass_raw.specs.declared.raw_line.RawKind.{RawKind}
 use Rattle.first_pass_raw.specs.declared.raw_line.RawKind.TheVariants.{Code, Html}
 use Rattle.first_pass_tables.specs.Appends.{with_below, OpenTable, ReadsRow, ReadsRowLine, AppendsRows}
 use Rattle.first_pass_text.specs.Appends.{AddsHeading}
 use Rattle.first_pass_text.specs.CutTexts.{BecomesHeading, CutsChildren}
-use Rattle.first_pass_blocks.specs.FootnoteHeads.{StaysSame, OpenedFootnote, ReadsFootnote, head_read}
+use Rattle.first_pass_blocks.specs.FootnoteHeads.{StaysSame, OpenedFootnote, ReadsFootnote}
 use Rattle.first_pass_blocks.specs.TextsAdded.{AddsText}
 use Rattle.first_pass_blocks.specs.declared.state.BlockPass.{BlockPass}
 use Rattle.first_pass_blocks.specs.Views as Block

@@ -26,7 +26,6 @@ use Rattle.first_pass_blocks.specs.State.{Ready}
 use Rattle.first_pass.specs.declared.state.FirstPass.{FirstPass}
 use Rattle.first_pass.specs.Kept.{StayNamed, KeepsEntries, KeepsNames, KeepsTables}
 use Rattle.first_pass.specs.Views.{allocs_of, braces_of, context_in, pass_of, reading_of, source_of, source_options, source_text, tree_of, with_tree}
-use Rattle.first_pass.specs.Holds.{behind_row}
 
 -- A pass over this text under these options has read nothing: its one node is the root, nothing is defined, no brace context is open, and the text's
 -- derivation begins with it (this project).

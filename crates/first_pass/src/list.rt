@@ -31,9 +31,9 @@ impl<'a> FirstPass<'a> {
         pass.reading.finish_empty_list_item();
     }
 
-    /// Closes what a new block ends: an empty item, and the list that is then innermost, at the offset `ix`; a definition
-    /// list in which a possible title is last ends where its last definition does. Where a blank line stands before the
-    /// block, the list becomes loose in whose item it stands.
+    /// Closes what a new block ends: an empty item, and the list that is then innermost, at the offset `ix`. A
+    /// definition list in which a possible title is last ends with its last definition. If a blank line comes before
+    /// the block, the list becomes loose in whose item it is.
     pub fn finish_list(&mut self, ix: usize)
         ensures { RemembersAt self.old self.new ix (list_finished ix (reading_of self.old)) }
     {

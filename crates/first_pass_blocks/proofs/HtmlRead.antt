@@ -94,6 +94,7 @@ html_read old new p at columns next u i empty forest forest_after kind columns_i
       whole = λ h k. block_whole now (names_of (allocs_of old)) q.tree tree added.items adds.names added.tree_is
           (kind_whole text options now p HtmlToBlank false q.tree tree next i added)
           (kind_silent text options now p HtmlToBlank false q.tree tree next added)
-          (list_finished_named (names_of (allocs_of old)) p.line r h) (kept_of (names_of (allocs_of old)) (list_finished p.line r).tree (list_finished_whole (names_of (allocs_of old)) p.line r forest k));
+          (list_finished_named (names_of (allocs_of old)) p.line r h)
+          (kept_of (names_of (allocs_of old)) (list_finished p.line r).tree (list_finished_whole (names_of (allocs_of old)) p.line r forest k));
       few = omega arith;
     }

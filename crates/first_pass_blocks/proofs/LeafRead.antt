@@ -60,6 +60,7 @@ leaf_read old new p kind next i empty forest is some other no_run e =
           (tree_of new) next i e.block)
           (kind_silent text (source_options old) (names_of (allocs_of new)) p kind (reading_of new).blank (list_finished p.line r).tree
           (tree_of new) next e.block)
-          (list_finished_named (names_of (allocs_of old)) p.line r h) (kept_of (names_of (allocs_of old)) (list_finished p.line r).tree (list_finished_whole (names_of (allocs_of old)) p.line r forest k));
+          (list_finished_named (names_of (allocs_of old)) p.line r h)
+          (kept_of (names_of (allocs_of old)) (list_finished p.line r).tree (list_finished_whole (names_of (allocs_of old)) p.line r forest k));
       few = omega arith;
     }

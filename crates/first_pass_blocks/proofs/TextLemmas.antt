@@ -239,7 +239,8 @@ module _ (old new : BlockPass) (p : Place) (ends at next : ℕ) (empty : (readin
             let is = block.is_text own (extends_none own) q stands (sym at_is) in
             block_whole own (names_of (allocs_of old)) f (tree_of new) block.items more block.tree_is
             (added_text_whole (document text options own) _ q None _ _ stands tt is) (text_silent_first (document text options own) _ q None _ _ tt is)
-            (list_finished_named (names_of (allocs_of old)) ends r h) (kept_of (names_of (allocs_of old)) (list_finished ends r).tree (list_finished_whole (names_of (allocs_of old)) ends r forest k));
+            (list_finished_named (names_of (allocs_of old)) ends r h)
+            (kept_of (names_of (allocs_of old)) (list_finished ends r).tree (list_finished_whole (names_of (allocs_of old)) ends r forest k));
       }
 
 -- a text that is not right after a definition

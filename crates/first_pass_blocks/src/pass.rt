@@ -249,14 +249,15 @@ impl<'a> BlockPass<'a> {
     }
 }
 
-/// Reads the blocks of a text: the finished tree that the block grammar derives from the text's lines
-/// under these options, and the tables of what the text defines. The grammar derives nothing else from them, as the
-/// law `one_derivation` says of any two derivations. Nothing is open in the tree, and no paragraph in it
-/// may still become a title. Besides its root and its filled cells, those that start at their row's end, it has at most
-/// four nodes for each byte. Each row has as many cells as its table has columns, each of which starts after the one
-/// before it or is a filled cell, and a table has at most 262,144 filled cells. Each link definition in the tables is what stands at its range; its label, its destination and a title of one
-/// line, and the label of each footnote, are borrowed from the text where nothing in them changes. No use of a footnote
-/// is counted. The one error is that a request for memory was refused.
+/// Reads the blocks of a text. Returns the finished tree that the block grammar derives from the text's lines under
+/// these options, and the tables of what the text defines. The grammar derives nothing else from them, as the law
+/// `one_derivation` says of any two derivations. Nothing is open in the tree, and no paragraph in it may still become
+/// a title. Besides its root and its filled cells, those that start at their row's end, it has at most four nodes for
+/// each byte. Each row has as many cells as its table has columns, each of which starts after the one before it or is
+/// a filled cell, and a table has at most 262,144 filled cells. Each link definition in the tables is the one at its
+/// range. Its label, its destination and a title of one line, and the label of each footnote, are borrowed from the
+/// text if nothing in them changes. No use of a footnote is counted. The one error is that a request for memory was
+/// refused.
 pub fn run_first_pass<'a>(
     alloc: Global,
     text: &'a str,
