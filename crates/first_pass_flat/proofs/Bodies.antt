@@ -1,0 +1,238 @@
+-- What a node is, read back from numbers.
+use Rattle.std.proofs.Common.{◌≡◌, ℕ, ◌<◌, ◌==◌, Bool, true, false, Option, Some, None, List, [], ◌∷◌, ◌++◌, length, map, get_or, nat_lt, slice_get, unwrap_or, if◌then◌else◌, refl, ap, ◌∙◌, cond, arith}
+use Rattle.std.specs.Prelude.{is_some}
+use Rattle.std.specs.Option.{option_map, option_and_then}
+use Rattle.std.proofs.lemmas.Option.{slice_get-get_or}
+use Rattle.first_pass_items.specs.declared.cow_str.CowStr.{CowStr}
+use Rattle.first_pass_items.specs.CowText.{text_of}
+use Rattle.first_pass_items.specs.declared.item.Alignment.{Alignment}
+use Rattle.first_pass_items.specs.declared.item.Alignment.TheVariants.{None as Unaligned, Left, Center, Right}
+use Rattle.first_pass_items.specs.declared.item.BlockQuoteKind.{BlockQuoteKind}
+use Rattle.first_pass_items.specs.declared.item.BlockQuoteKind.TheVariants.{Note, Tip, Important, Warning, Caution}
+use Rattle.first_pass_items.specs.declared.item.HeadingIndex.{HeadingIndex}
+use Rattle.first_pass_items.specs.declared.item.HeadingLevel.{HeadingLevel}
+use Rattle.first_pass_items.specs.declared.item.HeadingLevel.TheVariants.{H1, H2, H3, H4, H5, H6}
+use Rattle.first_pass_items.specs.declared.item.MetadataBlockKind.{MetadataBlockKind}
+use Rattle.first_pass_items.specs.declared.item.MetadataBlockKind.TheVariants.{YamlStyle, PlusesStyle}
+use Rattle.first_pass_items.specs.declared.item.ItemBody.{ItemBody}
+use Rattle.first_pass_items.specs.declared.item.ItemBody.TheVariants.{Root, Paragraph, TightParagraph, Rule, Heading, FencedCodeBlock, IndentCodeBlock}
+use Rattle.first_pass_items.specs.declared.item.ItemBody.TheVariants.{HtmlBlock, BlockQuote, List as ListBody, ListItem, FootnoteDefinition, MetadataBlock}
+use Rattle.first_pass_items.specs.declared.item.ItemBody.TheVariants.{DefinitionList, MaybeDefinitionListTitle, DefinitionListTitle, DefinitionListDefinition}
+use Rattle.first_pass_items.specs.declared.item.ItemBody.TheVariants.{Table, TableHead, TableRow, TableCell, Text, SoftBreak, HardBreak, MaybeEmphasis}
+use Rattle.first_pass_items.specs.declared.item.ItemBody.TheVariants.{MaybeMath, MaybeSmartQuote, MaybeCode, MaybeHtml, MaybeLinkOpen, MaybeLinkClose}
+use Rattle.first_pass_items.specs.declared.item.ItemBody.TheVariants.{MaybeImage, Html, SynthesizeText, SynthesizeChar, TaskListMarker}
+use Rattle.first_pass_lines.specs.Lines.{level_number}
+use Rattle.first_pass_attributes.specs.Attributes.{Attributes, no_attributes}
+use Rattle.first_pass_grammar.specs.Names.{Names, Named, AText, Alignments, OfHeading, NamesEntry, index_of, kind_alone, named}
+use Rattle.first_pass_flat.specs.Kinds.{kind_number, values_of, flag, quote_number, metadata_number, alignment_byte}
+use Rattle.first_pass_flat.specs.FlatAttributes.{OneAttribute, class_attribute, key_attribute, listed, attributes_of}
+use Rattle.first_pass_flat.specs.FlatNodes.{name_of, named_length}
+use Rattle.first_pass_flat.specs.declared.kinds.FlatValues.{FlatValues}
+
+abbrev pub is_set : ℕ → Bool
+is_set n = nat_lt 0 n
+
+pub set_flag : (b : Bool) → is_set (flag b) ≡ b
+set_flag true = refl
+set_flag false = refl
+
+level_from : ℕ → HeadingLevel
+level_from n = get_or (H1 ∷ H1 ∷ H2 ∷ H3 ∷ H4 ∷ H5 ∷ H6 ∷ []) n H1
+
+level_kept : (level : HeadingLevel) → level_from (level_number level) ≡ level
+unfolding level_from
+level_kept H1 = refl
+level_kept H2 = refl
+level_kept H3 = refl
+level_kept H4 = refl
+level_kept H5 = refl
+level_kept H6 = refl
+
+quote_from : ℕ → Option BlockQuoteKind
+quote_from n = get_or (None ∷ Some Note ∷ Some Tip ∷ Some Important ∷ Some Warning ∷ Some Caution ∷ []) n None
+
+quote_kept : (kind : Option BlockQuoteKind) → quote_from (quote_number kind) ≡ kind
+unfolding quote_from
+quote_kept None = refl
+quote_kept (Some Note) = refl
+quote_kept (Some Tip) = refl
+quote_kept (Some Important) = refl
+quote_kept (Some Warning) = refl
+quote_kept (Some Caution) = refl
+
+metadata_from : ℕ → MetadataBlockKind
+metadata_from n = cond (is_set n) PlusesStyle YamlStyle
+
+metadata_kept : (kind : MetadataBlockKind) → metadata_from (metadata_number kind) ≡ kind
+unfolding metadata_from
+metadata_kept YamlStyle = refl
+metadata_kept PlusesStyle = refl
+
+alignment_from : ℕ → Alignment
+alignment_from b = if b == 45 then Unaligned else (if b == 108 then Left else (if b == 99 then Center else Right))
+
+alignment_kept : (alignment : Alignment) → alignment_from (alignment_byte alignment) ≡ alignment
+unfolding alignment_from
+alignment_kept Unaligned = refl
+alignment_kept Left = refl
+alignment_kept Center = refl
+alignment_kept Right = refl
+
+alignments_kept : (alignments : List Alignment) → map alignment_from (map alignment_byte alignments) ≡ alignments
+alignments_kept [] = refl
+alignments_kept (x ∷ xs) =
+    ap (λ y. y ∷ map alignment_from (map alignment_byte xs)) (alignment_kept x) ∙ ap (λ ys. x ∷ ys) (alignments_kept xs)
+
+index_from : ℕ → Option HeadingIndex
+index_from n = cond (is_set n) (Some (record { 0 = 0 })) None
+
+index_kept : (ix : Option HeadingIndex) → index_from (flag (is_some ix)) ≡ option_map (λ at. record { 0 = 0 }) ix
+unfolding index_from
+index_kept None = refl
+index_kept (Some ix) = refl
+
+-- what each kind is with these values
+bodies : FlatValues → List ItemBody
+bodies v =
+    Root ∷ Paragraph ∷ TightParagraph ∷ Rule ∷ Heading (level_from v.first) (index_from v.second) ∷ FencedCodeBlock (record { 0 = 0 }) ∷ IndentCodeBlock
+    ∷ HtmlBlock ∷ BlockQuote (quote_from v.first) ∷ ListBody (record { 0 = v.first }) v.second v.number ∷ ListItem v.number
+    ∷ FootnoteDefinition (record { 0 = 0 }) ∷ MetadataBlock (metadata_from v.first) ∷ DefinitionList (record { 0 = v.first }) ∷ MaybeDefinitionListTitle
+    ∷ DefinitionListTitle ∷ DefinitionListDefinition v.number ∷ Table (record { 0 = 0 }) ∷ TableHead ∷ TableRow ∷ TableCell ∷ Text (is_set v.first)
+    ∷ SoftBreak ∷ HardBreak (is_set v.first) ∷ MaybeEmphasis v.number (is_set v.first) (is_set v.second)
+    ∷ MaybeMath (is_set v.first) (is_set v.second) v.number ∷ MaybeSmartQuote v.second (is_set v.first) (is_set v.third)
+    ∷ MaybeCode v.number (is_set v.first) ∷ MaybeHtml ∷ MaybeLinkOpen ∷ MaybeLinkClose (is_set v.first) ∷ MaybeImage ∷ Html
+    ∷ SynthesizeText (record { 0 = 0 }) ∷ SynthesizeChar v.number ∷ TaskListMarker (is_set v.first) ∷ []
+
+pub body_from : ℕ → FlatValues → ItemBody
+body_from kind v = get_or (bodies v) kind Root
+
+two : {A B C : Type 0} (f : A → B → C) (a a' : A) (b b' : B) → a ≡ a' → b ≡ b' → f a b ≡ f a' b'
+two f a a' b b' e g = ap (λ x. f x b) e ∙ ap (λ y. f a' y) g
+
+pub body_kept : (body : ItemBody) → body_from (kind_number body) (values_of body) ≡ kind_alone body
+unfolding body_from bodies
+body_kept (Heading level ix) = two Heading _ _ _ _ (level_kept level) (index_kept ix)
+body_kept (BlockQuote kind) = ap BlockQuote (quote_kept kind)
+body_kept (MetadataBlock kind) = ap MetadataBlock (metadata_kept kind)
+body_kept (Text escaped) = ap Text (set_flag escaped)
+body_kept (HardBreak by_backslash) = ap HardBreak (set_flag by_backslash)
+body_kept (MaybeEmphasis left can_open can_close) = two (MaybeEmphasis left) _ _ _ _ (set_flag can_open) (set_flag can_close)
+body_kept (MaybeMath can_open can_close context) = two (λ x y. MaybeMath x y context) _ _ _ _ (set_flag can_open) (set_flag can_close)
+body_kept (MaybeSmartQuote byte can_open can_close) = two (MaybeSmartQuote byte) _ _ _ _ (set_flag can_open) (set_flag can_close)
+body_kept (MaybeCode count escaped) = ap (MaybeCode count) (set_flag escaped)
+body_kept (MaybeLinkClose active) = ap MaybeLinkClose (set_flag active)
+body_kept (TaskListMarker checked) = ap TaskListMarker (set_flag checked)
+body_kept _ = refl
+
+-- the attributes of a heading, read back from a list of them
+id_from : List OneAttribute → Option (List ℕ)
+id_from [] = None
+id_from (x ∷ xs) = cond (x.kind == 0) (Some x.name) (id_from xs)
+
+classes_from : List OneAttribute → List (List ℕ)
+classes_from [] = []
+classes_from (x ∷ xs) = cond (x.kind == 1) (x.name ∷ classes_from xs) (classes_from xs)
+
+keys_from : List OneAttribute → List (List ℕ × Option (List ℕ))
+keys_from [] = []
+keys_from (x ∷ xs) = cond (x.kind == 2) ((x.name, x.value) ∷ keys_from xs) (keys_from xs)
+
+attributes_from : List OneAttribute → Attributes
+attributes_from xs = record { id = id_from xs; classes = classes_from xs; attrs = keys_from xs }
+
+no_id_keys : (keys : List (List ℕ × Option (List ℕ))) → id_from (map key_attribute keys) ≡ None
+unfolding id_from
+no_id_keys [] = refl
+no_id_keys (k ∷ ks) = no_id_keys ks
+
+no_id : (classes : List (List ℕ)) (keys : List (List ℕ × Option (List ℕ))) → id_from (map class_attribute classes ++ map key_attribute keys) ≡ None
+unfolding id_from
+no_id [] keys = no_id_keys keys
+no_id (c ∷ cs) keys = no_id cs keys
+
+no_classes : (keys : List (List ℕ × Option (List ℕ))) → classes_from (map key_attribute keys) ≡ []
+unfolding classes_from
+no_classes [] = refl
+no_classes (k ∷ ks) = no_classes ks
+
+all_classes : (classes : List (List ℕ)) (keys : List (List ℕ × Option (List ℕ)))
+    → classes_from (map class_attribute classes ++ map key_attribute keys) ≡ classes
+unfolding classes_from
+all_classes [] keys = no_classes keys
+all_classes (c ∷ cs) keys = ap (λ l. c ∷ l) (all_classes cs keys)
+
+all_keys : (keys : List (List ℕ × Option (List ℕ))) → keys_from (map key_attribute keys) ≡ keys
+unfolding keys_from
+all_keys [] = refl
+all_keys (k ∷ ks) = ap (λ l. k ∷ l) (all_keys ks)
+
+keys_after : (classes : List (List ℕ)) (keys : List (List ℕ × Option (List ℕ))) → keys_from (map class_attribute classes ++ map key_attribute keys) ≡ keys
+unfolding keys_from
+keys_after [] keys = all_keys keys
+keys_after (c ∷ cs) keys = keys_after cs keys
+
+given_by : (id id' : Option (List ℕ)) (classes classes' : List (List ℕ)) (keys keys' : List (List ℕ × Option (List ℕ))) → id ≡ id' → classes ≡ classes'
+    → keys ≡ keys' → ◌≡◌ {A = Attributes} (record { id = id; classes = classes; attrs = keys }) (record { id = id'; classes = classes'; attrs = keys' })
+given_by id id' classes classes' keys keys' e f g = cc
+
+listed_kept : (id : Option (List ℕ)) (classes : List (List ℕ)) (keys : List (List ℕ × Option (List ℕ)))
+    → attributes_from (listed (record { id = id; classes = classes; attrs = keys })) ≡ record { id = id; classes = classes; attrs = keys }
+unfolding attributes_from id_from classes_from keys_from
+listed_kept None classes keys = given_by _ _ _ _ _ _ (no_id classes keys) (all_classes classes keys) (keys_after classes keys)
+listed_kept (Some id) classes keys = given_by _ _ _ _ _ _ refl (all_classes classes keys) (keys_after classes keys)
+
+-- what a node names, by its kind, whether it has an attribute block, its bytes and its attributes
+pub named_from : ℕ → ℕ → List ℕ → List OneAttribute → Option Named
+named_from kind second bytes xs =
+    if kind == 4 then cond (is_set second) (Some (OfHeading (attributes_from xs))) None
+    else (if kind == 17 then Some (Alignments (map alignment_from bytes))
+    else (if kind == 5 then Some (AText bytes) else (if kind == 11 then Some (AText bytes) else (if kind == 33 then Some (AText bytes) else None))))
+
+-- an entry that is there
+entry_at : {X : Type 0} (xs : List X) (i : ℕ) → i < length xs → (x : X) × (slice_get xs i ≡ Some x)
+entry_at (x ∷ xs) i h = (get_or (x ∷ xs) i x, slice_get-get_or (x ∷ xs) i x h)
+entry_at [] i h = absurd (omega arith)
+
+text_kept : (o : Option CowStr) → (x : CowStr) × (o ≡ Some x)
+    → Some (AText (unwrap_or (option_map text_of o) [])) ≡ option_map (λ cow. AText (text_of cow)) o
+text_kept None h = cc (h.1)
+text_kept (Some x) h = refl
+
+columns_kept : (o : Option (List Alignment)) → (x : List Alignment) × (o ≡ Some x)
+    → Some (Alignments (map alignment_from (map alignment_byte (unwrap_or o [])))) ≡ option_map Alignments o
+columns_kept None h = cc (h.1)
+columns_kept (Some x) h = ap (λ l. Some (Alignments l)) (alignments_kept x)
+
+heading_kept : (o : Option Attributes) → (x : Attributes) × (o ≡ Some x)
+    → Some (OfHeading (attributes_from (listed (unwrap_or o no_attributes)))) ≡ option_map OfHeading o
+heading_kept None h = cc (h.1)
+heading_kept (Some x) h = ap (λ a. Some (OfHeading a)) (listed_kept x.id x.classes x.attrs)
+
+pub named_kept : (names : Names) (body : ItemBody) → NamesEntry names (index_of body)
+    → named_from (kind_number body) (values_of body).second (name_of names body) (attributes_of names body) ≡ option_and_then (named names) (index_of body)
+unfolding named_from
+named_kept names (FencedCodeBlock ix) h = text_kept (slice_get names.texts ix.0) (entry_at names.texts ix.0 h)
+named_kept names (FootnoteDefinition ix) h = text_kept (slice_get names.texts ix.0) (entry_at names.texts ix.0 h)
+named_kept names (SynthesizeText ix) h = text_kept (slice_get names.texts ix.0) (entry_at names.texts ix.0 h)
+named_kept names (Table ix) h = columns_kept (slice_get names.alignments ix.0) (entry_at names.alignments ix.0 h)
+named_kept names (Heading level (Some ix)) h = heading_kept (slice_get names.headings ix.0) (entry_at names.headings ix.0 h)
+named_kept names (Heading level None) h = refl
+named_kept names _ h = refl
+
+-- how many bytes and how many attributes a node names
+pub bytes_named : ℕ → ℕ → ℕ
+bytes_named kind count = cond (kind == 4) 0 count
+
+pub attributes_counted : ℕ → ℕ → ℕ
+attributes_counted kind count = cond (kind == 4) count 0
+
+pub bytes_counted : (names : Names) (body : ItemBody) → bytes_named (kind_number body) (named_length names body) ≡ length (name_of names body)
+unfolding bytes_named
+bytes_counted names (Heading level ix) = refl
+bytes_counted names _ = refl
+
+pub attributes_kept : (names : Names) (body : ItemBody)
+    → attributes_counted (kind_number body) (named_length names body) ≡ length (attributes_of names body)
+unfolding attributes_counted
+attributes_kept names (Heading level ix) = refl
+attributes_kept names _ = refl

@@ -1,0 +1,262 @@
+-- Records that are written from the last to the first.
+use Rattle.std.proofs.Common.{◌≡◌, ◌≢◌, ℕ, zero, suc, inl, inr, ◌+◌, ◌-◌, ◌<◌, ◌≤◌, ◌^◌, List, [], ◌∷◌, ◌++◌, length, take, drop, get_or, slice_get, Some, All, set, refl, sym, ap, subst, ◌∙◌, add-zero, length-append, length-set, drop-cons, arith}
+use Rattle.std.specs.List.{flat_map}
+use Rattle.std.proofs.lemmas.Bool.{cases_eq}
+use Rattle.std.proofs.lemmas.Grind.{flat_map-append}
+use Rattle.std.proofs.lemmas.List.{append-nil, take_more, drop-set, drop_all, get_or-set_same, get_or-set_other, take_all}
+use Rattle.std.proofs.lemmas.List.Folds.{length-flat_map-take}
+use Rattle.std.proofs.lemmas.Option.{slice_get_within, get_or_from_slice_get, slice_get-get_or}
+use Rattle.first_pass_items.specs.declared.item.Item.{Item}
+use Rattle.first_pass_grammar.specs.Names.{Names}
+use Rattle.first_pass_flat.specs.FlatAttributes.{attributes_by}
+use Rattle.first_pass_flat.specs.FlatNodes.{IsShort, deeper_before, first_place, flat_node, flat_nodes, name_by, place_after}
+use Rattle.first_pass_flat.specs.Linked.{AreLinked}
+use Rattle.first_pass_flat.specs.declared.nodes.FlatPlace.{FlatPlace}
+use Rattle.first_pass_flat.specs.declared.records.FlatNode.{FlatNode}
+
+-- a list from an element on
+cut_at : {X : Type 0} (xs : List X) (k : ℕ) (x : X) → slice_get xs k ≡ Some x → drop k xs ≡ x ∷ drop (k + 1) xs
+cut_at xs k x here =
+    let inside = slice_get_within xs k x here in
+    let one : suc k ≡ k + 1 = omega arith in
+    drop-cons xs k x inside ∙ ap (λ y. y ∷ drop (suc k) xs) (get_or_from_slice_get xs k x x here) ∙ ap (λ i. x ∷ drop i xs) one
+
+-- the place of the node after the first k ones
+abbrev pub place_at : Names → List (ℕ × Item) → ℕ → FlatPlace
+place_at names nodes k =
+    record { node = k; name = length (flat_map (name_by names) (take k nodes)); attribute = length (flat_map (attributes_by names) (take k nodes)) }
+
+more_of : {X : Type 0} (f : ℕ × Item → List X) (nodes : List (ℕ × Item)) (k : ℕ) (n : ℕ × Item) → slice_get nodes k ≡ Some n
+    → length (flat_map f (take (k + 1) nodes)) ≡ length (flat_map f (take k nodes)) + length (f n)
+more_of f nodes k n here =
+    let inside = slice_get_within nodes k n here in
+    let is : get_or nodes k n ≡ n = get_or_from_slice_get nodes k n n here in
+    ap (λ l. length (flat_map f l)) (take_more nodes k n inside ∙ ap (λ m. take k nodes ++ m ∷ []) is)
+    ∙ ap length (flat_map-append f (take k nodes) (n ∷ []) ∙ ap (λ l. flat_map f (take k nodes) ++ l) (append-nil (f n)))
+    ∙ length-append (flat_map f (take k nodes)) (f n)
+
+place_by : (k k' a a' b b' : ℕ) → k ≡ k' → a ≡ a' → b ≡ b'
+    → ◌≡◌ {A = FlatPlace} (record { node = k; name = a; attribute = b }) (record { node = k'; name = a'; attribute = b' })
+place_by k k' a a' b b' e f g = cc
+
+pub next_place_at : (names : Names) (nodes : List (ℕ × Item)) (k : ℕ) (n : ℕ × Item) → slice_get nodes k ≡ Some n
+    → place_at names nodes (k + 1) ≡ place_after names n.1.body (place_at names nodes k)
+next_place_at names nodes k n here = place_by _ _ _ _ _ _ refl (more_of (name_by names) nodes k n here) (more_of (attributes_by names) nodes k n here)
+
+-- the records from a place on are written
+pub record AreFilled (names : Names) (nodes : List (ℕ × Item)) (flat : List FlatNode) (at : FlatPlace) : Type 0 where
+  pub within : at.node ≤ length nodes
+  pub room : length flat ≡ length nodes
+  pub name_is : at.name ≡ length (flat_map (name_by names) (take at.node nodes))
+  pub attribute_is : at.attribute ≡ length (flat_map (attributes_by names) (take at.node nodes))
+  pub written : drop at.node flat ≡ flat_nodes names at (drop at.node nodes)
+  pub linked : AreLinked nodes flat at.node
+
+pub none_filled : (names : Names) (nodes : List (ℕ × Item)) (flat : List FlatNode) (at : FlatPlace) → length flat ≡ length nodes → at.node ≡ length nodes
+    → at.name ≡ length (flat_map (name_by names) nodes) → at.attribute ≡ length (flat_map (attributes_by names) nodes) → AreFilled names nodes flat at
+unfolding flat_nodes
+none_filled names nodes flat at room last name attribute =
+    let whole : take at.node nodes ≡ nodes = take_all at.node nodes (omega arith) in
+    let none : drop at.node nodes ≡ [] = drop_all at.node nodes (omega arith) in
+    record {
+      within = omega arith;
+      room = room;
+      name_is = name ∙ ap (λ l. length (flat_map (name_by names) l)) (sym whole);
+      attribute_is = attribute ∙ ap (λ l. length (flat_map (attributes_by names) l)) (sym whole);
+      written = drop_all at.node flat (omega arith) ∙ sym (ap (flat_nodes names at) none);
+      linked = λ k n r h e f. let inside = slice_get_within nodes k n e in absurd (omega arith);
+    }
+
+-- what is named before the node that is next to be written
+pub enough_names : (names : Names) (nodes : List (ℕ × Item)) (flat : List FlatNode) (at : FlatPlace) (n : ℕ × Item) → AreFilled names nodes flat at
+    → 0 < at.node → slice_get nodes (at.node - 1) ≡ Some n → length (name_by names n) ≤ at.name
+enough_names names nodes flat at n f h here =
+    let e = more_of (name_by names) nodes (at.node - 1) n here in
+    let d : (at.node - 1) + 1 ≡ at.node = omega arith in
+    let g = ap (λ k. length (flat_map (name_by names) (take k nodes))) d in
+    let i = f.name_is in
+    omega arith
+
+pub enough_attributes : (names : Names) (nodes : List (ℕ × Item)) (flat : List FlatNode) (at : FlatPlace) (n : ℕ × Item) → AreFilled names nodes flat at
+    → 0 < at.node → slice_get nodes (at.node - 1) ≡ Some n → length (attributes_by names n) ≤ at.attribute
+enough_attributes names nodes flat at n f h here =
+    let e = more_of (attributes_by names) nodes (at.node - 1) n here in
+    let d : (at.node - 1) + 1 ≡ at.node = omega arith in
+    let g = ap (λ k. length (flat_map (attributes_by names) (take k nodes))) d in
+    let i = f.attribute_is in
+    omega arith
+
+-- an element that stands in a list where another one is set
+in_set : {X : Type 0} (xs : List X) (i j : ℕ) (y x : X) → slice_get (set xs i y) j ≡ Some x → j ≢ i → slice_get xs j ≡ Some x
+in_set xs i j y x e ne =
+    let inside = slice_get_within (set xs i y) j x e in
+    let same = length-set xs i y in
+    let is : get_or xs j x ≡ x = sym (get_or-set_other xs i j y x ne) ∙ get_or_from_slice_get (set xs i y) j x x e in
+    slice_get-get_or xs j x (omega arith) ∙ ap Some is
+
+at_set : {X : Type 0} (xs : List X) (i : ℕ) (y x : X) → i < length xs → slice_get (set xs i y) i ≡ Some x → y ≡ x
+at_set xs i y x h e = sym (get_or-set_same xs i y x h) ∙ get_or_from_slice_get (set xs i y) i x x e
+
+same_at : (nodes : List (ℕ × Item)) (k : ℕ) (n m : ℕ × Item) → slice_get nodes k ≡ Some n → slice_get nodes k ≡ Some m → n ≡ m
+same_at nodes k n m e f = cc
+
+-- the links of the records with one more written
+linked_more : (nodes : List (ℕ × Item)) (flat : List FlatNode) (k : ℕ) (n : ℕ × Item) (r : FlatNode) → k < length flat → slice_get nodes k ≡ Some n
+    → r.next ≡ (k + 1) + deeper_before n.0 (drop (k + 1) nodes) → AreLinked nodes flat (k + 1) → AreLinked nodes (set flat k r) k
+linked_more nodes flat k n r room here next_is linked j m s low e f =
+    elim (cases_eq j k) [
+      | inl same ↦
+          let there = subst (λ i. slice_get (set flat k r) i ≡ Some s) same f in
+          let here' = subst (λ i. slice_get nodes i ≡ Some m) same e in
+          ap (λ (x : FlatNode). x.next) (sym (at_set flat k r s room there)) ∙ next_is
+          ∙ ap (λ (x : ℕ × Item). (k + 1) + deeper_before x.0 (drop (k + 1) nodes)) (same_at nodes k n m here here')
+          ∙ ap (λ i. (i + 1) + deeper_before m.0 (drop (i + 1) nodes)) (sym same)
+      | inr other ↦ linked j m s (omega arith) e (in_set flat k j r s f other)
+    ]
+
+-- one more record is written
+pub one_filled : (names : Names) (nodes : List (ℕ × Item)) (flat : List FlatNode) (at before : FlatPlace) (n : ℕ × Item) (r : FlatNode)
+    → AreFilled names nodes flat at → at ≡ place_after names n.1.body before → slice_get nodes before.node ≡ Some n
+    → r ≡ flat_node names before n (drop at.node nodes) → AreFilled names nodes (set flat before.node r) before
+unfolding flat_nodes
+one_filled names nodes flat at before n r f at_is here r_is =
+    let k_is : at.node ≡ before.node + 1 = ap (λ (p : FlatPlace). p.node) at_is in
+    let inside = slice_get_within nodes before.node n here in
+    let room = f.room in
+    let more_names = more_of (name_by names) nodes before.node n here in
+    let more_attributes = more_of (attributes_by names) nodes before.node n here in
+    let names_so_far = f.name_is ∙ ap (λ k. length (flat_map (name_by names) (take k nodes))) k_is in
+    let attributes_so_far = f.attribute_is ∙ ap (λ k. length (flat_map (attributes_by names) (take k nodes))) k_is in
+    let name_at = ap (λ (p : FlatPlace). p.name) at_is in
+    let attribute_at = ap (λ (p : FlatPlace). p.attribute) at_is in
+    let later : drop (before.node + 1) nodes ≡ drop at.node nodes = ap (λ k. drop k nodes) (sym k_is) in
+    let rest : drop (before.node + 1) flat ≡ flat_nodes names (place_after names n.1.body before) (drop at.node nodes) =
+    ap (λ k. drop k flat) (sym k_is) ∙ f.written ∙ ap (λ p. flat_nodes names p (drop at.node nodes)) at_is in
+    let cut : drop before.node nodes ≡ n ∷ drop at.node nodes = cut_at nodes before.node n here ∙ ap (λ l. n ∷ l) later in
+    record {
+      within = omega arith;
+      room = length-set flat before.node r ∙ room;
+      name_is = omega arith;
+      attribute_is = omega arith;
+      written =
+          drop-set flat before.node r (omega arith) ∙ ap (λ l. r ∷ l) rest
+          ∙ ap (λ x. x ∷ flat_nodes names (place_after names n.1.body before) (drop at.node nodes)) r_is
+          ∙ sym (ap (flat_nodes names before) cut);
+      linked =
+          linked_more nodes flat before.node n r (omega arith) here
+          (ap (λ (x : FlatNode). x.next) r_is ∙ ap (λ l. (before.node + 1) + deeper_before n.0 l) (sym later))
+          (subst (AreLinked nodes flat) k_is f.linked);
+    }
+
+-- all records are written
+pub all_filled : (names : Names) (nodes : List (ℕ × Item)) (flat : List FlatNode) (at : FlatPlace) → AreFilled names nodes flat at → at.node ≡ 0
+    → flat ≡ flat_nodes names first_place nodes
+all_filled names nodes flat at f e =
+    let name : at.name ≡ 0 = f.name_is ∙ ap (λ k. length (flat_map (name_by names) (take k nodes))) e in
+    let attribute : at.attribute ≡ 0 = f.attribute_is ∙ ap (λ k. length (flat_map (attributes_by names) (take k nodes))) e in
+    let is : at ≡ first_place = place_by at.node 0 at.name 0 at.attribute 0 e name attribute in
+    ap (λ k. drop k flat) (sym e) ∙ f.written ∙ ap (λ k. flat_nodes names at (drop k nodes)) e ∙ ap (λ p. flat_nodes names p nodes) is
+
+-- the place after the first k nodes from a place on
+place_from : Names → FlatPlace → List (ℕ × Item) → ℕ → FlatPlace
+place_from names at nodes zero = at
+place_from names at [] (suc k) = at
+place_from names at (x ∷ nodes) (suc k) = place_from names (place_after names x.1.body at) nodes k
+
+place_from_is : (names : Names) (at : FlatPlace) (nodes : List (ℕ × Item)) (k : ℕ) → k ≤ length nodes
+    → place_from names at nodes k
+    ≡ record {
+      node = at.node + k;
+      name = at.name + length (flat_map (name_by names) (take k nodes));
+      attribute = at.attribute + length (flat_map (attributes_by names) (take k nodes));
+    }
+unfolding place_from
+place_from_is names at nodes zero h = place_by _ _ _ _ _ _ (sym (add-zero at.node)) (sym (add-zero at.name)) (sym (add-zero at.attribute))
+place_from_is names at [] (suc k) h = absurd (omega arith)
+place_from_is names at (x ∷ nodes) (suc k) h =
+    let n = length-append (name_by names x) (flat_map (name_by names) (take k nodes)) in
+    let a = length-append (attributes_by names x) (flat_map (attributes_by names) (take k nodes)) in
+    place_from_is names (place_after names x.1.body at) nodes k (omega arith)
+    ∙ place_by _ _ _ _ _ _ (omega arith) (omega arith) (omega arith)
+
+-- the record of a node
+record_at : (names : Names) (at : FlatPlace) (nodes : List (ℕ × Item)) (k : ℕ) (n : ℕ × Item) (d : FlatNode) → slice_get nodes k ≡ Some n
+    → get_or (flat_nodes names at nodes) k d ≡ flat_node names (place_from names at nodes k) n (drop (suc k) nodes)
+unfolding flat_nodes place_from
+record_at names at [] k n d e = cc
+record_at names at (x ∷ nodes) zero n d e = let is : x ≡ n = cc in ap (λ m. flat_node names at m nodes) is
+record_at names at (x ∷ nodes) (suc k) n d e = record_at names (place_after names x.1.body at) nodes k n d e
+
+records_counted : (names : Names) (at : FlatPlace) (nodes : List (ℕ × Item)) → length (flat_nodes names at nodes) ≡ length nodes
+unfolding flat_nodes
+records_counted names at [] = refl
+records_counted names at (x ∷ nodes) = ap suc (records_counted names (place_after names x.1.body at) nodes)
+
+short_at : (names : Names) (at : FlatPlace) (nodes : List (ℕ × Item)) (k : ℕ) (n : ℕ × Item) → slice_get nodes k ≡ Some n
+    → All IsShort (flat_nodes names at nodes) → IsShort (flat_node names (place_from names at nodes k) n (drop (suc k) nodes))
+short_at names at nodes k n e all =
+    let other = flat_node names at n nodes in
+    let inside = slice_get_within nodes k n e in
+    let count = records_counted names at nodes in
+    subst IsShort (record_at names at nodes k n other e) (all k other (omega arith))
+
+-- where every record is short, so is the one that is next to be written
+pub short_before : (names : Names) (nodes : List (ℕ × Item)) (flat : List FlatNode) (at before : FlatPlace) (n : ℕ × Item)
+    → AreFilled names nodes flat at → at ≡ place_after names n.1.body before → slice_get nodes before.node ≡ Some n
+    → All IsShort (flat_nodes names first_place nodes) → IsShort (flat_node names before n (drop at.node nodes))
+short_before names nodes flat at before n f at_is here all =
+    let k_is : at.node ≡ before.node + 1 = ap (λ (p : FlatPlace). p.node) at_is in
+    let inside = slice_get_within nodes before.node n here in
+    let more_names = more_of (name_by names) nodes before.node n here in
+    let more_attributes = more_of (attributes_by names) nodes before.node n here in
+    let names_so_far = f.name_is ∙ ap (λ k. length (flat_map (name_by names) (take k nodes))) k_is in
+    let attributes_so_far = f.attribute_is ∙ ap (λ k. length (flat_map (attributes_by names) (take k nodes))) k_is in
+    let name_at = ap (λ (p : FlatPlace). p.name) at_is in
+    let attribute_at = ap (λ (p : FlatPlace). p.attribute) at_is in
+    let is : place_from names first_place nodes before.node ≡ before =
+    place_from_is names first_place nodes before.node (omega arith)
+    ∙ place_by _ before.node _ before.name _ before.attribute (omega arith) (omega arith) (omega arith) in
+    let last : suc before.node ≡ at.node = omega arith in
+    subst (λ k. IsShort (flat_node names before n (drop k nodes))) last
+    (subst (λ p. IsShort (flat_node names p n (drop (suc before.node) nodes))) is (short_at names first_place nodes before.node n here all))
+
+-- the node that is next to be written
+here_before : (names : Names) (nodes : List (ℕ × Item)) (at before : FlatPlace) (n : ℕ × Item) → 0 < at.node → at.node ≤ length nodes
+    → at ≡ place_after names (get_or nodes (at.node - 1) n).1.body before → slice_get nodes before.node ≡ Some (get_or nodes (at.node - 1) n)
+here_before names nodes at before n h within e =
+    let k_is : at.node ≡ before.node + 1 = ap (λ (p : FlatPlace). p.node) e in
+    let same : at.node - 1 ≡ before.node = omega arith in
+    subst (λ k. slice_get nodes k ≡ Some (get_or nodes (at.node - 1) n)) same (slice_get-get_or nodes (at.node - 1) n (omega arith))
+
+next_is_so : (names : Names) (nodes : List (ℕ × Item)) (at before : FlatPlace) (n : ℕ × Item) (depth next : ℕ) → at ≡ place_after names n.1.body before
+    → next ≡ at.node + deeper_before depth (drop at.node nodes) → next ≡ (before.node + 1) + deeper_before depth (drop at.node nodes)
+next_is_so names nodes at before n depth next e f = f ∙ ap (λ (p : FlatPlace). p.node + deeper_before depth (drop at.node nodes)) e
+
+-- a record that is next is written
+pub record_written : (names : Names) (nodes : List (ℕ × Item)) (flat : List FlatNode) (at before : FlatPlace) (n : ℕ × Item) (next : ℕ) (r : FlatNode)
+    → AreFilled names nodes flat at → 0 < at.node → at ≡ place_after names (get_or nodes (at.node - 1) n).1.body before
+    → next ≡ at.node + deeper_before (get_or nodes (at.node - 1) n).0 (drop at.node nodes)
+    → ((later : List (ℕ × Item)) → next ≡ (before.node + 1) + deeper_before (get_or nodes (at.node - 1) n).0 later
+    → r ≡ flat_node names before (get_or nodes (at.node - 1) n) later)
+    → AreFilled names nodes (set flat before.node r) before
+record_written names nodes flat at before n next r f h e next_is made =
+    one_filled names nodes flat at before (get_or nodes (at.node - 1) n) r f e (here_before names nodes at before n h f.within e)
+    (made (drop at.node nodes) (next_is_so names nodes at before (get_or nodes (at.node - 1) n) _ next e next_is))
+
+-- a record that is next isn't short
+pub record_long : (names : Names) (nodes : List (ℕ × Item)) (flat : List FlatNode) (at before : FlatPlace) (n : ℕ × Item) (next : ℕ)
+    → AreFilled names nodes flat at → 0 < at.node → at ≡ place_after names (get_or nodes (at.node - 1) n).1.body before
+    → next ≡ at.node + deeper_before (get_or nodes (at.node - 1) n).0 (drop at.node nodes)
+    → ((later : List (ℕ × Item)) → next ≡ (before.node + 1) + deeper_before (get_or nodes (at.node - 1) n).0 later
+    → IsShort (flat_node names before (get_or nodes (at.node - 1) n) later) → ⊥)
+    → All IsShort (flat_nodes names first_place nodes) → ⊥
+record_long names nodes flat at before n next f h e next_is long all =
+    long (drop at.node nodes) (next_is_so names nodes at before (get_or nodes (at.node - 1) n) _ next e next_is)
+    (short_before names nodes flat at before (get_or nodes (at.node - 1) n) f e (here_before names nodes at before n h f.within e) all)
+
+-- a node names at most the attributes of all
+pub attributes_fit : (names : Names) (nodes : List (ℕ × Item)) (at : FlatPlace) (n : ℕ × Item) (all : ℕ) → 0 < at.node → at.node ≤ length nodes
+    → all ≡ length (flat_map (attributes_by names) nodes) → all < 2 ^ 64 → length (attributes_by names (get_or nodes (at.node - 1) n)) < 2 ^ 64
+attributes_fit names nodes at n all h within is fits =
+    let part = length-flat_map-take (attributes_by names) nodes (at.node - 1) n (omega arith) in
+    omega arith

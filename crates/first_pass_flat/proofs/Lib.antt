@@ -1,0 +1,6 @@
+pub mod Appending
+pub mod Sides
+pub mod Nexts
+pub mod Filling
+pub mod Bodies
+pub mod Reading

@@ -1,0 +1,94 @@
+-- The first later node that is not deeper.
+use Rattle.std.proofs.Common.{◌≡◌, ℕ, suc, ◌+◌, ◌-◌, ◌<◌, ◌≤◌, Bool, true, false, cond, List, [], ◌∷◌, length, drop, get_or, slice_get, Some, refl, sym, ap, ◌∙◌, zero-add, add_assoc, nat_lt, length-drop, arith}
+use Rattle.std.proofs.lemmas.Bool.{lt-ltb, ltb-true}
+use Rattle.std.proofs.lemmas.List.{drop-drop}
+use Rattle.std.proofs.lemmas.Option.{slice_get_within, get_or_from_slice_get, slice_get-get_or}
+use Rattle.std.proofs.lemmas.List.Sums.{prefix_len-drop_yes, prefix_len-drop_all, prefix_len-le-length}
+use Rattle.std.specs.List.{prefix_len}
+use Rattle.first_pass_items.specs.declared.item.Item.{Item}
+use Rattle.first_pass_flat.specs.FlatNodes.{deeper_before}
+use Rattle.first_pass_flat.specs.Linked.{AreLinked}
+use Rattle.first_pass_flat.specs.declared.records.FlatNode.{FlatNode}
+
+module _ {X : Type 0} (p q : X → Bool) where
+  one_further : (k : ℕ) (x : X) (xs : List X) → drop k xs ≡ drop (1 + k) (x ∷ xs)
+  one_further k x xs = let e : suc k ≡ 1 + k = omega arith in ap (λ n. drop n (x ∷ xs)) e
+
+  beyond_one : (x : X) (xs : List X) (b : Bool) → q x ≡ b → (q x ≡ true → p x ≡ true)
+      → prefix_len p xs ≡ prefix_len q xs + prefix_len p (drop (prefix_len q xs) xs)
+      → prefix_len p (x ∷ xs) ≡ prefix_len q (x ∷ xs) + prefix_len p (drop (prefix_len q (x ∷ xs)) (x ∷ xs))
+  beyond_one x xs true e h rest =
+      let some : prefix_len q (x ∷ xs) ≡ 1 + prefix_len q xs = ap (λ b. cond b (1 + prefix_len q xs) 0) e in
+      let all : prefix_len p (x ∷ xs) ≡ 1 + prefix_len p xs = ap (λ b. cond b (1 + prefix_len p xs) 0) (h e) in
+      all ∙ ap (λ n. 1 + n) rest ∙ sym (add_assoc 1 (prefix_len q xs) _)
+      ∙ ap (λ l. (1 + prefix_len q xs) + prefix_len p l) (one_further (prefix_len q xs) x xs)
+      ∙ ap (λ k. k + prefix_len p (drop k (x ∷ xs))) (sym some)
+  beyond_one x xs false e h rest =
+      let none : prefix_len q (x ∷ xs) ≡ 0 = ap (λ b. cond b (1 + prefix_len q xs) 0) e in
+      sym (zero-add _) ∙ ap (λ k. k + prefix_len p (drop k (x ∷ xs))) (sym none)
+
+  -- A run of what passes one test begins with a run of what passes a stricter one: it goes on after that.
+  pub beyond : ((x : X) → q x ≡ true → p x ≡ true) → (xs : List X) → prefix_len p xs ≡ prefix_len q xs + prefix_len p (drop (prefix_len q xs) xs)
+  beyond h [] = refl
+  beyond h (x ∷ xs) = beyond_one x xs (q x) refl (h x) (beyond h xs)
+
+-- a node that is deeper than e is deeper than d
+stricter : (d e : ℕ) → d < e → (n : ℕ × Item) → nat_lt e n.0 ≡ true → nat_lt d n.0 ≡ true
+stricter d e h n t = let less = ltb-true e n.0 t in lt-ltb d n.0 (omega arith)
+
+-- The nodes from `from` on that are deeper than `depth` go up to where those from a place on go.
+pub record GoesOn (nodes : List (ℕ × Item)) (depth from at : ℕ) : Type 0 where
+  pub behind : from ≤ at
+  pub within : at ≤ length nodes
+  pub same : from + deeper_before depth (drop from nodes) ≡ at + deeper_before depth (drop at nodes)
+
+pub goes_from : (nodes : List (ℕ × Item)) (depth from : ℕ) → from ≤ length nodes → GoesOn nodes depth from from
+goes_from nodes depth from h = record { behind = omega arith; within = h; same = refl }
+
+-- One deeper node and those below it are passed.
+pub one_passed : (nodes : List (ℕ × Item)) (depth from at next : ℕ) (n : ℕ × Item) → slice_get nodes at ≡ Some n → depth < n.0
+    → next ≡ (at + 1) + deeper_before n.0 (drop (at + 1) nodes) → GoesOn nodes depth from at → (at < next) × GoesOn nodes depth from next
+one_passed nodes depth from at next n here deeper next_is g =
+    let inside : at < length nodes = slice_get_within nodes at n here in
+    let is : get_or nodes at n ≡ n = get_or_from_slice_get nodes at n n here in
+    let passes : nat_lt depth (get_or nodes at n).0 ≡ true = ap (λ m. nat_lt depth m.0) is ∙ lt-ltb depth n.0 deeper in
+    let step : deeper_before depth (drop at nodes) ≡ 1 + deeper_before depth (drop (at + 1) nodes) =
+    prefix_len-drop_yes (λ m. nat_lt depth m.0) nodes at n inside passes in
+    let further : deeper_before depth (drop (at + 1) nodes)
+    ≡ deeper_before n.0 (drop (at + 1) nodes) + deeper_before depth (drop (deeper_before n.0 (drop (at + 1) nodes)) (drop (at + 1) nodes)) =
+    beyond (λ m. nat_lt depth m.0) (λ m. nat_lt n.0 m.0) (stricter depth n.0 deeper) (drop (at + 1) nodes) in
+    let there : drop (deeper_before n.0 (drop (at + 1) nodes)) (drop (at + 1) nodes) ≡ drop next nodes =
+    drop-drop (deeper_before n.0 (drop (at + 1) nodes)) (at + 1) nodes ∙ ap (λ k. drop k nodes) (sym next_is) in
+    let tail = ap (deeper_before depth) there in
+    let most = prefix_len-le-length (λ (m : ℕ × Item). nat_lt n.0 m.0) (drop (at + 1) nodes) in
+    let left = length-drop (at + 1) nodes in
+    let front = g.same in
+    let low = g.behind in
+    (omega arith, record { behind = omega arith; within = omega arith; same = omega arith })
+
+-- Where no node is left, or one is not deeper, they end.
+pub ends_here : (nodes : List (ℕ × Item)) (depth from at : ℕ) → deeper_before depth (drop at nodes) ≡ 0 → GoesOn nodes depth from at
+    → at ≡ from + deeper_before depth (drop from nodes)
+ends_here nodes depth from at none g = let same = g.same in omega arith
+
+pub none_left : (nodes : List (ℕ × Item)) (depth at : ℕ) → length nodes ≤ at → deeper_before depth (drop at nodes) ≡ 0
+none_left nodes depth at h = prefix_len-drop_all (λ n. nat_lt depth n.0) nodes at h
+
+-- The node at a place is deeper, and the next one of its record is known: it and those below it are passed.
+pub next_passed : (nodes : List (ℕ × Item)) (flat : List FlatNode) (depth from at : ℕ) (n : ℕ × Item) (r : FlatNode) → at < length nodes
+    → length flat ≡ length nodes → depth < (get_or nodes at n).0 → AreLinked nodes flat from → GoesOn nodes depth from at
+    → (at < (get_or flat at r).next) × GoesOn nodes depth from (get_or flat at r).next
+next_passed nodes flat depth from at n r within same deeper linked g =
+    let here = slice_get-get_or nodes at n within in
+    let there = slice_get-get_or flat at r (omega arith) in
+    one_passed nodes depth from at (get_or flat at r).next (get_or nodes at n) here deeper
+    (linked at (get_or nodes at n) (get_or flat at r) g.behind here there) g
+
+pub fewer_left : (nodes : List (ℕ × Item)) (flat : List FlatNode) (depth from at : ℕ) (n : ℕ × Item) (r : FlatNode) → at < length nodes
+    → length flat ≡ length nodes → depth < (get_or nodes at n).0 → AreLinked nodes flat from → GoesOn nodes depth from at
+    → length nodes - (get_or flat at r).next < length nodes - at
+fewer_left nodes flat depth from at n r within same deeper linked g =
+    let passed = next_passed nodes flat depth from at n r within same deeper linked g in
+    let further = passed.0 in
+    let inside = passed.1.within in
+    omega arith

@@ -1,0 +1,43 @@
+-- What stands beside the nodes, made one after the other.
+use Rattle.std.proofs.Common.{◌≡◌, ℕ, suc, ◌+◌, List, [], ◌∷◌, ◌++◌, length, map, refl, ap, ◌∙◌}
+use Rattle.std.specs.List.{flat_map}
+use Rattle.first_pass_items.specs.declared.item.Item.{Item}
+use Rattle.first_pass_grammar.specs.LinkTables.{LinkEntry}
+use Rattle.first_pass_grammar.specs.Names.{Names}
+use Rattle.first_pass_grammar.specs.Derivation.{Tables}
+use Rattle.first_pass_flat.specs.FlatAttributes.{attributes_by, attribute_bytes, flat_attributes}
+use Rattle.first_pass_flat.specs.FlatDefinitions.{definition_bytes, entries_of, flat_definitions, label_entry}
+use Rattle.first_pass_flat.specs.FlatForm.{node_names, tree_names}
+use Rattle.first_pass_flat.specs.Appended.{AppendsAttributes, AppendsDefinitions}
+use Rattle.first_pass_flat.specs.Side.{AreSideTables}
+use Rattle.first_pass_flat.specs.declared.attributes.NamedAttributes.{NamedAttributes}
+use Rattle.first_pass_flat.specs.declared.definitions.NamedDefinitions.{NamedDefinitions}
+use Rattle.first_pass_flat.proofs.Appending.{definitions_more}
+
+definitions_counted : (at : ℕ) (es : List LinkEntry) → length (flat_definitions at es) ≡ length es
+unfolding flat_definitions
+definitions_counted at [] = refl
+definitions_counted at (x ∷ es) = ap suc (definitions_counted (at + length (definition_bytes x)) es)
+
+pub side_made : (names : Names) (nodes : List (ℕ × Item)) (tables : Tables) (a b : NamedAttributes) (c d e : NamedDefinitions) (n links : ℕ)
+    → a.attributes.items ≡ [] → a.names.items ≡ node_names names nodes → AppendsAttributes a b (flat_map (attributes_by names) nodes)
+    → c.definitions.items ≡ []
+    → c.names.items ≡ b.names.items → AppendsDefinitions c d tables.links → AppendsDefinitions d e (map label_entry tables.footnotes)
+    → n ≡ length (node_names names nodes) → links ≡ length d.definitions.items
+    → AreSideTables (record { attributes = b.attributes; definitions = e.definitions; links = links; names = e.names; node_names = n }) names nodes tables
+side_made names nodes tables a b c d e n links none a_names h empty c_names k l n_is links_is =
+    let both = definitions_more c d e tables.links (map label_entry tables.footnotes) k l in
+    let marks = flat_map (attributes_by names) nodes in
+    let b_names : b.names.items ≡ tree_names names nodes = h.names ∙ ap (λ x. x ++ flat_map attribute_bytes marks) a_names in
+    let start : c.names.items ≡ tree_names names nodes = c_names ∙ b_names in
+    record {
+      attributes = h.attributes ∙ ap (λ x. x ++ flat_attributes (length a.names.items) marks) none ∙ ap (λ x. flat_attributes (length x) marks) a_names;
+      definitions =
+          both.definitions ∙ ap (λ x. x ++ flat_definitions (length c.names.items) (entries_of tables)) empty
+          ∙ ap (λ x. flat_definitions (length x) (entries_of tables)) start;
+      links =
+          links_is ∙ ap length (k.definitions ∙ ap (λ x. x ++ flat_definitions (length c.names.items) tables.links) empty)
+          ∙ definitions_counted (length c.names.items) tables.links;
+      names_are = both.names ∙ ap (λ x. x ++ flat_map definition_bytes (entries_of tables)) start;
+      node_names_are = n_is;
+    }

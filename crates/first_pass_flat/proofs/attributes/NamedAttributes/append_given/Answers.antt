@@ -1,0 +1,12 @@
+use Rattle.std.proofs.Common.{subst, sym, unwrap_or}
+use Rattle.std.specs.Option.{option_map}
+use Rattle.first_pass_attributes.specs.Attributes.{attributes_in, no_attributes}
+use Rattle.first_pass_flat.specs.FlatAttributes.{listed}
+use Rattle.first_pass_flat.specs.Appended.{AppendsAttributes}
+use Rattle.first_pass_flat.proofs.Appending.{attributes_none}
+use Rattle.first_pass_flat.proofs.attributes.NamedAttributes.append_given.Goals as goal
+
+pub returns-in-None : goal.returns-in-None
+returns-in-None c =
+    subst (λ o. AppendsAttributes c.args.self.now c.args.self.now (listed (unwrap_or (option_map (λ h. attributes_in h.now) o) no_attributes)))
+    (sym c.in-None.is) (attributes_none _)

@@ -1,0 +1,9 @@
+pub mod Kinds
+pub mod FlatAttributes
+pub mod FlatDefinitions
+pub mod FlatNodes
+pub mod FlatForm
+pub mod Appended
+pub mod Linked
+pub mod Side
+pub mod Law

@@ -1,0 +1,13 @@
+//! The flat form of a tree and its tables, as other languages read them: records of numbers in C's layout, and the
+//! bytes that they name.
+#![tactic(auto)]
+
+pub mod attributes;
+pub mod definitions;
+pub mod fault;
+pub mod kinds;
+pub mod laws;
+pub mod names;
+pub mod nodes;
+pub mod records;
+pub mod side;

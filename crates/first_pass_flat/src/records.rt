@@ -1,0 +1,65 @@
+//! The records of the flat form, in C's layout, without padding.
+
+/// A node. Offsets and lengths are in bytes.
+#[repr(C)]
+#[derive(Clone, Copy)]
+pub struct FlatNode {
+    /// The range in the text.
+    pub start: u32,
+    pub end: u32,
+    /// How many nodes it lies in: 0 for the root.
+    pub depth: u32,
+    /// The index of the first later node that is not deeper, or the number of nodes.
+    pub next: u32,
+    /// The range in the names of what the node names: an info string, a label, a text, or a byte for each column of a
+    /// table, `-`, `l`, `c` or `r`. Of a heading, the range in the attributes.
+    pub name: u32,
+    pub name_length: u32,
+    /// A list's first number; the columns of an item or a definition; how many delimiters are left of a run; how many
+    /// backquotes; the brace context of a dollar sign; a character. Otherwise 0.
+    pub number: u32,
+    /// The kind: 0 for the root to 35 for the marker of a task list item, in the order of `ItemBody`.
+    pub kind: u8,
+    /// A heading's level; the kind of a block quote, 1 to 5; the kind of a metadata block; whether a list is tight, a
+    /// text escaped, a break made by a backslash, backquotes escaped, a bracket active, a task checked; whether a
+    /// delimiter can open. Otherwise 0.
+    pub first: u8,
+    /// Whether a heading has an attribute block; the byte of a list's markers or of a quote; whether a delimiter can
+    /// close. Otherwise 0.
+    pub second: u8,
+    /// Whether a quote can close. Otherwise 0.
+    pub third: u8,
+}
+
+/// An attribute of a heading: `#install` an id, `.wide` a class, `lang=en` and `draft` a key.
+#[repr(C)]
+#[derive(Clone, Copy)]
+pub struct FlatAttribute {
+    /// The range in the names of the id, the class or the key.
+    pub name: usize,
+    pub name_length: usize,
+    /// The range in the names of the key's value.
+    pub value: usize,
+    pub value_length: usize,
+    /// 1 for a key with a value, which may be empty. Otherwise 0.
+    pub has_value: u32,
+    /// 0 for an id, 1 for a class, 2 for a key.
+    pub kind: u32,
+}
+
+/// A link reference definition, or the label of a footnote. Each range but the first is in the names.
+#[repr(C)]
+#[derive(Clone, Copy)]
+pub struct FlatDefinition {
+    /// The range of a link definition in the text. Of a footnote's label, 0 and 0.
+    pub start: usize,
+    pub end: usize,
+    pub label: usize,
+    pub label_length: usize,
+    pub destination: usize,
+    pub destination_length: usize,
+    pub title: usize,
+    pub title_length: usize,
+    /// 1 for a definition with a title, which may be empty. Otherwise 0.
+    pub has_title: usize,
+}
