@@ -19,8 +19,8 @@ order_by old new start (Some n) boundary reads = λ at low o.
     footnote_keeps_order (source_text old) (reading_of old) (reading_of new) at start opened.index opened.opened low boundary.0 boundary
     (footnote_begun_none start opened.index (reading_of old)) o
 
-pub returns : goal.returns
-returns c =
+pub returns-clause-footnote : goal.returns-clause-footnote
+returns-clause-footnote c =
     let old : BlockPass = c.args.self.now.pass in
     let new : BlockPass = c.parse_footnote.new.self in
     let e = c.in_ok-size.ensures in
