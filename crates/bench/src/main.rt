@@ -1,10 +1,10 @@
 //! `bench [BITS [RUNS]]`: times the pass over the Markdown text on standard input.
 #![tactic(auto)]
 
+use first_pass_bench::bench::bench_run;
 use first_pass_host::exit::exit_code;
 use first_pass_host::fault::BlocksFault;
 use first_pass_host::words::words_of;
-use first_pass_program::bench::bench_run;
 use first_pass_timing::clock::HostClock;
 use std::alloc::Global;
 use std::process::ExitCode;

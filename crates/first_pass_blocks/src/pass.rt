@@ -6,7 +6,7 @@ ghost use Rattle.first_pass_grammar.specs.Leaves.{document};
 ghost use Rattle.first_pass_grammar.specs.Derivation.{no_tables, Derives, IsOnlyDerived};
 ghost use Rattle.first_pass_grammar.specs.Completion.{lines_from};
 ghost use Rattle.first_pass_grammar.specs.Kinds.{Paragraph, unindented, IsKind};
-ghost use Rattle.first_pass_grammar.specs.Counting.{filled_cells};
+ghost use Rattle.first_pass_grammar.specs.Counting.{filled_cells, own_nodes};
 ghost use Rattle.first_pass_grammar.specs.WholeTables.{AreWholeTables, HasWholeTables};
 ghost use Rattle.first_pass_grammar.specs.Order.{IsOrdered};
 ghost use Rattle.first_pass_grammar.specs.Names.{Names, AreNamed};
@@ -272,6 +272,7 @@ pub fn run_first_pass<'a>(
     ensures order { IfOk result (λ answer. IsOrdered text.now answer.0.nodes) }
     ensures few { IfOk result (λ answer.
         length answer.0.nodes ≤ 1 + 4 * length text.now + filled_cells answer.0.nodes) }
+    ensures own { IfOk result (λ answer. own_nodes answer.0.nodes ≤ 1 + 4 * length text.now) }
     ensures named { IfOk result (λ answer. AreNamed (names_of answer.1) answer.0.nodes) }
     ensures written { IfOk result (λ answer. AreWritten text.now (refdefs_of answer.1)) }
     ensures footnotes { IfOk result (λ answer. AreFootnotesWritten text.now (footdefs_of answer.1)) }

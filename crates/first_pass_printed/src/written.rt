@@ -10,6 +10,7 @@ use first_pass_host::fault::BlocksFault;
 use first_pass_host::output::write_each;
 use first_pass_items::item::Item;
 use first_pass_names::items::Allocations;
+use first_pass_tree::forest::Tree;
 use std::alloc::Global;
 use std::io::Write;
 
@@ -37,4 +38,17 @@ pub fn write_lines<W: Write>(
         |line, (label, link)| append_link(line, label, link),
         output,
     )
+}
+
+/// Writes the lines of a tree and its tables as `write_lines` does, and frees their memory.
+pub fn write_tree<W: Write>(
+    alloc: Global,
+    tree: Tree<Item>,
+    allocs: Allocations<'_>,
+    output: &mut W,
+) -> Result<(), BlocksFault>
+    ensures { WritesText (printed_lines (names_of allocs.entry) tree.nodes (tables_of allocs.entry))
+        (stream_between (W.contents output.old) (W.contents output.new)) result }
+{
+    write_lines(alloc, tree.nodes(), &allocs, output)
 }

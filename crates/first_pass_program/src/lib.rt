@@ -1,6 +1,4 @@
-//! The work of the programs: the run of `blocks`, and the timed runs of `bench`.
+//! The work of the program `blocks`.
 #![tactic(auto)]
 
-pub mod bench;
 pub mod run;
-pub mod timed;

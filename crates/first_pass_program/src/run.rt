@@ -7,7 +7,7 @@ ghost use Rattle.first_pass_program.specs.Runs.{IsPrinted};
 use first_pass_blocks::pass::run_first_pass;
 use first_pass_host::fault::BlocksFault;
 use first_pass_items::option_set::Options;
-use first_pass_printed::written::write_lines;
+use first_pass_printed::written::write_tree;
 use first_pass_run::report::{Report, run_report};
 use std::alloc::Global;
 use std::io::{Read, Write};
@@ -27,7 +27,7 @@ impl Report for PrintedBlocks {
         output: &mut W,
     ) -> Result<(), BlocksFault> {
         let (tree, allocs) = run_first_pass(alloc, text, options)?;
-        write_lines(alloc, tree.nodes(), &allocs, output)
+        write_tree(alloc, tree, allocs, output)
     }
 }
 

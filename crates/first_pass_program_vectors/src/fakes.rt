@@ -1,9 +1,9 @@
 //! A clock, a reader and a writer over memory that can fail.
 
+use first_pass_bench::bench::bench_run;
 use first_pass_host::fault::BlocksFault;
 use first_pass_json::run::tree_run;
 use first_pass_outline::run::outline_run;
-use first_pass_program::bench::bench_run;
 use first_pass_program::run::blocks_run;
 use first_pass_references::run::links_run;
 use first_pass_timing::clock::TimeSource;

@@ -2,6 +2,7 @@
 
 use crate::case::Case;
 use crate::outcome::Outcome;
+use first_pass_bench::bench::bench_run;
 use first_pass_blocks::pass::run_first_pass;
 use first_pass_host::fault::BlocksFault;
 use first_pass_host::option_word::parse_options;
@@ -9,7 +10,6 @@ use first_pass_host::words::words_of;
 use first_pass_json::run::tree_run;
 use first_pass_printed::links::append_link;
 use first_pass_printed::node::append_node;
-use first_pass_program::bench::bench_run;
 use first_pass_program::run::blocks_run;
 use first_pass_timing::clock::TimeSource;
 use std::alloc::{AllocError, Global};

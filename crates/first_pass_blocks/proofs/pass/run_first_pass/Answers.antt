@@ -131,14 +131,17 @@ returns-clause-order c =
     let here : IsReadTo text now n = closes (omega arith) last (subst (IsReadTo text read) same order) in
     ordered_whole text now.tree (reached now.empty_item n) (all_closed c) here.0.ordered
 
+pub returns-clause-own : goal.returns-clause-own
+returns-clause-own c =
+    let read = c.loop-ix.invariant.few in
+    let within = c.loop-ix.invariant.boundary.0 in
+    let closed = c.close_containers.ensures.kept.count in
+    omega arith
+
 pub returns-clause-few : goal.returns-clause-few
 returns-clause-few c =
-    let i = c.loop-ix.invariant in
-    let read = i.few in
-    let within = i.boundary.0 in
-    let closed = c.close_containers.ensures.kept.count in
-    let names = names_of c.loop-ix.pass.allocs in
-    let all = all_nodes names c.close_containers.new.reading.tree.nodes (returns-clause-whole c) in
+    let own = returns-clause-own c in
+    let all = all_nodes (names_of c.loop-ix.pass.allocs) c.close_containers.new.reading.tree.nodes (returns-clause-whole c) in
     omega arith
 
 pub returns-clause-named : goal.returns-clause-named

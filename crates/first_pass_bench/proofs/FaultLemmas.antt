@@ -5,7 +5,7 @@ use Rattle.first_pass_host.specs.declared.fault.BlocksFault.TheVariants.{OutOfMe
 use Rattle.first_pass_host.specs.Streams.{Stream, ReadsWhole}
 use Rattle.first_pass_timing.specs.declared.task.Task.{Task}
 use Rattle.first_pass_timing.specs.Task.{AskFor}
-use Rattle.first_pass_program.specs.Bench.{Leaves, LeavesText}
+use Rattle.first_pass_bench.specs.Bench.{Leaves, LeavesText}
 
 -- what a fault leaves of a text that was read to its end
 leaves_read : {A : Type 0} (words : List (String A)) (input clock output : Stream) (task : Task)

@@ -1,7 +1,7 @@
 use Rattle.std.proofs.Common.{◌-◌, ◌^◌}
-use Rattle.first_pass_program.specs.Bench.{CountsNodes}
+use Rattle.first_pass_bench.specs.Bench.{CountsNodes}
 use Rattle.first_pass_timing.proofs.RunLemmas.{SoFar}
-use Rattle.first_pass_program.proofs.timed.time_runs.Given as goal
+use Rattle.first_pass_bench.proofs.timed.time_runs.Given as goal
 
 -- the runs so far
 abbrev pub invariant-loop-alloc : goal.invariant-loop-alloc

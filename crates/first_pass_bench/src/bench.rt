@@ -3,7 +3,7 @@
 ghost use Rattle.std.specs.Prelude.{ℕ, List, OnOk, IfErr};
 ghost use Rattle.std.specs.Io.KnownBytes.{Appends};
 ghost use Rattle.first_pass_host.specs.Streams.{stream_between};
-ghost use Rattle.first_pass_program.specs.Bench.{IsReported, Leaves, LeavesText, WritesReport};
+ghost use Rattle.first_pass_bench.specs.Bench.{IsReported, Leaves, LeavesText, WritesReport};
 
 use crate::timed::time_runs;
 use first_pass_host::fault::BlocksFault;

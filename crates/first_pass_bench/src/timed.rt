@@ -2,7 +2,7 @@
 
 ghost use Rattle.std.specs.Prelude.{◌∷◌, [], IfOk, IfErr};
 ghost use Rattle.std.specs.Io.KnownBytes.{Consumes};
-ghost use Rattle.first_pass_program.specs.Bench.{CountsNodes};
+ghost use Rattle.first_pass_bench.specs.Bench.{CountsNodes};
 ghost use Rattle.first_pass_host.specs.Streams.{IsReadFault};
 ghost use Rattle.first_pass_timing.specs.Timing.{IsTimed};
 

@@ -1,7 +1,7 @@
 use Rattle.std.proofs.Common.{sym, subst}
-use Rattle.first_pass_program.specs.Bench.{CountsNodes}
+use Rattle.first_pass_bench.specs.Bench.{CountsNodes}
 use Rattle.first_pass_timing.proofs.RunLemmas.{all_runs, first_run, next_run}
-use Rattle.first_pass_program.proofs.timed.time_runs.Goals as goal
+use Rattle.first_pass_bench.proofs.timed.time_runs.Goals as goal
 
 pub loop-alloc-init : goal.loop-alloc-init
 loop-alloc-init g c = (first_run _ _ _ _ _ _ c.nanos.ensures c.in_ok-first.ensures.read, c.in_ok-first.ensures.nodes)

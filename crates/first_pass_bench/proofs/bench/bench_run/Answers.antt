@@ -1,7 +1,7 @@
 use Rattle.std.proofs.Common.{sym, subst}
 use Rattle.first_pass_host.specs.Streams.{ReadsWhole}
-use Rattle.first_pass_program.proofs.FaultLemmas.{if_leaves_read}
-use Rattle.first_pass_program.proofs.bench.bench_run.Goals as goal
+use Rattle.first_pass_bench.proofs.FaultLemmas.{if_leaves_read}
+use Rattle.first_pass_bench.proofs.bench.bench_run.Goals as goal
 
 pub returns-clause-fault : goal.returns-clause-fault
 returns-clause-fault g c =
