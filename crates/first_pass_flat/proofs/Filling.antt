@@ -1,10 +1,9 @@
 -- Records that are written from the last to the first.
-use Rattle.std.proofs.Common.{◌≡◌, ◌≢◌, ℕ, zero, suc, inl, inr, ◌+◌, ◌-◌, ◌<◌, ◌≤◌, ◌^◌, List, [], ◌∷◌, ◌++◌, length, take, drop, get_or, slice_get, Some, All, set, refl, sym, ap, subst, ◌∙◌, add-zero, length-append, length-set, drop-cons, arith}
+use Rattle.std.proofs.Common.{◌≡◌, ◌≢◌, ℕ, zero, suc, inl, inr, ◌+◌, ◌-◌, ◌<◌, ◌≤◌, List, [], ◌∷◌, ◌++◌, length, take, drop, get_or, slice_get, Some, All, set, refl, sym, ap, subst, ◌∙◌, add-zero, length-append, length-set, drop-cons, arith}
 use Rattle.std.specs.List.{flat_map}
 use Rattle.std.proofs.lemmas.Bool.{cases_eq}
 use Rattle.std.proofs.lemmas.Grind.{flat_map-append}
 use Rattle.std.proofs.lemmas.List.{append-nil, take_more, drop-set, drop_all, get_or-set_same, get_or-set_other, take_all}
-use Rattle.std.proofs.lemmas.List.Folds.{length-flat_map-take}
 use Rattle.std.proofs.lemmas.Option.{slice_get_within, get_or_from_slice_get, slice_get-get_or}
 use Rattle.first_pass_items.specs.declared.item.Item.{Item}
 use Rattle.first_pass_grammar.specs.Names.{Names}
@@ -253,10 +252,3 @@ pub record_long : (names : Names) (nodes : List (ℕ × Item)) (flat : List Flat
 record_long names nodes flat at before n next f h e next_is long all =
     long (drop at.node nodes) (next_is_so names nodes at before (get_or nodes (at.node - 1) n) _ next e next_is)
     (short_before names nodes flat at before (get_or nodes (at.node - 1) n) f e (here_before names nodes at before n h f.within e) all)
-
--- a node names at most the attributes of all
-pub attributes_fit : (names : Names) (nodes : List (ℕ × Item)) (at : FlatPlace) (n : ℕ × Item) (all : ℕ) → 0 < at.node → at.node ≤ length nodes
-    → all ≡ length (flat_map (attributes_by names) nodes) → all < 2 ^ 64 → length (attributes_by names (get_or nodes (at.node - 1) n)) < 2 ^ 64
-attributes_fit names nodes at n all h within is fits =
-    let part = length-flat_map-take (attributes_by names) nodes (at.node - 1) n (omega arith) in
-    omega arith

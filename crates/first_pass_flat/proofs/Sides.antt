@@ -1,11 +1,17 @@
 -- What stands beside the nodes, made one after the other.
-use Rattle.std.proofs.Common.{◌≡◌, ℕ, suc, ◌+◌, List, [], ◌∷◌, ◌++◌, length, map, refl, ap, ◌∙◌}
+use Rattle.std.proofs.Common.{◌≡◌, ℕ, suc, ◌+◌, false, Option, Some, None, List, [], ◌∷◌, ◌++◌, length, map, slice_get, unwrap_or, refl, sym, ap, ◌∙◌, arith}
+use Rattle.std.specs.Prelude.{is_some}
+use Rattle.std.specs.Option.{option_map}
+use Rattle.std.proofs.lemmas.Bool.{true≢false}
 use Rattle.std.specs.List.{flat_map}
+use Rattle.std.proofs.lemmas.Option.{slice_get_past}
+use Rattle.first_pass_items.specs.declared.item.HeadingIndex.{HeadingIndex}
 use Rattle.first_pass_items.specs.declared.item.Item.{Item}
+use Rattle.first_pass_attributes.specs.Attributes.{no_attributes}
 use Rattle.first_pass_grammar.specs.LinkTables.{LinkEntry}
 use Rattle.first_pass_grammar.specs.Names.{Names}
 use Rattle.first_pass_grammar.specs.Derivation.{Tables}
-use Rattle.first_pass_flat.specs.FlatAttributes.{attributes_by, attribute_bytes, flat_attributes}
+use Rattle.first_pass_flat.specs.FlatAttributes.{attributes_at, attributes_by, attribute_bytes, flat_attributes, heading_index, listed}
 use Rattle.first_pass_flat.specs.FlatDefinitions.{definition_bytes, entries_of, flat_definitions, label_entry}
 use Rattle.first_pass_flat.specs.FlatForm.{node_names, tree_names}
 use Rattle.first_pass_flat.specs.Appended.{AppendsAttributes, AppendsDefinitions}
@@ -13,6 +19,26 @@ use Rattle.first_pass_flat.specs.Side.{AreSideTables}
 use Rattle.first_pass_flat.specs.declared.attributes.NamedAttributes.{NamedAttributes}
 use Rattle.first_pass_flat.specs.declared.definitions.NamedDefinitions.{NamedDefinitions}
 use Rattle.first_pass_flat.proofs.Appending.{definitions_more}
+
+-- what comes of no value is none
+pub none_by : {X Y : Type 0} (f : X → Y) (o : Option X) (s : Option Y) → is_some o ≡ false → option_map f o ≡ s → s ≡ None
+none_by f None s none is = sym is
+none_by f (Some x) s none is = absurd (true≢false none)
+
+-- where a list has no first element it has none
+none_beyond : {X : Type 0} (xs : List X) (k : ℕ) → slice_get xs 0 ≡ None → slice_get xs k ≡ None
+none_beyond [] k none = slice_get_past [] k (omega arith)
+none_beyond (x ∷ xs) k none = cc
+
+none_at : (names : Names) (ix : Option HeadingIndex) → slice_get names.headings 0 ≡ None → attributes_at names ix ≡ []
+none_at names None none = refl
+none_at names (Some ix) none = ap (λ o. listed (unwrap_or o no_attributes)) (none_beyond names.headings ix.0 none)
+
+-- without an attribute block no node names an attribute
+pub no_attributes_named : (names : Names) (nodes : List (ℕ × Item)) → slice_get names.headings 0 ≡ None → flat_map (attributes_by names) nodes ≡ []
+no_attributes_named names [] none = refl
+no_attributes_named names (x ∷ nodes) none =
+    ap (λ l. l ++ flat_map (attributes_by names) nodes) (none_at names (heading_index x.1.body) none) ∙ no_attributes_named names nodes none
 
 definitions_counted : (at : ℕ) (es : List LinkEntry) → length (flat_definitions at es) ≡ length es
 unfolding flat_definitions

@@ -53,6 +53,9 @@ impl NamedAttributes {
         ensures { OnOk result (AppendsAttributes self.old self.new
             (flat_map (attributes_by (names_of allocs.now)) nodes.now)) }
     {
+        if allocs.attributes_at(HeadingIndex(0)).is_none() {
+            return Ok(());
+        }
         for node in nodes {
             self.append_heading(node.1.body, allocs)?;
         }
@@ -180,11 +183,12 @@ fn heading_index(body: ItemBody) -> Option<HeadingIndex>
 }
 
 /// How many attributes a heading has that names them, and 0 of any other node.
-pub(crate) fn attribute_count(body: ItemBody, allocs: &Allocations<'_>) -> usize
-    requires { length (attributes_of (names_of allocs.now) body) < 2 ^ 64 }
-    ensures { result ≡ length (attributes_of (names_of allocs.now) body) }
+#[inline(never)]
+pub(crate) fn attribute_count(body: &ItemBody, allocs: &Allocations<'_>) -> usize
+    requires { length (attributes_of (names_of allocs.now) body.now) < 2 ^ 64 }
+    ensures { result ≡ length (attributes_of (names_of allocs.now) body.now) }
 {
-    match heading_index(body) {
+    match heading_index(*body) {
         None => 0,
         Some(ix) => count_of(allocs.attributes_at(ix)),
     }

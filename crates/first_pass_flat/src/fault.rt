@@ -1,6 +1,6 @@
 //! Numbers of 32 bits, and records that are appended.
 
-ghost use Rattle.std.specs.Prelude.{◌≡◌, ◌≤◌, ◌^◌, ◌++◌, ◌∷◌, [], IfOk, IfErr, OnOk};
+ghost use Rattle.std.specs.Prelude.{◌≡◌, ◌≤◌, ◌<◌, ◌^◌, ◌++◌, ◌∷◌, [], OnOk};
 
 use std::alloc::AllocError;
 
@@ -8,17 +8,14 @@ use std::alloc::AllocError;
 #[derive(Clone, Copy, Debug)]
 pub struct TooLong;
 
-/// The number in 32 bits. The one error is that it takes more.
+/// A number that takes at most 32 bits if, and only if, both numbers do.
 #[inline(always)]
-pub(crate) fn word(number: usize) -> Result<u32, TooLong>
-    ensures value { IfOk result (λ n. n ≡ number) }
-    ensures long { IfErr result (λ _. 2 ^ 32 ≤ number) }
+pub(crate) fn as_long_as_both(one: usize, other: usize) -> usize
+    ensures one { one ≤ result }
+    ensures other { other ≤ result }
+    ensures short { one < 2 ^ 32 → other < 2 ^ 32 → result < 2 ^ 32 }
 {
-    if number <= 0xffff_ffff {
-        Ok(number as u32)
-    } else {
-        Err(TooLong)
-    }
+    one | other
 }
 
 /// Appends a record. The one error is that a request for memory was refused; then nothing changes.

@@ -1,7 +1,7 @@
 //! What a node is, as numbers.
 
 ghost use Rattle.std.specs.Prelude.{◌≡◌};
-ghost use Rattle.first_pass_flat.specs.Kinds.{alignment_byte, kind_number, metadata_number, of_first, of_flags, of_number, quote_number, token_values, values_of};
+ghost use Rattle.first_pass_flat.specs.Kinds.{alignment_byte, kind_number, metadata_number, of_first, of_flags, of_number, quote_number, values_of};
 
 use bitflags::Flags;
 use first_pass_items::item::{Alignment, BlockQuoteKind, ItemBody, MetadataBlockKind};
@@ -38,6 +38,17 @@ impl FlatValues {
         }
     }
 
+    fn of_small(first: u8, second: u8, third: u8) -> FlatValues
+        ensures { result ≡ record { number = 0; first = first; second = second; third = third } }
+    {
+        FlatValues {
+            number: 0,
+            first,
+            second,
+            third,
+        }
+    }
+
     fn of_flags(number: u64, first: bool, second: bool) -> FlatValues
         ensures { result ≡ of_flags number first second }
     {
@@ -51,16 +62,14 @@ impl FlatValues {
 }
 
 /// The values that the kind of a node has, all 0 for a kind that has none.
-pub fn values_of(body: ItemBody) -> FlatValues
-    ensures { result ≡ values_of body }
+#[inline(always)]
+pub fn values_of(body: &ItemBody) -> FlatValues
+    ensures { result ≡ values_of body.now }
 {
-    match body {
-        ItemBody::Heading(level, attributes) => FlatValues {
-            number: 0,
-            first: level as u8,
-            second: u8::from(attributes.is_some()),
-            third: 0,
-        },
+    match *body {
+        ItemBody::Heading(level, attributes) => {
+            FlatValues::of_small(level as u8, u8::from(attributes.is_some()), 0)
+        }
         ItemBody::BlockQuote(kind) => FlatValues::of_first(quote_number(kind)),
         ItemBody::List(flags, byte, number) => FlatValues {
             number,
@@ -72,15 +81,6 @@ pub fn values_of(body: ItemBody) -> FlatValues
         ItemBody::MetadataBlock(kind) => FlatValues::of_first(metadata_number(kind)),
         ItemBody::DefinitionList(flags) => FlatValues::of_first(flags.bits()),
         ItemBody::DefinitionListDefinition(columns) => FlatValues::of_number(columns as u64),
-        _ => token_values(body),
-    }
-}
-
-// The values that the kind of a token has, all 0 for a kind that has none.
-fn token_values(body: ItemBody) -> FlatValues
-    ensures { result ≡ token_values body }
-{
-    match body {
         ItemBody::Text { backslash_escaped } => FlatValues::of_first(u8::from(backslash_escaped)),
         ItemBody::HardBreak(by_backslash) => FlatValues::of_first(u8::from(by_backslash)),
         ItemBody::MaybeEmphasis(left, can_open, can_close) => {
@@ -89,12 +89,9 @@ fn token_values(body: ItemBody) -> FlatValues
         ItemBody::MaybeMath(can_open, can_close, context) => {
             FlatValues::of_flags(u64::from(context), can_open, can_close)
         }
-        ItemBody::MaybeSmartQuote(byte, can_open, can_close) => FlatValues {
-            number: 0,
-            first: u8::from(can_open),
-            second: byte,
-            third: u8::from(can_close),
-        },
+        ItemBody::MaybeSmartQuote(byte, can_open, can_close) => {
+            FlatValues::of_small(u8::from(can_open), byte, u8::from(can_close))
+        }
         ItemBody::MaybeCode(count, escaped) => {
             FlatValues::of_flags(count as u64, escaped, false)
         }
@@ -142,10 +139,10 @@ pub fn alignment_byte(alignment: Alignment) -> u8
 }
 
 /// The number of a kind: 0 for the root to 35 for the marker of a task list item.
-pub fn kind_number(body: ItemBody) -> u8
-    ensures { result ≡ kind_number body }
+pub fn kind_number(body: &ItemBody) -> u8
+    ensures { result ≡ kind_number body.now }
 {
-    match body {
+    match *body {
         ItemBody::Root => 0,
         ItemBody::Paragraph => 1,
         ItemBody::TightParagraph => 2,

@@ -41,20 +41,39 @@ pub(crate) fn append_names(
     ensures { OnOk result (names.new.items ≡ names.old.items ++ flat_map (name_by (names_of allocs.now)) nodes.now) }
 {
     for node in nodes {
-        append_name(names, node.1.body, allocs)?;
+        append_name(names, &node.1.body, allocs)?;
     }
     Ok(())
 }
 
 // Appends the bytes that a node names, if it names any.
+#[inline(always)]
 fn append_name(
     names: &mut Vec<u8>,
-    body: ItemBody,
+    body: &ItemBody,
     allocs: &Allocations<'_>,
 ) -> Result<(), AllocError>
-    ensures { OnOk result (names.new.items ≡ names.old.items ++ name_of (names_of allocs.now) body) }
+    ensures { OnOk result (names.new.items ≡ names.old.items ++ name_of (names_of allocs.now) body.now) }
 {
-    match body {
+    match *body {
+        ItemBody::FencedCodeBlock(_)
+        | ItemBody::FootnoteDefinition(_)
+        | ItemBody::SynthesizeText(_)
+        | ItemBody::Table(_) => append_named(names, body, allocs),
+        _ => Ok(()),
+    }
+}
+
+// The same out of line: few nodes name bytes.
+#[inline(never)]
+fn append_named(
+    names: &mut Vec<u8>,
+    body: &ItemBody,
+    allocs: &Allocations<'_>,
+) -> Result<(), AllocError>
+    ensures { OnOk result (names.new.items ≡ names.old.items ++ name_of (names_of allocs.now) body.now) }
+{
+    match *body {
         ItemBody::FencedCodeBlock(ix) => names.extend_from_slice(allocs.text_at(ix).as_bytes()),
         ItemBody::FootnoteDefinition(ix) => names.extend_from_slice(allocs.text_at(ix).as_bytes()),
         ItemBody::SynthesizeText(ix) => names.extend_from_slice(allocs.text_at(ix).as_bytes()),
@@ -74,10 +93,11 @@ fn append_alignments(names: &mut Vec<u8>, alignments: &[Alignment]) -> Result<()
 }
 
 /// How many bytes a node names.
-pub(crate) fn name_length(body: ItemBody, allocs: &Allocations<'_>) -> usize
-    ensures { result ≡ length (name_of (names_of allocs.now) body) }
+#[inline(never)]
+pub(crate) fn name_length(body: &ItemBody, allocs: &Allocations<'_>) -> usize
+    ensures { result ≡ length (name_of (names_of allocs.now) body.now) }
 {
-    match body {
+    match *body {
         ItemBody::FencedCodeBlock(ix) => allocs.text_at(ix).len(),
         ItemBody::FootnoteDefinition(ix) => allocs.text_at(ix).len(),
         ItemBody::SynthesizeText(ix) => allocs.text_at(ix).len(),

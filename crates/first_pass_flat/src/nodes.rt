@@ -1,6 +1,6 @@
 //! The nodes of the flat form.
 
-ghost use Rattle.std.specs.Prelude.{◌≡◌, ◌≤◌, ◌<◌, ◌+◌, ◌^◌, ℕ, List, length, drop, All, IfOk, IfErr, IsErr, OnOk};
+ghost use Rattle.std.specs.Prelude.{◌≡◌, ◌≤◌, ◌<◌, ◌+◌, ℕ, List, length, drop, All, IfOk, IfErr, IsErr, OnOk};
 ghost use Rattle.std.specs.List.{flat_map};
 ghost use Rattle.first_pass_items.specs.declared.item.Item.{Item};
 ghost use Rattle.first_pass_names.specs.TableEntries.{names_of};
@@ -10,7 +10,7 @@ ghost use Rattle.first_pass_flat.specs.FlatNodes.{IsShort, deeper_before, first_
 ghost use Rattle.first_pass_flat.specs.Linked.{AreLinked};
 
 use crate::attributes::attribute_count;
-use crate::fault::{TooLong, word};
+use crate::fault::{TooLong, as_long_as_both};
 use crate::kinds::{kind_number, values_of};
 use crate::names::name_length;
 use crate::records::FlatNode;
@@ -29,6 +29,7 @@ pub struct FlatPlace {
 
 /// Writes the nodes of a tree, each in its place. `side` is what stands beside them. The one error is that a number
 /// takes more than 32 bits; then some nodes may be written.
+#[inline(never)]
 pub fn fill_nodes(
     nodes: &[(usize, Item)],
     allocs: &Allocations<'_>,
@@ -48,10 +49,11 @@ pub fn fill_nodes(
         attribute: side.attributes.len(),
     };
     while 0 < place.node {
-        let (depth, item) = nodes[place.node - 1];
-        let next = next_place(nodes, flat, depth, place.node);
-        place = place_before(place, item.body, allocs);
-        flat[place.node] = flat_node(place, (depth, item), next, allocs)?;
+        let node = &nodes[place.node - 1];
+        let next = next_place(nodes, flat, node.0, place.node);
+        let after = place;
+        place = place_before(after, &node.1.body, allocs);
+        flat[place.node] = flat_node((place, after), node, next, allocs)?;
     }
     Ok(())
 }
@@ -73,44 +75,67 @@ fn next_place(nodes: &[(usize, Item)], flat: &[FlatNode], depth: usize, from: us
 }
 
 // The place of a node, by the place after it.
-fn place_before(after: FlatPlace, body: ItemBody, allocs: &Allocations<'_>) -> FlatPlace
+#[inline(always)]
+fn place_before(after: FlatPlace, body: &ItemBody, allocs: &Allocations<'_>) -> FlatPlace
     requires node { 0 < after.node }
-    requires name { length (name_of (names_of allocs.now) body) ≤ after.name }
-    requires attribute { length (attributes_of (names_of allocs.now) body) ≤ after.attribute }
-    ensures { after ≡ place_after (names_of allocs.now) body result }
+    requires name { length (name_of (names_of allocs.now) body.now) ≤ after.name }
+    requires attribute { length (attributes_of (names_of allocs.now) body.now) ≤ after.attribute }
+    ensures { after ≡ place_after (names_of allocs.now) body.now result }
 {
-    FlatPlace {
-        node: after.node - 1,
-        name: after.name - name_length(body, allocs),
-        attribute: after.attribute - attribute_count(body, allocs),
+    match *body {
+        ItemBody::Heading(..)
+        | ItemBody::FencedCodeBlock(_)
+        | ItemBody::FootnoteDefinition(_)
+        | ItemBody::SynthesizeText(_)
+        | ItemBody::Table(_) => FlatPlace {
+            node: after.node - 1,
+            name: after.name - name_length(body, allocs),
+            attribute: after.attribute - attribute_count(body, allocs),
+        },
+        _ => FlatPlace {
+            node: after.node - 1,
+            name: after.name,
+            attribute: after.attribute,
+        },
     }
 }
 
-// The record of a node at a place. The one error is that a number takes more than 32 bits.
+// The record of a node, by its place and the place after it. The one error is that a number takes more than 32 bits.
+#[inline(always)]
 fn flat_node(
-    place: FlatPlace,
-    node: (usize, Item),
+    places: (FlatPlace, FlatPlace),
+    node: &(usize, Item),
     next: usize,
     allocs: &Allocations<'_>,
 ) -> Result<FlatNode, TooLong>
-    requires { length (attributes_of (names_of allocs.now) node.1.body) < 2 ^ 64 }
-    ensures value { IfOk result (λ r. (later : List (ℕ × Item)) → next ≡ (place.node + 1) + deeper_before node.0 later
-        → r ≡ flat_node (names_of allocs.now) place node later) }
-    ensures long { IfErr result (λ _. (later : List (ℕ × Item)) → next ≡ (place.node + 1) + deeper_before node.0 later
-        → IsShort (flat_node (names_of allocs.now) place node later) → ⊥) }
+    requires { places.1 ≡ place_after (names_of allocs.now) node.now.1.body places.0 }
+    ensures value { IfOk result (λ r. (later : List (ℕ × Item))
+        → next ≡ (places.0.node + 1) + deeper_before node.now.0 later
+        → r ≡ flat_node (names_of allocs.now) places.0 node.now later) }
+    ensures long { IfErr result (λ _. (later : List (ℕ × Item))
+        → next ≡ (places.0.node + 1) + deeper_before node.now.0 later
+        → IsShort (flat_node (names_of allocs.now) places.0 node.now later) → ⊥) }
 {
-    let (depth, item) = node;
-    let values = values_of(item.body);
-    let named = named_range(place, item.body, allocs);
+    let depth = node.0;
+    let item = &node.1;
+    let values = values_of(&item.body);
+    let named = named_range(places, &item.body, allocs);
+    let number = values.number as usize;
+    let range = as_long_as_both(item.start, item.end);
+    let links = as_long_as_both(depth, next);
+    let names = as_long_as_both(as_long_as_both(named.0, named.1), number);
+    if as_long_as_both(as_long_as_both(range, links), names) > 0xffff_ffff {
+        return Err(TooLong);
+    }
     Ok(FlatNode {
-        start: word(item.start)?,
-        end: word(item.end)?,
-        depth: word(depth)?,
-        next: word(next)?,
-        name: word(named.0)?,
-        name_length: word(named.1)?,
-        number: word(values.number as usize)?,
-        kind: kind_number(item.body),
+        start: item.start as u32,
+        end: item.end as u32,
+        depth: depth as u32,
+        next: next as u32,
+        name: named.0 as u32,
+        name_length: named.1 as u32,
+        number: number as u32,
+        kind: kind_number(&item.body),
         first: values.first,
         second: values.second,
         third: values.third,
@@ -118,14 +143,20 @@ fn flat_node(
 }
 
 // The range in the names of what a node names, or that in the attributes of a heading: where it begins, and its
-// length.
-fn named_range(place: FlatPlace, body: ItemBody, allocs: &Allocations<'_>) -> (usize, usize)
-    requires { length (attributes_of (names_of allocs.now) body) < 2 ^ 64 }
-    ensures start { result.0 ≡ named_at place body }
-    ensures count { result.1 ≡ named_length (names_of allocs.now) body }
+// length. It ends at the place after the node.
+#[inline(always)]
+fn named_range(
+    places: (FlatPlace, FlatPlace),
+    body: &ItemBody,
+    allocs: &Allocations<'_>,
+) -> (usize, usize)
+    requires { places.1 ≡ place_after (names_of allocs.now) body.now places.0 }
+    ensures start { result.0 ≡ named_at places.0 body.now }
+    ensures count { result.1 ≡ named_length (names_of allocs.now) body.now }
 {
-    match body {
-        ItemBody::Heading(..) => (place.attribute, attribute_count(body, allocs)),
-        _ => (place.name, name_length(body, allocs)),
+    let (place, after) = places;
+    match *body {
+        ItemBody::Heading(..) => (place.attribute, after.attribute - place.attribute),
+        _ => (place.name, after.name - place.name),
     }
 }

@@ -1,6 +1,6 @@
-use Rattle.std.proofs.Common.{refl, ◌∙◌, arith}
+use Rattle.std.proofs.Common.{refl, ◌∙◌}
 use Rattle.first_pass_names.specs.TableEntries.{names_of}
-use Rattle.first_pass_flat.proofs.Filling.{none_filled, record_written, record_long, attributes_fit}
+use Rattle.first_pass_flat.proofs.Filling.{none_filled, record_written, record_long}
 use Rattle.first_pass_flat.proofs.nodes.fill_nodes.Goals as goal
 
 pub loop-place-init : goal.loop-place-init
@@ -8,9 +8,7 @@ loop-place-init c =
     none_filled _ _ _ _ c.requires.room refl c.requires.names (c.len.ensures ∙ c.args.side.now.attributes.ok.0 ∙ c.requires.attributes)
 
 pub flat_node-requires : goal.flat_node-requires
-flat_node-requires c =
-    attributes_fit (names_of c.args.allocs.now) c.args.nodes.now c.loop-place.place _ c.len.result c.loop-place-test.true c.loop-place.invariant.within
-    (c.len.ensures ∙ c.args.side.now.attributes.ok.0 ∙ c.requires.attributes) (omega (arith, c.len.type_inv))
+flat_node-requires c = c.place_before-place.ensures
 
 pub returns-in_err-flat-clause-long : goal.returns-in_err-flat-clause-long
 returns-in_err-flat-clause-long c failed all =

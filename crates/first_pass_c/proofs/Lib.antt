@@ -1,0 +1,3 @@
+mod Bits
+mod Counts
+mod Readings

@@ -1,0 +1,5 @@
+pub mod Memory
+pub mod Statuses
+pub mod Parsed
+pub mod Reading
+pub mod Folding

@@ -1,0 +1,93 @@
+//! The block pass for other languages: two calls that fill memory of their caller.
+#![tactic(auto)]
+
+ghost use Rattle.std.specs.Prelude.{◌≡◌, ◌≢◌, ◌≤◌, IsUtf8};
+ghost use Rattle.first_pass_c.specs.Folding.{HasNoRoomFor, IsFolded};
+ghost use Rattle.first_pass_c.specs.Reading.{AreKnown, IsNotUtf8, IsRead, IsReadable, IsTooLong, IsTooSmall};
+ghost use Rattle.first_pass_c.specs.Memory.{memory};
+
+pub mod copying;
+pub mod fault;
+pub mod folding;
+pub mod reading;
+#[cfg(test)]
+mod tests;
+
+use crate::fault::{Fault, status_of};
+use crate::folding::fold_into;
+use crate::reading::{FlatCounts, read_text, write_into};
+use first_pass_flat::records::{FlatAttribute, FlatDefinition, FlatNode};
+use std::alloc::Global;
+
+/// Reads the blocks of a text under the options with these bits. At status 0 the flat form of the tree and of its
+/// tables stands at the beginning of the four arrays, and `counts` says how much of each it takes. What comes after it
+/// in an array is as before.
+///
+/// The statuses, in the order in which they are found: 3, a bit is that of no option; 2, the text is not UTF-8; 5, the
+/// text has 2^32 bytes or more; 1, a request for memory was refused; 4, an array is too short, and `counts` says how
+/// long each has to be; 5, a number of a node takes more than 32 bits. At statuses 4 and 5 an array may be written.
+#[unsafe(no_mangle)]
+pub extern "C" fn first_pass_read(
+    alloc: Global,
+    text: &[u8],
+    bits: u32,
+    nodes: &mut [FlatNode],
+    attributes: &mut [FlatAttribute],
+    definitions: &mut [FlatDefinition],
+    names: &mut [u8],
+    counts: &mut FlatCounts,
+) -> u32
+    ensures read { result ≡ 0 → IsRead text.now bits (memory nodes.old attributes.old definitions.old names.old)
+        (memory nodes.new attributes.new definitions.new names.new) counts.new }
+    ensures out_of_memory { result ≡ 1 → IsReadable text.now bits }
+    ensures not_utf8 { result ≡ 2 → IsNotUtf8 text.now bits }
+    ensures bad_options { result ≡ 3 → AreKnown bits → ⊥ }
+    ensures too_small { result ≡ 4
+        → IsTooSmall text.now bits (memory nodes.old attributes.old definitions.old names.old) counts.new }
+    ensures too_long { result ≡ 5 → IsTooLong text.now bits }
+    ensures status { result ≤ 5 }
+    ensures counted { result ≢ 0 → result ≢ 4 → counts.new ≡ counts.old }
+{
+    let parsed = match read_text(alloc, text, bits) {
+        Ok(parsed) => parsed,
+        Err(fault) => return status_of(fault),
+    };
+    match write_into(&parsed, nodes, attributes, definitions, names) {
+        Ok(()) => {
+            *counts = parsed.counts();
+            0
+        }
+        Err(fault) => {
+            if let Fault::TooSmall = fault {
+                *counts = parsed.counts();
+            }
+            status_of(fault)
+        }
+    }
+}
+
+/// Folds a label: with full default case folding applied, as labels match. At status 0 the folding stands at the
+/// beginning of `folded`, and `folded_length` is its length. What comes after it is as before.
+///
+/// The statuses, in the order in which they are found: 2, the label is not UTF-8; 1, a request for memory was refused;
+/// 4, `folded` is too short, and `folded_length` says how long it has to be.
+#[unsafe(no_mangle)]
+pub extern "C" fn first_pass_fold(
+    alloc: Global,
+    label: &[u8],
+    folded: &mut [u8],
+    folded_length: &mut usize,
+) -> u32
+    ensures folded { result ≡ 0 → IsFolded label.now folded.old folded.new folded_length.new }
+    ensures out_of_memory { result ≡ 1 → IsUtf8 label.now }
+    ensures not_utf8 { result ≡ 2 → IsUtf8 label.now → ⊥ }
+    ensures too_small { result ≡ 4 → HasNoRoomFor label.now folded.old folded_length.new }
+    ensures status { result ≤ 4 }
+    ensures no_options { result ≢ 3 }
+    ensures counted { result ≢ 0 → result ≢ 4 → folded_length.new ≡ folded_length.old }
+{
+    match fold_into(alloc, label, folded, folded_length) {
+        Ok(()) => 0,
+        Err(fault) => status_of(fault),
+    }
+}

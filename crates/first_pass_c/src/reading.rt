@@ -1,0 +1,120 @@
+//! A text read, and its flat form written into memory of the caller.
+
+ghost use Rattle.std.specs.Prelude.{◌≡◌, IfErr, IfOk, IfSome, IsNone, OnOk};
+ghost use Rattle.first_pass_c.specs.Memory.{memory};
+ghost use Rattle.first_pass_c.specs.Parsed.{IsParsed, HasSides, form_of};
+ghost use Rattle.first_pass_c.specs.Reading.{AreKnown, IsWritten, ReadLeaves, WriteLeaves, counts_of};
+
+use crate::copying::copy_into;
+use crate::fault::Fault;
+use bitflags::Flags;
+use first_pass_blocks::pass::run_first_pass;
+use first_pass_flat::nodes::fill_nodes;
+use first_pass_flat::records::{FlatAttribute, FlatDefinition, FlatNode};
+use first_pass_flat::side::{SideTables, side_tables};
+use first_pass_items::item::Item;
+use first_pass_items::option_set::Options;
+use first_pass_names::items::Allocations;
+use first_pass_tree::forest::Tree;
+use std::alloc::Global;
+use std::str;
+
+// How many bytes a text has at most: each of its offsets takes 32 bits.
+const LONGEST_TEXT: usize = 0xffff_ffff;
+
+/// How much of each array a flat form takes, and how many of the definitions are link definitions.
+#[repr(C)]
+#[derive(Clone, Copy)]
+pub struct FlatCounts {
+    pub nodes: usize,
+    pub attributes: usize,
+    /// The link definitions, and after them the labels of footnotes.
+    pub definitions: usize,
+    pub links: usize,
+    /// Bytes.
+    pub names: usize,
+}
+
+/// A tree with its tables, and what stands beside the nodes of their flat form.
+#[derive(Drop)]
+pub(crate) struct Parsed<'a> {
+    pub tree: Tree<Item>,
+    pub allocs: Allocations<'a>,
+    pub side: SideTables,
+}
+
+impl<'a> Parsed<'a> {
+    /// How much of each array the flat form takes.
+    pub(crate) fn counts(&self) -> FlatCounts
+        requires { HasSides self.now }
+        ensures { result ≡ counts_of (form_of self.now) }
+    {
+        FlatCounts {
+            nodes: self.tree.nodes().len(),
+            attributes: self.side.attributes.len(),
+            definitions: self.side.definitions.len(),
+            links: self.side.links,
+            names: self.side.names.len(),
+        }
+    }
+}
+
+/// Reads the blocks of a text under the options with these bits.
+pub(crate) fn read_text(alloc: Global, text: &[u8], bits: u32) -> Result<Parsed<'_>, Fault>
+    ensures ok { IfOk result (λ parsed. IsParsed text.now bits parsed) }
+    ensures fault { IfErr result (λ fault. ReadLeaves fault text.now bits) }
+{
+    let Some(options) = options_of(bits) else {
+        return Err(Fault::BadOptions);
+    };
+    let Ok(text) = str::from_utf8(text) else {
+        return Err(Fault::NotUtf8);
+    };
+    if text.len() > LONGEST_TEXT {
+        return Err(Fault::TooLong);
+    }
+    let (tree, allocs) = run_first_pass(alloc, text, options)?;
+    let side = side_tables(alloc, tree.nodes(), &allocs)?;
+    Ok(Parsed { tree, allocs, side })
+}
+
+// The options with these bits, or `None` if a bit is that of no option.
+fn options_of(bits: u32) -> Option<Options>
+    ensures some { IfSome result (λ options. options.0 ≡ bits) }
+    ensures known { IfSome result (λ options. AreKnown bits) }
+    ensures none { IsNone result → AreKnown bits → ⊥ }
+{
+    Options::from_bits(bits)
+}
+
+/// Writes a flat form to the beginnings of four arrays. A fault is `TooSmall`, and then nothing is written, or
+/// `TooLong`.
+pub(crate) fn write_into(
+    parsed: &Parsed<'_>,
+    nodes: &mut [FlatNode],
+    attributes: &mut [FlatAttribute],
+    definitions: &mut [FlatDefinition],
+    names: &mut [u8],
+) -> Result<(), Fault>
+    requires { HasSides parsed.now }
+    ensures ok { OnOk result (IsWritten (form_of parsed.now)
+        (memory nodes.old attributes.old definitions.old names.old)
+        (memory nodes.new attributes.new definitions.new names.new)) }
+    ensures fault { IfErr result (λ fault. WriteLeaves fault (form_of parsed.now)
+        (memory nodes.old attributes.old definitions.old names.old)) }
+{
+    let needed = parsed.counts();
+    if nodes.len() < needed.nodes
+        || attributes.len() < needed.attributes
+        || definitions.len() < needed.definitions
+        || names.len() < needed.names
+    {
+        return Err(Fault::TooSmall);
+    }
+    let tree = parsed.tree.nodes();
+    fill_nodes(tree, &parsed.allocs, &parsed.side, &mut nodes[..tree.len()])?;
+    copy_into(parsed.side.attributes.as_slice(), attributes);
+    copy_into(parsed.side.definitions.as_slice(), definitions);
+    copy_into(parsed.side.names.as_slice(), names);
+    Ok(())
+}

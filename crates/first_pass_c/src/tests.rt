@@ -1,0 +1,164 @@
+//! The two calls, as C makes them.
+
+use crate::reading::FlatCounts;
+use crate::{first_pass_fold, first_pass_read};
+use first_pass_flat::records::{FlatAttribute, FlatDefinition, FlatNode};
+use std::alloc::Global;
+use std::test::Fail;
+
+const NODE: FlatNode = FlatNode {
+    start: 0,
+    end: 0,
+    depth: 0,
+    next: 0,
+    name: 0,
+    name_length: 0,
+    number: 0,
+    kind: 99,
+    first: 0,
+    second: 0,
+    third: 0,
+};
+
+const ATTRIBUTE: FlatAttribute = FlatAttribute {
+    name: 0,
+    name_length: 0,
+    value: 0,
+    value_length: 0,
+    has_value: 0,
+    kind: 99,
+};
+
+const DEFINITION: FlatDefinition = FlatDefinition {
+    start: 99,
+    end: 0,
+    label: 0,
+    label_length: 0,
+    destination: 0,
+    destination_length: 0,
+    title: 0,
+    title_length: 0,
+    has_title: 0,
+};
+
+const COUNTS: FlatCounts = FlatCounts {
+    nodes: 99,
+    attributes: 0,
+    definitions: 0,
+    links: 0,
+    names: 0,
+};
+
+// A heading with an id, a class and a key, fenced code, a link definition and a footnote: 8 nodes, 3 attributes, 2
+// definitions and 13 bytes of names.
+const TEXT: &[u8] = b"# a {#i .c k=v}\n~~~ x&copy;\nb\n~~~\n[L]: /u 't'\n\n[^f]: g\n";
+
+// Footnotes and heading attributes.
+const OPTIONS: u32 = 68;
+
+#[test]
+fn a_text_is_read_whole(rt: HostRuntime) -> Result<(), Fail> {
+    let mut nodes = [NODE; 9];
+    let mut attributes = [ATTRIBUTE; 4];
+    let mut definitions = [DEFINITION; 3];
+    let mut names = [b'?'; 14];
+    let mut counts = COUNTS;
+    let status = first_pass_read(
+        rt.alloc(),
+        TEXT,
+        OPTIONS,
+        &mut nodes,
+        &mut attributes,
+        &mut definitions,
+        &mut names,
+        &mut counts,
+    );
+    assert!(rt; status == 0);
+    assert!(rt; counts.nodes == 8 && counts.attributes == 3 && counts.definitions == 2);
+    assert!(rt; counts.links == 1 && counts.names == 13);
+    assert!(rt; nodes[1].kind == 4 && nodes[1].next == 3 && nodes[1].name_length == 3);
+    assert!(rt; nodes[3].kind == 5 && nodes[3].start == 16 && nodes[3].end == 33);
+    assert!(rt; nodes[7].depth == 3 && nodes[7].start == 53 && nodes[8].kind == 99);
+    assert!(rt; attributes[0].kind == 0 && attributes[1].kind == 1 && attributes[2].kind == 2);
+    assert!(rt; attributes[2].value == 7 && attributes[3].kind == 99);
+    assert!(rt; definitions[0].start == 34 && definitions[0].title_length == 1);
+    assert!(rt; definitions[1].label == 12 && definitions[2].start == 99);
+    assert!(rt; names.as_slice() == "x\u{a9}fickvL/utf?".as_bytes());
+    Ok(())
+}
+
+// The status of a reading with this room, and what its counts say.
+fn read_within(alloc: Global, text: &[u8], bits: u32, room: [usize; 4]) -> (u32, FlatCounts) {
+    let mut nodes = [NODE; 9];
+    let mut attributes = [ATTRIBUTE; 4];
+    let mut definitions = [DEFINITION; 3];
+    let mut names = [b'?'; 14];
+    let mut counts = COUNTS;
+    let status = first_pass_read(
+        alloc,
+        text,
+        bits,
+        &mut nodes[..room[0].min(9)],
+        &mut attributes[..room[1].min(4)],
+        &mut definitions[..room[2].min(3)],
+        &mut names[..room[3].min(14)],
+        &mut counts,
+    );
+    (status, counts)
+}
+
+#[test]
+fn room_that_is_just_enough_suffices(rt: HostRuntime) -> Result<(), Fail> {
+    let alloc = rt.alloc();
+    assert!(rt; read_within(alloc, TEXT, OPTIONS, [8, 3, 2, 13]).0 == 0);
+    let rooms = [[7, 3, 2, 13], [8, 2, 2, 13], [8, 3, 1, 13], [8, 3, 2, 12]];
+    for room in rooms {
+        let (status, counts) = read_within(alloc, TEXT, OPTIONS, room);
+        assert!(rt; status == 4);
+        assert!(rt; counts.nodes == 8 && counts.attributes == 3 && counts.definitions == 2);
+        assert!(rt; counts.links == 1 && counts.names == 13);
+    }
+    Ok(())
+}
+
+#[test]
+fn each_fault_has_its_status(rt: HostRuntime) -> Result<(), Fail> {
+    let alloc = rt.alloc();
+    let not_utf8 = read_within(alloc, b"\xff", OPTIONS, [8, 3, 2, 13]);
+    assert!(rt; not_utf8.0 == 2 && not_utf8.1.nodes == 99);
+    let bad_options = read_within(alloc, b"\xff", 1, [8, 3, 2, 13]);
+    assert!(rt; bad_options.0 == 3 && bad_options.1.nodes == 99);
+    assert!(rt; read_within(alloc, b"a", 65536, [8, 3, 2, 13]).0 == 3);
+    assert!(rt; read_within(alloc, b"", 65534, [1, 0, 0, 0]).0 == 0);
+    Ok(())
+}
+
+#[test]
+fn labels_are_folded(rt: HostRuntime) -> Result<(), Fail> {
+    let cases = [
+        ("", ""),
+        ("a [B]", "a [b]"),
+        ("\u{1e9e}", "ss"),
+        ("\u{130}", "i\u{307}"),
+    ];
+    for (label, folding) in cases {
+        let mut folded = [b'?'; 8];
+        let mut count = 99;
+        let status = first_pass_fold(rt.alloc(), label.as_bytes(), &mut folded, &mut count);
+        assert!(rt; status == 0 && count == folding.len());
+        assert!(rt; folded.starts_with(folding.as_bytes()) && folded[7] == b'?');
+    }
+    Ok(())
+}
+
+#[test]
+fn a_folding_takes_its_room(rt: HostRuntime) -> Result<(), Fail> {
+    let mut folded = [b'?'; 2];
+    let mut count = 99;
+    let alloc = rt.alloc();
+    assert!(rt; first_pass_fold(alloc, b"\xff", &mut folded, &mut count) == 2 && count == 99);
+    assert!(rt; first_pass_fold(alloc, "\u{1e9e}".as_bytes(), &mut folded, &mut count) == 0);
+    assert!(rt; &folded == b"ss" && count == 2);
+    assert!(rt; first_pass_fold(alloc, b"ABC", &mut folded, &mut count) == 4 && count == 3);
+    Ok(())
+}
