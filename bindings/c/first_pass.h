@@ -1,0 +1,382 @@
+/**
+ * @file first_pass.h
+ * @brief The blocks of a Markdown text, as a tree with byte ranges.
+ *
+ *     struct first_pass_tree *tree;
+ *     if (first_pass_parse(text, length, FIRST_PASS_OPT_ALL, NULL, &tree) == FIRST_PASS_OK) {
+ *         for (size_t i = 0; i < tree->node_count; i++) {
+ *             printf("%s %u..%u\n", first_pass_kind_name(tree->nodes[i].kind), tree->nodes[i].start,
+ *                    tree->nodes[i].end);
+ *         }
+ *         first_pass_tree_free(tree);
+ *     }
+ *
+ * A text is bytes of UTF-8. A tree holds no pointer into its text: a range is two offsets, counted in bytes. The text
+ * may be freed as soon as the call returns.
+ *
+ * first_pass_read() and first_pass_fold() are proved. The other calls are C over these two, and are tested.
+ *
+ * No call prints, ends the process or keeps state. Any number of calls may run at the same time, and a tree may be
+ * read in any number of threads. A call may not be made from a signal handler.
+ *
+ * Unless a call says otherwise, no pointer may be NULL.
+ */
+#ifndef FIRST_PASS_H
+#define FIRST_PASS_H
+
+#include <stddef.h>
+#include <stdint.h>
+
+/** The version of this header, as first_pass_version() has that of the library. */
+#define FIRST_PASS_VERSION_MAJOR 0
+#define FIRST_PASS_VERSION_MINOR 1 /**< see FIRST_PASS_VERSION_MAJOR */
+#define FIRST_PASS_VERSION_PATCH 0 /**< see FIRST_PASS_VERSION_MAJOR */
+
+/** Marks a call that the libraries export. */
+#if defined(__GNUC__)
+#define FIRST_PASS_API __attribute__((visibility("default")))
+#else
+#define FIRST_PASS_API
+#endif
+
+#ifdef __cplusplus
+extern "C" {
+#endif
+
+/** Options: which extensions of CommonMark are read. 0 reads none. Several are joined by `|`. */
+enum first_pass_option {
+    FIRST_PASS_OPT_TABLES = 1 << 1,
+    FIRST_PASS_OPT_FOOTNOTES = 1 << 2, /**< footnote definitions, as GitHub has them */
+    FIRST_PASS_OPT_STRIKETHROUGH = 1 << 3,
+    FIRST_PASS_OPT_TASKLISTS = 1 << 4,
+    FIRST_PASS_OPT_SMART_PUNCTUATION = 1 << 5,
+    FIRST_PASS_OPT_HEADING_ATTRIBUTES = 1 << 6,
+    FIRST_PASS_OPT_YAML_STYLE_METADATA_BLOCKS = 1 << 7,
+    FIRST_PASS_OPT_PLUSES_DELIMITED_METADATA_BLOCKS = 1 << 8,
+    FIRST_PASS_OPT_OLD_FOOTNOTES = (1 << 9) | (1 << 2), /**< footnote definitions in their old form */
+    FIRST_PASS_OPT_MATH = 1 << 10,
+    FIRST_PASS_OPT_GFM = 1 << 11, /**< tags of block quotes, as `> [!NOTE]` */
+    FIRST_PASS_OPT_DEFINITION_LIST = 1 << 12,
+    FIRST_PASS_OPT_SUPERSCRIPT = 1 << 13,
+    FIRST_PASS_OPT_SUBSCRIPT = 1 << 14,
+    FIRST_PASS_OPT_WIKILINKS = 1 << 15, /**< accepted, without an effect */
+    FIRST_PASS_OPT_ALL = 65534          /**< all of these */
+};
+
+/** How a call ended. */
+enum first_pass_status {
+    FIRST_PASS_OK = 0,
+    FIRST_PASS_OUT_OF_MEMORY = 1, /**< a request for memory was refused */
+    FIRST_PASS_NOT_UTF8 = 2,      /**< the text is not UTF-8 */
+    FIRST_PASS_BAD_OPTIONS = 3,   /**< a bit of the options stands for no option */
+    FIRST_PASS_TOO_SMALL = 4,     /**< only of first_pass_read() and first_pass_fold(): an array is too short */
+    FIRST_PASS_TOO_LONG = 5       /**< the text has 4 GiB or more, or a number of a node takes more than 32 bits */
+};
+
+/**
+ * Kinds of nodes. A number never changes, and new kinds come after the last one. A reader takes a node of a kind that
+ * it doesn't know as one without values.
+ *
+ * Each comment says which members of struct first_pass_node have a meaning for the kind, besides the range, `depth`
+ * and `next`. All others are 0, except `name`, which has a meaning only if `name_length` isn't 0. A truth value is 0
+ * or 1.
+ */
+enum first_pass_kind {
+    FIRST_PASS_NODE_ROOT = 0,
+    FIRST_PASS_NODE_PARAGRAPH = 1,
+    FIRST_PASS_NODE_TIGHT_PARAGRAPH = 2, /**< a paragraph directly in an item or a definition of a tight list */
+    FIRST_PASS_NODE_RULE = 3,
+    /** `first`: the level; `second`: whether it has an attribute block; `name`, `name_length`: its attributes */
+    FIRST_PASS_NODE_HEADING = 4,
+    FIRST_PASS_NODE_FENCED_CODE_BLOCK = 5, /**< names its info string */
+    FIRST_PASS_NODE_INDENT_CODE_BLOCK = 6,
+    FIRST_PASS_NODE_HTML_BLOCK = 7,
+    FIRST_PASS_NODE_BLOCK_QUOTE = 8, /**< `first`: enum first_pass_quote */
+    /** `first`: whether it is tight; `second`: the byte of its markers; `number`: its first number */
+    FIRST_PASS_NODE_LIST = 9,
+    FIRST_PASS_NODE_LIST_ITEM = 10,                   /**< `number`: how many columns a line needs to continue it */
+    FIRST_PASS_NODE_FOOTNOTE_DEFINITION = 11,         /**< names its label */
+    FIRST_PASS_NODE_METADATA_BLOCK = 12,              /**< `first`: 0 between `---`, 1 between `+++` */
+    FIRST_PASS_NODE_DEFINITION_LIST = 13,             /**< `first`: whether it is tight */
+    FIRST_PASS_NODE_MAYBE_DEFINITION_LIST_TITLE = 14, /**< in no tree that a call returns */
+    FIRST_PASS_NODE_DEFINITION_LIST_TITLE = 15,
+    FIRST_PASS_NODE_DEFINITION_LIST_DEFINITION = 16, /**< `number`: how many columns a line needs to continue it */
+    /** names a byte for each column: `-` not aligned, `l` left, `c` centered, `r` right */
+    FIRST_PASS_NODE_TABLE = 17,
+    FIRST_PASS_NODE_TABLE_HEAD = 18,
+    FIRST_PASS_NODE_TABLE_ROW = 19,
+    FIRST_PASS_NODE_TABLE_CELL = 20,
+    FIRST_PASS_NODE_TEXT = 21, /**< `first`: whether a backslash before it was dropped */
+    FIRST_PASS_NODE_SOFT_BREAK = 22,
+    FIRST_PASS_NODE_HARD_BREAK = 23, /**< `first`: whether a backslash makes it */
+    /** `number`: how many delimiters of the run are left, this one counted; `first`, `second`: can open, can close */
+    FIRST_PASS_NODE_MAYBE_EMPHASIS = 24,
+    /** `number`: its brace context; `first`, `second`: can open, can close */
+    FIRST_PASS_NODE_MAYBE_MATH = 25,
+    /** `second`: its byte; `first`, `third`: can open, can close */
+    FIRST_PASS_NODE_MAYBE_SMART_QUOTE = 26,
+    FIRST_PASS_NODE_MAYBE_CODE = 27, /**< `number`: how many backquotes; `first`: whether a backslash precedes them */
+    FIRST_PASS_NODE_MAYBE_HTML = 28,
+    FIRST_PASS_NODE_MAYBE_LINK_OPEN = 29,
+    FIRST_PASS_NODE_MAYBE_LINK_CLOSE = 30, /**< `first`: whether it is active */
+    FIRST_PASS_NODE_MAYBE_IMAGE = 31,
+    FIRST_PASS_NODE_HTML = 32,
+    FIRST_PASS_NODE_SYNTHESIZE_TEXT = 33, /**< names the text that stands for the bytes of its range */
+    FIRST_PASS_NODE_SYNTHESIZE_CHAR = 34, /**< `number`: the character that stands for the bytes of its range */
+    FIRST_PASS_NODE_TASK_LIST_MARKER = 35 /**< `first`: whether it is checked */
+};
+
+/** The kind that a tag gives a block quote. */
+enum first_pass_quote {
+    FIRST_PASS_QUOTE_PLAIN = 0,
+    FIRST_PASS_QUOTE_NOTE = 1,
+    FIRST_PASS_QUOTE_TIP = 2,
+    FIRST_PASS_QUOTE_IMPORTANT = 3,
+    FIRST_PASS_QUOTE_WARNING = 4,
+    FIRST_PASS_QUOTE_CAUTION = 5
+};
+
+/** A node: 32 bytes, on every machine. Nodes stand in reading order, and the first one is the root. */
+struct first_pass_node {
+    uint32_t start; /**< the range in the text: its first byte */
+    uint32_t end;   /**< and the byte after its last one */
+    uint32_t depth; /**< how many nodes it lies in: 0 for the root */
+    uint32_t next;  /**< the index of the first later node that is not deeper, or the number of nodes */
+    uint32_t name;  /**< the offset of what it names in the names; of a heading, the index of its first attribute */
+    uint32_t name_length; /**< how many bytes it names; of a heading, how many attributes it has */
+    uint32_t number;      /**< see enum first_pass_kind */
+    uint8_t kind;         /**< enum first_pass_kind, or a newer kind */
+    uint8_t first;        /**< see enum first_pass_kind */
+    uint8_t second;       /**< see enum first_pass_kind */
+    uint8_t third;        /**< see enum first_pass_kind */
+};
+
+/** What an attribute of a heading is. */
+enum first_pass_attribute_kind {
+    FIRST_PASS_ATTRIBUTE_ID = 0,    /**< `{#id}` */
+    FIRST_PASS_ATTRIBUTE_CLASS = 1, /**< `{.class}` */
+    FIRST_PASS_ATTRIBUTE_KEY = 2    /**< `{key}` or `{key=value}` */
+};
+
+/** An attribute of a heading: 40 bytes. Those of a heading stand together: its id, its classes, its keys. */
+struct first_pass_attribute {
+    uint64_t name;         /**< the offset of the id, the class or the key in the names */
+    uint64_t name_length;  /**< its length */
+    uint64_t value;        /**< the offset of the key's value in the names */
+    uint64_t value_length; /**< its length */
+    uint32_t has_value;    /**< whether the key has a value, which may be empty */
+    uint32_t kind;         /**< enum first_pass_attribute_kind */
+};
+
+/**
+ * A link reference definition, or the label of a footnote: 72 bytes. Of a footnote's label only `label` and
+ * `label_length` have a meaning. Only the first definition of a label is there. A label has each run of white space as
+ * one space.
+ */
+struct first_pass_definition {
+    uint64_t start;              /**< the range in the text: its first byte */
+    uint64_t end;                /**< and the byte after its last one */
+    uint64_t label;              /**< the offset of the label, as it is spelled, in the names */
+    uint64_t label_length;       /**< its length */
+    uint64_t destination;        /**< the offset of the destination in the names */
+    uint64_t destination_length; /**< its length */
+    uint64_t title;              /**< the offset of the title in the names */
+    uint64_t title_length;       /**< its length */
+    uint64_t has_title;          /**< whether there is a title, which may be empty */
+};
+
+/** How many records a tree takes: 40 bytes. */
+struct first_pass_counts {
+    uint64_t nodes;       /**< nodes, with the root */
+    uint64_t attributes;  /**< attributes of all headings */
+    uint64_t definitions; /**< link definitions and labels of footnotes */
+    uint64_t links;       /**< link definitions, which stand before the labels of footnotes */
+    uint64_t names;       /**< bytes of the names */
+};
+
+/**
+ * @brief Reads a text into memory of the caller. This call is proved.
+ *
+ * It is for callers that use memory again, and for other languages. first_pass_parse() does the same with memory of
+ * its own.
+ *
+ * Each array is given with its room, which is how many records it can hold. No two arrays may overlap, and none may
+ * overlap the text. The pointers may not be NULL and have to be aligned, even if a room is 0.
+ *
+ * @param[in] text bytes of UTF-8
+ * @param[in] length how many there are
+ * @param[in] options values of enum first_pass_option, joined by `|`
+ * @param[out] nodes the nodes
+ * @param[in] node_room how many it can hold
+ * @param[out] attributes the attributes of all headings
+ * @param[in] attribute_room how many it can hold
+ * @param[out] definitions the link definitions and, after them, the labels of footnotes, both sorted by folding
+ * @param[in] definition_room how many it can hold
+ * @param[out] names the bytes that the records name
+ * @param[in] name_room how many it can hold
+ * @param[out] counts at FIRST_PASS_OK how many records were written; at FIRST_PASS_TOO_SMALL how many it takes
+ * @return enum first_pass_status. At FIRST_PASS_OK nothing is changed in an array after the records that were written.
+ *     At another status the arrays may hold anything.
+ */
+FIRST_PASS_API uint32_t first_pass_read(const uint8_t *text, size_t length, uint32_t options,
+                                        struct first_pass_node *nodes, size_t node_room,
+                                        struct first_pass_attribute *attributes, size_t attribute_room,
+                                        struct first_pass_definition *definitions, size_t definition_room,
+                                        uint8_t *names, size_t name_room, struct first_pass_counts *counts);
+
+/**
+ * @brief Writes the case folding of a label, by which labels match and link definitions are sorted. This call is
+ * proved.
+ *
+ * @param[in] label bytes of UTF-8; not NULL, also if there are none
+ * @param[in] length how many there are
+ * @param[out] folded the folding; not NULL, also without room
+ * @param[in] room how many bytes it can hold
+ * @param[out] folded_length at FIRST_PASS_OK how many bytes it has; at FIRST_PASS_TOO_SMALL how many it takes
+ * @return FIRST_PASS_OK, FIRST_PASS_OUT_OF_MEMORY, FIRST_PASS_NOT_UTF8 or FIRST_PASS_TOO_SMALL
+ */
+FIRST_PASS_API uint32_t first_pass_fold(const uint8_t *label, size_t length, uint8_t *folded, size_t room,
+                                        size_t *folded_length);
+
+/**
+ * @brief Where memory comes from.
+ *
+ * The functions are called only in the thread of a call that was given this allocator, or a tree made with it, and
+ * only while that call runs. If threads share such a tree, several may call them at once. They have to return: neither
+ * longjmp nor an exception may leave them. They may call this library. Then first_pass_read() and first_pass_fold()
+ * take their memory from them too.
+ */
+struct first_pass_allocator {
+    /** Returns a block of at least `bytes` bytes, which are not 0, aligned to 16; or NULL, which refuses. */
+    void *(*allocate)(void *data, size_t bytes);
+    /** Changes the size of a block, also to a smaller one; NULL refuses, and then the block stays as it is. */
+    void *(*resize)(void *data, void *block, size_t bytes);
+    /** Takes a block back. */
+    void (*release)(void *data, void *block);
+    void *data; /**< handed to each of them; may be NULL */
+};
+
+/**
+ * A tree with its tables, which may be read and not be changed. All of it is one block of memory.
+ */
+struct first_pass_tree {
+    const struct first_pass_node *nodes;             /**< in reading order */
+    size_t node_count;                               /**< how many there are */
+    const struct first_pass_attribute *attributes;   /**< those of all headings, in reading order */
+    size_t attribute_count;                          /**< how many there are */
+    const struct first_pass_definition *definitions; /**< link definitions, then labels of footnotes, both sorted */
+    size_t definition_count;                         /**< how many both are */
+    size_t link_count;                               /**< how many link definitions there are */
+    const char *names;                               /**< the bytes that are named: UTF-8, with no NUL after a name */
+    size_t name_bytes;                               /**< how many there are */
+};
+
+/**
+ * @brief Reads a text into a new tree.
+ *
+ * @param[in] text bytes of UTF-8; may be NULL if `length` is 0
+ * @param[in] length how many there are
+ * @param[in] options values of enum first_pass_option, joined by `|`
+ * @param[in] allocator where memory comes from, copied into the tree; NULL for malloc, realloc and free
+ * @param[out] tree the tree, which the caller frees by first_pass_tree_free(); NULL unless FIRST_PASS_OK is returned
+ * @return any status but FIRST_PASS_TOO_SMALL
+ */
+FIRST_PASS_API enum first_pass_status first_pass_parse(const char *text, size_t length, uint32_t options,
+                                                       const struct first_pass_allocator *allocator,
+                                                       struct first_pass_tree **tree);
+
+/**
+ * @brief Frees a tree.
+ *
+ * @param[in] tree may be NULL
+ */
+FIRST_PASS_API void first_pass_tree_free(struct first_pass_tree *tree);
+
+/**
+ * @brief Finds the link definition that a label refers to.
+ *
+ * Labels match as references do: letter case is ignored, and a run of white space is the same as one space. White
+ * space at the start or the end of a label counts.
+ *
+ * @param[in] tree the tree that has it
+ * @param[in] label the bytes between the brackets, without the prefixes of containers; may be NULL if `length` is 0
+ * @param[in] length how many there are
+ * @param[out] found the definition, which lives as long as the tree; NULL if there is none, or at another status
+ * @return FIRST_PASS_OK, also if there is none; FIRST_PASS_NOT_UTF8; or FIRST_PASS_OUT_OF_MEMORY
+ */
+FIRST_PASS_API enum first_pass_status first_pass_find(const struct first_pass_tree *tree, const char *label,
+                                                      size_t length, const struct first_pass_definition **found);
+
+/** A function that is called with a node, and with what first_pass_walk() was given for it. */
+typedef int first_pass_visit(const struct first_pass_node *node, void *data);
+
+/** What first_pass_walk() returns if it got no memory. */
+#define FIRST_PASS_WALK_OUT_OF_MEMORY (-0x7fffffff)
+
+/**
+ * @brief Calls `enter` with each node before its children, and `leave` with it after them.
+ *
+ * It ends at the first call that returns a value other than 0. It doesn't recurse. Only for a tree of more than 64
+ * levels it asks for memory, once and before the first call.
+ *
+ * @param[in] tree the tree
+ * @param[in] enter may be NULL
+ * @param[in] leave may be NULL
+ * @param[in] data handed to both
+ * @return that value; 0 at the end; FIRST_PASS_WALK_OUT_OF_MEMORY
+ */
+FIRST_PASS_API int first_pass_walk(const struct first_pass_tree *tree, first_pass_visit *enter,
+                                   first_pass_visit *leave, void *data);
+
+/** @brief The name of a kind, as "Heading"; "?" for an unknown one. */
+FIRST_PASS_API const char *first_pass_kind_name(uint8_t kind);
+
+/** @brief The name of an option, as "tables"; "?" for a value that is no single option. */
+FIRST_PASS_API const char *first_pass_option_name(uint32_t option);
+
+/** @brief The value of an option by its name, in which `-` may stand for `_`; 0 for an unknown name. */
+FIRST_PASS_API uint32_t first_pass_option_value(const char *name);
+
+/** @brief What a status means, as "out of memory"; "unknown status" for an unknown one. */
+FIRST_PASS_API const char *first_pass_status_message(uint32_t status);
+
+/** @brief The version of the library, as "0.1.0". */
+FIRST_PASS_API const char *first_pass_version(void);
+
+/**
+ * @brief The bytes that a node names: `name_length` of them. Of a heading, which names attributes, NULL.
+ */
+static inline const char *first_pass_node_name(const struct first_pass_tree *tree,
+                                               const struct first_pass_node *node) {
+    return node->kind == FIRST_PASS_NODE_HEADING ? NULL : tree->names + node->name;
+}
+
+/**
+ * @brief The attributes of a heading: `name_length` of them. NULL for a node without any.
+ */
+static inline const struct first_pass_attribute *first_pass_node_attributes(const struct first_pass_tree *tree,
+                                                                            const struct first_pass_node *node) {
+    return node->kind == FIRST_PASS_NODE_HEADING && node->name_length ? tree->attributes + node->name : NULL;
+}
+
+/**
+ * @brief The index of a node's first child, or 0 if it has none.
+ *
+ * The children of node `i` are visited by
+ * `for (size_t c = first_pass_first_child(tree, i); c != 0; c = first_pass_next_sibling(tree, c))`.
+ */
+static inline size_t first_pass_first_child(const struct first_pass_tree *tree, size_t i) {
+    return tree->nodes[i].next > i + 1 ? i + 1 : 0;
+}
+
+/** @brief The index of a node's next sibling, or 0 if it has none. */
+static inline size_t first_pass_next_sibling(const struct first_pass_tree *tree, size_t i) {
+    size_t next = tree->nodes[i].next;
+    return next < tree->node_count && tree->nodes[next].depth == tree->nodes[i].depth ? next : 0;
+}
+
+#ifdef __cplusplus
+}
+#endif
+
+#endif

@@ -1,0 +1,43 @@
+"""The blocks of a Markdown text as a tree with byte ranges, by a parser whose result is proved.
+
+    >>> import first_pass
+    >>> document = first_pass.parse("# One {#first}\\n\\n> See [two].\\n\\n[two]: /2 'b'\\n")
+    >>> document.outline()
+    [Heading(level=1, start=0, end=15, id='first', title='One')]
+    >>> [(node.kind, node.start, node.end) for node in document[:5]]
+    [('Root', 0, 44), ('Heading', 0, 15), ('Text', 2, 5), ('BlockQuote', 16, 29), ('Paragraph', 18, 29)]
+    >>> document.definitions["TWO"]
+    Definition(label='two', destination='/2', title='b', start=30, end=43)
+    >>> document[1].members()["id"]
+    'first'
+
+`parse` and `outline` read a text, `parse_many` reads many in threads. A `Document` is a sequence of nodes.
+"""
+
+from ._document import Definitions, Document
+from ._errors import MarkdownError
+from ._library import VERSION as __version__
+from ._lines import json_lines
+from ._many import parse_many
+from ._options import Options
+from ._parse import Text, outline, parse
+from ._records import Kind
+from ._values import Attribute, Definition, Heading, Node
+
+__all__ = [
+    "Attribute",
+    "Definition",
+    "Definitions",
+    "Document",
+    "Heading",
+    "Kind",
+    "MarkdownError",
+    "Node",
+    "Options",
+    "Text",
+    "__version__",
+    "json_lines",
+    "outline",
+    "parse",
+    "parse_many",
+]

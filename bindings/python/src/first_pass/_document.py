@@ -1,0 +1,271 @@
+"""A parsed text."""
+
+from __future__ import annotations
+
+import builtins
+from collections.abc import Iterator, Mapping, Sequence
+from typing import TYPE_CHECKING, Any, Union, overload
+
+from ._library import COMPATIBLE, fold_label
+from ._records import ATTRIBUTE, BYTE_COLUMNS, DEFINITION, KIND_NAMES, NODE, WORD_BYTES, WORD_COLUMNS, Kind
+from ._values import Attribute, Definition, Heading, Node, id_of
+
+if TYPE_CHECKING:
+    from numpy.typing import NDArray
+
+Ranged = Union[Node, Heading, Definition]
+
+_ATTRIBUTE_KINDS = ("id", "class", "key")
+_BREAKS = (Kind.SoftBreak, Kind.HardBreak)
+_ESCAPABLE = (Kind.Text, Kind.MaybeCode)
+_BYTE_PLACES = {name: WORD_BYTES * len(WORD_COLUMNS) + place for place, name in enumerate(BYTE_COLUMNS)}
+
+
+class Document(Sequence[Node]):
+    """A text with its tree: a sequence of the nodes in reading order, the root first.
+
+    A node is made from its record when it is asked for. Offsets are those of the bytes in `source`. A document can't
+    be changed, and it can be pickled.
+    """
+
+    __slots__ = ("_source", "_nodes", "_names", "_attributes", "_definitions", "_kinds", "_by_label")
+
+    def __init__(self, source: bytes, nodes: bytes, names: bytes, attributes: bytes, definitions: bytes) -> None:
+        self._source = source
+        self._nodes = nodes
+        self._names = names
+        self._attributes = attributes
+        self._definitions = definitions
+        self._kinds: bytes | None = None
+        self._by_label: Definitions | None = None
+
+    @property
+    def source(self) -> bytes:
+        """The text in UTF-8."""
+        return self._source
+
+    @property
+    def nodes(self) -> bytes:
+        """The records of the nodes, 32 bytes each: ``struct first_pass_node``."""
+        return self._nodes
+
+    @property
+    def names(self) -> bytes:
+        """The bytes that records name."""
+        return self._names
+
+    @property
+    def attribute_records(self) -> bytes:
+        """The records of the attributes of headings, 40 bytes each: ``struct first_pass_attribute``."""
+        return self._attributes
+
+    @property
+    def definition_records(self) -> bytes:
+        """The records of link definitions, and after them of footnotes' labels, 72 bytes each:
+        ``struct first_pass_definition``."""
+        return self._definitions
+
+    @property
+    def definitions(self) -> Definitions:
+        """The link definitions by label. A label is matched as that of a reference is: without regard to case, and
+        each run of white space as one space."""
+        if self._by_label is None:
+            self._by_label = Definitions(self._definitions[: self._links_end()], self._names)
+        return self._by_label
+
+    @property
+    def footnotes(self) -> Sequence[str]:
+        """The labels of the footnotes that are defined, as they are spelled, in the byte order of their foldings."""
+        records = DEFINITION.iter_unpack(memoryview(self._definitions)[self._links_end() :])
+        return tuple(self._named(label, length) for _, _, label, length, *_ in records)
+
+    def __len__(self) -> int:
+        return len(self._nodes) // NODE.size
+
+    @overload
+    def __getitem__(self, index: int) -> Node:
+        ...
+
+    @overload
+    def __getitem__(self, index: builtins.slice) -> list[Node]:
+        ...
+
+    def __getitem__(self, index: int | builtins.slice) -> Node | list[Node]:
+        if isinstance(index, builtins.slice):
+            return [self[place] for place in range(*index.indices(len(self)))]
+        place = index + len(self) if index < 0 else index
+        if not 0 <= place < len(self):
+            raise IndexError(f"there is no node {index}: the document has {len(self)}")
+        return self._node(NODE.unpack_from(self._nodes, place * NODE.size))
+
+    def __iter__(self) -> Iterator[Node]:
+        return map(self._node, NODE.iter_unpack(self._nodes))
+
+    def __eq__(self, other: object) -> bool:
+        if not isinstance(other, Document):
+            return NotImplemented
+        return self._records() == other._records()
+
+    def __hash__(self) -> int:
+        return hash((self._source, self._nodes))
+
+    def __repr__(self) -> str:
+        return f"<first_pass.Document: {len(self._source)} bytes, {len(self)} nodes>"
+
+    def __reduce__(self) -> tuple[Any, ...]:
+        return _restored, (COMPATIBLE, *self._records())
+
+    def column(self, name: str) -> memoryview:
+        """A column of all records of nodes, as integers. It is a strided view, and no copy.
+
+        The columns are ``start end depth next name name_length number``, and ``kind first second third``.
+        """
+        if name in _BYTE_PLACES:
+            return memoryview(self._nodes)[_BYTE_PLACES[name] :: NODE.size]
+        if name in WORD_COLUMNS:
+            return memoryview(self._nodes).cast("I")[WORD_COLUMNS.index(name) :: NODE.size // WORD_BYTES]
+        raise KeyError(f"there is no column {name!r}: the columns are {', '.join(WORD_COLUMNS + BYTE_COLUMNS)}")
+
+    def numpy(self) -> NDArray[Any]:
+        """The records of the nodes as a structured array of numpy. It can only be read, and is no copy."""
+        import numpy
+
+        fields = [(name, "u4") for name in WORD_COLUMNS] + [(name, "u1") for name in BYTE_COLUMNS]
+        return numpy.frombuffer(self._nodes, numpy.dtype(fields))
+
+    def children(self, index: int = 0) -> Iterator[int]:
+        """The indices of the children of a node."""
+        after = self.column("next")
+        end, child = after[index], index % len(self) + 1
+        while child < end:
+            yield child
+            child = after[child]
+
+    def find(self, kind: Kind) -> Iterator[int]:
+        """The indices of the nodes of a kind, in reading order."""
+        if self._kinds is None:
+            self._kinds = bytes(self.column("kind"))
+        found = self._kinds.find(kind)
+        while found >= 0:
+            yield found
+            found = self._kinds.find(kind, found + 1)
+
+    def outline(self) -> list[Heading]:
+        """The headings, in reading order and at any depth."""
+        return [self._heading(index) for index in self.find(Kind.Heading)]
+
+    def slice(self, node: Ranged) -> str:
+        """The text of a range: that of a node, a heading or a definition."""
+        return self._source[node.start : node.end].decode()
+
+    def _records(self) -> tuple[bytes, bytes, bytes, bytes, bytes]:
+        return self._source, self._nodes, self._names, self._attributes, self._definitions
+
+    def _links_end(self) -> int:
+        """Where the records of link definitions end. Those of footnotes' labels, which come after, have no range."""
+        return DEFINITION.size * sum(1 for _, end, *_ in DEFINITION.iter_unpack(self._definitions) if end)
+
+    def _named(self, start: int, length: int) -> str:
+        return self._names[start : start + length].decode()
+
+    def _node(self, record: tuple[int, ...]) -> Node:
+        start, end, depth, after, name, length, number, kind, first, second, third = record
+        text: str = ""
+        attributes: tuple[Attribute, ...] = ()
+        if length and kind == Kind.Heading:
+            attributes = self._attributes_at(name, length)
+        elif length:
+            text = self._named(name, length)
+        return Node(KIND_NAMES[kind], depth, start, end, after, number, first, second, third, text, attributes)
+
+    def _attributes_at(self, index: int, count: int) -> tuple[Attribute, ...]:
+        records = ATTRIBUTE.iter_unpack(
+            memoryview(self._attributes)[index * ATTRIBUTE.size : (index + count) * ATTRIBUTE.size]
+        )
+        return tuple(
+            Attribute(
+                _ATTRIBUTE_KINDS[kind],
+                self._named(name, name_length),
+                self._named(value, value_length) if has_value else None,
+            )
+            for name, name_length, value, value_length, has_value, kind in records
+        )
+
+    def _heading(self, index: int) -> Heading:
+        start, end, _, after, name, length, _, _, level, _, _ = NODE.unpack_from(self._nodes, index * NODE.size)
+        id = id_of(self._attributes_at(name, length)) if length else None
+        return Heading(level, start, end, id, self._title(index, after))
+
+    def _title(self, index: int, after: int) -> str:
+        """The Markdown of the heading at an index, from its first token to its last, with a space for each break. The
+        prefixes of containers, which stand between a break and the next token, are left out."""
+        parts: list[bytes] = []
+        begin = end = -1
+        tokens = NODE.iter_unpack(memoryview(self._nodes)[(index + 1) * NODE.size : after * NODE.size])
+        for start, stop, _, _, _, _, _, kind, first, _, _ in tokens:
+            if kind in _BREAKS:
+                if begin >= 0:
+                    parts.append(self._source[begin:end])
+                parts.append(b" ")
+                begin = -1
+            else:
+                if begin < 0:
+                    # A backslash that was dropped stands before a text and before backquotes that are escaped.
+                    begin = start - first if kind in _ESCAPABLE else start
+                end = stop
+        if begin >= 0:
+            parts.append(self._source[begin:end])
+        return b"".join(parts).strip(b" \t").decode()
+
+
+class Definitions(Mapping[str, Definition]):
+    """The link definitions of a document by label, in the byte order of the labels' foldings.
+
+    Its keys are the labels as they are spelled. A look-up matches a label as that of a reference is matched.
+    """
+
+    __slots__ = ("_records", "_names", "_places")
+
+    def __init__(self, records: bytes, names: bytes) -> None:
+        self._records = records
+        self._names = names
+        self._places: dict[bytes | None, int] | None = None
+
+    def __getitem__(self, label: str) -> Definition:
+        if self._places is None:
+            self._places = {fold_label(spelled): place for place, spelled in enumerate(self)}
+        place = self._places.get(fold_label(label)) if isinstance(label, str) else None
+        if place is None:
+            raise KeyError(label)
+        return self._definition(place)
+
+    def __iter__(self) -> Iterator[str]:
+        for _, _, label, length, *_ in DEFINITION.iter_unpack(self._records):
+            yield self._named(label, length)
+
+    def __len__(self) -> int:
+        return len(self._records) // DEFINITION.size
+
+    def __repr__(self) -> str:
+        return f"<first_pass.Definitions: {', '.join(self)}>"
+
+    def _named(self, start: int, length: int) -> str:
+        return self._names[start : start + length].decode()
+
+    def _definition(self, place: int) -> Definition:
+        record = DEFINITION.unpack_from(self._records, place * DEFINITION.size)
+        start, end, label, label_length, destination, destination_length, title, title_length, has_title = record
+        return Definition(
+            self._named(label, label_length),
+            self._named(destination, destination_length),
+            self._named(title, title_length) if has_title else None,
+            start,
+            end,
+        )
+
+
+def _restored(form: str, *records: Any) -> Document:
+    """The document that was pickled by a version of this package with a form of records."""
+    if form != COMPATIBLE:
+        raise ValueError(f"first_pass {form} pickled the document, and this is {COMPATIBLE}: parse its text again")
+    return Document(*records)

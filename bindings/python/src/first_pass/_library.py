@@ -1,0 +1,70 @@
+"""The shared library: which file it is, and its calls."""
+
+from __future__ import annotations
+
+import ctypes
+import os
+import re
+
+from ._errors import OK, TOO_SMALL
+
+# The versions of the library that have the records of this package. Below 1.0 a minor version may change a record.
+COMPATIBLE = "0.1"
+_FILE = "libfirst_pass.so.0"
+
+
+def _open() -> ctypes.CDLL:
+    """Loads the library: the file that FIRST_PASS_LIBRARY names, or the one that stands beside this module."""
+    path = os.environ.get("FIRST_PASS_LIBRARY") or os.path.join(os.path.dirname(os.path.abspath(__file__)), _FILE)
+    try:
+        library = ctypes.CDLL(path)
+        library.first_pass_version.restype = ctypes.c_char_p
+        version = library.first_pass_version().decode()
+    except (OSError, AttributeError) as error:
+        raise ImportError(
+            f"first_pass can't load its library: {error}. Install the wheel, or let FIRST_PASS_LIBRARY name {_FILE}.",
+            name=__package__,
+            path=path,
+        ) from error
+    if not version.startswith(COMPATIBLE + "."):
+        message = f"first_pass needs version {COMPATIBLE} of its library, and {path} is {version}"
+        raise ImportError(message, name=__package__, path=path)
+    return library
+
+
+_library = _open()
+VERSION: str = _library.first_pass_version().decode()
+
+# Its arguments are the text and its length, the options, four arrays, each with its room, and the counts. They have no
+# types here: a caller makes objects of ctypes for its memory once, which would be converted again at each call.
+read = _library.first_pass_read
+read.restype = ctypes.c_uint32
+
+_fold = _library.first_pass_fold
+_fold.restype = ctypes.c_uint32
+_fold.argtypes = [ctypes.c_char_p, ctypes.c_size_t, ctypes.c_char_p, ctypes.c_size_t, ctypes.POINTER(ctypes.c_size_t)]
+
+_WHITE = re.compile(rb"[\t\n\x0b\x0c\r ]+")
+
+
+def fold_label(label: str) -> bytes | None:
+    """What a label is compared by: each run of white space as one space, with full case folding. None stands for a
+    label that UTF-8 can't hold."""
+    try:
+        spelled = _WHITE.sub(b" ", label.encode())
+    except UnicodeEncodeError:
+        return None
+    return _folded(spelled, 3 * len(spelled) + 1)
+
+
+def _folded(label: bytes, room: int) -> bytes:
+    """The case folding of a label, which is written into memory of a size, or into more if that is too small."""
+    memory = ctypes.create_string_buffer(room)
+    length = ctypes.c_size_t()
+    status = _fold(label, len(label), memory, room, ctypes.byref(length))
+    if status == TOO_SMALL:
+        return _folded(label, length.value)
+    if status != OK:
+        # Nothing else can be wrong with a label in UTF-8.
+        raise MemoryError("out of memory")
+    return memory.raw[: length.value]

@@ -1,0 +1,48 @@
+"""The calls that parse a text."""
+
+from __future__ import annotations
+
+import operator
+from typing import Union
+
+from ._document import Document
+from ._errors import BAD_OPTIONS, NOT_UTF8, MarkdownError
+from ._options import Options
+from ._scratch import read_document
+from ._values import Heading
+
+Text = Union[str, bytes, bytearray, memoryview]
+
+_OPTION_LIMIT = 1 << 32
+
+
+def parse(text: Text, options: int = Options.ALL) -> Document:
+    """Parses a Markdown text: a string, or its bytes in UTF-8.
+
+    Other threads of the interpreter run meanwhile. `MarkdownError` says what is wrong with the text or the options.
+    ``MemoryError`` says that memory ran out.
+    """
+    bits = operator.index(options)
+    if not 0 <= bits < _OPTION_LIMIT:
+        raise MarkdownError(f"bad options: {int(bits)}", BAD_OPTIONS)
+    return read_document(text if type(text) is bytes else _encoded(text), bits)
+
+
+def outline(text: Text, options: int = Options.ALL) -> list[Heading]:
+    """The headings of a text, in reading order."""
+    return parse(text, options).outline()
+
+
+def _encoded(text: Text) -> bytes:
+    """The bytes of a text."""
+    if isinstance(text, str):
+        try:
+            return text.encode()
+        except UnicodeEncodeError as error:
+            message = f"not UTF-8: the string has a lone surrogate at index {error.start}"
+            raise MarkdownError(message, NOT_UTF8) from None
+    try:
+        return memoryview(text).tobytes()
+    except TypeError:
+        message = f"a text is a str, or bytes, bytearray or memoryview in UTF-8, and no {type(text).__name__}"
+        raise TypeError(message) from None

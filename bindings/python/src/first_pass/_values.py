@@ -1,0 +1,129 @@
+"""What a document gives: nodes, attributes, headings and definitions."""
+
+from __future__ import annotations
+
+from typing import Any, Callable, NamedTuple
+
+
+class Attribute(NamedTuple):
+    """An attribute of a heading: ``#install`` is an id, ``.wide`` a class, ``lang=en`` and ``draft`` are keys."""
+
+    kind: str
+    """``"id"``, ``"class"`` or ``"key"``."""
+    name: str
+    """The id, the class or the key."""
+    value: str | None
+    """The value of a key that has one."""
+
+
+class Heading(NamedTuple):
+    """A heading of an outline."""
+
+    level: int
+    start: int
+    end: int
+    id: str | None
+    """The id that its attribute block gives."""
+    title: str
+    """Its Markdown, with a space for each line ending."""
+
+
+class Definition(NamedTuple):
+    """A link reference definition: the first one of its label."""
+
+    label: str
+    """The label as it is spelled, each run of white space as one space."""
+    destination: str
+    title: str | None
+    start: int
+    end: int
+
+
+class Node(NamedTuple):
+    """A node: its kind, its depth, its range in bytes of the source, and what its record has for its kind.
+
+    `members` gives the values of its kind by name.
+    """
+
+    kind: str
+    """The name of a `Kind`; ``"?"`` for a kind that this version doesn't know."""
+    depth: int
+    """How many nodes it lies in: 0 for the root."""
+    start: int
+    end: int
+    next: int
+    """The index of the first later node that is not deeper, or the number of nodes."""
+    number: int
+    first: int
+    second: int
+    third: int
+    name: str
+    """An info string, a label or a text; of a table ``-``, ``l``, ``c`` or ``r`` for each column."""
+    attributes: tuple[Attribute, ...]
+    """The attributes of a heading: its id, its classes and its keys."""
+
+    def members(self) -> dict[str, Any]:
+        """The members that the command ``tree`` writes of the node: ``{"kind": "Heading", "depth": 1, ..}``."""
+        members = {"kind": self.kind, "depth": self.depth, "start": self.start, "end": self.end}
+        own = _OWN_MEMBERS.get(self.kind)
+        return members if own is None else {**members, **own(self)}
+
+
+_QUOTES = (None, "Note", "Tip", "Important", "Warning", "Caution")
+_METADATA = ("YamlStyle", "PlusesStyle")
+_ALIGNMENTS = {"-": "none", "l": "left", "c": "center", "r": "right"}
+
+
+def id_of(attributes: tuple[Attribute, ...]) -> str | None:
+    """The id among attributes."""
+    return next((attribute.name for attribute in attributes if attribute.kind == "id"), None)
+
+
+def _heading(node: Node) -> dict[str, Any]:
+    return {
+        "level": node.first,
+        "id": id_of(node.attributes),
+        "classes": [attribute.name for attribute in node.attributes if attribute.kind == "class"],
+        "attributes": [[attribute.name, attribute.value] for attribute in node.attributes if attribute.kind == "key"],
+    }
+
+
+def _list(node: Node) -> dict[str, Any]:
+    return {"tight": bool(node.first), "byte": chr(node.second), "number": node.number}
+
+
+def _emphasis(node: Node) -> dict[str, Any]:
+    return {"remaining": node.number, "can_open": bool(node.first), "can_close": bool(node.second)}
+
+
+def _math(node: Node) -> dict[str, Any]:
+    return {"can_open": bool(node.first), "can_close": bool(node.second), "context": node.number}
+
+
+def _smart_quote(node: Node) -> dict[str, Any]:
+    return {"byte": chr(node.second), "can_open": bool(node.first), "can_close": bool(node.third)}
+
+
+# The members of each kind that has some, beside those of all nodes.
+_OWN_MEMBERS: dict[str, Callable[[Node], dict[str, Any]]] = {
+    "Heading": _heading,
+    "FencedCodeBlock": lambda node: {"info": node.name},
+    "BlockQuote": lambda node: {"quote": _QUOTES[node.first]},
+    "List": _list,
+    "ListItem": lambda node: {"columns": node.number},
+    "FootnoteDefinition": lambda node: {"label": node.name},
+    "MetadataBlock": lambda node: {"metadata": _METADATA[node.first]},
+    "DefinitionList": lambda node: {"tight": bool(node.first)},
+    "DefinitionListDefinition": lambda node: {"columns": node.number},
+    "Table": lambda node: {"alignments": [_ALIGNMENTS[column] for column in node.name]},
+    "Text": lambda node: {"escaped": bool(node.first)},
+    "HardBreak": lambda node: {"by_backslash": bool(node.first)},
+    "MaybeEmphasis": _emphasis,
+    "MaybeMath": _math,
+    "MaybeSmartQuote": _smart_quote,
+    "MaybeCode": lambda node: {"count": node.number, "escaped": bool(node.first)},
+    "MaybeLinkClose": lambda node: {"active": bool(node.first)},
+    "SynthesizeText": lambda node: {"text": node.name},
+    "SynthesizeChar": lambda node: {"text": chr(node.number)},
+    "TaskListMarker": lambda node: {"checked": bool(node.first)},
+}

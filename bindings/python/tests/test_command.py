@@ -1,0 +1,210 @@
+"""The command `python3 -m first_pass`."""
+
+import contextlib
+import json
+import os
+import pty
+import re
+import subprocess
+import sys
+import tempfile
+import unittest
+from pathlib import Path
+
+import first_pass
+import texts
+
+COMMAND = [sys.executable, "-m", "first_pass"]
+
+
+def run(*words, given=b"", **more):
+    return subprocess.run([*COMMAND, *words], input=given, capture_output=True, check=False, **more)
+
+
+class CommandTest(unittest.TestCase):
+    def setUp(self):
+        folder = tempfile.TemporaryDirectory()
+        self.addCleanup(folder.cleanup)
+        self.folder = Path(folder.name)
+
+    def write(self, name, content):
+        path = self.folder / name
+        path.write_bytes(content)
+        return str(path)
+
+    def check(self, ran, status, faults):
+        """The status of a run, and the lines on standard error, with the folder's name left out."""
+        said = ran.stderr.decode().replace(str(self.folder), "F")
+        self.assertEqual((said.splitlines(), ran.returncode), (faults, status))
+
+
+class OutlineTest(CommandTest):
+    def test_a_line_for_each_file(self):
+        names = [self.write(f"{number}.md", b"# T%d {#i}\n\n## b\n" % number * (number % 3)) for number in range(40)]
+        for words in ([], ["--threads", "1"], ["--threads=7"]):
+            ran = run("outline", "--options", "heading-attributes", *words, *names)
+            self.check(ran, 0, [])
+            rows = [json.loads(line) for line in ran.stdout.splitlines()]
+            self.assertEqual([row["file"] for row in rows], names)
+            first = {"level": 1, "start": 0, "end": 10, "id": "i", "title": "T1"}
+            self.assertEqual(
+                rows[1]["headings"], [first, {"level": 2, "start": 11, "end": 16, "id": None, "title": "b"}]
+            )
+            self.assertEqual(rows[0]["headings"], [])
+
+    def test_standard_input(self):
+        line = b'{"file":"-","headings":[{"level":1,"start":0,"end":4,"id":null,"title":"\xc3\xa9"}]}\n'
+        for words in ((), ("-",)):
+            ran = run("outline", *words, given="# \u00e9".encode())
+            self.check(ran, 0, [])
+            self.assertEqual(ran.stdout, line)
+
+    def test_options_are_those_of_commonmark_unless_they_are_named(self):
+        text = b"# a {#b}\n"
+        for words, title in (
+            ((), "a {#b}"),
+            (("-o", "all"), "a"),
+            (("--options=64",), "a"),
+            (("-o", "heading-attributes", "-omath"), "a"),
+        ):
+            row = json.loads(run("outline", *words, given=text).stdout)
+            self.assertEqual(row["headings"][0]["title"], title)
+
+    def test_words_stand_in_any_order(self):
+        name = self.write("a.md", b"# a {#b}\n")
+        ran = run("outline", name, "-o", "all", name, "--threads", "2", name)
+        self.assertEqual(ran.stdout.count(b'"id":"b"'), 3)
+
+
+class FaultTest(CommandTest):
+    def test_each_file_is_tried(self):
+        good, bad = self.write("a.md", b"# a\n"), self.write("bad.md", b"ab\xff")
+        names = [good, str(self.folder / "none.md"), str(self.folder), bad, good]
+        faults = [
+            "first_pass: F/none.md: no such file",
+            "first_pass: F: is a folder",
+            "first_pass: F/bad.md: not UTF-8: byte 2",
+        ]
+        for command in ("outline", "tree"):
+            ran = run(command, *names)
+            self.check(ran, 2, faults)
+            self.assertEqual({json.loads(line)["file"] for line in ran.stdout.splitlines()}, {good})
+        self.assertEqual(len(run("outline", *names).stdout.splitlines()), 2)
+
+    def test_standard_input_that_is_not_utf8(self):
+        self.check(run("outline", given=b"\x80"), 2, ["first_pass: standard input: not UTF-8: byte 0"])
+
+    def test_names_of_files(self):
+        name = os.fsencode(self.folder) + b"/\xff.md"
+        Path(os.fsdecode(name)).write_bytes(b"# a\n")
+        fault = "first_pass: F/\\xff.md: the name is not UTF-8, so JSON can't have it"
+        self.check(run("outline", name), 2, [fault])
+        self.check(run("outline", "\x1b[2J\u202e"), 2, ["first_pass: \\u001b[2J\\u202e: no such file"])
+
+    def test_output_that_can_not_be_written(self):
+        name = self.write("a.md", b"# a\n" * 1000)
+        for command in ("outline", "tree"):
+            for unbuffered in ("", "1"):
+                with open("/dev/full", "wb") as full:
+                    ran = subprocess.run(
+                        [*COMMAND, command, name, name],
+                        env={**os.environ, "PYTHONUNBUFFERED": unbuffered},
+                        stdout=full,
+                        stderr=subprocess.PIPE,
+                        check=False,
+                    )
+                self.check(ran, 2, ["first_pass: F/a.md: write failed"])
+        for closed, fault in (
+            (">&-", "F/a.md: write failed"),
+            ("<&-", "standard input: can't be read: standard input is closed"),
+        ):
+            file = "-" if closed[0] == "<" else name
+            ran = subprocess.run(
+                ["sh", "-c", f'exec "$@" {closed}', "sh", *COMMAND, "outline", file],
+                stderr=subprocess.PIPE,
+                check=False,
+            )
+            self.check(ran, 2, [f"first_pass: {fault}"])
+
+    def test_a_reader_that_ends_early(self):
+        name = self.write("a.md", b"# a\n" * 100_000)
+        with subprocess.Popen([*COMMAND, "tree", name], stdout=subprocess.PIPE, stderr=subprocess.PIPE) as ran:
+            ran.stdout.read(10)
+            ran.stdout.close()
+            self.assertEqual(ran.stderr.read(), f"first_pass: {name}: write failed\n".encode())
+        self.assertEqual(ran.returncode, 2)
+
+    def test_wrong_words(self):
+        for words, message in {
+            (): "required: {outline,tree}",
+            ("nothing",): "invalid choice: 'nothing'",
+            ("outline", "--options", "no"): "no option is called no",
+            ("outline", "--options", "1"): "1 is not the value of options",
+            ("outline", "--threads", "0"): "0 is no number from 1 to 9999",
+            ("outline", "--no"): "unrecognized arguments: --no",
+            ("tree", "--threads", "2"): "tree has no option --threads",
+        }.items():
+            ran = run(*words)
+            self.assertEqual((ran.returncode, ran.stdout), (2, b""))
+            self.assertIn(message, ran.stderr.decode())
+
+    def test_help(self):
+        self.assertIn(b"--options NAMES", run("--help").stdout)
+        self.assertEqual(run("--version").stdout.decode(), f"first_pass {first_pass.__version__}\n")
+
+
+class TreeTest(CommandTest):
+    def test_lines(self):
+        name = self.write("a.md", b"# a\n[b]: /c\n")
+        alone = run("tree", name)
+        self.check(alone, 0, [])
+        self.assertEqual(alone.stdout.decode(), "".join(first_pass.json_lines(first_pass.parse("# a\n[b]: /c\n", 0))))
+        both = run("tree", name, name).stdout.splitlines()
+        self.assertEqual(len(both), 2 * len(alone.stdout.splitlines()))
+        for line, wanted in zip(both, alone.stdout.splitlines() * 2):
+            self.assertEqual(list(json.loads(line).items()), [("file", name), *json.loads(wanted).items()])
+
+    @unittest.skipUnless(texts.tree_program(), "the program tree is not built: FIRST_PASS_TREE names it")
+    def test_lines_of_the_program(self):
+        text = b"# a {#b}\n\n| c |\n|---|\n\n[d]: /e 'f'\n\n[^g]: h\n"
+        wanted = subprocess.run([texts.tree_program(), "65534"], input=text, stdout=subprocess.PIPE, check=True).stdout
+        self.assertEqual(run("tree", "-o", "all", given=text).stdout, wanted)
+
+
+class TerminalTest(CommandTest):
+    def on_terminal(self, words, streams):
+        """What the command sends to a terminal that stands in the place of some of its streams."""
+        ours, theirs = pty.openpty()
+        more = dict.fromkeys(("stdout", "stderr"), subprocess.DEVNULL) | dict.fromkeys(streams, theirs)
+        with subprocess.Popen([*COMMAND, *words], stdin=subprocess.DEVNULL, **more):
+            os.close(theirs)
+            sent = b""
+            with contextlib.suppress(OSError):
+                while part := os.read(ours, 4096):
+                    sent += part
+        os.close(ours)
+        return sent.decode()
+
+    def test_a_bar_is_drawn_and_removed(self):
+        names = [self.write(f"{number}.md", b"# a\n" * 2000) for number in range(50)]
+        sent = self.on_terminal(["outline", *names], ["stderr"])
+        self.assertRegex(sent, r"^\r\[[#.]{30}\] \d+ of 50 files")
+        self.assertTrue(sent.endswith("\r\x1b[K"))
+
+    def test_no_bar_for_a_file(self):
+        self.assertEqual(self.on_terminal(["outline", self.write("a.md", b"# a\n")], ["stderr"]), "")
+
+    def test_a_fault_stands_on_a_line_of_its_own(self):
+        names = [self.write(f"{number}.md", b"# a\n" * 2000) for number in range(50)]
+        sent = self.on_terminal(["outline", *names, self.write("bad.md", b"\xff")], ["stderr"])
+        self.assertRegex(sent, r"\r\x1b\[Kfirst_pass: [^\r\n]*bad.md: not UTF-8: byte 0\r\n")
+
+    def test_nothing_that_a_terminal_would_obey_is_sent(self):
+        name = self.write("a.md", "# a\x9b\u202eb\u0007\n".encode())
+        sent = self.on_terminal(["outline", name], ["stdout"])
+        self.assertIsNone(re.search("[\x00-\x09\x0b-\x0c\x0e-\x1f\x7f-\x9f\u202e]", sent))
+        self.assertEqual(json.loads(sent)["headings"][0]["title"], "a\x9b\u202eb\u0007")
+
+
+if __name__ == "__main__":
+    unittest.main()

@@ -1,0 +1,88 @@
+"""The lines of JSON that come of documents, against the table of trees and the program `tree`."""
+
+import subprocess
+import sys
+import unittest
+from concurrent.futures import ThreadPoolExecutor
+from pathlib import Path
+
+import first_pass
+import texts
+
+RANDOM_TEXTS = 2000
+
+
+def run_tree_lines(inputs):
+    """The status and the lines that tests/tree_lines.py writes for each text, all in one process."""
+    sent = b"".join(b"%d %d\n" % (options, len(text)) + text for options, text in inputs)
+    script = Path(__file__).with_name("tree_lines.py")
+    received = subprocess.run([sys.executable, script], input=sent, stdout=subprocess.PIPE, check=True).stdout
+    results, at = [], 0
+    while at < len(received):
+        end = received.index(b"\n", at) + 1
+        status, length = map(int, received[at:end].split())
+        results.append((status, received[end : end + length]))
+        at = end + length
+    return results
+
+
+def run_tree(inputs):
+    """The lines that the program `tree` writes for each text."""
+    program = texts.tree_program()
+
+    def lines_of(case):
+        options, text = case
+        return 0, subprocess.run([program, str(options)], input=text, stdout=subprocess.PIPE, check=True).stdout
+
+    with ThreadPoolExecutor() as pool:
+        return list(pool.map(lines_of, inputs))
+
+
+class LinesTest(unittest.TestCase):
+    maxDiff = None
+
+    def compare(self, inputs, wanted):
+        results = run_tree_lines(inputs)
+        self.assertEqual(len(results), len(inputs))
+        for case, result, expected in zip(inputs, results, wanted):
+            self.assertEqual(result, expected, case)
+
+    def test_table(self):
+        """The lines of each text of the table have the members of their kinds, and say its printed tree."""
+        cases = list(texts.cases())
+        self.assertGreater(len(cases), 1000)
+        wrong = texts.load_script(".ci/json-test").wrong
+        for case, (status, lines) in zip(cases, run_tree_lines([case[:2] for case in cases])):
+            self.assertEqual(status, 0, case)
+            self.assertIsNone(wrong(lines.decode(), case[2]), case)
+
+    def test_outlines(self):
+        """The outline of each text has the headings that the command `toc` writes."""
+        headings_of = texts.load_script("tools/toc").headings_of
+        for options, text in [case[:2] for case in texts.cases()] + list(texts.random_texts(RANDOM_TEXTS)):
+            document = first_pass.parse(text, options)
+            wanted = headings_of(text, [node.members() for node in document])
+            found = [
+                {"level": level, "text": title, "id": id, "start": start, "end": end, "children": []}
+                for level, start, end, id, title in document.outline()
+            ]
+            self.assertEqual(found, wanted, text)
+
+    @unittest.skipUnless(texts.tree_program(), "the program tree is not built: FIRST_PASS_TREE names it")
+    def test_table_against_tree(self):
+        inputs = [case[:2] for case in texts.cases()]
+        self.compare(inputs, run_tree(inputs))
+
+    @unittest.skipUnless(texts.tree_program(), "the program tree is not built: FIRST_PASS_TREE names it")
+    def test_random_texts_against_tree(self):
+        inputs = list(texts.random_texts(RANDOM_TEXTS))
+        self.compare(inputs, run_tree(inputs))
+
+    def test_statuses(self):
+        results = run_tree_lines([(0, b"\xff"), (1, b"a"), (2, b"")])
+        root = b'{"kind":"Root","depth":0,"start":0,"end":0}\n'
+        self.assertEqual(results, [(2, b""), (3, b""), (0, root)])
+
+
+if __name__ == "__main__":
+    unittest.main()

@@ -1,0 +1,175 @@
+//! The two calls of the archive, with Rust's types.
+
+use crate::records::{AttributeRecord, Counts, DefinitionRecord, NodeRecord, Records};
+use crate::{Error, Options};
+
+unsafe extern "C" {
+    fn first_pass_read(
+        text: *const u8,
+        length: usize,
+        options: u32,
+        nodes: *mut NodeRecord,
+        node_room: usize,
+        attributes: *mut AttributeRecord,
+        attribute_room: usize,
+        definitions: *mut DefinitionRecord,
+        definition_room: usize,
+        names: *mut u8,
+        name_room: usize,
+        counts: *mut Counts,
+    ) -> u32;
+
+    fn first_pass_fold(
+        label: *const u8,
+        length: usize,
+        folded: *mut u8,
+        room: usize,
+        folded_length: *mut usize,
+    ) -> u32;
+}
+
+const OK: u32 = 0;
+const OUT_OF_MEMORY: u32 = 1;
+const TOO_SMALL: u32 = 4;
+const TOO_LONG: u32 = 5;
+
+/// Puts the records of a text in place of those that were there. Their memory is used again, and grows if it is too
+/// small for this text.
+pub(crate) fn read(text: &str, options: Options, records: &mut Records) -> Result<(), Error> {
+    if u32::try_from(text.len()).is_err() {
+        return Err(Error::TooLong);
+    }
+    let mut counts = guess(text.len());
+    for _ in 0..2 {
+        reserve(records, counts)?;
+        if try_read(text, options, records, &mut counts)? {
+            return Ok(());
+        }
+    }
+    panic!("{WRONG_ARCHIVE}: it asks twice for room")
+}
+
+/// Makes the key of a label: labels match if their keys are the same bytes.
+pub(crate) fn fold(label: &str, key: &mut Vec<u8>) -> Result<(), Error> {
+    let mut length = label.len();
+    for _ in 0..2 {
+        key.clear();
+        reserve_room(key, length)?;
+        if try_fold(label, key, &mut length)? {
+            return Ok(());
+        }
+    }
+    panic!("{WRONG_ARCHIVE}: it asks twice for room")
+}
+
+const WRONG_ARCHIVE: &str = "the linked libfirst_pass.a doesn't fit this crate";
+
+/// How many bytes of a text may be dense markup, in the guess of what its tree takes.
+const DENSE_LENGTH: usize = 32 << 20;
+
+/// Room that is enough for nearly all texts of a length. Too little costs a second call; too much is given back. Most
+/// of a very long text is taken for prose, since a system may refuse much more memory than a tree takes.
+pub(crate) fn guess(length: usize) -> Counts {
+    let dense = length.min(DENSE_LENGTH);
+    let prose = length - dense;
+    Counts {
+        nodes: dense / 4 + prose / 16 + 64,
+        attributes: dense / 64 + 8,
+        definitions: dense / 64 + 8,
+        links: 0,
+        names: dense / 8 + prose / 16 + 64,
+    }
+}
+
+/// Drops all records, and sees that there is room for so many.
+fn reserve(records: &mut Records, room: Counts) -> Result<(), Error> {
+    records.nodes.clear();
+    records.attributes.clear();
+    records.definitions.clear();
+    records.links = 0;
+    records.names.clear();
+    reserve_room(&mut records.nodes, room.nodes)?;
+    reserve_room(&mut records.attributes, room.attributes)?;
+    reserve_room(&mut records.definitions, room.definitions)?;
+    reserve_room(&mut records.names, room.names)
+}
+
+fn reserve_room<T>(items: &mut Vec<T>, room: usize) -> Result<(), Error> {
+    items.try_reserve_exact(room).map_err(|_| Error::OutOfMemory)
+}
+
+/// Fills empty records, and tells whether there was room. If not, the counts say how much it takes.
+fn try_read(
+    text: &str,
+    options: Options,
+    records: &mut Records,
+    counts: &mut Counts,
+) -> Result<bool, Error> {
+    // SAFETY: the text is a slice. Each other pointer is that of a vector with its capacity, or a reference, all apart
+    // from one another, and none is null. The archive writes no further than the room that it is told. It returns `OK`
+    // only after it has written as many items as it counts, which is proved of it; `has_room` sees that no count is
+    // more than the capacity.
+    unsafe {
+        let status = first_pass_read(
+            text.as_ptr(),
+            text.len(),
+            options.bits(),
+            records.nodes.as_mut_ptr(),
+            records.nodes.capacity(),
+            records.attributes.as_mut_ptr(),
+            records.attributes.capacity(),
+            records.definitions.as_mut_ptr(),
+            records.definitions.capacity(),
+            records.names.as_mut_ptr(),
+            records.names.capacity(),
+            counts,
+        );
+        if !is_filled(status)? {
+            return Ok(false);
+        }
+        assert!(has_room(records, counts), "{WRONG_ARCHIVE}: it counts wrong");
+        records.nodes.set_len(counts.nodes);
+        records.attributes.set_len(counts.attributes);
+        records.definitions.set_len(counts.definitions);
+        records.names.set_len(counts.names);
+    }
+    records.links = counts.links;
+    Ok(true)
+}
+
+/// Whether the vectors have room for so many items, and the root is one of them.
+fn has_room(records: &Records, counts: &Counts) -> bool {
+    0 < counts.nodes
+        && counts.nodes <= records.nodes.capacity()
+        && counts.attributes <= records.attributes.capacity()
+        && counts.definitions <= records.definitions.capacity()
+        && counts.links <= counts.definitions
+        && counts.names <= records.names.capacity()
+}
+
+/// Fills an empty key, and tells whether there was room. If not, the length says how much it takes.
+fn try_fold(label: &str, key: &mut Vec<u8>, length: &mut usize) -> Result<bool, Error> {
+    // SAFETY: as in `try_read`.
+    unsafe {
+        let status =
+            first_pass_fold(label.as_ptr(), label.len(), key.as_mut_ptr(), key.capacity(), length);
+        if !is_filled(status)? {
+            return Ok(false);
+        }
+        assert!(*length <= key.capacity(), "{WRONG_ARCHIVE}: it counts wrong");
+        key.set_len(*length);
+    }
+    Ok(true)
+}
+
+/// Whether a call has filled what it was lent: `false` if there was too little room. A `str` is UTF-8, and `Options`
+/// have only known bits, so no other status is left.
+pub(crate) fn is_filled(status: u32) -> Result<bool, Error> {
+    match status {
+        OK => Ok(true),
+        TOO_SMALL => Ok(false),
+        OUT_OF_MEMORY => Err(Error::OutOfMemory),
+        TOO_LONG => Err(Error::TooLong),
+        _ => panic!("{WRONG_ARCHIVE}: it returns the status {status}"),
+    }
+}

@@ -1,0 +1,103 @@
+//! Parsing a text.
+
+use crate::archive;
+use crate::records::Records;
+use crate::{Error, Options, Tree};
+use std::fmt;
+
+/// Parses a text.
+///
+/// The tree keeps its memory as long as the document lives. To parse many texts one after the other, use a [`Parser`],
+/// which uses the same memory for each.
+///
+/// ```
+/// use first_pass::{Body, Options};
+///
+/// let document = first_pass::parse("# One\n\ntext\n", Options::all())?;
+/// let heading = document.tree().root().children().next().unwrap();
+/// assert!(matches!(heading.body(), Body::Heading { level: 1, .. }));
+/// assert_eq!(heading.slice(), "# One\n");
+/// # Ok::<(), first_pass::Error>(())
+/// ```
+///
+/// # Errors
+///
+/// [`Error::OutOfMemory`] if a request for memory is refused, and [`Error::TooLong`] for a text of 4 GiB or more.
+pub fn parse(text: &str, options: Options) -> Result<Document<'_>, Error> {
+    let mut records = Records::default();
+    archive::read(text, options, &mut records)?;
+    records.shrink();
+    Ok(Document { text, records })
+}
+
+/// A text with its tree and tables. Threads may share it.
+#[derive(Clone)]
+pub struct Document<'t> {
+    text: &'t str,
+    records: Records,
+}
+
+impl<'t> Document<'t> {
+    /// The text.
+    pub fn text(&self) -> &'t str {
+        self.text
+    }
+
+    /// The tree.
+    pub fn tree(&self) -> Tree<'_> {
+        Tree::new(self.text, &self.records)
+    }
+}
+
+impl fmt::Debug for Document<'_> {
+    fn fmt(&self, f: &mut fmt::Formatter<'_>) -> fmt::Result {
+        f.debug_tuple("Document").field(&self.tree()).finish()
+    }
+}
+
+/// Parses one text after the other, each in the same memory.
+///
+/// The memory grows to what the largest text takes, and is freed with the parser.
+///
+/// ```
+/// use first_pass::{Options, Parser};
+///
+/// let mut parser = Parser::new();
+/// for (text, headings) in [("# a\n# b\n", 2), ("c\n", 0)] {
+///     let count = parser.parse_with(text, Options::all(), |tree| tree.outline().count())?;
+///     assert_eq!(count, headings);
+/// }
+/// # Ok::<(), first_pass::Error>(())
+/// ```
+#[derive(Clone, Default)]
+pub struct Parser {
+    records: Records,
+}
+
+impl Parser {
+    /// A parser without memory.
+    pub fn new() -> Parser {
+        Parser::default()
+    }
+
+    /// Parses a text, and returns what `f` returns of its tree.
+    ///
+    /// # Errors
+    ///
+    /// As [`parse`]. Then `f` is not called.
+    pub fn parse_with<R>(
+        &mut self,
+        text: &str,
+        options: Options,
+        f: impl FnOnce(&Tree<'_>) -> R,
+    ) -> Result<R, Error> {
+        archive::read(text, options, &mut self.records)?;
+        Ok(f(&Tree::new(text, &self.records)))
+    }
+}
+
+impl fmt::Debug for Parser {
+    fn fmt(&self, f: &mut fmt::Formatter<'_>) -> fmt::Result {
+        f.debug_struct("Parser").finish_non_exhaustive()
+    }
+}

@@ -1,0 +1,66 @@
+//! The blocks of a Markdown text as a tree with byte ranges, by a parser whose result is proved.
+//!
+//! [`parse`] reads a text, and returns a [`Document`]. Its [`Tree`] has the blocks as [`Node`]s: paragraphs, headings,
+//! lists, quotes, code, tables and more. Each block holds the chain of its possible inline markup as tokens. Beside
+//! the nodes there are the link [`Definitions`] and the labels of footnotes.
+//!
+//! ```
+//! use first_pass::Options;
+//!
+//! let text = "# Fruit\n\n- [apple]\n- pear\n\n[apple]: /apple\n";
+//! let document = first_pass::parse(text, Options::empty())?;
+//! let tree = document.tree();
+//!
+//! for heading in tree.outline() {
+//!     assert_eq!((heading.level, heading.title().as_str()), (1, "Fruit"));
+//! }
+//! let kinds: Vec<_> = tree.root().children().map(|node| node.body().name()).collect();
+//! assert_eq!(kinds, ["Heading", "List"]);
+//! assert_eq!(tree.definitions().get("Apple")?.unwrap().destination, "/apple");
+//! # Ok::<(), first_pass::Error>(())
+//! ```
+//!
+//! # What the ranges mean
+//!
+//! Ranges are offsets in bytes, on character boundaries, so `&text[node.range()]` never panics. Siblings don't
+//! overlap, and a node lies within its parent. There is one exception: the [`Body::TaskListMarker`] of an item comes
+//! before the paragraph or heading that holds it. A byte order mark and NUL are bytes of the text like any others.
+//!
+//! # The linked library
+//!
+//! The parser is the static archive `libfirst_pass.a`. The build script takes it from the folder that the environment
+//! variable `FIRST_PASS_DIR` names. Without that variable, it takes it from the folder that pkg-config knows. The
+//! build fails with a message if there is no archive, or one of another version.
+//!
+//! What the archive returns is proved: the tree is the one that the block grammar derives from the text. This crate is
+//! the layer that owns the memory and gives names, and is tested. It panics if an archive returns what no archive of
+//! this version can return.
+
+pub use attributes::{Alignment, Alignments, Attribute, Attributes};
+pub use body::{BlockQuoteKind, Body, MetadataBlockKind};
+pub use definitions::{Definition, Definitions};
+pub use document::{Document, Parser, parse};
+pub use error::Error;
+pub use events::{Event, OffsetIter};
+pub use options::Options;
+pub use outline::Heading;
+pub use tree::{Node, Tree};
+
+mod archive;
+mod attributes;
+mod body;
+mod definitions;
+mod document;
+mod error;
+mod events;
+mod options;
+mod outline;
+mod records;
+#[cfg(test)]
+mod tests;
+mod tree;
+
+// Compiles and runs the example of the README with the other examples.
+#[cfg(doctest)]
+#[doc = include_str!("../README.md")]
+struct Readme;
