@@ -7,7 +7,7 @@ use Rattle.first_pass_names.specs.TableEntries.{names_of, NamesMore}
 use Rattle.first_pass_open.specs.Between.{line_end_at, AddsBetween}
 use Rattle.first_pass_lists.specs.Closing.{remembered}
 use Rattle.first_pass_lists.specs.declared.reading.Reading.{Reading}
-use Rattle.first_pass_blocks.proofs.NamedLemmas.{block_added}
+use Rattle.first_pass_order.proofs.NamedLemmas.{block_added}
 use Rattle.first_pass_blocks.proofs.OrderSteps.{block_ordered}
 use Rattle.first_pass.specs.declared.state.FirstPass.{FirstPass}
 use Rattle.first_pass.specs.Calls.{AddsLeafBlock, AddsLineBlock}

@@ -42,7 +42,7 @@ use Rattle.first_pass_blocks.specs.FootnoteHeads.{StaysSame, OpenedFootnote, Rea
 use Rattle.first_pass_blocks.specs.TextsAdded.{AddsText}
 use Rattle.first_pass_blocks.specs.declared.state.BlockPass.{BlockPass}
 use Rattle.first_pass_blocks.specs.Views as Block
-use Rattle.first_pass_blocks.proofs.NamedLemmas.{block_added, note_named}
+use Rattle.first_pass_order.proofs.NamedLemmas.{block_added, note_named}
 
 -- Tokens stand after the nodes of a tree, the first of them joined to the last node or not.
 end_named : (names : Names) (f : Forest Item) (e : ℕ) (o : Option TreeIndex) → AreNamed names f.nodes → AreNamed names (with_end f e o).nodes

@@ -22,7 +22,7 @@ use Rattle.first_pass_grammar.specs.Order.{InFirst, below, beyond, IsLead, Fits}
 use Rattle.first_pass_grammar.proofs.Orders.{ended_at, extents-append, fits-one, fits-order, laid-one, length-places}
 use Rattle.first_pass_open.proofs.PathLemmas.{get_front}
 use Rattle.first_pass_text.specs.CutTexts.{BecomesHeading, CutsChildren}
-use Rattle.first_pass_blocks.proofs.OrderLemmas.{extents-body, flags_of, ordered_same}
+use Rattle.first_pass_order.proofs.OrderLemmas.{extents-body, flags_of, ordered_same}
 use Rattle.first_pass.specs.Holds.{StandsAfterBackslash, AreTokens, HoldsTokens}
 
 -- the nodes before a place, with it, and those after it

@@ -19,10 +19,10 @@ use Rattle.first_pass_text.proofs.TextFronts.{front_utf8, place_in_front, place_
 use Rattle.first_pass_grammar.specs.Order.{Extent, extent_of, is_task_marker, Empty, Node, laid, IsBetween}
 use Rattle.first_pass_grammar.specs.OpenOrder.{laid_open, FitsOpen, IsOrderedTo}
 use Rattle.first_pass_grammar.proofs.Orders.{beside, ended_at, laid_open-beside, length-places, extents-ended}
-use Rattle.first_pass_grammar.proofs.RowSplits.{last_child, fits_open_last}
+use Rattle.first_pass_order.proofs.RowSplits.{last_child, fits_open_last}
 use Rattle.first_pass_lists.specs.declared.reading.Reading.{Reading}
-use Rattle.first_pass_blocks.specs.Ordered.{reached, IsOrderedAt}
-use Rattle.first_pass_blocks.proofs.OrderLemmas.{ordered_later, ordered_appended, ordered_none}
+use Rattle.first_pass_order.specs.Ordered.{reached, IsOrderedAt}
+use Rattle.first_pass_order.proofs.OrderLemmas.{ordered_later, ordered_appended, ordered_none}
 use Rattle.first_pass_items.specs.declared.option_set.Options.{Options}
 
 -- the last child of the innermost open node, no task list item marker, ends later

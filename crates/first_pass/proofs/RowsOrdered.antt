@@ -11,8 +11,8 @@ use Rattle.first_pass_open.specs.OpenBlock.{IsJustPushed, closed_by}
 use Rattle.first_pass_open.specs.Between.{AddsBetween}
 use Rattle.first_pass_tables.specs.Appends.{with_below, ClosesBetween}
 use Rattle.first_pass.specs.Holds.{behind_row}
-use Rattle.first_pass_blocks.proofs.CountLemmas.{block_count}
-use Rattle.first_pass_blocks.proofs.OrderLemmas.{ordered_same, ordered_later, ordered_added, ordered_closed}
+use Rattle.first_pass_order.proofs.CountLemmas.{block_count}
+use Rattle.first_pass_order.proofs.OrderLemmas.{ordered_same, ordered_later, ordered_added, ordered_closed}
 
 -- a row added, or none
 pub row_ordered : (text : List ℕ) (old new : Forest Item) (at ix : ℕ) (row : Option (ℕ × TreeIndex)) → at ≤ ix → ix ≤ length text → (row ≡ None → new ≡ old)

@@ -24,7 +24,7 @@ use Rattle.first_pass_open.specs.Path.{path_of}
 use Rattle.first_pass_open.specs.Between.{StandsBefore}
 use Rattle.first_pass_open.proofs.PathLemmas.{get_front}
 use Rattle.first_pass_text.proofs.OrderParagraph.{TextInOrder, text_is_in_order}
-use Rattle.first_pass_blocks.proofs.OrderLemmas.{ordered_appended, ordered_later}
+use Rattle.first_pass_order.proofs.OrderLemmas.{ordered_appended, ordered_later}
 use Rattle.first_pass.specs.Holds.{AreTokens, HoldsText, HoldsTokens}
 
 -- a chain after

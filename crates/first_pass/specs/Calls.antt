@@ -19,10 +19,10 @@ use Rattle.first_pass_lists.specs.declared.reading.Reading.{Reading}
 use Rattle.first_pass_raw.specs.RawBlocks.{IsPlaceAt, html_to_blank}
 use Rattle.first_pass_tables.specs.Appends.{AppendsRows, AddsWholeRows}
 use Rattle.first_pass_blocks.specs.FootnoteHeads.{ReadsFootnote}
-use Rattle.first_pass_blocks.specs.Ordered.{IsOrderedAt, IsOrderedFrom, IsReadTo}
+use Rattle.first_pass_order.specs.Ordered.{IsOrderedAt, IsOrderedFrom, IsReadTo}
 use Rattle.first_pass_blocks.specs.Positions.{LineAt}
 use Rattle.first_pass_blocks.specs.Progress.{ReadsBlock}
-use Rattle.first_pass_blocks.specs.State.{Ready}
+use Rattle.first_pass_ready.specs.State.{Ready}
 use Rattle.first_pass.specs.declared.state.FirstPass.{FirstPass}
 use Rattle.first_pass.specs.Kept.{StayNamed, KeepsEntries, KeepsNames, KeepsTables}
 use Rattle.first_pass.specs.Views.{allocs_of, braces_of, context_in, pass_of, reading_of, source_of, source_options, source_text, tree_of, with_tree}

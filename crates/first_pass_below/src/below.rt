@@ -1,5 +1,6 @@
 //! The names of the crates below: options, items and texts, the tree, and the scanners.
 
+pub use first_pass_entities::entity::scan_entity;
 pub use first_pass_flank::flank::is_punctuation;
 pub use first_pass_html::ends::HtmlEnd;
 pub use first_pass_html::starts::{get_html_end_tag, starts_html_block_type_6};
@@ -15,7 +16,6 @@ pub use first_pass_lines::lines::{
 };
 pub use first_pass_lines::places::{law_of_lines, next_line, rest_of};
 pub use first_pass_links::destination::scan_link_dest;
-pub use first_pass_links::entity::scan_entity;
 pub use first_pass_links::escape::unescape;
 pub use first_pass_links::label::scan_link_label_rest;
 pub use first_pass_metadata::metadata_scan::{scan_closing_metadata_block, scan_metadata_block};

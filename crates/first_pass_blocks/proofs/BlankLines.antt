@@ -11,12 +11,12 @@ use Rattle.first_pass_lists.specs.Closing.{blank_read}
 use Rattle.first_pass_lists.specs.declared.reading.Reading.{Reading}
 use Rattle.first_pass_open.specs.Path.{path_of}
 use Rattle.first_pass_open.specs.declared.source.Source.{Source}
-use Rattle.first_pass_blocks.specs.Ordered.{IsReadTo}
+use Rattle.first_pass_order.specs.Ordered.{IsReadTo}
 use Rattle.first_pass_blocks.specs.Positions.{LineAt, ReadsTo}
-use Rattle.first_pass_blocks.specs.State.{Ready}
-use Rattle.first_pass_blocks.proofs.EnterLemmas.{ready_blank_line}
+use Rattle.first_pass_ready.specs.State.{Ready}
+use Rattle.first_pass_ready.proofs.EnterLemmas.{ready_blank_line}
 use Rattle.first_pass_blocks.proofs.HandedOn.{ordered_blank_line}
-use Rattle.first_pass_blocks.proofs.OldFootnotes.{ends_here}
+use Rattle.first_pass_ready.proofs.OldFootnotes.{ends_here}
 
 -- one line more
 pub one_read : (source : Source) (start at : ℕ) (r : Reading) (rest : Rest) → IsUtf8 source.text.now → blank_read r ≡ r

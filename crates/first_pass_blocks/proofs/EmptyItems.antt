@@ -23,7 +23,7 @@ use Rattle.first_pass_grammar.specs.Skeleton.{From, Inside, Blanks, behind_marke
 use Rattle.first_pass_grammar.specs.Skeleton.{Opens, Level}
 use Rattle.first_pass_grammar.specs.Derivation.{Tables, node_of}
 use Rattle.first_pass_grammar.specs.Completion.{OtherClosed, AreBelow}
-use Rattle.first_pass_grammar.proofs.Completions.{fresh, completes-mark}
+use Rattle.first_pass_completion.proofs.Completions.{fresh, completes-mark}
 use Rattle.first_pass_grammar.proofs.Finishes.{CompletesAt}
 use Rattle.first_pass_grammar.proofs.Tightening.{modify-append}
 use Rattle.first_pass_open.specs.OpenBlock.{with_child}
@@ -32,15 +32,16 @@ use Rattle.first_pass_open.proofs.PathLemmas.{get_front}
 use Rattle.first_pass_lists.specs.Closing.{top_body, is_list, is_definition_list, takes_definition, list_continued, list_kept, with_tree, definitions_opened}
 use Rattle.first_pass_lists.specs.Closing.{definition_begun}
 use Rattle.first_pass_lists.specs.declared.reading.Reading.{Reading}
-use Rattle.first_pass_blocks.specs.State.{closed_elsewhere, closed_in, item_columns, emptied_as, emptied_top, ReadyAt, ReadyBeforeLine, ReadyInItem}
-use Rattle.first_pass_blocks.specs.State.{ReadyEmpty, Ready}
-use Rattle.first_pass_blocks.proofs.ClosedIn.{level_of, closed_at_body}
-use Rattle.first_pass_blocks.proofs.ItemBodies.{item_body, item_container, item_columns_of, item_path, emptied_is}
-use Rattle.first_pass_blocks.proofs.OpenLemmas.{open_below, frame-append, get_end}
-use Rattle.first_pass_blocks.proofs.PopLemmas.{ready_as}
-use Rattle.first_pass_blocks.proofs.BegunLemmas.{depth_of, with_open, top_opened, IsBegun, opens_start, plain_open}
-use Rattle.first_pass_blocks.proofs.DefinitionOpened.{list_class, definition_is_open}
-use Rattle.first_pass_blocks.proofs.OpenerLemmas.{begins_at, item_opened, item_is_open}
+use Rattle.first_pass_ready.specs.State.{closed_elsewhere, closed_in, item_columns, emptied_as, emptied_top, ReadyAt, ReadyBeforeLine, ReadyInItem}
+use Rattle.first_pass_ready.specs.State.{ReadyEmpty, Ready}
+use Rattle.first_pass_ready.proofs.ClosedIn.{level_of, closed_at_body}
+use Rattle.first_pass_ready.proofs.ItemBodies.{item_body, item_container, item_columns_of, item_path, emptied_is}
+use Rattle.first_pass_ready.proofs.OpenLemmas.{open_below, frame-append, get_end}
+use Rattle.first_pass_ready.proofs.PopLemmas.{ready_as}
+use Rattle.first_pass_ready.proofs.BegunLemmas.{depth_of, with_open, top_opened, IsBegun, opens_start, plain_open}
+use Rattle.first_pass_ready.proofs.DefinitionOpened.{list_class, definition_is_open}
+use Rattle.first_pass_blocks.proofs.OpenerLemmas.{begins_at, item_is_open}
+use Rattle.first_pass_lists.specs.Closing.{item_opened}
 
 -- an item is no list
 item_not_list : (b : ItemBody) (n : ℕ) → is_list (Some (item_body b n)) ≡ false

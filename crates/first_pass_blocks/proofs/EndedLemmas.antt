@@ -6,14 +6,14 @@ use Rattle.first_pass_grammar.specs.Containers.{in_old_footnote}
 use Rattle.first_pass_open.specs.Path.{path_of}
 use Rattle.first_pass_lists.specs.Closing.{popped}
 use Rattle.first_pass_lists.specs.declared.reading.Reading.{Reading}
-use Rattle.first_pass_blocks.specs.Entering.{footnote_ended}
-use Rattle.first_pass_blocks.specs.Ordered.{IsReadTo}
-use Rattle.first_pass_blocks.proofs.CountLemmas.{count, popped_count}
-use Rattle.first_pass_blocks.proofs.NamedLemmas.{AreReadNamed, popped_named}
-use Rattle.first_pass_blocks.proofs.OldFootnotes.{ended_as, in_old}
-use Rattle.first_pass_blocks.proofs.Nests.{note_untitled}
-use Rattle.first_pass_blocks.proofs.PopOrder.{read_popped}
-use Rattle.first_pass_blocks.proofs.WholeKept.{IsReadWhole, popped_plain_whole}
+use Rattle.first_pass_lists.specs.Closing.{footnote_ended}
+use Rattle.first_pass_order.specs.Ordered.{IsReadTo}
+use Rattle.first_pass_order.proofs.CountLemmas.{count, popped_count}
+use Rattle.first_pass_order.proofs.NamedLemmas.{AreReadNamed, popped_named}
+use Rattle.first_pass_ready.proofs.OldFootnotes.{ended_as, in_old}
+use Rattle.first_pass_order.proofs.Nests.{note_untitled}
+use Rattle.first_pass_order.proofs.PopOrder.{read_popped}
+use Rattle.first_pass_order.proofs.WholeKept.{IsReadWhole, popped_plain_whole}
 
 -- what holds of what is remembered and once what is innermost is closed, holds then
 ended_holds : (options : Options) (e : ℕ) (r : Reading) (P : Reading → Type 0) → P r → P (popped e r) → P (footnote_ended options e r)

@@ -23,13 +23,13 @@ use Rattle.first_pass_grammar.specs.TableHeads.{headed_table}
 use Rattle.first_pass_grammar.specs.Tables.{Taken, IsTable}
 use Rattle.first_pass_grammar.specs.Texts.{IsPlainText, IsText, IsUnderlined, plain_text, underline_first}
 use Rattle.first_pass_grammar.specs.WholeTables.{ShowsNothing, AreEachNode, may_be_title}
-use Rattle.first_pass_grammar.proofs.FlatBlocks.{kind_holds, text_holds}
-use Rattle.first_pass_grammar.proofs.SilentTexts.{text_silent}
+use Rattle.first_pass_completion.proofs.FlatBlocks.{kind_holds, text_holds}
+use Rattle.first_pass_completion.proofs.SilentTexts.{text_silent}
 use Rattle.first_pass_grammar.proofs.TableMarks.{tokens_show}
 use Rattle.first_pass_names.proofs.NameLemmas.{extends_none}
 use Rattle.first_pass_open.specs.Path.{path_of}
-use Rattle.first_pass_blocks.specs.Adding.{AddsKind}
-use Rattle.first_pass_blocks.proofs.WholeKept.{IsSilentFirst}
+use Rattle.first_pass_order.specs.LeafBlocks.{AddsKind}
+use Rattle.first_pass_order.proofs.WholeKept.{IsSilentFirst}
 
 abbrev is_possible : ItemBody → Bool
 is_possible MaybeDefinitionListTitle = true

@@ -21,7 +21,7 @@ use Rattle.first_pass_blocks.specs.declared.state.BlockPass.{BlockPass}
 use Rattle.first_pass_blocks.specs.FootnoteHeads.{footnote_mark_at, head_read, OpenedFootnote, after_head, IsAfterHead, TriesFootnote}
 use Rattle.first_pass_blocks.specs.Views.{context_in, reading_of, source_of, source_text, tree_of}
 use Rattle.first_pass_blocks.proofs.HeadLemmas.{head_behind_is}
-use Rattle.first_pass_blocks.proofs.LineLemmas.{footnote_begun_none}
+use Rattle.first_pass_lists.proofs.NoEmptyItem.{footnote_begun_none}
 use Rattle.first_pass_blocks.proofs.FootnoteSteps.{passes_note}
 use Rattle.first_pass_blocks.proofs.OrderSteps.{unindented_later}
 

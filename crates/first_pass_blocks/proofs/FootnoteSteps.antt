@@ -5,7 +5,7 @@ use Rattle.first_pass_items.specs.declared.item.ItemBody.TheVariants.{FootnoteDe
 use Rattle.first_pass_items.specs.CowText.{text_of}
 use Rattle.first_pass_tree.specs.Forest.{IsForest, in_table}
 use Rattle.first_pass_lines.specs.Places.{Place, offset, line_end, IsPlaceOf}
-use Rattle.first_pass_links.specs.Texts.{Borrows}
+use Rattle.first_pass_entities.specs.Texts.{Borrows}
 use Rattle.first_pass_grammar.specs.Kinds.{unindented}
 use Rattle.first_pass_grammar.specs.Leaves.{Document, document}
 use Rattle.first_pass_grammar.specs.Names.{Names, Extends, AreNamed}
@@ -23,19 +23,19 @@ use Rattle.first_pass_open.proofs.PlaceLemmas.{all_keep}
 use Rattle.first_pass_lists.specs.Closing.{top_body, is_list, item_finished, list_left, footnote_left, gap_noted, footnote_begun}
 use Rattle.first_pass_lists.specs.declared.reading.Reading.{Reading}
 use Rattle.first_pass_blocks.specs.declared.state.BlockPass.{BlockPass}
-use Rattle.first_pass_blocks.specs.State.{ReadyAt}
+use Rattle.first_pass_ready.specs.State.{ReadyAt}
 use Rattle.first_pass_blocks.specs.Positions.{line_or, OrderedUpTo, OrderedIn, InLine}
 use Rattle.first_pass_blocks.specs.Progress.{PassesTo}
 use Rattle.first_pass_blocks.specs.FootnoteHeads.{OpenedFootnote}
 use Rattle.first_pass_blocks.specs.Views.{allocs_of, reading_of, source_of, source_text, tree_of}
 use Rattle.first_pass_grammar.specs.Containers.{Context}
 use Rattle.first_pass_blocks.proofs.WrittenLemmas.{footnote_written}
-use Rattle.first_pass_blocks.proofs.FootnoteLemmas.{behind_note, note_is_open}
+use Rattle.first_pass_ready.proofs.FootnoteLemmas.{behind_note, note_is_open}
 use Rattle.first_pass_blocks.proofs.OrderSteps.{line_or-below, ordered_on, ordered_note_in, top_begun, unindented_later}
-use Rattle.first_pass_blocks.proofs.CountLemmas.{note_count}
-use Rattle.first_pass_blocks.proofs.NamedLemmas.{note_named}
-use Rattle.first_pass_blocks.proofs.WholeKept.{note_whole, more_whole}
-use Rattle.first_pass_blocks.proofs.BegunLemmas.{no_table}
+use Rattle.first_pass_order.proofs.CountLemmas.{note_count}
+use Rattle.first_pass_order.proofs.NamedLemmas.{note_named}
+use Rattle.first_pass_order.proofs.WholeKept.{note_whole, more_whole}
+use Rattle.first_pass_ready.proofs.BegunLemmas.{no_table}
 
 module _ (old new : BlockPass) (p q : Place) (head : ℕ × List ℕ) (utf8 : IsUtf8 (source_text old)) (at : IsPlaceOf (source_text old) p)
     (forest : IsForest (tree_of old)) (none : (reading_of old).empty_item ≡ None) (same : source_of new ≡ source_of old)

@@ -24,13 +24,13 @@ use Rattle.first_pass_open.proofs.PlaceLemmas.{after_keeps, line_start_end}
 use Rattle.first_pass_raw.proofs.RawOrder.{first_line}
 use Rattle.first_pass_lists.specs.Closing.{top_body, is_list, list_left, item_finished, gap_noted, list_finished, blank_read}
 use Rattle.first_pass_lists.specs.declared.reading.Reading.{Reading}
-use Rattle.first_pass_blocks.specs.Ordered.{IsOrderedAt, IsHandedOn, IsOrderedFrom, AreNested, IsReadTo, IsReadFrom}
+use Rattle.first_pass_order.specs.Ordered.{IsOrderedAt, IsHandedOn, IsOrderedFrom, AreNested, IsReadTo, IsReadFrom}
 use Rattle.first_pass_blocks.specs.Positions.{OrderedUpTo}
-use Rattle.first_pass_blocks.proofs.Nests.{tree_closes}
-use Rattle.first_pass_blocks.proofs.OrderLemmas.{ordered_none}
-use Rattle.first_pass_blocks.proofs.PopOrder.{read_blank_read, read_item_finished}
+use Rattle.first_pass_order.proofs.Nests.{tree_closes}
+use Rattle.first_pass_order.proofs.OrderLemmas.{ordered_none}
+use Rattle.first_pass_order.proofs.PopOrder.{read_blank_read, read_item_finished}
 use Rattle.first_pass_blocks.proofs.OrderSteps.{ordered_tree, place_before_end}
-use Rattle.first_pass_blocks.proofs.LineLemmas.{finished_none}
+use Rattle.first_pass_lists.proofs.NoEmptyItem.{finished_none}
 use Rattle.first_pass_items.specs.declared.option_set.Options.{Options}
 
 -- An extent ends where the lines begin that it leaves, or after what a path takes of the first of them, which is blank.

@@ -12,7 +12,7 @@ use Rattle.first_pass_links.specs.Footnotes.{begins_footnote, head_behind, footn
 use Rattle.first_pass_grammar.specs.Leaves.{Document}
 use Rattle.first_pass_grammar.specs.LinkRuns.{lines_beyond}
 use Rattle.first_pass_blocks.proofs.RunLemmas.{lines_behind_it}
-use Rattle.first_pass_blocks.proofs.FootnoteLemmas.{behind_note}
+use Rattle.first_pass_ready.proofs.FootnoteLemmas.{behind_note}
 use Rattle.std.proofs.lemmas.Bool.Decides.{nat_tests}
 use Rattle.std.specs.Option.{unwrap_or, option_and_then}
 use Rattle.first_pass_lines.specs.Lines.{begins, is_line_end, is_content, is_white, blank_len, line_len}

@@ -18,20 +18,20 @@ use Rattle.first_pass_kinds.proofs.KindLemmas.{kind_says}
 use Rattle.first_pass_blocks.specs.declared.state.BlockPass.{BlockPass}
 use Rattle.first_pass_blocks.specs.Views.{allocs_of, reading_of, source_of, source_options, source_text, tree_of}
 use Rattle.first_pass_blocks.specs.Progress.{ReadsLeaf}
-use Rattle.first_pass_blocks.specs.State.{Ready}
-use Rattle.first_pass_blocks.proofs.CountLemmas.{list_finished_count, leaf_left, left_before}
-use Rattle.first_pass_blocks.specs.Ordered.{AreNested}
+use Rattle.first_pass_ready.specs.State.{Ready}
+use Rattle.first_pass_order.proofs.CountLemmas.{list_finished_count, leaf_left, left_before}
+use Rattle.first_pass_order.specs.Ordered.{AreNested}
 use Rattle.first_pass_blocks.proofs.FirstItems.{kind_silent}
 use Rattle.first_pass_blocks.proofs.HandedOn.{path_added, html_stops, read_stopped, list_finished_blank}
 use Rattle.first_pass_blocks.proofs.KindBlocks.{AddsHtml, columns_are, html_blank_added, ready_kind}
 use Rattle.first_pass_blocks.proofs.LeafAdded.{found_boundary}
 use Rattle.first_pass_blocks.proofs.LeafLemmas.{line_end_of}
-use Rattle.first_pass_blocks.proofs.LineLemmas.{list_finished_none}
-use Rattle.first_pass_blocks.proofs.NamedLemmas.{block_added, list_finished_named, kind_named}
-use Rattle.first_pass_blocks.proofs.Nests.{list_finished_outside, added_outside}
+use Rattle.first_pass_lists.proofs.NoEmptyItem.{list_finished_none}
+use Rattle.first_pass_order.proofs.NamedLemmas.{block_added, list_finished_named, kind_named}
+use Rattle.first_pass_order.proofs.Nests.{list_finished_outside, added_outside}
 use Rattle.first_pass_blocks.proofs.OrderSteps.{block_ordered, ordered_finished, unindented_later}
 use Rattle.first_pass_blocks.proofs.RawFits.{to_blank_between, to_blank_ends, to_blank_few}
-use Rattle.first_pass_blocks.proofs.WholeKept.{kept_of, list_finished_whole, block_whole, kind_whole}
+use Rattle.first_pass_order.proofs.WholeKept.{kept_of, list_finished_whole, block_whole, kind_whole}
 use Rattle.first_pass_blocks.proofs.WrittenLemmas.{written_stay}
 
 -- the block's place, at the offset after the columns

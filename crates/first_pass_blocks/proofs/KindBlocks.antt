@@ -29,18 +29,18 @@ use Rattle.first_pass_grammar.specs.Completion.{lines_from}
 use Rattle.first_pass_open.specs.Path.{path_of, context_of}
 use Rattle.first_pass_raw.specs.RawBlocks.{IsPlaceAt, behind_line_at, code_behind, AddsIndented, AddsRaw, metadata_behind, fenced_behind, html_to_end}
 use Rattle.first_pass_raw.specs.RawBlocks.{html_to_blank}
-use Rattle.first_pass_blocks.specs.Adding.{AddsKind}
+use Rattle.first_pass_order.specs.LeafBlocks.{AddsKind}
 use Rattle.first_pass_kinds.specs.Found.{marked_kind}
 use Rattle.first_pass_kinds.specs.declared.kinds.MarkedLeaf.{MarkedLeaf}
 use Rattle.first_pass_kinds.specs.declared.kinds.MarkedLeaf.TheVariants.{IndentedCode as MarkedCode, Metadata as MarkedMetadata, HtmlToEnd as MarkedHtml}
 use Rattle.first_pass_kinds.specs.declared.kinds.MarkedLeaf.TheVariants.{ThematicBreak as MarkedBreak, AtxHeading as MarkedHeading, FencedCode as MarkedFence}
 use Rattle.first_pass_text.specs.Appends.{AddsHeading}
-use Rattle.first_pass_grammar.proofs.Closings.{leaf_closes}
+use Rattle.first_pass_completion.proofs.Closings.{leaf_closes}
 use Rattle.first_pass_lists.specs.Closing.{remembered, top_body, list_finished}
 use Rattle.first_pass_lists.specs.declared.reading.Reading.{Reading}
 use Rattle.first_pass_blocks.specs.Positions.{ReadyLeaf}
-use Rattle.first_pass_blocks.specs.State.{closed_in, Ready}
-use Rattle.first_pass_blocks.proofs.FinishLemmas.{path_finished}
+use Rattle.first_pass_ready.specs.State.{closed_in, Ready}
+use Rattle.first_pass_ready.proofs.FinishLemmas.{path_finished}
 use Rattle.first_pass_blocks.proofs.LeafLemmas.{told_none, kind_in_other, kind_away, line_end_of, opens_heading, opens_rule, ready_added}
 
 -- indented code

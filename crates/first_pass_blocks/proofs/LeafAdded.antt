@@ -18,7 +18,8 @@ use Rattle.first_pass_kinds.proofs.KindLemmas.{Says, kind_says}
 use Rattle.first_pass_open.proofs.PlaceLemmas.{all_keep, place_end}
 use Rattle.first_pass_blocks.specs.declared.state.BlockPass.{BlockPass}
 use Rattle.first_pass_blocks.specs.Views.{allocs_of, reading_of, source_of, source_options, source_text, tree_of}
-use Rattle.first_pass_blocks.specs.Adding.{AddsKind, AddsLeaf, IsFoundIn}
+use Rattle.first_pass_blocks.specs.Adding.{AddsLeaf, IsFoundIn}
+use Rattle.first_pass_order.specs.LeafBlocks.{AddsKind}
 use Rattle.first_pass_blocks.proofs.OrderSteps.{unindented_later}
 use Rattle.first_pass_blocks.proofs.LeafLemmas.{line_end_of}
 use Rattle.first_pass_blocks.proofs.KindBlocks.{adds_so}

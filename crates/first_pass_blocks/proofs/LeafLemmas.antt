@@ -37,13 +37,13 @@ use Rattle.first_pass_grammar.specs.Completion.{lines_from, Closed, OtherClosed,
 use Rattle.first_pass_grammar.specs.Completion.{IsPlain}
 use Rattle.first_pass_grammar.specs.WholeTables.{AreEachNode, ShowsNothing, SilentClosed}
 use Rattle.first_pass_grammar.proofs.Finishes.{Tail, CompletesAt}
-use Rattle.first_pass_grammar.proofs.Extending.{tail, lvl, opens_stays}
-use Rattle.first_pass_grammar.proofs.Closings.{leaf_closes}
-use Rattle.first_pass_grammar.proofs.Completions.{completes-leaf, completes-blank, completes-block, completes-text, counted_after}
-use Rattle.first_pass_grammar.proofs.FlatBlocks.{OwnParagraph, kind_holds}
-use Rattle.first_pass_grammar.proofs.SilentTexts.{text_silent, opened_silent}
+use Rattle.first_pass_completion.proofs.Extending.{tail, lvl, opens_stays}
+use Rattle.first_pass_completion.proofs.Closings.{leaf_closes}
+use Rattle.first_pass_completion.proofs.Completions.{completes-leaf, completes-blank, completes-block, completes-text, counted_after}
+use Rattle.first_pass_completion.proofs.FlatBlocks.{OwnParagraph, kind_holds}
+use Rattle.first_pass_completion.proofs.SilentTexts.{text_silent, opened_silent}
 use Rattle.first_pass_grammar.proofs.TableMarks.{tokens_show}
-use Rattle.first_pass_grammar.proofs.Titles.{closed_after}
+use Rattle.first_pass_completion.proofs.Titles.{closed_after}
 use Rattle.first_pass_open.specs.Between.{line_end_at}
 use Rattle.first_pass_text.specs.Appends.{AddsHeading}
 use Rattle.first_pass_blocks.specs.TextsAdded.{IsTextAt}
@@ -51,21 +51,21 @@ use Rattle.first_pass_lists.specs.Closing.{remembered, top_body, top_end, is_lis
 use Rattle.first_pass_lists.specs.Closing.{blank_read_by, blank_read}
 use Rattle.first_pass_lists.specs.declared.reading.Reading.{Reading}
 use Rattle.first_pass_open.specs.Path.{path_of, context_of}
-use Rattle.first_pass_blocks.specs.State.{closed_in, AreOpen, ReadyAt, Ready}
+use Rattle.first_pass_ready.specs.State.{closed_in, AreOpen, ReadyAt, Ready}
 use Rattle.first_pass_blocks.specs.Positions.{may_define, ReadyText, ReadyLazy, ReadyLeaf}
-use Rattle.first_pass_blocks.proofs.AddedLemmas.{begun_at, closed_added, silent_begun, open_added, no_list_added}
-use Rattle.first_pass_blocks.proofs.BegunLemmas.{depth_of, opens_bare}
-use Rattle.first_pass_blocks.proofs.ClosedIn.{level_of, open_level, takes_same, title_is}
-use Rattle.first_pass_blocks.proofs.LineLemmas.{list_finished_none}
+use Rattle.first_pass_ready.proofs.AddedLemmas.{begun_at, closed_added, silent_begun, open_added, no_list_added}
+use Rattle.first_pass_ready.proofs.BegunLemmas.{depth_of, opens_bare}
+use Rattle.first_pass_ready.proofs.ClosedIn.{level_of, open_level, takes_same, title_is}
+use Rattle.first_pass_lists.proofs.NoEmptyItem.{list_finished_none}
 use Rattle.first_pass_blocks.proofs.HandedOn.{list_finished_blank}
-use Rattle.first_pass_blocks.proofs.OpenLemmas.{open_path}
+use Rattle.first_pass_ready.proofs.OpenLemmas.{open_path}
 use Rattle.first_pass_kinds.proofs.KindLemmas.{kind_says}
 use Rattle.first_pass_blocks.proofs.RuleLemmas.{rule_line}
-use Rattle.first_pass_blocks.proofs.StateLemmas.{ready_plain}
-use Rattle.first_pass_blocks.proofs.FinishLemmas.{EndsListAt, plain_by, ready_finished}
-use Rattle.first_pass_blocks.proofs.EnterLemmas.{ready_blank}
+use Rattle.first_pass_ready.proofs.StateLemmas.{ready_plain}
+use Rattle.first_pass_ready.proofs.FinishLemmas.{EndsListAt, plain_by, ready_finished}
+use Rattle.first_pass_ready.proofs.EnterLemmas.{ready_blank}
 use Rattle.first_pass_blocks.proofs.TagLemmas.{finishes_nothing, quote_counts}
-use Rattle.first_pass_blocks.proofs.WholeKept.{task_shows}
+use Rattle.first_pass_order.proofs.WholeKept.{task_shows}
 use Rattle.first_pass_items.specs.declared.item.BlockQuoteKind.{BlockQuoteKind}
 
 -- The line of a text ends where its line ends.

@@ -8,7 +8,7 @@ use Rattle.first_pass_grammar.specs.Rows.{is_paragraph}
 use Rattle.first_pass_grammar.specs.Leaves.{document}
 use Rattle.first_pass_grammar.specs.Completion.{lines_from}
 use Rattle.first_pass_names.specs.TableEntries.{tables_of, told_by, names_of}
-use Rattle.first_pass_blocks.specs.State.{Ready}
+use Rattle.first_pass_ready.specs.State.{Ready}
 use Rattle.first_pass_lists.specs.Closing.{list_finished}
 use Rattle.first_pass_lists.specs.declared.reading.Reading.{Reading}
 use Rattle.first_pass_blocks.specs.declared.state.BlockPass.{BlockPass}
@@ -18,10 +18,10 @@ use Rattle.first_pass_blocks.specs.Progress.{ReadsLeaf}
 use Rattle.first_pass_blocks.proofs.OrderSteps.{ordered_leaf}
 use Rattle.first_pass_blocks.proofs.KindBlocks.{ready_kind}
 use Rattle.first_pass_blocks.proofs.WrittenLemmas.{written_stay}
-use Rattle.first_pass_blocks.proofs.NamedLemmas.{block_added, list_finished_named, kind_named}
-use Rattle.first_pass_blocks.proofs.WholeKept.{kept_of, list_finished_whole, block_whole, kind_whole}
+use Rattle.first_pass_order.proofs.NamedLemmas.{block_added, list_finished_named, kind_named}
+use Rattle.first_pass_order.proofs.WholeKept.{kept_of, list_finished_whole, block_whole, kind_whole}
 use Rattle.first_pass_blocks.proofs.FirstItems.{kind_silent}
-use Rattle.first_pass_blocks.proofs.CountLemmas.{list_finished_count, block_count, leaf_left, left_before}
+use Rattle.first_pass_order.proofs.CountLemmas.{list_finished_count, block_count, leaf_left, left_before}
 
 -- a block that ends what the line's beginning ends
 pub leaf_read : (old new : BlockPass) (p : Place) (kind : Kind) (next : ℕ) → IsPlaceOf (source_text old) p → (reading_of old).empty_item ≡ None

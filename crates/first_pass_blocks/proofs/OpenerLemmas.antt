@@ -27,11 +27,11 @@ use Rattle.first_pass_grammar.specs.Skeleton.{From, Inside, At, TextOf, Opening,
 use Rattle.first_pass_grammar.specs.Derivation.{Tables, node_of, list_flags}
 use Rattle.first_pass_grammar.specs.Completion.{Closed, OtherClosed, ParagraphAt, DefinitionClosed, TitleAt, lines_from, Frame, InContainer, InList}
 use Rattle.first_pass_grammar.specs.Completion.{InDefinitions, containers_of, AreBelow, IsPlain}
-use Rattle.first_pass_grammar.proofs.Completions.{fresh}
-use Rattle.first_pass_grammar.proofs.ContainerSteps.{completes-quote, completes-list, completes-item}
-use Rattle.first_pass_grammar.proofs.Extending.{tail, lvl, opens_stays}
+use Rattle.first_pass_completion.proofs.Completions.{fresh}
+use Rattle.first_pass_completion.proofs.ContainerSteps.{completes-quote, completes-list, completes-item}
+use Rattle.first_pass_completion.proofs.Extending.{tail, lvl, opens_stays}
 use Rattle.first_pass_grammar.proofs.Finishes.{CompletesAt}
-use Rattle.first_pass_grammar.proofs.Flags.{completes-reflag_list}
+use Rattle.first_pass_completion.proofs.Flags.{completes-reflag_list}
 use Rattle.first_pass_open.specs.Path.{path_in, path_of}
 use Rattle.first_pass_lists.specs.Closing.{loosened_at, loosened_by, top_body, takes_definition, is_list, is_list_of, item_finished_by, item_finished}
 use Rattle.first_pass_lists.specs.Closing.{list_finished, loosened_top, list_kept, begun, list_continued, definition_begun}
@@ -39,13 +39,14 @@ use Rattle.first_pass_lists.specs.declared.list.ListMarker.{ListMarker}
 use Rattle.first_pass_lists.specs.declared.reading.Reading.{Reading}
 use Rattle.first_pass_blocks.specs.Positions.{ReadyOn, ReadyText, ReadyTagged}
 use Rattle.first_pass_blocks.specs.Starts.{marker_of, after_at, IsAfter}
-use Rattle.first_pass_blocks.specs.State.{frame_of, AreOpen, closed_in, ReadyAt}
-use Rattle.first_pass_blocks.proofs.ClosedIn.{items_no_container, items_no_definitions, level_of, open_level}
-use Rattle.first_pass_blocks.proofs.OpenLemmas.{open_path, open_below}
-use Rattle.first_pass_blocks.proofs.ListLemmas.{open_flags}
-use Rattle.first_pass_blocks.proofs.FinishLemmas.{EndsListAt, Finished, ready_finished, loose_is, loose_frame, loosened_spine}
-use Rattle.first_pass_blocks.proofs.BegunLemmas.{opened_too, depth_of, with_open, top_opened, IsBegun, HasBegun, begun_ready, opens_start, plain_open}
-use Rattle.first_pass_blocks.proofs.DefinitionOpened.{definition_is_open}
+use Rattle.first_pass_ready.specs.State.{frame_of, AreOpen, closed_in, ReadyAt}
+use Rattle.first_pass_ready.proofs.ClosedIn.{items_no_container, items_no_definitions, level_of, open_level}
+use Rattle.first_pass_ready.proofs.OpenLemmas.{open_path, open_below}
+use Rattle.first_pass_ready.proofs.ListLemmas.{open_flags}
+use Rattle.first_pass_ready.proofs.FinishLemmas.{EndsListAt, Finished, ready_finished, loose_is, loose_frame, loosened_spine}
+use Rattle.first_pass_ready.proofs.BegunLemmas.{opened_too, depth_of, with_open, top_opened, IsBegun, HasBegun, begun_ready, opens_start, plain_open}
+use Rattle.first_pass_ready.proofs.DefinitionOpened.{definition_is_open}
+use Rattle.first_pass_lists.specs.Closing.{item_opened}
 
 or_false : (a : Bool) → (a || false) ≡ a
 or_false true = refl
@@ -131,10 +132,6 @@ ready_tagged d defined r p lines inside kind forest bare begins none ready =
       ready = subst (λ z. ReadyAt d defined q.tree false (behind_tag (around d z) lines).0 (behind_tag (around d z) lines).1) (sym now.is_begun.path_is)
           now.is_begun.ready;
     }
-
--- the tree with an item opened in its list, which continues or begins
-abbrev pub item_opened : ℕ → ℕ → ℕ → ℕ → Reading → Reading
-item_opened start byte number columns r = begun start (ListItemBody columns) (list_continued start byte number r)
 
 -- what opens an item opens a block, and ends a list of another byte and a definition list where the item starts
 item_away : (b : Option ItemBody) (closed : Closed) (p : Place) (byte number columns : ℕ) (inside : From) (lines : List Place)

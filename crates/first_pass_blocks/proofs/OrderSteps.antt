@@ -30,19 +30,19 @@ use Rattle.first_pass_lists.specs.declared.reading.Reading.{Reading}
 use Rattle.first_pass_grammar.specs.Openers.{after_task}
 use Rattle.first_pass_blocks.specs.Positions.{line_or, OrderedUpTo, OrderedIn, OrderedText, OrderedOn}
 use Rattle.first_pass_blocks.specs.Starts.{after_at}
-use Rattle.first_pass_blocks.specs.Ordered.{reached, AreNested, CanClose, IsOrderedAt, IsReadTo}
+use Rattle.first_pass_order.specs.Ordered.{reached, AreNested, CanClose, IsOrderedAt, IsReadTo}
 use Rattle.first_pass_open.specs.Between.{AddsBetween, StandsBefore}
 use Rattle.first_pass_open.proofs.PathLemmas.{get_front}
-use Rattle.first_pass_blocks.proofs.OpenLemmas.{get_end}
+use Rattle.first_pass_ready.proofs.OpenLemmas.{get_end}
 use Rattle.first_pass_open.proofs.PlaceLemmas.{all_keep, task_keeps, option_on, quote_less}
-use Rattle.first_pass_blocks.proofs.LineLemmas.{list_finished_none, list_continued_none}
-use Rattle.first_pass_blocks.proofs.OpenerLemmas.{item_opened}
-use Rattle.first_pass_blocks.proofs.OrderLemmas.{ordered_later, ordered_appended, ordered_added, ordered_begun, ordered_none}
-use Rattle.first_pass_blocks.proofs.LeftOrder.{title_later}
-use Rattle.first_pass_blocks.proofs.PopOrder.{ordered_list_finished, ordered_list_continued, ordered_note}
-use Rattle.first_pass_blocks.proofs.Nests.{list_continued_settled, list_finished_outside, footnote_begun_settled, begun_settled, begun_outside, child_outside}
-use Rattle.first_pass_blocks.proofs.Nests.{added_outside, settled_closes, outside_closes, tree_closes}
-use Rattle.first_pass_blocks.proofs.DefinitionBegun.{ordered_definition}
+use Rattle.first_pass_lists.proofs.NoEmptyItem.{list_finished_none, list_continued_none}
+use Rattle.first_pass_lists.specs.Closing.{item_opened}
+use Rattle.first_pass_order.proofs.OrderLemmas.{ordered_later, ordered_appended, ordered_added, ordered_begun, ordered_none}
+use Rattle.first_pass_order.proofs.LeftOrder.{title_later}
+use Rattle.first_pass_order.proofs.PopOrder.{ordered_list_finished, ordered_list_continued, ordered_note}
+use Rattle.first_pass_order.proofs.Nests.{list_continued_settled, list_finished_outside, footnote_begun_settled, begun_settled, begun_outside, child_outside}
+use Rattle.first_pass_order.proofs.Nests.{added_outside, settled_closes, outside_closes, tree_closes}
+use Rattle.first_pass_order.proofs.DefinitionBegun.{ordered_definition}
 
 -- the less is left, the later is the place
 pub offset_later : (text : List ℕ) (line : ℕ) (r s : Rest)

@@ -13,16 +13,16 @@ use Rattle.first_pass_grammar.specs.Derivation.{Tables}
 use Rattle.first_pass_grammar.specs.Skeleton.{From, Line, Blanks, next_is_blank}
 use Rattle.first_pass_grammar.specs.Completion.{NoList, Standing, Frame, last_of, Completes, CanGoOn}
 use Rattle.first_pass_grammar.proofs.MoreNames.{extends_none}
-use Rattle.first_pass_grammar.proofs.Completed.{line_goes_on, completion_derives}
+use Rattle.first_pass_exists.proofs.Completed.{line_goes_on, completion_derives}
 use Rattle.first_pass_open.specs.Path.{container_of, with_container, path_in, path_of}
 use Rattle.first_pass_lists.specs.declared.reading.Reading.{Reading}
-use Rattle.first_pass_blocks.specs.State.{AreOpen, ReadyAt, ReadyBeforeLine, ReadyInItem, ReadyEmpty, ReadyWith, Ready}
-use Rattle.first_pass_blocks.specs.State.{closed_in, emptied_as, emptied_top}
+use Rattle.first_pass_ready.specs.State.{AreOpen, ReadyAt, ReadyBeforeLine, ReadyInItem, ReadyEmpty, ReadyWith, Ready}
+use Rattle.first_pass_ready.specs.State.{closed_in, emptied_as, emptied_top}
 use Rattle.first_pass_blocks.specs.Completed.{CompletedAt, CompletedBeforeLine, CompletedInItem, CompletedWith, IsCompleted}
 use Rattle.first_pass_tree.proofs.BodyLemmas.{body-changed}
 use Rattle.first_pass_grammar.specs.declared.kind.Container.{Container}
-use Rattle.first_pass_blocks.proofs.ItemBodies.{item_body, columns_are, item_is, item_path, emptied_is}
-use Rattle.first_pass_blocks.proofs.OpenLemmas.{open_path}
+use Rattle.first_pass_ready.proofs.ItemBodies.{item_body, columns_are, item_is, item_path, emptied_is}
+use Rattle.first_pass_ready.proofs.OpenLemmas.{open_path}
 use Rattle.first_pass_items.specs.declared.option_set.Options.{Options}
 
 -- open nodes are in one way what frames say

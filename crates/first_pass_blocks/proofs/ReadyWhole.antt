@@ -19,16 +19,16 @@ use Rattle.first_pass_grammar.specs.WholeTables.{marks, ShowsNothing, SilentClos
 use Rattle.first_pass_grammar.proofs.LinesLeft.{lines_from_at}
 use Rattle.first_pass_grammar.proofs.MoreNames.{extends_none}
 use Rattle.first_pass_grammar.proofs.PlacesKept.{AreAt}
-use Rattle.first_pass_grammar.proofs.SilentNodes.{IsSilent, AreSilent, marks_modified}
-use Rattle.first_pass_grammar.proofs.WholeBefore.{completed_whole, whole_already}
+use Rattle.first_pass_completion.proofs.SilentNodes.{IsSilent, AreSilent, marks_modified}
+use Rattle.first_pass_order.proofs.WholeBefore.{completed_whole, whole_already}
 use Rattle.first_pass_grammar.proofs.WholeBlocks.{PlainFrom}
 use Rattle.first_pass_grammar.proofs.WholeForests.{whole_same}
 use Rattle.first_pass_lists.specs.declared.reading.Reading.{Reading}
 use Rattle.first_pass_open.specs.Path.{path_of}
-use Rattle.first_pass_blocks.specs.State.{frame_of, frame_at, AreOpen, ReadyBeforeLine, ReadyInItem, ReadyEmpty, ReadyWith, Ready, StaysReady, closed_in}
-use Rattle.first_pass_blocks.specs.State.{emptied_top}
+use Rattle.first_pass_ready.specs.State.{frame_of, frame_at, AreOpen, ReadyBeforeLine, ReadyInItem, ReadyEmpty, ReadyWith, Ready, StaysReady, closed_in}
+use Rattle.first_pass_ready.specs.State.{emptied_top}
 use Rattle.first_pass_blocks.specs.Completed.{CompletedAt, CompletedBeforeLine, CompletedInItem, CompletedWith, IsCompleted}
-use Rattle.first_pass_blocks.proofs.ItemBodies.{item_body, item_container, item_frame}
+use Rattle.first_pass_ready.proofs.ItemBodies.{item_body, item_container, item_frame}
 use Rattle.first_pass_blocks.proofs.ReadyCompleted.{standing_of, top_is, zero_is, ready_completed}
 
 -- an open node is a container or a list, and shows nothing

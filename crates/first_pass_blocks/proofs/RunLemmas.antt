@@ -19,7 +19,7 @@ use Rattle.first_pass_grammar.specs.LinkTables.{LinkEntry}
 use Rattle.first_pass_grammar.specs.LinkRuns.{entry_of, definition_at, lines_beyond, ends_run, Ended, FlowsOn, IsRun}
 use Rattle.first_pass_grammar.specs.Derivation.{Tables, told}
 use Rattle.first_pass_grammar.specs.Completion.{lines_from}
-use Rattle.first_pass_grammar.proofs.Extending.{told-append}
+use Rattle.first_pass_completion.proofs.Extending.{told-append}
 use Rattle.first_pass_blocks.specs.declared.definition.RunEnd.TheVariants.{NextLine, Paragraph}
 use Rattle.first_pass_blocks.specs.Runs.{RunSoFar, ReadsRun}
 use Rattle.first_pass_blocks.proofs.LeafLemmas.{told_none}

@@ -12,7 +12,7 @@ use Rattle.first_pass_tree.specs.Forest.{IsForest, in_table}
 use Rattle.first_pass_grammar.specs.Footnotes.{footnote_head_at}
 use Rattle.first_pass_grammar.specs.Derivation.{Tables}
 use Rattle.first_pass_open.specs.Path.{path_of, context_of}
-use Rattle.first_pass_blocks.proofs.BegunLemmas.{no_table}
+use Rattle.first_pass_ready.proofs.BegunLemmas.{no_table}
 use Rattle.first_pass_lines.specs.Rest.{Rest}
 use Rattle.first_pass_lines.specs.Places.{Place, place_at, offset, line_end, IsPlaceOf}
 use Rattle.first_pass_lines.proofs.PlaceFacts.{start_of-lines}
@@ -38,22 +38,23 @@ use Rattle.first_pass_lists.specs.Closing.{definitions_opened}
 use Rattle.first_pass_lists.specs.Closing.{definition_begun}
 use Rattle.first_pass_lists.specs.declared.reading.Reading.{Reading}
 use Rattle.first_pass_blocks.specs.Positions.{Position, InLine, LeafAt, IsInLine, OrderedUpTo, ReadsTo, may_define}
-use Rattle.first_pass_blocks.specs.Ordered.{IsReadTo}
+use Rattle.first_pass_order.specs.Ordered.{IsReadTo}
 use Rattle.first_pass_blocks.specs.Starts.{TellsStart, start_opened, after_at, IsAfter}
 use Rattle.first_pass_blocks.proofs.StartFound.{start_told, start_is}
-use Rattle.first_pass_blocks.specs.State.{ReadyAt}
-use Rattle.first_pass_blocks.proofs.LineLemmas.{list_finished_none, list_continued_none}
-use Rattle.first_pass_blocks.proofs.NamedLemmas.{item_named, definition_named, quote_named, child_named}
-use Rattle.first_pass_blocks.proofs.WholeKept.{item_whole, quote_whole, child_whole}
-use Rattle.first_pass_blocks.proofs.DefinitionsWhole.{definition_whole}
-use Rattle.first_pass_blocks.proofs.CountLemmas.{item_count, definition_count, quote_count, child_count, left_before, offset_before, mark_shorter}
-use Rattle.first_pass_blocks.proofs.CountLemmas.{container_count}
+use Rattle.first_pass_ready.specs.State.{ReadyAt}
+use Rattle.first_pass_lists.proofs.NoEmptyItem.{list_finished_none, list_continued_none}
+use Rattle.first_pass_order.proofs.NamedLemmas.{item_named, definition_named, quote_named, child_named}
+use Rattle.first_pass_order.proofs.WholeKept.{item_whole, quote_whole, child_whole}
+use Rattle.first_pass_order.proofs.DefinitionsWhole.{definition_whole}
+use Rattle.first_pass_order.proofs.CountLemmas.{item_count, definition_count, quote_count, child_count, left_before, offset_before, mark_shorter}
+use Rattle.first_pass_blocks.proofs.CountSteps.{container_count}
 use Rattle.first_pass_blocks.proofs.OrderSteps.{offset_later, upto_later, ordered_on, top_begun, ordered_item, ordered_definition_in, ordered_quote}
 use Rattle.first_pass_blocks.proofs.OrderSteps.{mark_stands}
 use Rattle.first_pass_blocks.proofs.OrderSteps.{ordered_container}
 use Rattle.first_pass_blocks.proofs.OrderSteps.{ordered_empty_item, quote_stands, place_before_end}
-use Rattle.first_pass_blocks.proofs.ClosedIn.{takes_same}
-use Rattle.first_pass_blocks.proofs.OpenerLemmas.{begins_at, item_opened, ready_item, ready_definition, ready_quote, ready_tagged, after_opened, ready_after}
+use Rattle.first_pass_ready.proofs.ClosedIn.{takes_same}
+use Rattle.first_pass_blocks.proofs.OpenerLemmas.{begins_at, ready_item, ready_definition, ready_quote, ready_tagged, after_opened, ready_after}
+use Rattle.first_pass_lists.specs.Closing.{item_opened}
 use Rattle.first_pass_blocks.proofs.EmptyItems.{IsNoParagraph, empty_item_read, ready_empty_item, ready_empty_definition}
 use Rattle.first_pass_blocks.proofs.StartFound.{may_if}
 use Rattle.first_pass_grammar.specs.Skeleton.{Inside}

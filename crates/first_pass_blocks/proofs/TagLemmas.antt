@@ -21,16 +21,16 @@ use Rattle.first_pass_grammar.specs.Kinds.{Continued, continued, unindented, int
 use Rattle.first_pass_grammar.specs.Leaves.{Document}
 use Rattle.first_pass_grammar.specs.Skeleton.{From, Line, At, ALeafAlone, behind_tag}
 use Rattle.first_pass_grammar.specs.Completion.{lines_from, Closed, OtherClosed, ParagraphAt, DefinitionClosed, TitleAt, Frame, InContainer}
-use Rattle.first_pass_grammar.proofs.Extending.{tail}
-use Rattle.first_pass_grammar.proofs.Completions.{counted_after}
+use Rattle.first_pass_completion.proofs.Extending.{tail}
+use Rattle.first_pass_completion.proofs.Completions.{counted_after}
 use Rattle.first_pass_lists.specs.Closing.{top_body, is_list, popped, item_finished_by, item_finished, list_left, gap_tree, gap_noted, list_finished}
 use Rattle.first_pass_lists.specs.declared.reading.Reading.{Reading}
 use Rattle.first_pass_open.specs.Path.{path_of, context_of}
-use Rattle.first_pass_blocks.specs.State.{frame_of, AreOpen, ReadyAt, Ready}
+use Rattle.first_pass_ready.specs.State.{frame_of, AreOpen, ReadyAt, Ready}
 use Rattle.first_pass_blocks.specs.Positions.{ReadyInQuote, ReadyTagged, ReadyLazy}
 use Rattle.first_pass_open.proofs.PathLemmas.{front-end}
 use Rattle.first_pass_open.proofs.PlaceLemmas.{ends_past}
-use Rattle.first_pass_blocks.proofs.StateLemmas.{ready_plain}
+use Rattle.first_pass_ready.proofs.StateLemmas.{ready_plain}
 
 left_none : (at : ℕ) (r : Reading) (t : Bool) → t ≡ false → (if t then popped at r else r) ≡ r
 left_none at r t is = rw is refl

@@ -35,29 +35,29 @@ use Rattle.first_pass_open.specs.declared.source.Source.{Source}
 use Rattle.first_pass_blocks.specs.declared.state.BlockPass.{BlockPass}
 use Rattle.first_pass_blocks.specs.declared.definition.RunEnd.TheVariants.{NextLine, Paragraph as TextBehind}
 use Rattle.first_pass_blocks.specs.Views.{allocs_of, context_in, reading_of, source_of, source_options, source_text, tree_of}
-use Rattle.first_pass_blocks.specs.State.{closed_in, Ready}
-use Rattle.first_pass_blocks.specs.Ordered.{IsReadTo}
+use Rattle.first_pass_ready.specs.State.{closed_in, Ready}
+use Rattle.first_pass_order.specs.Ordered.{IsReadTo}
 use Rattle.first_pass_blocks.specs.Positions.{ReadyLeaf, OrderedUpTo, line_or}
 use Rattle.first_pass_blocks.specs.Progress.{ReadsLeaf}
 use Rattle.first_pass_blocks.specs.Runs.{IsLater, ReadsRun}
 use Rattle.first_pass_blocks.specs.TextsAdded.{AddsText, IsTextAt}
 use Rattle.first_pass_blocks.specs.Titles.{current_end, is_paragraph_last, title_read, ReadsTitle}
-use Rattle.first_pass_blocks.proofs.AddedLemmas.{body_behind}
-use Rattle.first_pass_blocks.proofs.BegunLemmas.{no_table}
-use Rattle.first_pass_blocks.proofs.CountLemmas.{count, list_finished_count, title_kept_count, definitions_left_count, block_count, leaf_left, left_before}
-use Rattle.first_pass_blocks.proofs.DefinitionOrder.{read_definitions_left, read_title_kept}
-use Rattle.first_pass_blocks.proofs.FinishLemmas.{EndsListAt, path_finished}
+use Rattle.first_pass_ready.proofs.AddedLemmas.{body_behind}
+use Rattle.first_pass_ready.proofs.BegunLemmas.{no_table}
+use Rattle.first_pass_order.proofs.CountLemmas.{count, list_finished_count, title_kept_count, definitions_left_count, block_count, leaf_left, left_before}
+use Rattle.first_pass_order.proofs.DefinitionOrder.{read_definitions_left, read_title_kept}
+use Rattle.first_pass_ready.proofs.FinishLemmas.{EndsListAt, path_finished}
 use Rattle.first_pass_blocks.proofs.FirstItems.{text_silent_first}
 use Rattle.first_pass_blocks.proofs.HandedOn.{list_finished_blank}
 use Rattle.first_pass_blocks.proofs.LeafLemmas.{ready_ended, ready_flows, text_away}
-use Rattle.first_pass_blocks.proofs.LeftBlocks.{left_is}
-use Rattle.first_pass_blocks.proofs.LineLemmas.{list_finished_none}
-use Rattle.first_pass_blocks.proofs.NamedLemmas.{block_added, list_finished_named, title_kept_named}
+use Rattle.first_pass_ready.proofs.LeftBlocks.{left_is}
+use Rattle.first_pass_lists.proofs.NoEmptyItem.{list_finished_none}
+use Rattle.first_pass_order.proofs.NamedLemmas.{block_added, list_finished_named, title_kept_named}
 use Rattle.first_pass_blocks.proofs.OrderSteps.{line_or-below, ordered_finished, ordered_leaf, upto_later, place_before_end, unindented_later}
 use Rattle.first_pass_blocks.proofs.TextsFlat.{text_flat}
 use Rattle.first_pass_blocks.proofs.TitleLemmas.{ready_kept, away_left}
-use Rattle.first_pass_blocks.proofs.DefinitionsWhole.{title_kept_whole}
-use Rattle.first_pass_blocks.proofs.WholeKept.{IsReadWhole, list_finished_whole, kept_of, block_whole, added_text_whole}
+use Rattle.first_pass_order.proofs.DefinitionsWhole.{title_kept_whole}
+use Rattle.first_pass_order.proofs.WholeKept.{IsReadWhole, list_finished_whole, kept_of, block_whole, added_text_whole}
 use Rattle.first_pass_blocks.proofs.WrittenLemmas.{written_stay}
 
 pub leaf_plain : (d : Document) (defined : Tables) (r : Reading) (p : Place) (lines : List Place)

@@ -27,7 +27,7 @@ use Rattle.first_pass_grammar.specs.TableHeads.{headed_table}
 use Rattle.first_pass_grammar.specs.Tables.{AreCells, filled, row_block, Taken, taking, TableSoFar, table_so_far, AreRows, most_filled, IsTable}
 use Rattle.first_pass_grammar.specs.Texts.{IsPlainText, IsText}
 use Rattle.first_pass_grammar.specs.OpenOrder.{within_top}
-use Rattle.first_pass_grammar.proofs.HeadLines.{headed_has_line}
+use Rattle.first_pass_order.proofs.HeadLines.{headed_has_line}
 use Rattle.first_pass_grammar.proofs.TextsMore.{cells_more, rows_more}
 use Rattle.first_pass_open.specs.OpenBlock.{IsJustPushed, begun_item, opened_block}
 use Rattle.first_pass_open.proofs.BlockLemmas.{just_pushed}

@@ -22,7 +22,7 @@ use Rattle.first_pass_grammar.specs.TableHeads.{headed_table}
 use Rattle.first_pass_grammar.specs.Tables.{Taken, taking, IsTable, TableSoFar, table_so_far, most_filled, filled, row_block}
 use Rattle.first_pass_grammar.specs.Texts.{IsPlainText, IsText, IsUnderlined, heading_children, plain_text, underline_first}
 use Rattle.first_pass_grammar.proofs.EachToken.{AreEach, HoldsOfTokens, heading_children_each, lines_each}
-use Rattle.first_pass_grammar.proofs.FlatBlocks.{IsNoParagraph, NoParagraph}
+use Rattle.first_pass_completion.proofs.FlatBlocks.{IsNoParagraph, NoParagraph}
 use Rattle.first_pass_grammar.proofs.TableItems.{both_nodes, leaves_nodes, block_nodes, row_nodes, cells_nodes, rows_nodes}
 use Rattle.first_pass_grammar.proofs.TokensNamed.{NamesWithin}
 

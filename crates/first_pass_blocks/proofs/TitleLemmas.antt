@@ -23,33 +23,33 @@ use Rattle.first_pass_grammar.specs.Skeleton.{Line, Inside, Opening, OpensLeaf, 
 use Rattle.first_pass_grammar.specs.Completion.{lines_from, ended, DefinitionClosed, TitleAt, Frame, InDefinitions, AreBelow}
 use Rattle.first_pass_grammar.specs.WholeTables.{AreEachNode, ShowsNothing, SilentFrom, SilentClosed}
 use Rattle.first_pass_items.specs.declared.option_set.Options.{Options}
-use Rattle.first_pass_grammar.proofs.DefinitionSteps.{completes-possible_title}
-use Rattle.first_pass_grammar.proofs.Extending.{tail, lvl, length-ended}
+use Rattle.first_pass_completion.proofs.DefinitionSteps.{completes-possible_title}
+use Rattle.first_pass_completion.proofs.Extending.{tail, lvl, length-ended}
 use Rattle.first_pass_grammar.proofs.Finishes.{CompletesAt}
-use Rattle.first_pass_grammar.proofs.Flags.{completes-reended}
-use Rattle.first_pass_grammar.proofs.FlatBlocks.{kind_holds}
-use Rattle.first_pass_grammar.proofs.SilentTexts.{silent_behind}
+use Rattle.first_pass_completion.proofs.Flags.{completes-reended}
+use Rattle.first_pass_completion.proofs.FlatBlocks.{kind_holds}
+use Rattle.first_pass_completion.proofs.SilentTexts.{silent_behind}
 use Rattle.first_pass_grammar.proofs.TableItems.{deeper_nodes}
 use Rattle.first_pass_grammar.proofs.TableMarks.{tokens_show}
 use Rattle.first_pass_grammar.proofs.Tightening.{modify-append}
-use Rattle.first_pass_grammar.proofs.TitleNodes.{as_possible}
+use Rattle.first_pass_completion.proofs.TitleNodes.{as_possible}
 use Rattle.first_pass_tree.proofs.BodyLemmas.{body-kept}
 use Rattle.first_pass_open.specs.Path.{path_of, context_of}
 use Rattle.first_pass_open.proofs.PathLemmas.{AreIn, get_front, open_are_in}
 use Rattle.first_pass_lists.specs.Closing.{with_tree, top_body, top_end, title_by, is_after_definition, title_kept}
 use Rattle.first_pass_lists.specs.declared.reading.Reading.{Reading}
-use Rattle.first_pass_blocks.specs.State.{closed_in_definitions, closed_below, closed_none, closed_with, closed_in, AreOpen, ReadyAt, Ready}
+use Rattle.first_pass_ready.specs.State.{closed_in_definitions, closed_below, closed_none, closed_with, closed_in, AreOpen, ReadyAt, Ready}
 use Rattle.first_pass_blocks.specs.Positions.{ReadyLeaf}
 use Rattle.first_pass_blocks.specs.TextsAdded.{IsTextAt}
 use Rattle.first_pass_blocks.specs.Titles.{current_end}
-use Rattle.first_pass_blocks.proofs.ClosedIn.{level_of, open_level}
-use Rattle.first_pass_blocks.proofs.FinishLemmas.{EndsListAt}
+use Rattle.first_pass_ready.proofs.ClosedIn.{level_of, open_level}
+use Rattle.first_pass_ready.proofs.FinishLemmas.{EndsListAt}
 use Rattle.first_pass_blocks.proofs.LeafLemmas.{no_container, text_opens, opens_flow}
-use Rattle.first_pass_blocks.proofs.LeftBlocks.{IsBehindDefinition, behind_definition}
-use Rattle.first_pass_blocks.proofs.OpenLemmas.{open_below, frame-append, frame-ended}
-use Rattle.first_pass_blocks.proofs.StateLemmas.{ready_plain}
+use Rattle.first_pass_ready.proofs.LeftBlocks.{IsBehindDefinition, behind_definition}
+use Rattle.first_pass_ready.proofs.OpenLemmas.{open_below, frame-append, frame-ended}
+use Rattle.first_pass_ready.proofs.StateLemmas.{ready_plain}
 use Rattle.first_pass_blocks.proofs.TextsFlat.{text_flat}
-use Rattle.first_pass_blocks.proofs.TitlePops.{in_definitions}
+use Rattle.first_pass_ready.proofs.TitlePops.{in_definitions}
 
 -- right after a definition what is last is one, which ends where the current node does
 last_by : (e place : ℕ) (x : Item) (ix : TreeIndex) (flags : ListFlags) (b : ItemBody) → title_by (Some (DefinitionList flags)) ix (Some b) ≡ None

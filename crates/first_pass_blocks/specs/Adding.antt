@@ -1,15 +1,8 @@
 -- What is said of a leaf block that is added at a place (private functions alone cite this).
-use Rattle.std.specs.Prelude.{◌≡◌, ℕ, ◌≤◌, Bool, false, List, None, IsUtf8, IsCharBoundary}
-use Rattle.first_pass_items.specs.declared.item.Item.{Item}
-use Rattle.first_pass_tree.specs.Forest.{Forest, added}
+use Rattle.std.specs.Prelude.{◌≡◌, ℕ, ◌≤◌, false, None, IsUtf8, IsCharBoundary}
 use Rattle.first_pass_lines.specs.Places.{Place, offset, line_end, IsPlaceOf}
 use Rattle.first_pass_grammar.specs.Kinds.{Kind}
-use Rattle.first_pass_grammar.specs.Names.{Names, Extends}
-use Rattle.first_pass_grammar.specs.Leaves.{Document, document}
-use Rattle.first_pass_grammar.specs.Blocks.{leaf_block}
-use Rattle.first_pass_grammar.specs.Skeleton.{Line, OpensLeaf, OpensAs}
-use Rattle.first_pass_grammar.specs.Completion.{lines_from}
-use Rattle.first_pass_open.specs.Path.{path_of}
+use Rattle.first_pass_grammar.specs.Leaves.{document}
 use Rattle.first_pass_open.specs.Between.{AddsBetween}
 use Rattle.first_pass_kinds.specs.Found.{IsFoundAt}
 use Rattle.first_pass_kinds.specs.declared.kinds.Found.TheVariants.{Marked}
@@ -17,15 +10,7 @@ use Rattle.first_pass_kinds.specs.declared.kinds.MarkedLeaf.{MarkedLeaf}
 use Rattle.first_pass_names.specs.TableEntries.{names_of, NamesMore}
 use Rattle.first_pass_blocks.specs.declared.state.BlockPass.{BlockPass}
 use Rattle.first_pass_blocks.specs.Views.{allocs_of, reading_of, source_of, source_options, source_text, tree_of}
-
--- A leaf block of a kind, which begins at a place, is a last child of the innermost open node, whatever more is named: with or without blank
--- lines at its end, and the lines from an offset on left.
-pub record AddsKind (d : Document) (p : Place) (kind : Kind) (gap : Bool) (old new : Forest Item) (next : ℕ) : Type 0 where
-  pub items : List (ℕ × Item)
-  pub tree_is : new ≡ added old items
-  pub opens : (more : Names) → Extends more d.names
-      → OpensAs (document d.text d.options more) (path_of d.options old) p (lines_from d.text (line_end p)) kind
-      (OpensLeaf (leaf_block kind p items gap) Line (lines_from d.text next))
+use Rattle.first_pass_order.specs.LeafBlocks.{AddsKind}
 
 -- A pass added such a block: it reads the same text, what was named keeps its name, no entry of a table changed, and no item is empty. The nodes of the
 -- block lie after any offset before the place, and reading continues at an offset after the line of the place, between characters.

@@ -9,7 +9,7 @@ use Rattle.first_pass_grammar.specs.Derivation.{Tables, Derives}
 use Rattle.first_pass_grammar.specs.Completion.{NoList, Frame, last_of, Completion}
 use Rattle.first_pass_lists.specs.declared.reading.Reading.{Reading}
 use Rattle.first_pass_open.specs.Path.{path_of}
-use Rattle.first_pass_blocks.specs.State.{closed_in, emptied_top, AreOpen}
+use Rattle.first_pass_ready.specs.State.{closed_in, emptied_top, AreOpen}
 
 -- Something completes the open nodes of a tree from a place or from these lines on, and the text derives the forest that they become.
 pub record CompletedAt (d : Document) (defined : Tables) (tree : Forest Item) (run : Bool) (from : From) (lines : List Place) : Type 0 where

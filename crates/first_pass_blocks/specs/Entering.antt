@@ -1,7 +1,6 @@
 -- What is said of the open nodes that a line closes, and of a line that is entered (private functions alone cite this).
-use Rattle.std.specs.Prelude.{◌≡◌, ℕ, ◌+◌, ◌≤◌, List, length, drop, Option, Some, None, IsCharBoundary, if◌then◌else◌}
+use Rattle.std.specs.Prelude.{◌≡◌, ℕ, ◌+◌, ◌≤◌, List, length, drop, Option, Some, None, IsCharBoundary}
 use Rattle.first_pass_items.specs.declared.option_set.Options.{Options}
-use Rattle.first_pass_items.specs.OptionWords.{gfm_footnotes}
 use Rattle.first_pass_tree.specs.declared.tree_index.TreeIndex.{TreeIndex}
 use Rattle.first_pass_lines.specs.Lines.{line_len}
 use Rattle.first_pass_lines.specs.Places.{Place, start_of}
@@ -12,15 +11,10 @@ use Rattle.first_pass_grammar.specs.Names.{Names, AreNamed}
 use Rattle.first_pass_grammar.specs.WholeTables.{HasWholeTables}
 use Rattle.first_pass_open.specs.Path.{path_in}
 use Rattle.first_pass_open.specs.declared.source.Source.{Source}
-use Rattle.first_pass_lists.specs.Closing.{old_footnote_finished}
 use Rattle.first_pass_lists.specs.declared.reading.Reading.{Reading}
-use Rattle.first_pass_blocks.specs.State.{NoMore, Ready}
-use Rattle.first_pass_blocks.specs.Ordered.{IsReadTo}
+use Rattle.first_pass_ready.specs.State.{NoMore, Ready}
+use Rattle.first_pass_order.specs.Ordered.{IsReadTo}
 use Rattle.first_pass_blocks.specs.Positions.{LineAt, InLine, IsInLine, ReadsTo}
-
--- A footnote definition in the old form that is innermost is closed at an offset where a line begins, after a blank line that counts (this project).
-abbrev pub footnote_ended : Options → ℕ → Reading → Reading
-footnote_ended options e r = if gfm_footnotes options then r else old_footnote_finished e r
 
 -- Open nodes are closed at an offset, but the outermost of them, so many: what is open stays the same elsewhere; where the lines from there on continue no
 -- more of them, a derivation stays begun; what is remembered is in order up to the offset if it was. No node is added; each index that names an entry still

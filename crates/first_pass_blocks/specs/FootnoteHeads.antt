@@ -11,7 +11,7 @@ use Rattle.first_pass_lines.specs.Lines.{is_white, blank_len}
 use Rattle.first_pass_lines.specs.Rest.{indent}
 use Rattle.first_pass_lines.specs.Places.{Place, offset, line_place, line_end, IsPlaceOf}
 use Rattle.first_pass_links.specs.Footnotes.{begins_footnote}
-use Rattle.first_pass_links.specs.Texts.{Borrows}
+use Rattle.first_pass_entities.specs.Texts.{Borrows}
 use Rattle.first_pass_grammar.specs.Names.{with_named}
 use Rattle.first_pass_items.specs.declared.cow_str.CowStr.{CowStr}
 use Rattle.first_pass_items.specs.CowText.{text_of}

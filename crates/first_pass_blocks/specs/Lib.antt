@@ -2,13 +2,10 @@ pub mod Adding
 pub mod Completed
 pub mod Entering
 pub mod FootnoteHeads
-pub mod Ordered
 pub mod Positions
 pub mod Progress
 pub mod Runs
-pub mod Settled
 pub mod Starts
-pub mod State
 pub mod TextsAdded
 pub mod Titles
 pub mod Views

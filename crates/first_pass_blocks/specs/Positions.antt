@@ -22,8 +22,8 @@ use Rattle.first_pass_open.specs.declared.source.Source.{Source}
 use Rattle.first_pass_open.specs.Between.{StandsBefore}
 use Rattle.first_pass_lists.specs.Closing.{top_body, is_list, takes_definition}
 use Rattle.first_pass_lists.specs.declared.reading.Reading.{Reading}
-use Rattle.first_pass_blocks.specs.State.{Ready, ReadyAt}
-use Rattle.first_pass_blocks.specs.Ordered.{AreNested, CanClose, IsReadFrom}
+use Rattle.first_pass_ready.specs.State.{Ready, ReadyAt}
+use Rattle.first_pass_order.specs.Ordered.{AreNested, CanClose, IsReadFrom}
 
 -- before the line that begins at an offset; in a line, where a container may begin, or where none does or the tag of a block quote stands before; before
 -- the text of a task, after its marker; or before the line after a tag

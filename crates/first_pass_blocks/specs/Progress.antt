@@ -11,8 +11,8 @@ use Rattle.first_pass_blocks.specs.Written.{TablesAreWritten}
 use Rattle.first_pass_open.specs.declared.source.Source.{Source}
 use Rattle.first_pass_blocks.specs.declared.state.BlockPass.{BlockPass}
 use Rattle.first_pass_blocks.specs.Views.{allocs_of, reading_of, source_of, tree_of}
-use Rattle.first_pass_blocks.specs.State.{Ready}
-use Rattle.first_pass_blocks.specs.Ordered.{IsReadFrom}
+use Rattle.first_pass_ready.specs.State.{Ready}
+use Rattle.first_pass_order.specs.Ordered.{IsReadFrom}
 use Rattle.first_pass_blocks.specs.Positions.{Position, LeafAt, ReadyOn, OrderedOn, GrowsTo, GrowsFrom}
 
 -- A pass over a source came from a position to another, in a line that begins at an offset or after that line: it reads the same text, and what was named

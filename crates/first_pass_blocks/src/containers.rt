@@ -3,7 +3,8 @@
 ghost use Rattle.std.specs.Prelude.{◌≡◌, ◌<◌, ◌≤◌, length, None, IfOk, OnOk, IsUtf8, IsCharBoundary, true};
 ghost use Rattle.first_pass_lines.specs.Places.{line_end, IsPlaceOf};
 ghost use Rattle.first_pass_open.specs.Path.{outer};
-ghost use Rattle.first_pass_blocks.specs.Entering.{ClosesAt, EntersLine, footnote_ended};
+ghost use Rattle.first_pass_blocks.specs.Entering.{ClosesAt, EntersLine};
+ghost use Rattle.first_pass_lists.specs.Closing.{footnote_ended};
 ghost use Rattle.first_pass_blocks.specs.Positions.{InLine, IsFrom, LineAt, ReadsTo, may_define};
 ghost use Rattle.first_pass_blocks.specs.Progress.{PassesTo};
 ghost use Rattle.first_pass_blocks.specs.Starts.{start_opened, last_at, IsAfter, OpensNone};

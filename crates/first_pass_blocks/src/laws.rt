@@ -8,7 +8,7 @@ ghost use Rattle.first_pass_grammar.specs.Completion.{lines_from};
 ghost use Rattle.first_pass_grammar.specs.WholeTables.{AreWholeTables};
 ghost use Rattle.first_pass_grammar.specs.Names.{AreNamed};
 ghost use Rattle.first_pass_lists.specs.declared.reading.Reading.{Reading};
-ghost use Rattle.first_pass_blocks.specs.State.{StaysReady};
+ghost use Rattle.first_pass_ready.specs.State.{StaysReady};
 ghost use Rattle.first_pass_blocks.specs.Completed.{IsCompleted};
 
 /// What is ready can be completed. Where what the pass remembers begins a derivation of the text that continues

@@ -14,11 +14,11 @@ ghost use Rattle.first_pass_names.specs.TableEntries.{tables_of, names_of, refde
 ghost use Rattle.first_pass_definitions.specs.Found.{AreWritten};
 ghost use Rattle.first_pass_kinds.specs.Found.{IsFoundAt};
 ghost use Rattle.first_pass_grammar.specs.declared.kind.AfterMarker.TheVariants.{TaskText};
-ghost use Rattle.first_pass_blocks.specs.State.{Ready};
-ghost use Rattle.first_pass_blocks.specs.Ordered.{IsReadTo};
+ghost use Rattle.first_pass_ready.specs.State.{Ready};
+ghost use Rattle.first_pass_order.specs.Ordered.{IsReadTo};
 ghost use Rattle.first_pass_blocks.specs.Positions.{LineAt, TaskAt, TaggedAt};
 ghost use Rattle.first_pass_blocks.specs.Progress.{ReadsBlock, ReadsLeaf};
-ghost use Rattle.first_pass_blocks.specs.Settled.{AreSettled};
+ghost use Rattle.first_pass_order.specs.Settled.{AreSettled};
 ghost use Rattle.first_pass_blocks.specs.Starts.{IsAfter};
 ghost use Rattle.first_pass_blocks.specs.Written.{AreFootnotesWritten};
 ghost use Rattle.first_pass_blocks.specs.Views.{allocs_of, reading_of, source_options, source_text, tree_of};

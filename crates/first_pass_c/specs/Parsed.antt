@@ -9,7 +9,7 @@ use Rattle.first_pass_grammar.specs.Counting.{filled_cells}
 use Rattle.first_pass_grammar.specs.Order.{IsOrdered}
 use Rattle.first_pass_grammar.specs.WholeTables.{AreWholeTables}
 use Rattle.first_pass_names.specs.TableEntries.{names_of, tables_of}
-use Rattle.first_pass_blocks.specs.Settled.{AreSettled}
+use Rattle.first_pass_order.specs.Settled.{AreSettled}
 use Rattle.first_pass_host.specs.OptionWord.{known_bits}
 use Rattle.first_pass_flat.specs.FlatForm.{FlatForm, flat_form}
 use Rattle.first_pass_flat.specs.Side.{AreSideTables}

@@ -13,7 +13,7 @@ use Rattle.first_pass_labels.specs.declared.label_table.LinkDef.{LinkDef}
 use Rattle.first_pass_lines.specs.Lines.{is_line_end, begins, blank_len}
 use Rattle.first_pass_links.specs.Destinations.{destination_at}
 use Rattle.first_pass_links.specs.Labels.{label_at}
-use Rattle.first_pass_links.specs.Texts.{Borrows}
+use Rattle.first_pass_entities.specs.Texts.{Borrows}
 use Rattle.first_pass_links.proofs.Destinations.{first_byte}
 use Rattle.first_pass_grammar.specs.Containers.{Context}
 use Rattle.first_pass_grammar.specs.Definitions.{prefix_crossed, space_at, title_at, alone_behind, title_beyond, title_behind, behind_destination}

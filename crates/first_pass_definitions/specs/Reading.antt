@@ -6,7 +6,7 @@ use Rattle.first_pass_lines.specs.Lines.{is_line_end, eol_len}
 use Rattle.first_pass_items.specs.Bytes.{apostrophe, quotation_mark, right_parenthesis}
 use Rattle.first_pass_items.specs.declared.cow_str.CowStr.{CowStr}
 use Rattle.first_pass_items.specs.CowText.{text_of}
-use Rattle.first_pass_links.specs.Texts.{Borrows}
+use Rattle.first_pass_entities.specs.Texts.{Borrows}
 use Rattle.first_pass_grammar.specs.Definitions.{ends_title}
 
 -- the byte ends titles (CommonMark 6.3, link title)

@@ -2,7 +2,7 @@
 
 ghost use Rattle.std.specs.Prelude.{◌≡◌, ℕ, ◌+◌, ◌<◌, drop, None, true, false, IfOk, IfSome, OnErr, IsSomeAnd, MatchOption, IsCharBoundary};
 ghost use Rattle.first_pass_items.specs.CowText.{text_of};
-ghost use Rattle.first_pass_links.specs.Texts.{Borrows};
+ghost use Rattle.first_pass_entities.specs.Texts.{Borrows};
 ghost use Rattle.first_pass_tree.specs.Forest.{in_table};
 ghost use Rattle.first_pass_grammar.specs.Footnotes.{footnote_prefix, footnote_at, label_bytes};
 ghost use Rattle.first_pass_open.specs.Path.{context_of};

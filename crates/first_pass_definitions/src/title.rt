@@ -7,7 +7,7 @@ ghost use Rattle.std.specs.String.{string_bytes};
 ghost use Rattle.first_pass_items.specs.CowText.{text_of};
 ghost use Rattle.first_pass_lines.specs.Lines.{is_line_end, begins, blank_len, eol_len};
 ghost use Rattle.first_pass_links.specs.Destinations.{unescaped_upto};
-ghost use Rattle.first_pass_links.specs.Texts.{Borrows};
+ghost use Rattle.first_pass_entities.specs.Texts.{Borrows};
 ghost use Rattle.first_pass_links.specs.Units.{part};
 ghost use Rattle.first_pass_items.specs.Bytes.{line_feed};
 ghost use Rattle.first_pass_definitions.specs.Reading.{ClosesTitle, stops_title, goes_on_at};

@@ -20,7 +20,7 @@ use Rattle.first_pass_grammar.specs.Rows.{rows_of, AFootnote}
 use Rattle.first_pass_grammar.specs.Derivation.{row_items, tight_in, items_of, Tables, root_of, Derives}
 use Rattle.first_pass_grammar.specs.WholeTables.{Mark, ATable, shown, marks, row_marks, TableRows, table_marks, AreFull, AreWholeTables}
 use Rattle.first_pass_grammar.proofs.EachRow.{HoldsOfRow, HoldsOfEachRow, each_row}
-use Rattle.first_pass_grammar.proofs.HeadCells.{heads_are_full}
+use Rattle.first_pass_grammar.proofs.FullHeads.{heads_are_full}
 use Rattle.first_pass_grammar.proofs.LinesLeft.{lines_are_at}
 use Rattle.first_pass_grammar.proofs.TableMarks.{marks-append, whole_deeper}
 use Rattle.first_pass_grammar.proofs.WholeBlocks.{whole_none, sequence_whole}

@@ -16,7 +16,7 @@ use Rattle.first_pass_metadata.specs.Metadata.{closing_metadata_len}
 use Rattle.first_pass_lines.specs.Rest.{indent}
 use Rattle.first_pass_lines.specs.Places.{Place, offset, line_end, moved_columns}
 use Rattle.first_pass_links.specs.Escapes.{unescaped}
-use Rattle.first_pass_links.specs.Texts.{Borrows}
+use Rattle.first_pass_entities.specs.Texts.{Borrows}
 use Rattle.first_pass_grammar.specs.declared.kind.Container.{Container}
 use Rattle.first_pass_grammar.specs.Names.{Names}
 use Rattle.first_pass_grammar.specs.Containers.{has_columns, taken}

@@ -10,7 +10,7 @@ use Rattle.first_pass_lines.specs.Rest.{indent}
 use Rattle.first_pass_lines.specs.Lines.{is_white}
 use Rattle.first_pass_lines.specs.Places.{Place, offset, line_place}
 use Rattle.first_pass_links.specs.Footnotes.{footnote_head}
-use Rattle.first_pass_links.specs.Texts.{Borrows}
+use Rattle.first_pass_entities.specs.Texts.{Borrows}
 use Rattle.first_pass_grammar.specs.Containers.{Context, in_footnote}
 use Rattle.first_pass_grammar.specs.Kinds.{unindented, is_blank_rest}
 use Rattle.first_pass_grammar.specs.Names.{Names}

@@ -5,9 +5,9 @@ pub mod Completion
 pub mod Containers
 pub mod Counting
 pub mod Definitions
-pub mod Footnotes
 pub mod Derivation
 pub mod Extents
+pub mod Footnotes
 pub mod Headings
 pub mod HtmlBlocks
 pub mod Kinds

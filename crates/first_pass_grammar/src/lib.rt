@@ -6,4 +6,4 @@ mod kind;
 mod laws;
 
 pub use kind::{AfterMarker, Container};
-pub use laws::{always_a_completion, every_text_derives, one_derivation, some_completion_derives};
+pub use laws::one_derivation;

@@ -12,11 +12,11 @@ use Rattle.std.proofs.lemmas.List.Sums.{prefix_len-le-length}
 use Rattle.std.proofs.lemmas.Option.{some_pair_parts, none-some}
 use Rattle.std.proofs.lemmas.Str.{encode_ascii, length-encode, IsCharBoundary-after_ascii}
 use Rattle.first_pass_lines.specs.Lines.{begins}
-use Rattle.first_pass_links.specs.Entities.{entity_at}
+use Rattle.first_pass_entities.specs.Entities.{entity_at}
 use Rattle.first_pass_links.specs.Escapes.{unescaped, unescaped_behind, replaced_at, begins_escape, without_pipe_escapes}
 use Rattle.first_pass_links.specs.Changes.{change_at, begins_pipe_escape, IsChange}
 use Rattle.first_pass_links.specs.Plain.{is_unmarked}
-use Rattle.first_pass_links.proofs.EntityFacts.{is_plain, entity_is_reference}
+use Rattle.first_pass_entities.proofs.EntityFacts.{is_plain, entity_is_reference}
 use Rattle.first_pass_links.proofs.PipeEscapes.{cell-nil, cell-other, cell-kept, cell-dropped, pipe_behind, drop-without_pipe_escapes, entity_at-cell}
 
 -- the text from one offset on keeps its bytes up to another

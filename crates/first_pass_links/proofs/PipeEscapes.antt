@@ -4,9 +4,9 @@ use Rattle.std.specs.List.{prefix_len}
 use Rattle.std.specs.Char.{is_ascii_digit, is_ascii_hexdigit, is_ascii_alphabetic}
 use Rattle.std.proofs.lemmas.Bool.{eqb-true}
 use Rattle.first_pass_lines.specs.Lines.{begins}
-use Rattle.first_pass_links.specs.Entities.{number_at, numeric_at, name_at, entity_at, behind}
+use Rattle.first_pass_entities.specs.Entities.{number_at, numeric_at, name_at, entity_at, behind}
 use Rattle.first_pass_links.specs.Escapes.{without_pipe_escapes}
-use Rattle.first_pass_links.proofs.EntityFacts.{is_plain, plain_through}
+use Rattle.first_pass_entities.proofs.EntityFacts.{is_plain, plain_through}
 
 pub cell-nil : without_pipe_escapes [] ≡ []
 unfolding without_pipe_escapes

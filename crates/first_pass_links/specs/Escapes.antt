@@ -4,7 +4,7 @@ use Rattle.std.specs.Option.{option_map_or}
 use Rattle.std.specs.Char.{is_ascii_punctuation}
 use Rattle.first_pass_items.specs.Bytes.{backslash, pipe}
 use Rattle.first_pass_lines.specs.Lines.{begins}
-use Rattle.first_pass_links.specs.Entities.{entity_at}
+use Rattle.first_pass_entities.specs.Entities.{entity_at}
 
 -- the bytes begin with a backslash escape: a backslash, and then ASCII punctuation (CommonMark 2.4)
 abbrev pub begins_escape : List ℕ → Bool

@@ -1,10 +1,8 @@
-pub mod Texts
-pub mod Entities
-pub mod Escapes
 pub mod Changes
 pub mod Destinations
-pub mod Labels
+pub mod Escapes
 pub mod Footnotes
-pub mod Units
+pub mod Labels
 pub mod Plain
 pub mod Runs
+pub mod Units

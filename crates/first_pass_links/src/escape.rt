@@ -5,11 +5,11 @@ ghost use Rattle.first_pass_items.specs.CowText.{text_of};
 ghost use Rattle.first_pass_lines.specs.Lanes.{IsRunIn};
 ghost use Rattle.first_pass_links.specs.Escapes.{unescaped};
 ghost use Rattle.first_pass_links.specs.Plain.{is_unmarked};
-ghost use Rattle.first_pass_links.specs.Texts.{Borrows, TakesNoMemory};
+ghost use Rattle.first_pass_entities.specs.Texts.{Borrows, TakesNoMemory};
 ghost use Rattle.first_pass_links.specs.Changes.{change_at, IsChange};
 
-use crate::entity::scan_reference;
 use crate::plain::unmarked_run;
+use first_pass_entities::entity::scan_reference;
 use first_pass_items::cow_str::CowStr;
 use first_pass_lines::lanes::LANES;
 use first_pass_lines::places::rest_of;

@@ -3,7 +3,7 @@
 ghost use Rattle.std.specs.Prelude.{◌≡◌, ◌+◌, ◌-◌, ◌<◌, ℕ, Bool, List, Option, None, is_some, take, drop, IfOk, IfSome, OnErr, true, IsSomeAnd, MatchOption};
 ghost use Rattle.std.specs.Str.{IsCharBoundary};
 ghost use Rattle.first_pass_items.specs.CowText.{text_of};
-ghost use Rattle.first_pass_links.specs.Texts.{Borrows};
+ghost use Rattle.first_pass_entities.specs.Texts.{Borrows};
 ghost use Rattle.first_pass_links.specs.Labels.{AnswersWith, AnswersPlaces, CanErr};
 ghost use Rattle.first_pass_links.specs.Footnotes.{begins_footnote as begins_head, footnote_head};
 

@@ -1,8 +1,7 @@
-//! Entities and escapes, and the parts of links: destinations and labels, of footnotes too.
+//! Escapes, and the parts of links: destinations and labels, of footnotes too.
 #![tactic(auto)]
 
 pub mod destination;
-pub mod entity;
 pub mod escape;
 pub mod footnote;
 pub mod label;

@@ -10,6 +10,8 @@ use Rattle.first_pass_items.specs.declared.item.ItemBody.TheVariants.{FootnoteDe
 use Rattle.first_pass_items.specs.declared.item.ItemBody.TheVariants.{DefinitionList, DefinitionListTitle, MaybeDefinitionListTitle}
 use Rattle.first_pass_items.specs.declared.item.ItemBody.TheVariants.{DefinitionListDefinition}
 use Rattle.first_pass_items.specs.declared.item.CowIndex.{CowIndex}
+use Rattle.first_pass_items.specs.declared.option_set.Options.{Options}
+use Rattle.first_pass_items.specs.OptionWords.{gfm_footnotes}
 use Rattle.first_pass_tree.specs.declared.tree_index.TreeIndex.{TreeIndex}
 use Rattle.first_pass_tree.specs.Forest.{Forest, appended, pushed, wrapped, moved_from, with_body_at, with_end, body_at, item_at}
 use Rattle.first_pass_grammar.specs.Derivation.{list_flags}
@@ -223,6 +225,10 @@ list_continued start byte number r =
     let s = item_finished r in
     if is_list_of byte (top_body s.tree) then list_kept s else begun start (ListBody (list_flags true) byte number) (list_finished start s)
 
+-- an item of this byte and number is opened, which needs so many columns, in its list
+abbrev pub item_opened : ℕ → ℕ → ℕ → ℕ → Reading → Reading
+item_opened start byte number columns r = begun start (ListItemBody columns) (list_continued start byte number r)
+
 -- the innermost open node is an item or a definition that takes blank lines alone
 abbrev pub emptied : Forest Item → List TreeIndex → Forest Item
 emptied f [] = f
@@ -242,3 +248,7 @@ blank_read_by r _ = record r { blank = true }
 
 unfoldable pub blank_read : Reading → Reading
 blank_read r = blank_read_by r (top_body r.tree)
+
+-- A footnote definition in the old form that is innermost is closed at an offset where a line begins, after a blank line that counts (this project).
+abbrev pub footnote_ended : Options → ℕ → Reading → Reading
+footnote_ended options e r = if gfm_footnotes options then r else old_footnote_finished e r

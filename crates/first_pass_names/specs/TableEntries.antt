@@ -8,7 +8,7 @@ use Rattle.first_pass_grammar.specs.LinkTables.{LinkEntry}
 use Rattle.first_pass_grammar.specs.Derivation.{Tables}
 use Rattle.first_pass_attributes.specs.Attributes.{attributes_in}
 use Rattle.first_pass_links.specs.Labels.{label_at}
-use Rattle.first_pass_links.specs.Texts.{Borrows}
+use Rattle.first_pass_entities.specs.Texts.{Borrows}
 use Rattle.first_pass_labels.specs.Foldings.{folded}
 use Rattle.first_pass_labels.specs.LabelTables.{defined_under, with_first}
 use Rattle.first_pass_labels.specs.declared.label_table.LinkDef.{LinkDef}

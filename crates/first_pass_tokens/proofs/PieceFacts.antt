@@ -16,7 +16,7 @@ use Rattle.first_pass_items.specs.declared.item.ItemBody.TheVariants.{Text, Mayb
 use Rattle.first_pass_items.specs.declared.item.ItemBody.TheVariants.{MaybeCode, MaybeHtml, MaybeLinkOpen, MaybeLinkClose, MaybeImage}
 use Rattle.first_pass_tree.specs.Forest.{is_text, is_escaped}
 use Rattle.first_pass_lines.specs.Lines.{is_line_end, is_white}
-use Rattle.first_pass_links.specs.Entities.{entity_at}
+use Rattle.first_pass_entities.specs.Entities.{entity_at}
 use Rattle.first_pass_walk.specs.Walk.{is_special}
 use Rattle.first_pass_flank.specs.declared.flank.DelimiterRun.{DelimiterRun}
 use Rattle.first_pass_flank.specs.Flank.{can_open, can_close}

@@ -11,7 +11,7 @@ use Rattle.std.proofs.lemmas.List.{get_or-drop}
 use Rattle.std.proofs.lemmas.List.Sums.{prefix_len_passes}
 use Rattle.std.proofs.lemmas.Option.{some_pair_parts}
 use Rattle.first_pass_lines.specs.Lines.{begins}
-use Rattle.first_pass_links.specs.Entities.{referred, behind, number_at, numeric_at, name_at, entity_at}
+use Rattle.first_pass_entities.specs.Entities.{referred, behind, number_at, numeric_at, name_at, entity_at}
 
 -- a byte that a reference may have
 abbrev pub is_reference_byte : ℕ → Bool

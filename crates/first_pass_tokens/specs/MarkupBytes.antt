@@ -6,7 +6,7 @@ use Rattle.first_pass_items.specs.declared.item.ItemBody.{ItemBody}
 use Rattle.first_pass_items.specs.declared.item.ItemBody.TheVariants.{MaybeEmphasis, MaybeMath, MaybeSmartQuote, SynthesizeChar, SynthesizeText, MaybeCode}
 use Rattle.first_pass_items.specs.declared.item.ItemBody.TheVariants.{MaybeHtml, MaybeLinkOpen, MaybeLinkClose, MaybeImage}
 use Rattle.first_pass_tree.specs.Forest.{is_text}
-use Rattle.first_pass_links.specs.Entities.{entity_at}
+use Rattle.first_pass_entities.specs.Entities.{entity_at}
 use Rattle.first_pass_tokens.specs.Pieces.{is_delimiter, is_quote, run_at}
 
 -- so many backquotes from an offset on, and none after them (CommonMark 6.1, backtick string)

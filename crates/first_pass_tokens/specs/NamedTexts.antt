@@ -4,7 +4,7 @@ use Rattle.first_pass_items.specs.declared.cow_str.CowStr.{CowStr}
 use Rattle.first_pass_items.specs.CowText.{text_of}
 use Rattle.first_pass_items.specs.declared.item.CowIndex.{CowIndex}
 use Rattle.first_pass_items.specs.declared.item.ItemBody.TheVariants.{SynthesizeText, MaybeMath}
-use Rattle.first_pass_links.specs.Texts.{TakesNoMemory}
+use Rattle.first_pass_entities.specs.Texts.{TakesNoMemory}
 use Rattle.first_pass_tokens.specs.Braces.{MathBraces, dollar_context}
 use Rattle.first_pass_tokens.specs.declared.pieces.Found.{Found}
 use Rattle.first_pass_tokens.specs.declared.pieces.Found.TheVariants.{Ready, Reference, Dashes, Dollar, OpenBrace, CloseBrace}

@@ -3,7 +3,7 @@
 ghost use Rattle.std.specs.Prelude.{◌≡◌, ◌+◌, ◌*◌, [], ◌∷◌, ◌++◌, ◌≤◌, ◌^◌, ◌<◌, encode_utf8, IfOk, OnOk};
 ghost use Rattle.std.specs.String.{string_bytes};
 ghost use Rattle.first_pass_items.specs.CowText.{text_of};
-ghost use Rattle.first_pass_links.specs.Texts.{TakesNoMemory};
+ghost use Rattle.first_pass_entities.specs.Texts.{TakesNoMemory};
 ghost use Rattle.first_pass_tokens.specs.Pieces.{found_size, size};
 ghost use Rattle.first_pass_tokens.specs.Braces.{braces_after};
 ghost use Rattle.first_pass_tokens.specs.NamedTexts.{times, dash_counts, dashes, IsNamingToken, Becomes, AreMore, AddsNamed};

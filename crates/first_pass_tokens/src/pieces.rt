@@ -5,12 +5,12 @@ ghost use Rattle.first_pass_items.specs.Bytes.{ampersand, backslash, backquote, 
 ghost use Rattle.first_pass_tokens.specs.Braces.{MathBraces};
 ghost use Rattle.first_pass_tokens.specs.Pieces.{content_in, is_solid_at, dollar_found, special_found, reference_found, dash_found, found_size, FoundSolid, special_piece, backslash_piece, backslash_piece_in, backquote_piece, is_delimiter, char_before, run_in, run_size, is_quote, quote_piece, dot_piece, run_piece, delimiter_piece, bracket_piece, run_at, size, EndsSolid};
 
+use first_pass_entities::entity::scan_reference;
 use first_pass_flank::flank::{DelimiterRun, ends_with_pipe, first_char, last_char};
 use first_pass_items::item::ItemBody;
 use first_pass_items::option_set::Options;
 use first_pass_lines::lines::is_ascii_white;
 use first_pass_lines::places::rest_of;
-use first_pass_links::entity::scan_reference;
 
 /// The content of a line of text, or of a cell in a table's row.
 #[derive(Clone, Copy, Drop)]

@@ -4,9 +4,9 @@ ghost use Rattle.std.specs.Prelude.{◌≡◌, ◌<◌, length, slice_index, IfS
 
 use first_pass_cases::answer::Answer;
 use first_pass_cases::given::Given;
+use first_pass_entities::entity::scan_entity;
 use first_pass_items::cow_str::CowStr;
 use first_pass_links::destination::scan_link_dest;
-use first_pass_links::entity::scan_entity;
 use first_pass_links::escape::unescape;
 use first_pass_links::label::scan_link_label_rest;
 use std::alloc::{AllocError, Global};

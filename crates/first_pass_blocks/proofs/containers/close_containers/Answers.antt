@@ -1,11 +1,11 @@
 use Rattle.std.proofs.Common.{◌≤◌, length, refl, sym, ap, subst, arith}
 use Rattle.first_pass_lists.specs.declared.reading.Reading.{Reading}
-use Rattle.first_pass_blocks.specs.Ordered.{IsReadTo}
-use Rattle.first_pass_blocks.proofs.NamedLemmas.{AreReadNamed, popped_named}
-use Rattle.first_pass_blocks.proofs.CountLemmas.{count, popped_count}
-use Rattle.first_pass_blocks.proofs.PopOrder.{read_popped}
-use Rattle.first_pass_blocks.proofs.StateLemmas.{closed_none, closed_one}
-use Rattle.first_pass_blocks.proofs.WholeKept.{IsReadWhole, popped_whole}
+use Rattle.first_pass_order.specs.Ordered.{IsReadTo}
+use Rattle.first_pass_order.proofs.NamedLemmas.{AreReadNamed, popped_named}
+use Rattle.first_pass_order.proofs.CountLemmas.{count, popped_count}
+use Rattle.first_pass_order.proofs.PopOrder.{read_popped}
+use Rattle.first_pass_ready.proofs.StateLemmas.{closed_none, closed_one}
+use Rattle.first_pass_order.proofs.WholeKept.{IsReadWhole, popped_whole}
 use Rattle.first_pass_blocks.proofs.containers.close_containers.Goals as goal
 
 pub loop-reading-init : goal.loop-reading-init

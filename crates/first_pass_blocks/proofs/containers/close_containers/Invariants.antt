@@ -2,8 +2,8 @@ use Rattle.std.proofs.Common.{◌≡◌, ◌≤◌, ℕ, List, length, IsCharBou
 use Rattle.first_pass_grammar.specs.Names.{Names, AreNamed}
 use Rattle.first_pass_grammar.specs.WholeTables.{HasWholeTables}
 use Rattle.first_pass_grammar.specs.Counting.{own_nodes}
-use Rattle.first_pass_blocks.specs.Ordered.{IsReadTo}
-use Rattle.first_pass_blocks.proofs.StateLemmas.{ClosedSoFar}
+use Rattle.first_pass_order.specs.Ordered.{IsReadTo}
+use Rattle.first_pass_ready.proofs.StateLemmas.{ClosedSoFar}
 use Rattle.first_pass_blocks.proofs.containers.close_containers.Given as goal
 
 -- the others are still to be closed

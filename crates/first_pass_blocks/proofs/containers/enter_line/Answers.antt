@@ -9,16 +9,17 @@ use Rattle.first_pass_grammar.specs.Skeleton.{Inside}
 use Rattle.first_pass_grammar.specs.Completion.{lines_from}
 use Rattle.first_pass_lists.specs.Closing.{item_finished}
 use Rattle.first_pass_lists.specs.declared.reading.Reading.{Reading}
-use Rattle.first_pass_blocks.specs.Ordered.{IsReadTo}
+use Rattle.first_pass_order.specs.Ordered.{IsReadTo}
 use Rattle.first_pass_blocks.specs.Positions.{OrderedUpTo}
-use Rattle.first_pass_blocks.specs.State.{Ready, ReadyAt}
-use Rattle.first_pass_blocks.proofs.NamedLemmas.{AreReadNamed, blank_named, item_finished_named}
-use Rattle.first_pass_blocks.proofs.WholeKept.{IsReadWhole, blank_whole, item_finished_whole}
-use Rattle.first_pass_blocks.proofs.CountLemmas.{count, item_finished_count, blank_count}
+use Rattle.first_pass_ready.specs.State.{Ready, ReadyAt}
+use Rattle.first_pass_order.proofs.NamedLemmas.{AreReadNamed, blank_named, item_finished_named}
+use Rattle.first_pass_order.proofs.WholeKept.{IsReadWhole, blank_whole, item_finished_whole}
+use Rattle.first_pass_order.proofs.CountLemmas.{count, item_finished_count, blank_count}
 use Rattle.first_pass_blocks.proofs.HandedOn.{handed_whole, ordered_blank_line, ordered_other_line}
 use Rattle.first_pass_blocks.proofs.OrderSteps.{ordered_at_place}
-use Rattle.first_pass_blocks.proofs.LineLemmas.{IsSettled, settled, at_line, blank_line_read, line_entered, finished_none, line_kept}
-use Rattle.first_pass_blocks.specs.Entering.{footnote_ended}
+use Rattle.first_pass_ready.proofs.LineLemmas.{IsSettled, settled, at_line, blank_line_read, line_entered, line_kept}
+use Rattle.first_pass_lists.proofs.NoEmptyItem.{finished_none}
+use Rattle.first_pass_lists.specs.Closing.{footnote_ended}
 use Rattle.first_pass_blocks.proofs.EndedLemmas.{ended_count, ended_named, ended_whole, ended_ordered, ended_unblank}
 use Rattle.first_pass_blocks.proofs.containers.enter_line.Goals as goal
 use Rattle.first_pass_blocks.proofs.containers.enter_line.Goals.{After-is_some}

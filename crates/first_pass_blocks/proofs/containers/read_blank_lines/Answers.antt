@@ -2,7 +2,7 @@ use Rattle.std.proofs.Common.{◌≡◌, ◌+◌, Bool, true, false, not, ◌&&�
 use Rattle.first_pass_lines.specs.Lines.{blank_len, line_len}
 use Rattle.first_pass_lines.proofs.PlaceFacts.{line_end_boundary}
 use Rattle.first_pass_blocks.specs.Positions.{LineAt, ReadsTo}
-use Rattle.first_pass_blocks.proofs.OldFootnotes.{ends_here, and_no}
+use Rattle.first_pass_ready.proofs.OldFootnotes.{ends_here, and_no}
 use Rattle.first_pass_blocks.proofs.BlankLines.{one_read}
 use Rattle.first_pass_blocks.proofs.containers.read_blank_lines.Goals as goal
 use Rattle.first_pass_blocks.proofs.containers.read_blank_lines.Goals.{else-is_in_footnote-via-else-is_in_footnote}

@@ -6,19 +6,19 @@ use Rattle.first_pass_items.specs.declared.option_set.Options.{Options}
 use Rattle.first_pass_grammar.specs.Completion.{lines_from}
 use Rattle.first_pass_lists.specs.declared.reading.Reading.{Reading}
 use Rattle.first_pass_open.specs.declared.source.Source.{Source}
-use Rattle.first_pass_blocks.specs.Ordered.{reached, IsReadTo, IsReadFrom}
-use Rattle.first_pass_blocks.specs.State.{Ready}
+use Rattle.first_pass_order.specs.Ordered.{reached, IsReadTo, IsReadFrom}
+use Rattle.first_pass_ready.specs.State.{Ready}
 use Rattle.first_pass_names.specs.TableEntries.{tables_of, names_of}
 use Rattle.first_pass_blocks.specs.Written.{TablesAreWritten}
 use Rattle.first_pass_blocks.proofs.WrittenLemmas.{none_written}
 use Rattle.first_pass_grammar.proofs.OwnNodes.{own_at_most}
-use Rattle.first_pass_grammar.proofs.FilledCells.{all_nodes}
+use Rattle.first_pass_order.proofs.FilledCells.{all_nodes}
 use Rattle.first_pass_grammar.proofs.Unique.{only_derived}
 use Rattle.first_pass_grammar.proofs.WholeForests.{derived_whole}
-use Rattle.first_pass_blocks.proofs.SettledNodes.{derived_settled}
-use Rattle.first_pass_blocks.proofs.OrderLemmas.{ordered_whole}
+use Rattle.first_pass_order.proofs.SettledNodes.{derived_settled}
+use Rattle.first_pass_order.proofs.OrderLemmas.{ordered_whole}
 use Rattle.first_pass_open.proofs.FrontLemmas.{outer-none}
-use Rattle.first_pass_blocks.proofs.StateLemmas.{ready_finish}
+use Rattle.first_pass_ready.proofs.StateLemmas.{ready_finish}
 use Rattle.first_pass_names.proofs.NameLemmas.{extends_both, extends_equal}
 use Rattle.first_pass_blocks.proofs.pass.run_first_pass.Goals as goal
 

@@ -3,8 +3,8 @@ use Rattle.first_pass_grammar.specs.Names.{Names, Extends, AreNamed}
 use Rattle.first_pass_grammar.specs.Leaves.{document}
 use Rattle.first_pass_grammar.specs.Counting.{own_nodes}
 use Rattle.first_pass_grammar.specs.Completion.{lines_from}
-use Rattle.first_pass_blocks.specs.Ordered.{IsReadFrom}
-use Rattle.first_pass_blocks.specs.State.{Ready}
+use Rattle.first_pass_order.specs.Ordered.{IsReadFrom}
+use Rattle.first_pass_ready.specs.State.{Ready}
 use Rattle.first_pass_names.specs.TableEntries.{tables_of, names_of}
 use Rattle.first_pass_blocks.specs.Written.{TablesAreWritten}
 use Rattle.first_pass_blocks.proofs.pass.run_first_pass.Given as goal

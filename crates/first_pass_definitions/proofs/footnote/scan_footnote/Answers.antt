@@ -1,6 +1,6 @@
 use Rattle.std.proofs.Common.{rules, OnErr, refl, sym, ◌≡◌, ℕ, ◌+◌, List, drop, IfOk, IfSome, ap, subst, ◌∙◌}
 use Rattle.first_pass_items.specs.CowText.{text_of}
-use Rattle.first_pass_links.specs.Texts.{Borrows}
+use Rattle.first_pass_entities.specs.Texts.{Borrows}
 use Rattle.std.proofs.lemmas.Result.{on_err_weaker}
 use Rattle.first_pass_lines.specs.Places.{line_rest}
 use Rattle.first_pass_links.proofs.Footnotes.{behind_mark}

@@ -1,7 +1,7 @@
 use Rattle.std.proofs.Common.{refl, sym, ap, subst, drop, is_some, true, false, IfSome, ◌≡◌, ◌+◌, ◌∙◌}
 use Rattle.std.specs.List.{list_any}
 use Rattle.first_pass_items.specs.CowText.{text_of}
-use Rattle.first_pass_links.specs.Texts.{Borrows}
+use Rattle.first_pass_entities.specs.Texts.{Borrows}
 use Rattle.first_pass_lines.specs.Lines.{is_line_end, blank_len}
 use Rattle.first_pass_grammar.specs.Definitions.{title_at}
 use Rattle.first_pass_open.specs.Path.{context_of}

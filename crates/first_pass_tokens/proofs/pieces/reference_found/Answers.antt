@@ -1,5 +1,5 @@
 use Rattle.std.proofs.Common.{sym, ap, ◌∙◌}
-use Rattle.first_pass_links.specs.Entities.{entity_at}
+use Rattle.first_pass_entities.specs.Entities.{entity_at}
 use Rattle.first_pass_tokens.proofs.ReferenceBytes.{reference_at}
 use Rattle.first_pass_tokens.proofs.pieces.reference_found.Goals as goal
 

@@ -4,8 +4,8 @@ use Rattle.first_pass_tokens.specs.Pieces.{text_upto}
 use Rattle.first_pass_tokens.proofs.BytesLemmas.{few_of_cell}
 use Rattle.first_pass_tokens.proofs.OrderLemmas.{cell_end_place}
 use Rattle.first_pass_lists.specs.declared.reading.Reading.{Reading}
-use Rattle.first_pass_blocks.specs.Ordered.{reached}
-use Rattle.first_pass_blocks.proofs.OrderLemmas.{ordered_none}
+use Rattle.first_pass_order.specs.Ordered.{reached}
+use Rattle.first_pass_order.proofs.OrderLemmas.{ordered_none}
 use Rattle.first_pass.proofs.CallsNamed.{cell_named}
 use Rattle.first_pass.proofs.OrderJoin.{ordered_cell}
 use Rattle.first_pass.proofs.state.FirstPass.append_cell_content.Goals as goal

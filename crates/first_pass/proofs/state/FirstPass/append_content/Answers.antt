@@ -5,8 +5,8 @@ use Rattle.first_pass_tokens.specs.Pieces.{text_upto}
 use Rattle.first_pass_tokens.specs.LineTokens.{EndsLine}
 use Rattle.first_pass_tokens.proofs.BytesLemmas.{few_of_line}
 use Rattle.first_pass_lists.specs.declared.reading.Reading.{Reading}
-use Rattle.first_pass_blocks.specs.Ordered.{reached}
-use Rattle.first_pass_blocks.proofs.OrderLemmas.{ordered_none}
+use Rattle.first_pass_order.specs.Ordered.{reached}
+use Rattle.first_pass_order.proofs.OrderLemmas.{ordered_none}
 use Rattle.first_pass.proofs.CallsNamed.{line_named}
 use Rattle.first_pass.proofs.OrderJoin.{ordered_line}
 use Rattle.first_pass_text.proofs.ParagraphLemmas.{next_boundary}

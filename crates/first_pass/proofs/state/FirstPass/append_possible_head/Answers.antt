@@ -7,7 +7,7 @@ use Rattle.first_pass_names.proofs.NameLemmas.{extends_both, extends_alignments}
 use Rattle.first_pass_tokens.specs.Pieces.{text_upto}
 use Rattle.first_pass_blocks.proofs.TextsAre.{line_bounds}
 use Rattle.first_pass.specs.Views.{allocs_of, tree_of}
-use Rattle.first_pass_blocks.proofs.OrderLemmas.{ordered_at_later}
+use Rattle.first_pass_order.proofs.OrderLemmas.{ordered_at_later}
 use Rattle.first_pass.proofs.state.FirstPass.append_possible_head.Goals as goal
 
 upto_within : (text : List ℕ) (start : ℕ) (end : Option ℕ) → IfSome end (λ e. (start ≤ e) × (e ≤ length text)) → length (text_upto text end) ≤ length text

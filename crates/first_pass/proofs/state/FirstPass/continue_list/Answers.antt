@@ -1,7 +1,7 @@
 use Rattle.std.proofs.Common.{sym, refl, subst}
 use Rattle.first_pass_names.specs.TableEntries.{names_of}
-use Rattle.first_pass_blocks.proofs.NamedLemmas.{AreReadNamed, continued_named}
-use Rattle.first_pass_blocks.proofs.PopOrder.{continue_list_keeps_order}
+use Rattle.first_pass_order.proofs.NamedLemmas.{AreReadNamed, continued_named}
+use Rattle.first_pass_order.proofs.PopOrder.{continue_list_keeps_order}
 use Rattle.first_pass.proofs.state.FirstPass.continue_list.Goals as goal
 
 pub returns : goal.returns

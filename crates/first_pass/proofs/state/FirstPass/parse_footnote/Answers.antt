@@ -1,11 +1,11 @@
 use Rattle.std.proofs.Common.{◌≤◌, ℕ, Option, Some, None, IfSome, IsCharBoundary, refl}
 use Rattle.first_pass_blocks.specs.declared.state.BlockPass.{BlockPass}
 use Rattle.first_pass_blocks.specs.FootnoteHeads.{StaysSame, ReadsFootnote}
-use Rattle.first_pass_blocks.specs.Ordered.{IsReadTo}
+use Rattle.first_pass_order.specs.Ordered.{IsReadTo}
 use Rattle.first_pass_blocks.specs.Views.{reading_of, source_text}
-use Rattle.first_pass_blocks.proofs.LineLemmas.{footnote_begun_none}
+use Rattle.first_pass_lists.proofs.NoEmptyItem.{footnote_begun_none}
 use Rattle.first_pass_blocks.proofs.FootnoteFound.{IsRead, some_found}
-use Rattle.first_pass_blocks.proofs.PopOrder.{footnote_keeps_order}
+use Rattle.first_pass_order.proofs.PopOrder.{footnote_keeps_order}
 use Rattle.first_pass.proofs.CallsNamed.{footnote_named}
 use Rattle.first_pass.proofs.state.FirstPass.parse_footnote.Goals as goal
 

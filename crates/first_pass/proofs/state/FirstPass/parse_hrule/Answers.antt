@@ -3,8 +3,8 @@ use Rattle.first_pass_grammar.proofs.MoreNames.{extends_none}
 use Rattle.first_pass_grammar.specs.Leaves.{rule_block}
 use Rattle.first_pass_names.specs.TableEntries.{names_of}
 use Rattle.first_pass_lists.specs.declared.reading.Reading.{Reading}
-use Rattle.first_pass_blocks.specs.Ordered.{IsOrderedAt}
-use Rattle.first_pass_blocks.proofs.NamedLemmas.{block_added}
+use Rattle.first_pass_order.specs.Ordered.{IsOrderedAt}
+use Rattle.first_pass_order.proofs.NamedLemmas.{block_added}
 use Rattle.first_pass_blocks.proofs.OrderSteps.{block_ordered}
 use Rattle.first_pass.proofs.CallsNamed.{rule_named}
 use Rattle.first_pass.proofs.state.FirstPass.parse_hrule.Goals as goal

@@ -2,7 +2,7 @@ use Rattle.std.proofs.Common.{None, refl}
 use Rattle.first_pass_names.specs.TableEntries.{names_of}
 use Rattle.first_pass_grammar.specs.Leaves.{document}
 use Rattle.first_pass_lists.specs.declared.reading.Reading.{Reading}
-use Rattle.first_pass_blocks.proofs.NamedLemmas.{block_added}
+use Rattle.first_pass_order.proofs.NamedLemmas.{block_added}
 use Rattle.first_pass_blocks.proofs.OrderSteps.{text_ordered}
 use Rattle.first_pass.proofs.CallsNamed.{text_added}
 use Rattle.first_pass.proofs.state.FirstPass.parse_paragraph.Goals as goal

@@ -5,7 +5,7 @@ use Rattle.first_pass_lines.specs.Places.{Place, offset, moved_columns}
 use Rattle.first_pass_lines.proofs.PlaceFacts.{columns_keep, columns_line_end, columns_shorter}
 use Rattle.first_pass_raw.specs.RawBlocks.{behind_line_at}
 use Rattle.first_pass_open.proofs.PlaceLemmas.{read_to}
-use Rattle.first_pass_blocks.proofs.EnterLemmas.{blank_columns}
+use Rattle.first_pass_ready.proofs.EnterLemmas.{blank_columns}
 use Rattle.first_pass_blocks.proofs.OrderSteps.{offset_later}
 use Rattle.first_pass_names.specs.TableEntries.{names_of}
 use Rattle.first_pass_kinds.specs.declared.kinds.MarkedLeaf.TheVariants.{IndentedCode}

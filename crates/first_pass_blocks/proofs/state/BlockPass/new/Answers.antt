@@ -1,11 +1,11 @@
 use Rattle.std.proofs.Common.{length, None, false, refl, ap, ◌∙◌, arith}
 use Rattle.first_pass_lists.specs.Closing.{remembered}
 use Rattle.first_pass_tree.specs.Forest.{with_end_at}
-use Rattle.first_pass_blocks.proofs.NamedLemmas.{first_named}
-use Rattle.first_pass_blocks.proofs.Nests.{first_closes}
-use Rattle.first_pass_blocks.proofs.OrderLemmas.{ordered_none, ordered_first}
-use Rattle.first_pass_blocks.proofs.WholeKept.{first_whole}
-use Rattle.first_pass_blocks.proofs.StateLemmas.{ready_first}
+use Rattle.first_pass_order.proofs.NamedLemmas.{first_named}
+use Rattle.first_pass_order.proofs.Nests.{first_closes}
+use Rattle.first_pass_order.proofs.OrderLemmas.{ordered_none, ordered_first}
+use Rattle.first_pass_order.proofs.WholeKept.{first_whole}
+use Rattle.first_pass_ready.proofs.StateLemmas.{ready_first}
 use Rattle.first_pass_blocks.proofs.state.BlockPass.new.Goals as goal
 
 pub returns-clause-ready : goal.returns-clause-ready

@@ -12,7 +12,7 @@ use Rattle.first_pass_lists.specs.declared.reading.Reading.{Reading}
 use Rattle.first_pass_open.specs.Path.{path_of}
 use Rattle.first_pass_blocks.specs.Positions.{ReadyLazy}
 use Rattle.first_pass_open.proofs.PlaceLemmas.{text_place}
-use Rattle.first_pass_blocks.proofs.OrderLemmas.{ordered_none}
+use Rattle.first_pass_order.proofs.OrderLemmas.{ordered_none}
 use Rattle.first_pass_blocks.proofs.OrderSteps.{ordered_at_place, place_before_end}
 use Rattle.first_pass_names.specs.TableEntries.{tables_of}
 use Rattle.first_pass_names.proofs.NameLemmas.{extends_none}

@@ -4,9 +4,9 @@ use Rattle.first_pass_grammar.specs.Leaves.{document}
 use Rattle.first_pass_grammar.specs.Completion.{lines_from}
 use Rattle.first_pass_open.specs.Between.{line_end_at}
 use Rattle.first_pass_lists.specs.declared.reading.Reading.{Reading}
-use Rattle.first_pass_blocks.specs.State.{Ready}
+use Rattle.first_pass_ready.specs.State.{Ready}
 use Rattle.first_pass_open.proofs.PlaceLemmas.{all_keep, read_to}
-use Rattle.first_pass_blocks.proofs.CountLemmas.{block_count}
+use Rattle.first_pass_order.proofs.CountLemmas.{block_count}
 use Rattle.first_pass_blocks.proofs.OrderSteps.{ordered_text, unindented_later}
 use Rattle.first_pass_lines.specs.Places.{offset}
 use Rattle.first_pass_open.specs.Between.{AddsBetween, StandsBefore}
@@ -14,8 +14,8 @@ use Rattle.first_pass_names.specs.TableEntries.{tables_of, told_by, names_of}
 use Rattle.first_pass_blocks.proofs.WrittenLemmas.{written_stay}
 use Rattle.first_pass_names.proofs.NameLemmas.{extends_none}
 use Rattle.first_pass_grammar.proofs.TextsNamed.{text_named}
-use Rattle.first_pass_blocks.proofs.NamedLemmas.{block_added, task_is_no_text, task_has_none}
-use Rattle.first_pass_blocks.proofs.WholeKept.{task_shows, kept_of, block_whole, added_text_whole}
+use Rattle.first_pass_order.proofs.NamedLemmas.{block_added, task_is_no_text, task_has_none}
+use Rattle.first_pass_order.proofs.WholeKept.{task_shows, kept_of, block_whole, added_text_whole}
 use Rattle.first_pass_blocks.proofs.FirstItems.{text_silent_first}
 use Rattle.first_pass_blocks.proofs.LeafLemmas.{line_end_of, ready_text}
 use Rattle.first_pass_blocks.proofs.state.BlockPass.parse_task_text.Goals as goal

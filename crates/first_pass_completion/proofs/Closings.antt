@@ -1,0 +1,343 @@
+-- Lists that are closed before a block that ends them.
+use Rattle.std.proofs.Common.{◌≡◌, ℕ, suc, Bool, true, false, not, ◌||◌, ◌==◌, List, ◌∷◌, ◌++◌, length, Option, Some, None, refl}
+use Rattle.std.proofs.Common.{sym, ap, ◌∙◌, if◌then◌else◌}
+use Rattle.std.specs.Option.{option_map_or}
+use Rattle.std.proofs.lemmas.Bool.{true≢false}
+use Rattle.std.proofs.Math.Bool.{or-false}
+use Rattle.first_pass_items.specs.declared.item.Item.{Item}
+use Rattle.first_pass_lines.specs.Places.{Place}
+use Rattle.first_pass_grammar.specs.declared.kind.Container.{Container}
+use Rattle.first_pass_grammar.specs.Containers.{in_quote}
+use Rattle.first_pass_grammar.specs.Leaves.{Document}
+use Rattle.first_pass_grammar.specs.Blocks.{LeafBlock, BlankLine, Block, Head, Opener, QuoteMarker, ItemMarker, FootnoteMarker, DefinitionMarker, Skeleton}
+use Rattle.first_pass_grammar.specs.Blocks.{Nil, Then, Node}
+use Rattle.first_pass_grammar.specs.Before.{LastOther, LastParagraph, LastDefinition, Before, begins_paragraph}
+use Rattle.first_pass_grammar.specs.Before.{after_block}
+use Rattle.first_pass_grammar.specs.Skeleton.{From, Inside, Opening, OpensLeaf, OpensNode, Opens, level}
+use Rattle.first_pass_grammar.specs.Kinds.{Kind}
+use Rattle.first_pass_grammar.specs.Rows.{ALeaf, Joins, ItemsOf, DefinitionsTo, Rows, End, OneOf, Definitions, any_gap, is_loose, is_paragraph}
+use Rattle.first_pass_grammar.specs.Rows.{closing_place, list_until, items_behind, list_behind, what_of, row_of, row_of_leaf, titled, gap_before}
+use Rattle.first_pass_grammar.specs.Rows.{container_row, rows_of, is_untitled, definitions_first, ADefinitionList, WithTitle, Apart}
+use Rattle.first_pass_grammar.specs.Derivation.{Tables, items_of}
+use Rattle.first_pass_grammar.specs.Completion.{title_left, list_closed, OtherClosed, ParagraphAt, DefinitionClosed, TitleAt, Pending, NoList, OneList}
+use Rattle.first_pass_grammar.specs.Completion.{OneTitle, rows_beyond, rendered, Frame, InList, InDefinitions, containers_of}
+use Rattle.first_pass_grammar.specs.Completion.{IsPlain}
+use Rattle.first_pass_grammar.proofs.Alike.{opener_alone, head_alone, AlikeOpening}
+use Rattle.first_pass_completion.proofs.Extending.{tail, lvl, finish_moved, loosened_in-false, stands_after, plain_before}
+use Rattle.first_pass_completion.proofs.Extending.{extend, StaysAt}
+use Rattle.first_pass_grammar.proofs.Finishes.{Finish, Tail, CompletesAt, FinishesAt, finish_derives, whole_by}
+use Rattle.first_pass_completion.proofs.FlatBlocks.{OwnParagraph}
+use Rattle.first_pass_completion.proofs.Moved.{is_definition, opens_definition, OpensAlike, takes_alike, other_alike, SameAfter, seq_moved, SameFirst, same_after}
+use Rattle.first_pass_completion.proofs.Moved.{same_back}
+use Rattle.first_pass_completion.proofs.Moved.{rows_moved, counts_moved, Known, FirstHas, known_first, OpensBlock, FirstIsOther, first_is_other}
+use Rattle.first_pass_completion.proofs.PoppedLists.{last_in, closed_below, title_below}
+use Rattle.first_pass_grammar.proofs.RowsAlike.{begins_alike}
+use Rattle.first_pass_completion.proofs.Titles.{BeginsOther, title_stays}
+
+-- where a list of items ends before a leaf block or a container (this project)
+abbrev pub leaf_closes : LeafBlock → ℕ
+leaf_closes b = closing_place (ALeaf b) b.line b.start
+
+abbrev pub head_closes : Head → ℕ
+head_closes head = closing_place (what_of head.opener 0) head.line head.start
+
+-- a container is the next item of the list that continues with these, or its next definition
+abbrev pub joins : Joins → Opener → Bool
+joins (ItemsOf list) (QuoteMarker kind) = false
+joins (ItemsOf list) (ItemMarker byte number columns) = list == byte
+joins (ItemsOf list) (FootnoteMarker columns index label) = false
+joins (ItemsOf list) (DefinitionMarker columns) = false
+joins (DefinitionsTo e) (QuoteMarker kind) = false
+joins (DefinitionsTo e) (ItemMarker byte number columns) = false
+joins (DefinitionsTo e) (FootnoteMarker columns index label) = false
+joins (DefinitionsTo e) (DefinitionMarker columns) = true
+
+-- A leaf block ends a list at an offset: a definition list only where the block begins with no paragraph, which might be its next title; where it was read as
+-- one, that list ends with its last definition.
+abbrev pub LeafAway : Joins → ℕ → LeafBlock → Type 0
+LeafAway (ItemsOf byte) at b = leaf_closes b ≡ at
+LeafAway (DefinitionsTo e) at b = (begins_paragraph b.items ≡ false) × ((if is_paragraph b.kind then e else leaf_closes b) ≡ at)
+
+-- what opens ends a list that continues with these, at an offset
+abbrev pub OpensAway : Joins → ℕ → Opening → Type 0
+OpensAway list at (OpensLeaf BlankLine there left) = ⊥
+OpensAway list at (OpensLeaf (Block b) there left) = LeafAway list at b
+OpensAway list at (OpensNode head inside behind) = (head_closes head ≡ at) × (joins list head.opener ≡ false)
+
+-- what opens away from a definition list is no definition
+other_joins : (e : ℕ) (o : Opener) → joins (DefinitionsTo e) o ≡ false → is_definition o ≡ false
+other_joins e (QuoteMarker kind) h = refl
+other_joins e (ItemMarker byte number columns) h = refl
+other_joins e (FootnoteMarker columns index label) h = refl
+other_joins e (DefinitionMarker columns) h = h
+
+away_other : (e at : ℕ) (o : Opening) → OpensAway (DefinitionsTo e) at o → opens_definition o ≡ false
+away_other e at (OpensLeaf BlankLine there left) away = absurd away
+away_other e at (OpensLeaf (Block b) there left) away = refl
+away_other e at (OpensNode head inside behind) away = other_joins e head.opener away.1
+
+-- the same of a sequence's first block, which is flat
+abbrev EndsList : Joins → ℕ → Skeleton → Type 0
+EndsList list at Nil = ⊥
+EndsList list at (Then BlankLine next) = ⊥
+EndsList list at (Then (Block b) next) = LeafAway list at b × OwnParagraph b
+EndsList list at (Node head e kids next) = (head_closes head ≡ at) × (joins list head.opener ≡ false)
+
+closes_alone : (o : Opener) (line start : ℕ)
+    → head_closes (head_alone (record { opener = o; line = line; start = start })) ≡ head_closes (record { opener = o; line = line; start = start })
+closes_alone (QuoteMarker kind) line start = refl
+closes_alone (ItemMarker byte number columns) line start = refl
+closes_alone (FootnoteMarker columns index label) line start = refl
+closes_alone (DefinitionMarker columns) line start = refl
+
+joins_alone : (list : Joins) (o : Opener) → joins list (opener_alone o) ≡ joins list o
+joins_alone (ItemsOf byte) (QuoteMarker kind) = refl
+joins_alone (ItemsOf byte) (ItemMarker other number columns) = refl
+joins_alone (ItemsOf byte) (FootnoteMarker columns index label) = refl
+joins_alone (ItemsOf byte) (DefinitionMarker columns) = refl
+joins_alone (DefinitionsTo e) (QuoteMarker kind) = refl
+joins_alone (DefinitionsTo e) (ItemMarker other number columns) = refl
+joins_alone (DefinitionsTo e) (FootnoteMarker columns index label) = refl
+joins_alone (DefinitionsTo e) (DefinitionMarker columns) = refl
+
+leaf_away : (d : Document) (list : Joins) (at : ℕ) (b b' : LeafBlock) (there there' : From) (left left' : List Place)
+    → AlikeOpening d.names d.names (OpensLeaf (Block b) there left) (OpensLeaf (Block b') there' left') → LeafAway list at b → LeafAway list at b'
+leaf_away d (ItemsOf byte) at b b' there there' left left' a away =
+    sym (ap (λ (z : Kind × ℕ × ℕ). if is_paragraph z.0 then z.2 else z.1) a.0.0) ∙ away
+leaf_away d (DefinitionsTo e) at b b' there there' left left' a away = (
+  sym (begins_alike d.names d.names b.items b'.items a.0.1) ∙ away.0,
+  sym (ap (λ (z : Kind × ℕ × ℕ). if is_paragraph z.0 then e else (if is_paragraph z.0 then z.2 else z.1)) a.0.0) ∙ away.1,
+)
+
+ends_list : (d : Document) (list : Joins) (at : ℕ) (o : Opening) (s : Skeleton) → OpensAway list at o → FirstHas (Known d o) s → EndsList list at s
+ends_list d list at o Nil away known = known
+ends_list d list at (OpensLeaf BlankLine there left) (Then leaf next) away known = absurd away
+ends_list d list at (OpensLeaf (Block b) there left) (Then BlankLine next) away (there', left', (alike, flat)) = absurd alike.0
+ends_list d list at (OpensLeaf (Block b) there left) (Then (Block b') next) away (there', left', (alike, flat)) =
+    (leaf_away d list at b b' there there' left left' alike away, flat.1)
+ends_list d list at (OpensLeaf leaf there left) (Node head' e' kids' next') away (inside', behind', (alike, flat)) = absurd alike
+ends_list d list at (OpensNode head inside behind) (Then leaf' next') away (there', left', (alike, flat)) = absurd alike
+ends_list d list at (OpensNode head inside behind) (Node head' e' kids' next') away (inside', behind', (alike, flat)) = (
+  sym (sym (closes_alone head.opener head.line head.start) ∙ ap head_closes alike.0.0 ∙ closes_alone head'.opener head'.line head'.start) ∙ away.0,
+  sym (sym (joins_alone list head.opener) ∙ ap (λ (h : Head). joins list h.opener) alike.0.0 ∙ joins_alone list head'.opener) ∙ away.1,
+)
+
+-- The rows of what ends a list have none that continues it.
+pub record AreAway (list : Joins) (at last : ℕ) (rows : Rows) : Type 0 where
+  pub none : items_behind list rows ≡ End
+  pub until : list_until list last rows ≡ at
+  pub past : list_behind list rows ≡ rows
+
+container_away : (list : Joins) (at last : ℕ) (opener : Opener) (line start e : ℕ) (gap : Bool) (inner next : Rows)
+    → (let head : Head = record { opener = opener; line = line; start = start } in
+    head_closes head ≡ at → joins list opener ≡ false → AreAway list at last (container_row last opener (row_of head e gap) inner next))
+container_away (ItemsOf byte) at last (QuoteMarker kind) line start e gap inner next closes other = record { none = refl; until = closes; past = refl }
+container_away (ItemsOf byte) at last (ItemMarker list number columns) line start e gap inner next closes other =
+    record { none = rw other refl; until = rw other closes; past = rw other refl }
+container_away (ItemsOf byte) at last (FootnoteMarker columns index label) line start e gap inner next closes other =
+    record { none = refl; until = closes; past = refl }
+container_away (ItemsOf byte) at last (DefinitionMarker columns) line start e gap inner next closes other =
+    record { none = refl; until = closes; past = refl }
+container_away (DefinitionsTo x) at last (QuoteMarker kind) line start e gap inner next closes other = record { none = refl; until = closes; past = refl }
+container_away (DefinitionsTo x) at last (ItemMarker list number columns) line start e gap inner next closes other =
+    record { none = refl; until = closes; past = refl }
+container_away (DefinitionsTo x) at last (FootnoteMarker columns index label) line start e gap inner next closes other =
+    record { none = refl; until = closes; past = refl }
+container_away (DefinitionsTo x) at last (DefinitionMarker columns) line start e gap inner next closes other = absurd (true≢false other)
+
+-- a paragraph, with definitions or without them, starts where it closes a list of items
+start_by : (t : Bool) (line start : ℕ) → t ≡ true → start ≡ (if t then start else line)
+start_by true line start is = refl
+start_by false line start is = absurd (true≢false (sym is))
+
+paragraph_away : (byte at last : ℕ) (b : LeafBlock) (gap : Bool) (next : Rows) (o : Option Definitions) → is_paragraph b.kind ≡ true → leaf_closes b ≡ at
+    → AreAway (ItemsOf byte) at last (option_map_or (titled b gap) o (OneOf (row_of_leaf b gap) End next))
+paragraph_away byte at last b gap next None is closes = record { none = refl; until = closes; past = refl }
+paragraph_away byte at last b gap next (Some ds) is closes =
+    record { none = refl; until = start_by (is_paragraph b.kind) b.line b.start is ∙ closes; past = refl }
+
+leaf_by : (list : Joins) (at last : ℕ) (b : LeafBlock) (gap : Bool) (next : Rows) (t : Bool) → begins_paragraph b.items ≡ t
+    → LeafAway list at b → OwnParagraph b
+    → AreAway list at last (option_map_or (titled b gap) (if t then definitions_first next else None) (OneOf (row_of_leaf b gap) End next))
+leaf_by (ItemsOf byte) at last b gap next true is away own = paragraph_away byte at last b gap next (definitions_first next) (own.kind is) away
+leaf_by (ItemsOf byte) at last b gap next false is away own = record { none = refl; until = away; past = refl }
+leaf_by (DefinitionsTo e) at last b gap next true is away own = absurd (true≢false (sym is ∙ away.0))
+leaf_by (DefinitionsTo e) at last b gap next false is away own = record { none = refl; until = away.1; past = refl }
+
+rows_away : (quoted : Bool) (list : Joins) (at last : ℕ) (before : Before) (s : Skeleton) → EndsList list at s
+    → AreAway list at last (rows_of quoted before last s)
+unfolding rows_of
+rows_away quoted list at last before Nil u = absurd u
+rows_away quoted list at last before (Then BlankLine next) u = absurd u
+rows_away quoted list at last before (Then (Block b) next) u =
+    leaf_by list at last b (gap_before before b) (rows_of quoted (after_block before b) last next) (begins_paragraph b.items) refl u.0 u.1
+rows_away quoted list at last before (Node head e kids next) u =
+    container_away list at last head.opener head.line head.start e before.counted _ _ u.0 u.1
+
+-- to a leaf block that begins with no paragraph it is the same whether a definition is before it or another block
+other_by : (b : LeafBlock) (run blanks t : Bool) → begins_paragraph b.items ≡ t → t ≡ false
+    → (gap_before (stands_after (LastDefinition blanks) run) b ≡ gap_before (stands_after LastOther run) b)
+    × (after_block (stands_after (LastDefinition blanks) run) b ≡ after_block (stands_after LastOther run) b)
+other_by b run blanks true is other = absurd (true≢false other)
+other_by b run blanks false is other = (rw is refl, rw is refl)
+
+-- To what ends a list it is the same whether the list is still open before it, or is closed.
+same_away : (list : Joins) (at : ℕ) (run blanks : Bool) (s : Skeleton) → EndsList list at s
+    → SameFirst (stands_after (last_in list blanks) run) (stands_after LastOther run) s
+same_away list at run blanks Nil u = u
+same_away list at run blanks (Then BlankLine next) u = u
+same_away (ItemsOf byte) at run blanks (Then (Block b) next) u = (refl, refl)
+same_away (DefinitionsTo e) at run blanks (Then (Block b) next) u = other_by b run blanks _ refl u.0.0
+same_away list at run blanks (Node head e kids next) u = refl
+
+-- what opens away from a list opens alike whether it is open or closed
+alike_away : (d : Document) (path : List Container) (list : Joins) (at : ℕ) (run blanks : Bool) (p : Place) (lines : List Place) (o : Opening)
+    → OpensAway list at o → Opens d (level path (stands_after (last_in list blanks) run)) p lines o
+    → OpensAlike d path (stands_after (last_in list blanks) run) (stands_after LastOther run) p
+alike_away d path (ItemsOf byte) at run blanks p lines o away opens = takes_alike d path _ _ p refl
+alike_away d path (DefinitionsTo e) at run blanks p lines o away opens = other_alike d path _ _ p lines o (away_other e at o away) refl opens
+
+-- a list closed before a block that ends it
+close_step : (d : Document) (defined : Tables) (frames : List Frame) (list : Joins) (run blanks loose : Bool) (nodes : List (ℕ × Item)) (o : ℕ) (os : List ℕ)
+    (p : Place) (lines : List Place) (at : ℕ) (opening : Opening) (forest : List (ℕ × Item)) (tables : Tables)
+    → IsPlain frames → StaysAt d (containers_of frames) p
+    → Opens d (level (containers_of frames) (stands_after (last_in list blanks) run)) p lines opening → OpensAway list at opening
+    → FinishesAt d defined (tail OtherClosed run) frames (list_closed nodes o (suc (suc (suc (length os)))) loose at) os (Inside p) lines forest tables
+    → Finish d defined (OneList o list loose) (stands_after (last_in list blanks) run) frames nodes os (Inside p) lines forest tables
+unfolding items_of is_loose rendered
+close_step d defined frames list run blanks loose nodes o os p lines at opening forest tables plain stays opens away fin =
+    let k : ℕ = suc (length os) in
+    let path : List Container = containers_of frames in
+    let q : Bool = in_quote path in
+    let nodes' : List (ℕ × Item) = list_closed nodes o (suc (suc k)) loose at in
+    let here : Before = stands_after (last_in list blanks) run in
+    let closed : Before = stands_after LastOther run in
+    let alike : OpensAlike d path here closed p = alike_away d path list at run blanks p lines opening away opens in
+    extend d defined defined frames (OneList o list loose) (NoList OtherClosed) here closed false nodes nodes' os (Inside p) (Inside p) lines lines
+    forest tables (λ s. s) plain (λ path mid. refl)
+    (λ s mid seq. let u = ends_list d list at opening s away
+    (known_first d path closed p lines mid opening s stays (alike.to lines opening opens) seq) in
+    let r : ℕ → Rows = λ last. rows_of q closed last s in
+    let w = λ (last : ℕ). rows_away q list at last closed s u in
+    let same = same_away list at run blanks s u in
+    let first : SameAfter here closed s = same_after here closed s same in
+    record {
+      seq = seq_moved d s path closed here p lines mid (record { to = alike.back; back = alike.to }) (same_back here closed s first) seq;
+      items = λ last is. ap (rendered k last nodes (OneList o list loose)) (rows_moved q here closed last s same)
+          ∙ ap (λ z. list_closed nodes o (suc (suc k)) (loose || is_loose z) (list_until list last (r last))
+          ++ (items_of (suc k) (not (loose || is_loose z)) z ++ items_of k false (list_behind list (r last)))) (w last).none
+          ∙ ap (λ z. list_closed nodes o (suc (suc k)) (loose || false) z ++ items_of k false (list_behind list (r last))) (w last).until
+          ∙ ap (λ z. list_closed nodes o (suc (suc k)) (loose || false) at ++ items_of k false z) (w last).past
+          ∙ ap (λ z. list_closed nodes o (suc (suc k)) z at ++ items_of k false (r last)) (or-false loose);
+      counts = counts_moved q here closed s first;
+      gaps = λ last. ap (λ z. any_gap (list_behind list z)) (rows_moved q here closed last s same) ∙ ap any_gap (w last).past;
+    })
+    (λ s. refl)
+    (finish_moved d _ _ _ _ _ _ _ _ _ os (Inside p) lines forest tables refl (plain_before (tail OtherClosed run) frames plain)
+    (sym (loosened_in-false frames)) refl fin)
+
+-- a list closed before a block that ends it
+pub completes-close : (d : Document) (defined : Tables) (t : Tail) (byte : ℕ) (loose : Bool) (frames : List Frame) (nodes : List (ℕ × Item)) (o : ℕ)
+    (os : List ℕ) (p : Place) (lines : List Place) (at : ℕ) (opening : Opening)
+    → StaysAt d (containers_of frames) p → Opens d (lvl (InList byte loose ∷ frames) t) p lines opening → OpensAway (ItemsOf byte) at opening
+    → CompletesAt d defined t (InList byte loose ∷ frames) nodes (o ∷ os) (Inside p) lines
+    → CompletesAt d defined (tail OtherClosed t.run) frames (list_closed nodes o (suc (suc (suc (length os)))) loose at) os (Inside p) lines
+unfolding Finish
+completes-close d defined t byte loose frames nodes o os p lines at opening stays opens away k = record {
+  below = closed_below nodes o os (suc (suc (suc (length os)))) loose at k.below;
+  shape = k.shape.1;
+  whole = whole_by _ _ _ _ _ _ _ _ (λ forest tables fin. finish_derives _ _ _ _ _ _ _ _ k forest tables
+      (close_step d defined frames (ItemsOf byte) t.run false loose nodes o os p lines at opening forest tables k.shape.0 stays opens away fin));
+}
+
+pub completes-close_definitions : (d : Document) (defined : Tables) (e : ℕ) (blanks run loose : Bool) (frames : List Frame) (nodes : List (ℕ × Item)) (o : ℕ)
+    (os : List ℕ) (p : Place) (lines : List Place) (at : ℕ) (opening : Opening)
+    → StaysAt d (containers_of frames) p → Opens d (lvl (InDefinitions loose ∷ frames) (tail (DefinitionClosed e blanks) run)) p lines opening
+    → OpensAway (DefinitionsTo e) at opening
+    → CompletesAt d defined (tail (DefinitionClosed e blanks) run) (InDefinitions loose ∷ frames) nodes (o ∷ os) (Inside p) lines
+    → CompletesAt d defined (tail OtherClosed run) frames (list_closed nodes o (suc (suc (suc (length os)))) loose at) os (Inside p) lines
+unfolding Finish
+completes-close_definitions d defined e blanks run loose frames nodes o os p lines at opening stays opens away k = record {
+  below = closed_below nodes o os (suc (suc (suc (length os)))) loose at k.below;
+  shape = k.shape.1;
+  whole = whole_by _ _ _ _ _ _ _ _ (λ forest tables fin. finish_derives _ _ _ _ _ _ _ _ k forest tables
+      (close_step d defined frames (DefinitionsTo e) run blanks loose nodes o os p lines at opening forest tables k.shape.0 stays opens away fin));
+}
+
+titled_other : (t : Bool) (e : ℕ) → is_untitled (ADefinitionList (if t then Apart else WithTitle) e) ≡ false
+titled_other true e = refl
+titled_other false e = refl
+
+container_other : (last : ℕ) (o : Opener) (line start e : ℕ) (gap : Bool) (inner next : Rows) → is_definition o ≡ false
+    → BeginsOther (container_row last o (row_of (record { opener = o; line = line; start = start }) e gap) inner next)
+container_other last (QuoteMarker kind) line start e gap inner next other = refl
+container_other last (ItemMarker byte number columns) line start e gap inner next other = refl
+container_other last (FootnoteMarker columns index label) line start e gap inner next other = refl
+container_other last (DefinitionMarker columns) line start e gap inner next other = absurd (true≢false other)
+
+-- what begins with a leaf block, or with a container that is no definition, begins with no definition of its own
+leaf_other : (b : LeafBlock) (gap : Bool) (r : Rows) (o : Option Definitions) → BeginsOther (option_map_or (titled b gap) o (OneOf (row_of_leaf b gap) End r))
+leaf_other b gap r None = refl
+leaf_other b gap r (Some ds) = titled_other ds.apart ds.«end»
+
+rows_other : (quoted : Bool) (before : Before) (last : ℕ) (s : Skeleton) → FirstIsOther s → BeginsOther (rows_of quoted before last s)
+unfolding rows_of
+rows_other quoted before last Nil other = absurd other
+rows_other quoted before last (Then BlankLine next) other = absurd other
+rows_other quoted before last (Then (Block b) next) other = leaf_other b (gap_before before b) _ _
+rows_other quoted before last (Node head e kids next) other = container_other last head.opener head.line head.start e before.counted _ _ other
+
+title_same : (run : Bool) (s : Skeleton) → FirstIsOther s → SameFirst (stands_after (LastParagraph true) run) (stands_after (LastParagraph false) run) s
+title_same run Nil other = other
+title_same run (Then BlankLine next) other = other
+title_same run (Then (Block b) next) other = (refl, refl)
+title_same run (Node head e kids next) other = refl
+
+-- a definition list closed before a block, with a possible title last in it
+close_title_step : (d : Document) (defined : Tables) (frames : List Frame) (run loose : Bool) (nodes : List (ℕ × Item)) (o at e : ℕ) (os : List ℕ)
+    (p : Place) (lines : List Place) (opening : Opening) (forest : List (ℕ × Item)) (tables : Tables)
+    → IsPlain frames → StaysAt d (containers_of frames) p
+    → Opens d (level (containers_of frames) (stands_after (LastParagraph true) run)) p lines opening → OpensBlock opening → opens_definition opening ≡ false
+    → FinishesAt d defined (tail (ParagraphAt at) run) frames (title_left (list_closed nodes o (suc (suc (suc (length os)))) loose e) at) os (Inside p) lines
+    forest tables
+    → Finish d defined (OneTitle o at e loose) (stands_after (LastParagraph true) run) frames nodes os (Inside p) lines forest tables
+close_title_step d defined frames run loose nodes o at e os p lines opening forest tables plain stays opens block other fin =
+    let k : ℕ = suc (length os) in
+    let path : List Container = containers_of frames in
+    let q : Bool = in_quote path in
+    let nodes' : List (ℕ × Item) = title_left (list_closed nodes o (suc (suc k)) loose e) at in
+    let here : Before = stands_after (LastParagraph true) run in
+    let closed : Before = stands_after (LastParagraph false) run in
+    let alike : OpensAlike d path here closed p = takes_alike d path here closed p refl in
+    let list : Pending = OneTitle o at e loose in
+    extend d defined defined frames list (NoList (ParagraphAt at)) here closed false nodes nodes' os (Inside p) (Inside p) lines lines
+    forest tables (λ s. s) plain (λ path mid. refl)
+    (λ s mid seq. let u = first_is_other d opening s block other
+    (known_first d path closed p lines mid opening s stays (alike.to lines opening opens) seq) in
+    let same = title_same run s u in
+    let first : SameAfter here closed s = same_after here closed s same in
+    record {
+      seq = seq_moved d s path closed here p lines mid (record { to = alike.back; back = alike.to }) (same_back here closed s first) seq;
+      items = λ last is. ap (rendered k last nodes list) (rows_moved q here closed last s same)
+          ∙ title_stays k last nodes o at e loose (rows_of q closed last s) (rows_other q closed last s u);
+      counts = counts_moved q here closed s first;
+      gaps = λ last. ap (λ z. any_gap (rows_beyond list z)) (rows_moved q here closed last s same);
+    })
+    (λ s. refl)
+    (finish_moved d _ _ _ _ _ _ _ _ _ os (Inside p) lines forest tables refl (plain_before (tail (ParagraphAt at) run) frames plain)
+    (sym (loosened_in-false frames)) refl fin)
+
+-- a definition list closed before a block that is no definition, with a possible title last in it, which is a paragraph then
+pub completes-close_title : (d : Document) (defined : Tables) (e at : ℕ) (run loose : Bool) (frames : List Frame) (nodes : List (ℕ × Item)) (o : ℕ)
+    (os : List ℕ) (p : Place) (lines : List Place) (opening : Opening)
+    → StaysAt d (containers_of frames) p → Opens d (lvl (InDefinitions loose ∷ frames) (tail (TitleAt e at) run)) p lines opening
+    → OpensBlock opening → opens_definition opening ≡ false
+    → CompletesAt d defined (tail (TitleAt e at) run) (InDefinitions loose ∷ frames) nodes (o ∷ os) (Inside p) lines
+    → CompletesAt d defined (tail (ParagraphAt at) run) frames (title_left (list_closed nodes o (suc (suc (suc (length os)))) loose e) at) os (Inside p) lines
+unfolding Finish
+completes-close_title d defined e at run loose frames nodes o os p lines opening stays opens block other k = record {
+  below = title_below nodes o os (suc (suc (suc (length os)))) loose e at k.below;
+  shape = k.shape.1;
+  whole = whole_by _ _ _ _ _ _ _ _ (λ forest tables fin. finish_derives _ _ _ _ _ _ _ _ k forest tables
+      (close_title_step d defined frames run loose nodes o at e os p lines opening forest tables k.shape.0 stays opens block other fin));
+}

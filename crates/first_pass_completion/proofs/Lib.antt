@@ -1,0 +1,16 @@
+pub mod Closings
+pub mod Completions
+pub mod ContainerSteps
+pub mod DefinitionSteps
+pub mod EarlierNodes
+pub mod Extending
+pub mod Flags
+pub mod FlatBlocks
+pub mod JoinedNodes
+pub mod Moved
+pub mod Notes
+pub mod PoppedLists
+pub mod SilentNodes
+pub mod SilentTexts
+pub mod TitleNodes
+pub mod Titles

@@ -1,0 +1,281 @@
+-- What opens at a place, whatever stands before it.
+use Rattle.std.proofs.Common.{◌≡◌, ℕ, ◌&&◌, Bool, true, false, List, ◌∷◌, Option, Some, None, MatchOption, refl, sym, ap, ◌∙◌, subst, if◌then◌else◌}
+use Rattle.std.specs.Option.{option_map, option_or}
+use Rattle.std.proofs.lemmas.Bool.{true≢false}
+use Rattle.first_pass_items.specs.declared.option_set.Options.{Options}
+use Rattle.first_pass_items.specs.OptionWords.{has, definition_list}
+use Rattle.first_pass_lines.specs.Rest.{Rest}
+use Rattle.first_pass_lines.specs.Places.{Place}
+use Rattle.first_pass_grammar.specs.declared.kind.Container.{Container}
+use Rattle.first_pass_grammar.specs.declared.kind.Container.TheVariants.{BlockQuote}
+use Rattle.first_pass_grammar.specs.Containers.{prefix, at_rest, is_quote}
+use Rattle.first_pass_grammar.specs.Kinds.{is_blank_rest, item_at}
+use Rattle.first_pass_grammar.specs.Footnotes.{footnote_head_at}
+use Rattle.first_pass_grammar.specs.Leaves.{Document, around}
+use Rattle.first_pass_grammar.specs.Blocks.{Opener, QuoteMarker, ItemMarker, FootnoteMarker, DefinitionMarker, Head, opened, Leaf, BlankLine, Block}
+use Rattle.first_pass_grammar.specs.Blocks.{Skeleton, Nil, Then, Node}
+use Rattle.first_pass_grammar.specs.Before.{Before, nothing, takes_definition, after_block, after_container, before_end}
+use Rattle.first_pass_grammar.specs.Rows.{leaf_row, gap_before, row_of, container_row, rows_of}
+use Rattle.first_pass_grammar.specs.Openers.{Start, definition_head, definition_start, after_item, start_at}
+use Rattle.first_pass_grammar.specs.Skeleton.{From, Inside, Opening, OpensLeaf, OpensNode, OpensBy, OpensFootnote, Opens, level, may_define, opening_by}
+use Rattle.first_pass_grammar.specs.Skeleton.{opening_of}
+use Rattle.first_pass_grammar.specs.Skeleton.{next_is_blank, Level, Left, Begins, Ends, going, IsFirst, IsSequence}
+use Rattle.first_pass_grammar.proofs.Alike.{opener_alone, head_alone, AlikeOpening}
+use Rattle.first_pass_completion.proofs.Extending.{StaysAt}
+use Rattle.first_pass_completion.proofs.FlatBlocks.{FlatBlock, OwnParagraph, opened_own}
+use Rattle.first_pass_grammar.proofs.Goings.{begins_at, begins_inside, going_inside}
+use Rattle.first_pass_grammar.proofs.OpenerFacts.{marker_where, item_as, quote_as}
+use Rattle.first_pass_grammar.proofs.Unique.{one_opening}
+
+-- a definition is opened
+abbrev pub is_definition : Opener → Bool
+is_definition (QuoteMarker kind) = false
+is_definition (ItemMarker byte number columns) = false
+is_definition (FootnoteMarker columns index label) = false
+is_definition (DefinitionMarker columns) = true
+
+-- what opens is a definition
+abbrev pub opens_definition : Opening → Bool
+opens_definition (OpensLeaf leaf there left) = false
+opens_definition (OpensNode head inside behind) = is_definition head.opener
+
+-- What opens at a place is the same whichever of the two stands before it.
+pub record OpensAlike (d : Document) (path : List Container) (before before' : Before) (p : Place) : Type 0 where
+  pub to : (lines : List Place) (o : Opening) → Opens d (level path before) p lines o → Opens d (level path before') p lines o
+  pub back : (lines : List Place) (o : Opening) → Opens d (level path before') p lines o → Opens d (level path before) p lines o
+
+-- what opens, by the head of a footnote definition there or none, and by what begins another container or none
+abbrev OpensWith : Document → List Container → Place → List Place → Opening → Option (ℕ × List ℕ) → Option Start → Type 0
+OpensWith d path p lines o head start = MatchOption head (OpensBy d path p lines start o) (λ h. OpensFootnote d p lines h o)
+
+start_alike : (d : Document) (path : List Container) (before before' : Before) (p : Place)
+    → start_at d.options (may_define d (level path before)) p ≡ start_at d.options (may_define d (level path before')) p → OpensAlike d path before before' p
+start_alike d path before before' p is = record {
+  to = λ lines o opens. subst (OpensWith d path p lines o (footnote_head_at (around d path) p)) is opens;
+  back = λ lines o opens. subst (OpensWith d path p lines o (footnote_head_at (around d path) p)) (sym is) opens;
+}
+
+-- where both take a definition, or neither does
+pub takes_alike : (d : Document) (path : List Container) (before before' : Before) (p : Place)
+    → takes_definition before.last ≡ takes_definition before'.last → OpensAlike d path before before' p
+takes_alike d path before before' p is =
+    start_alike d path before before' p (ap (λ (t : Bool). start_at d.options (has d.options definition_list && t) p) is)
+
+head_alike : (d : Document) (path : List Container) (before before' : Before) (p : Place) (head : ℕ × List ℕ)
+    → footnote_head_at (around d path) p ≡ Some head → OpensAlike d path before before' p
+head_alike d path before before' p head is = record {
+  to = λ lines o opens. subst (λ h. OpensWith d path p lines o h (start_at d.options (may_define d (level path before')) p)) (sym is)
+      (subst (λ h. OpensWith d path p lines o h (start_at d.options (may_define d (level path before)) p)) is opens);
+  back = λ lines o opens. subst (λ h. OpensWith d path p lines o h (start_at d.options (may_define d (level path before)) p)) (sym is)
+      (subst (λ h. OpensWith d path p lines o h (start_at d.options (may_define d (level path before')) p)) is opens);
+}
+
+either_opens : (t : Bool) (o o' : Opening) → opens_definition o ≡ true → opens_definition o' ≡ true → opens_definition (if t then o else o') ≡ true
+either_opens true o o' h k = h
+either_opens false o o' h k = k
+
+definition_by : (d : Document) (path : List Container) (p q : Place) (lines : List Place) (columns : ℕ) (r : Rest) (t : Bool) → is_blank_rest r ≡ t
+    → opens_definition (opening_by d path (definition_head p columns) q lines (after_item None r)) ≡ true
+definition_by d path p q lines columns r true is =
+    rw is (either_opens (next_is_blank (opened (DefinitionMarker columns) ∷ path) lines) _ _ refl refl)
+definition_by d path p q lines columns r false is = rw is refl
+
+-- the marker of a definition opens one
+definition_opens : (d : Document) (path : List Container) (p : Place) (lines : List Place) (marker : ℕ × Rest)
+    → opens_definition (opening_of d path p lines (definition_start p marker)) ≡ true
+definition_opens d path p lines (columns, r) = definition_by d path p (at_rest p r) lines columns r (is_blank_rest r) refl
+
+abbrev of_three : Options → Place → Option ((ℕ × ℕ × ℕ) × Rest) → Option (ℕ × Rest) → Option Rest → Option Start
+of_three options p i m q = option_or (option_map (item_as options p) i) (option_or (option_map (definition_start p) m) (option_map (quote_as options p) q))
+
+without_by : (d : Document) (path : List Container) (p : Place) (lines : List Place) (o : Opening) (i : Option ((ℕ × ℕ × ℕ) × Rest)) (m : Option (ℕ × Rest))
+    (q : Option Rest) → opens_definition o ≡ false → OpensBy d path p lines (of_three d.options p i m q) o
+    → of_three d.options p i m q ≡ of_three d.options p i None q
+unfolding OpensBy
+without_by d path p lines o (Some item) m q other opens = refl
+without_by d path p lines o None None q other opens = refl
+without_by d path p lines o None (Some marker) q other opens =
+    absurd (true≢false (sym (definition_opens d path p lines marker) ∙ sym (ap opens_definition opens) ∙ other))
+
+without : (d : Document) (path : List Container) (p : Place) (lines : List Place) (o : Opening) (t : Bool) → opens_definition o ≡ false
+    → OpensBy d path p lines (start_at d.options t p) o → start_at d.options t p ≡ start_at d.options false p
+unfolding start_at
+without d path p lines o t other opens = without_by d path p lines o (item_at p.rest) (marker_where t p) (prefix (BlockQuote None) p.rest) other opens
+
+and_not : (a b : Bool) → b ≡ false → (a && b) ≡ false
+and_not true b h = h
+and_not false b h = refl
+
+other_by : (d : Document) (path : List Container) (before before' : Before) (p : Place) (lines : List Place) (o : Opening) (head : Option (ℕ × List ℕ))
+    → footnote_head_at (around d path) p ≡ head → opens_definition o ≡ false → takes_definition before'.last ≡ false
+    → OpensWith d path p lines o head (start_at d.options (may_define d (level path before)) p) → OpensAlike d path before before' p
+other_by d path before before' p lines o (Some head) is other none opens = head_alike d path before before' p head is
+other_by d path before before' p lines o None is other none opens =
+    start_alike d path before before' p
+    (without d path p lines o _ other opens
+    ∙ ap (λ (t : Bool). start_at d.options t p) (sym (and_not (has d.options definition_list) (takes_definition before'.last) none)))
+
+-- where what opens is no definition, and the other takes none
+pub other_alike : (d : Document) (path : List Container) (before before' : Before) (p : Place) (lines : List Place) (o : Opening)
+    → opens_definition o ≡ false → takes_definition before'.last ≡ false → Opens d (level path before) p lines o → OpensAlike d path before before' p
+other_alike d path before before' p lines o other none opens =
+    other_by d path before before' p lines o (footnote_head_at (around d path) p) refl other none opens
+
+-- a first block opens at the place where the sequence continues
+pub opens_first : (d : Document) (path : List Container) (before : Before) (p : Place) (lines : List Place) (o : Opening)
+    → IsFirst d (level path before) (Inside p) lines o → Opens d (level path before) p lines o
+opens_first d path before p lines o f =
+    let l = level path before in
+    let at = begins_at d.options l (Inside p) lines f.place f.behind f.begins in
+    subst (λ z. Opens d l p z o) at.1 (subst (λ z. Opens d l z f.behind o) at.0 f.opens)
+
+first_moved : (d : Document) (path : List Container) (before before' : Before) (p : Place) (lines : List Place) (o : Opening)
+    → OpensAlike d path before before' p
+    → IsFirst d (level path before) (Inside p) lines o → IsFirst d (level path before') (Inside p) lines o
+first_moved d path before before' p lines o alike first =
+    let at = begins_at d.options (level path before) (Inside p) lines first.place first.behind first.begins in
+    let here : OpensAlike d path before before' first.place = subst (λ z. OpensAlike d path before before' z) (sym at.0) alike in
+    record {
+      place = first.place;
+      behind = first.behind;
+      begins = going_inside d.options path before' before p lines ∙ first.begins;
+      opens = here.to first.behind o first.opens;
+    }
+
+-- after the first block of a sequence the same stands, whichever of the two stands before it
+abbrev pub SameAfter : Before → Before → Skeleton → Type 0
+SameAfter before before' Nil = ⊥
+SameAfter before before' (Then BlankLine next) = ⊥
+SameAfter before before' (Then (Block b) next) = after_block before b ≡ after_block before' b
+SameAfter before before' (Node head e kids next) = Unit {0}
+
+-- to such a sequence inside a line it is the same which of the two stands before
+pub seq_moved : (d : Document) (s : Skeleton) (path : List Container) (before before' : Before) (p : Place) (lines : List Place) (mid : Left)
+    → OpensAlike d path before before' p → SameAfter before before' s
+    → IsSequence d s (level path before) (Inside p) lines mid → IsSequence d s (level path before') (Inside p) lines mid
+unfolding IsSequence
+seq_moved d Nil path before before' p lines mid alike same seq = absurd same
+seq_moved d (Then BlankLine next) path before before' p lines mid alike same seq = absurd same
+seq_moved d (Then (Block b) next) path before before' p lines mid alike same (there, left, first, seq) = (
+  there,
+  left,
+  first_moved d path before before' p lines (OpensLeaf (Block b) there left) alike first,
+  subst (λ z. IsSequence d next (level path z) there left mid) same seq,
+)
+seq_moved d (Node head e kids next) path before before' p lines mid alike same (inside, behind, left, first, inner, ends, seq) =
+    (inside, behind, left, first_moved d path before before' p lines (OpensNode head inside behind) alike first, inner, ends, seq)
+
+-- the first block of a sequence has the same row too
+abbrev pub SameFirst : Before → Before → Skeleton → Type 0
+SameFirst before before' Nil = ⊥
+SameFirst before before' (Then BlankLine next) = ⊥
+SameFirst before before' (Then (Block b) next) = (gap_before before b ≡ gap_before before' b) × (after_block before b ≡ after_block before' b)
+SameFirst before before' (Node head e kids next) = before.counted ≡ before'.counted
+
+pub same_after : (before before' : Before) (s : Skeleton) → SameFirst before before' s → SameAfter before before' s
+same_after before before' Nil same = same
+same_after before before' (Then BlankLine next) same = same
+same_after before before' (Then (Block b) next) same = same.1
+same_after before before' (Node head e kids next) same = tt
+
+pub same_back : (before before' : Before) (s : Skeleton) → SameAfter before before' s → SameAfter before' before s
+same_back before before' Nil same = same
+same_back before before' (Then BlankLine next) same = same
+same_back before before' (Then (Block b) next) same = sym same
+same_back before before' (Node head e kids next) same = tt
+
+pub rows_moved : (quoted : Bool) (before before' : Before) (last : ℕ) (s : Skeleton) → SameFirst before before' s
+    → rows_of quoted before last s ≡ rows_of quoted before' last s
+unfolding rows_of
+rows_moved quoted before before' last Nil same = absurd same
+rows_moved quoted before before' last (Then BlankLine next) same = absurd same
+rows_moved quoted before before' last (Then (Block b) next) same =
+    ap (λ z. leaf_row b z (rows_of quoted (after_block before b) last next)) same.0
+    ∙ ap (λ z. leaf_row b (gap_before before' b) (rows_of quoted z last next)) same.1
+rows_moved quoted before before' last (Node head e kids next) same =
+    let quote : Bool = is_quote (opened head.opener) in
+    ap (λ z. container_row last head.opener (row_of head e z) (rows_of quote nothing e kids)
+    (rows_of quoted (after_container (opened head.opener) (before_end quote nothing kids)) last next)) same
+
+pub counts_moved : (quoted : Bool) (before before' : Before) (s : Skeleton) → SameAfter before before' s
+    → (before_end quoted before s).counted ≡ (before_end quoted before' s).counted
+unfolding before_end
+counts_moved quoted before before' Nil same = absurd same
+counts_moved quoted before before' (Then BlankLine next) same = absurd same
+counts_moved quoted before before' (Then (Block b) next) same = ap (λ z. (before_end quoted z next).counted) same
+counts_moved quoted before before' (Node head e kids next) same = refl
+
+-- a leaf block that opens is flat, and its paragraph its own
+abbrev pub FlatOpened : Opening → Type 0
+FlatOpened (OpensLeaf BlankLine there left) = Unit {0}
+FlatOpened (OpensLeaf (Block b) there left) = FlatBlock b × OwnParagraph b
+FlatOpened (OpensNode head inside behind) = Unit {0}
+
+-- what opens first is alike to this, and is flat
+abbrev pub Known : Document → Opening → Opening → Type 0
+Known d o o' = AlikeOpening d.names d.names o o' × FlatOpened o'
+
+-- a sequence has a first block, of which this holds as it opens
+abbrev pub FirstHas : (Opening → Type 0) → Skeleton → Type 0
+FirstHas P Nil = ⊥
+FirstHas P (Then leaf next) = (there : From) × (left : List Place) × P (OpensLeaf leaf there left)
+FirstHas P (Node head e kids next) = (inside : From) × (behind : List Place) × P (OpensNode head inside behind)
+
+some_block : (d : Document) (l : Level) (p : Place) (lines : List Place) (left : Left) → StaysAt d l.path p
+    → going d.options l (Inside p) lines ≡ Ends left → ⊥
+some_block d l p lines left stays ends = let both : Begins p lines ≡ Ends left = sym (begins_inside d.options l p lines stays) ∙ ends in cc
+
+flat_leaf : (d : Document) (l : Level) (p : Place) (lines : List Place) (leaf : Leaf) (there : From) (left : List Place)
+    → IsFirst d l (Inside p) lines (OpensLeaf leaf there left) → FlatOpened (OpensLeaf leaf there left)
+flat_leaf d l p lines BlankLine there left first = tt
+flat_leaf d l p lines (Block b) there left first = opened_own d l (Inside p) lines b there left tt first
+
+alike_first : (d : Document) (path : List Container) (before : Before) (p : Place) (lines : List Place) (o o' : Opening)
+    → Opens d (level path before) p lines o → IsFirst d (level path before) (Inside p) lines o' → AlikeOpening d.names d.names o o'
+alike_first d path before p lines o o' opens first =
+    one_opening d d.names (level path before) p lines o o' opens (opens_first d path before p lines o' first)
+
+-- the first block of a sequence is what opens at its place
+pub known_first : (d : Document) (path : List Container) (before : Before) (p : Place) (lines : List Place) (mid : Left) (o : Opening) (s : Skeleton)
+    → StaysAt d path p → Opens d (level path before) p lines o → IsSequence d s (level path before) (Inside p) lines mid → FirstHas (Known d o) s
+unfolding IsSequence
+known_first d path before p lines mid o Nil stays opens seq = absurd (some_block d (level path before) p lines mid stays seq)
+known_first d path before p lines mid o (Then leaf next) stays opens (there, left, first, seq) = (
+  there,
+  left,
+  (alike_first d path before p lines o (OpensLeaf leaf there left) opens first, flat_leaf d (level path before) p lines leaf there left first),
+)
+known_first d path before p lines mid o (Node head e kids next) stays opens (inside, behind, left, first, inner, ends, seq) =
+    (inside, behind, (alike_first d path before p lines o (OpensNode head inside behind) opens first, tt))
+
+-- what opens is a block, not a blank line
+abbrev pub OpensBlock : Opening → Type 0
+OpensBlock (OpensLeaf BlankLine there left) = ⊥
+OpensBlock (OpensLeaf (Block b) there left) = Unit {0}
+OpensBlock (OpensNode head inside behind) = Unit {0}
+
+definition_alone : (o : Opener) → is_definition (opener_alone o) ≡ is_definition o
+definition_alone (QuoteMarker kind) = refl
+definition_alone (ItemMarker byte number columns) = refl
+definition_alone (FootnoteMarker columns index label) = refl
+definition_alone (DefinitionMarker columns) = refl
+
+pub definition_alike : (head head' : Head) → head_alone head ≡ head_alone head' → is_definition head.opener ≡ is_definition head'.opener
+definition_alike head head' is = sym (definition_alone head.opener) ∙ ap (λ (h : Head). is_definition h.opener) is ∙ definition_alone head'.opener
+
+-- a sequence begins with a leaf block, or with a container that is no definition
+abbrev pub FirstIsOther : Skeleton → Type 0
+FirstIsOther Nil = ⊥
+FirstIsOther (Then BlankLine next) = ⊥
+FirstIsOther (Then (Block b) next) = FlatBlock b × OwnParagraph b
+FirstIsOther (Node head e kids next) = is_definition head.opener ≡ false
+
+pub first_is_other : (d : Document) (o : Opening) (s : Skeleton) → OpensBlock o → opens_definition o ≡ false → FirstHas (Known d o) s → FirstIsOther s
+first_is_other d o Nil block other known = known
+first_is_other d (OpensLeaf BlankLine there left) (Then leaf next) block other known = absurd block
+first_is_other d (OpensLeaf (Block b) there left) (Then BlankLine next) block other (there', left', (alike, flat)) = absurd alike.0
+first_is_other d (OpensLeaf (Block b) there left) (Then (Block b') next) block other (there', left', (alike, flat)) = flat
+first_is_other d (OpensLeaf leaf there left) (Node head' e' kids' next') block other (inside', behind', (alike, flat)) = absurd alike
+first_is_other d (OpensNode head inside behind) (Then leaf' next') block other (there', left', (alike, flat)) = absurd alike
+first_is_other d (OpensNode head inside behind) (Node head' e' kids' next') block other (inside', behind', (alike, flat)) =
+    sym (definition_alike head head' alike.0.0) ∙ other

@@ -1,0 +1,189 @@
+-- A gap that is noted before a block: the list around is loose then.
+use Rattle.std.proofs.Common.{◌≡◌, ℕ, suc, Bool, true, false, not, ◌||◌, ◌&&◌, List, [], ◌∷◌, ◌++◌, length, None, refl, sym, ap, ◌∙◌, subst}
+use Rattle.std.proofs.lemmas.Bool.{true≢false}
+use Rattle.first_pass_items.specs.declared.item.Item.{Item}
+use Rattle.first_pass_lines.specs.Places.{Place}
+use Rattle.first_pass_grammar.specs.declared.kind.Container.{Container}
+use Rattle.first_pass_grammar.specs.declared.kind.Container.TheVariants.{BlockQuote, ListItem, FootnoteDefinition, Definition}
+use Rattle.first_pass_grammar.specs.Containers.{in_quote}
+use Rattle.first_pass_grammar.specs.Leaves.{Document}
+use Rattle.first_pass_grammar.specs.Blocks.{LeafBlock, BlankLine, Block, Head, Opener, QuoteMarker, ItemMarker, FootnoteMarker, DefinitionMarker, Skeleton}
+use Rattle.first_pass_grammar.specs.Blocks.{Nil}
+use Rattle.first_pass_grammar.specs.Blocks.{Then, Node}
+use Rattle.first_pass_grammar.specs.Before.{Before, is_after_definition, begins_paragraph, after_block}
+use Rattle.first_pass_grammar.specs.Skeleton.{Inside, Opening, Opens, level}
+use Rattle.first_pass_grammar.specs.Rows.{Rows, any_gap, row_of, leaf_row, gap_before, container_row, definitions_first, rows_of}
+use Rattle.first_pass_grammar.specs.Derivation.{Tables, items_of}
+use Rattle.first_pass_grammar.specs.Completion.{Closed, OtherClosed, ParagraphAt, DefinitionClosed, TitleAt, NoList, rows_beyond, rendered, Frame, InContainer}
+use Rattle.first_pass_grammar.specs.Completion.{InList, InDefinitions, containers_of, loosened, IsPlain, last_plain, StandsIn, IsShaped}
+use Rattle.first_pass_completion.proofs.Completions.{beside_all}
+use Rattle.first_pass_completion.proofs.Extending.{tail, lvl, loosened_in, stands_after, plain_before, extend, StaysAt}
+use Rattle.first_pass_grammar.proofs.Finishes.{Finish, Tail, before_of, CompletesAt, FinishesAt, finish_derives, whole_by}
+use Rattle.first_pass_completion.proofs.FlatBlocks.{FlatBlock, OwnParagraph}
+use Rattle.first_pass_completion.proofs.Moved.{is_definition, opens_definition, OpensAlike, takes_alike, SameAfter, seq_moved, counts_moved, known_first}
+use Rattle.first_pass_completion.proofs.Moved.{OpensBlock, FirstIsOther, first_is_other}
+use Rattle.first_pass_completion.proofs.Titles.{leaf_nodes, leaf_gaps}
+
+-- what is last where no list is innermost is no definition
+no_definition : (closed : Closed) → is_after_definition (last_plain closed) ≡ false
+no_definition OtherClosed = refl
+no_definition (ParagraphAt at) = refl
+no_definition (DefinitionClosed e blanks) = refl
+no_definition (TitleAt e at) = refl
+
+run_by : (run t u : Bool) → u ≡ false → (run && not (t && u)) ≡ run
+run_by false t u h = refl
+run_by true false u h = refl
+run_by true true u h = ap not h
+
+-- where a block is first, the run of blank lines before it is its own
+record IsNoted (quoted run : Bool) (closed : Closed) (s : Skeleton) : Type 0 where
+  pub items : (k e : ℕ) (nodes : List (ℕ × Item))
+      → rendered k e nodes (NoList closed) (rows_of quoted (stands_after (last_plain closed) run) e s)
+      ≡ rendered k e nodes (NoList closed) (rows_of quoted (stands_after (last_plain closed) false) e s)
+  pub gaps : (e : ℕ) → any_gap (rows_beyond (NoList closed) (rows_of quoted (stands_after (last_plain closed) run) e s))
+      ≡ (run || any_gap (rows_beyond (NoList closed) (rows_of quoted (stands_after (last_plain closed) false) e s)))
+
+leaf_noted : (quoted run : Bool) (closed : Closed) (b : LeafBlock) (next : Skeleton) → FlatBlock b → OwnParagraph b
+    → IsNoted quoted run closed (Then (Block b) next)
+unfolding rows_of
+leaf_noted quoted run closed b next flat own =
+    let before : Before = stands_after (last_plain closed) run in
+    let r : ℕ → Rows = λ e. rows_of quoted (after_block before b) e next in
+    let gap : gap_before before b ≡ run = run_by run (begins_paragraph b.items) (is_after_definition (last_plain closed)) (no_definition closed) in
+    record {
+      items = λ k e nodes. ap (λ z. rendered k e nodes (NoList closed) (leaf_row b z (r e))) gap
+          ∙ leaf_nodes k e nodes closed b run (r e) flat own
+          ∙ sym (leaf_nodes k e nodes closed b false (r e) flat own);
+      gaps = λ e. ap (λ z. any_gap (rows_beyond (NoList closed) (leaf_row b z (r e)))) gap
+          ∙ leaf_gaps 0 closed b run (r e) flat
+          ∙ ap (λ z. run || z) (sym (leaf_gaps 0 closed b false (r e) flat));
+    }
+
+container_noted : (opener : Opener) (line start e at : ℕ) (run : Bool) (inner next : Rows)
+    → (let rows : Bool → Rows = λ gap. container_row at opener (row_of (record { opener = opener; line = line; start = start }) e gap) inner next in
+    ((k : ℕ) → items_of k false (rows run) ≡ items_of k false (rows false)) × (any_gap (rows run) ≡ (run || any_gap (rows false))))
+unfolding items_of any_gap
+container_noted (QuoteMarker kind) line start e at run inner next = (λ k. refl, refl)
+container_noted (ItemMarker byte number columns) line start e at run inner next = (λ k. refl, refl)
+container_noted (FootnoteMarker columns index label) line start e at run inner next = (λ k. refl, refl)
+container_noted (DefinitionMarker columns) line start e at run inner next = (λ k. refl, refl)
+
+container_apart : (last : ℕ) (o : Opener) (line start e : ℕ) (gap : Bool) (inner next : Rows) → is_definition o ≡ false
+    → definitions_first (container_row last o (row_of (record { opener = o; line = line; start = start }) e gap) inner next) ≡ None
+unfolding definitions_first
+container_apart last (QuoteMarker kind) line start e gap inner next other = refl
+container_apart last (ItemMarker byte number columns) line start e gap inner next other = refl
+container_apart last (FootnoteMarker columns index label) line start e gap inner next other = refl
+container_apart last (DefinitionMarker columns) line start e gap inner next other = absurd (true≢false other)
+
+node_noted : (quoted run : Bool) (closed : Closed) (head : Head) (e : ℕ) (kids next : Skeleton) → is_definition head.opener ≡ false
+    → IsNoted quoted run closed (Node head e kids next)
+unfolding rows_of
+node_noted quoted run closed head e kids next other =
+    let all : Bool → ℕ → Rows = λ gap at. rows_of quoted (stands_after (last_plain closed) gap) at (Node head e kids next) in
+    let none = λ (gap : Bool) (k at : ℕ) (nodes : List (ℕ × Item)).
+    beside_all k at nodes closed (all gap at) (container_apart at head.opener head.line head.start e gap _ _ other) in
+    record {
+      items = λ k at nodes. (none run k at nodes).0
+          ∙ ap (λ z. nodes ++ z) ((container_noted head.opener head.line head.start e at run _ _).0 k)
+          ∙ sym (none false k at nodes).0;
+      gaps = λ at. ap any_gap (none run 0 at []).1
+          ∙ (container_noted head.opener head.line head.start e at run _ _).1
+          ∙ ap (λ z. run || any_gap z) (sym (none false 0 at []).1);
+    }
+
+is_noted : (quoted run : Bool) (closed : Closed) (s : Skeleton) → FirstIsOther s
+    → IsNoted quoted run closed s × SameAfter (stands_after (last_plain closed) false) (stands_after (last_plain closed) run) s
+is_noted quoted run closed Nil other = absurd other
+is_noted quoted run closed (Then BlankLine next) other = absurd other
+is_noted quoted run closed (Then (Block b) next) other = (leaf_noted quoted run closed b next other.0 other.1, refl)
+is_noted quoted run closed (Node head e kids next) other = (node_noted quoted run closed head e kids next other, tt)
+
+plain_in : (gap : Bool) (frames : List Frame) → IsPlain frames → IsPlain (loosened_in gap frames)
+plain_in gap [] plain = plain
+plain_in gap (InContainer c ∷ frames) plain = plain
+plain_in gap (InList byte loose ∷ frames) plain = absurd plain
+plain_in gap (InDefinitions loose ∷ frames) plain = absurd plain
+
+note_step : (d : Document) (defined : Tables) (frames : List Frame) (closed : Closed) (run : Bool) (nodes : List (ℕ × Item)) (os : List ℕ) (p : Place)
+    (lines : List Place) (opening : Opening) (forest : List (ℕ × Item)) (tables : Tables)
+    → IsPlain frames → StaysAt d (containers_of frames) p
+    → Opens d (level (containers_of frames) (stands_after (last_plain closed) run)) p lines opening → OpensBlock opening → opens_definition opening ≡ false
+    → Finish d defined (NoList closed) (stands_after (last_plain closed) false) (loosened_in run frames) nodes os (Inside p) lines forest tables
+    → Finish d defined (NoList closed) (stands_after (last_plain closed) run) frames nodes os (Inside p) lines forest tables
+note_step d defined frames closed run nodes os p lines opening forest tables plain stays opens block other fin =
+    let path : List Container = containers_of frames in
+    let q : Bool = in_quote path in
+    let here : Before = stands_after (last_plain closed) run in
+    let now : Before = stands_after (last_plain closed) false in
+    let alike : OpensAlike d path here now p = takes_alike d path here now p refl in
+    extend d defined defined frames (NoList closed) (NoList closed) here now run nodes nodes os (Inside p) (Inside p) lines lines
+    forest tables (λ s. s) plain (λ path mid. refl)
+    (λ s mid seq.
+    let noted = is_noted q run closed s (first_is_other d opening s block other
+    (known_first d path now p lines mid opening s stays (alike.to lines opening opens) seq)) in
+    record {
+      seq = seq_moved d s path now here p lines mid (record { to = alike.back; back = alike.to }) noted.1 seq;
+      items = λ last is. noted.0.items (suc (length os)) last nodes;
+      counts = sym (counts_moved q now here s noted.1);
+      gaps = noted.0.gaps;
+    })
+    (λ s. refl)
+    fin
+
+plain-loosened : (gap : Bool) (frames : List Frame) → IsPlain frames → IsPlain (loosened gap frames)
+plain-loosened gap [] h = h
+plain-loosened gap (InContainer c ∷ frames) h = h
+plain-loosened gap (InList byte loose ∷ frames) h = absurd h
+plain-loosened gap (InDefinitions loose ∷ frames) h = absurd h
+
+stands-loosened : (gap : Bool) (c : Container) (frames : List Frame) → StandsIn c frames → StandsIn c (loosened gap frames)
+stands-loosened gap (BlockQuote kind) frames h = plain-loosened gap frames h
+stands-loosened gap (FootnoteDefinition columns) frames h = plain-loosened gap frames h
+stands-loosened gap (ListItem columns) [] h = h
+stands-loosened gap (ListItem columns) (InContainer c ∷ frames) h = h
+stands-loosened gap (ListItem columns) (InDefinitions loose ∷ frames) h = absurd h
+stands-loosened gap (ListItem columns) (InList byte loose ∷ frames) h = h
+stands-loosened gap (Definition columns) [] h = h
+stands-loosened gap (Definition columns) (InContainer c ∷ frames) h = h
+stands-loosened gap (Definition columns) (InList byte loose ∷ frames) h = absurd h
+stands-loosened gap (Definition columns) (InDefinitions loose ∷ frames) h = h
+
+shaped-loosened : (gap : Bool) (frames : List Frame) → IsShaped frames → IsShaped (loosened gap frames)
+shaped-loosened gap [] h = h
+shaped-loosened gap (InContainer c ∷ frames) h = h
+shaped-loosened gap (InList byte loose ∷ frames) h = h
+shaped-loosened gap (InDefinitions loose ∷ frames) h = h
+
+shaped-loosened_in : (gap : Bool) (frames : List Frame) → IsShaped frames → IsShaped (loosened_in gap frames)
+shaped-loosened_in gap [] h = h
+shaped-loosened_in gap (InContainer c ∷ frames) h = (stands-loosened gap c frames h.0, shaped-loosened gap frames h.1)
+shaped-loosened_in gap (InList byte loose ∷ frames) h = (plain-loosened gap frames h.0, shaped-loosened gap frames h.1)
+shaped-loosened_in gap (InDefinitions loose ∷ frames) h = (plain-loosened gap frames h.0, shaped-loosened gap frames h.1)
+
+note_whole : (d : Document) (defined : Tables) (frames : List Frame) (t : Tail) (nodes : List (ℕ × Item)) (os : List ℕ) (p : Place)
+    (lines : List Place) (opening : Opening) (forest : List (ℕ × Item)) (tables : Tables)
+    → IsPlain frames → StaysAt d (containers_of frames) p → Opens d (lvl frames t) p lines opening → OpensBlock opening → opens_definition opening ≡ false
+    → FinishesAt d defined (tail t.closed false) (loosened_in t.run frames) nodes os (Inside p) lines forest tables
+    → FinishesAt d defined t frames nodes os (Inside p) lines forest tables
+note_whole d defined frames t nodes os p lines opening forest tables plain stays opens block other fin =
+    let is : before_of frames t ≡ stands_after (last_plain t.closed) t.run = plain_before t frames plain in
+    subst (λ z. Finish d defined (NoList t.closed) z frames nodes os (Inside p) lines forest tables) (sym is)
+    (note_step d defined frames t.closed t.run nodes os p lines opening forest tables plain stays
+    (subst (λ z. Opens d (level (containers_of frames) z) p lines opening) is opens) block other
+    (subst (λ z. Finish d defined (NoList t.closed) z (loosened_in t.run frames) nodes os (Inside p) lines forest tables)
+    (plain_before (tail t.closed false) (loosened_in t.run frames) (plain_in t.run frames plain)) fin))
+
+-- a gap noted before a block that is no definition
+pub completes-note : (d : Document) (defined : Tables) (t : Tail) (frames : List Frame) (nodes : List (ℕ × Item)) (os : List ℕ) (p : Place)
+    (lines : List Place) (opening : Opening)
+    → IsPlain frames → StaysAt d (containers_of frames) p → Opens d (lvl frames t) p lines opening → OpensBlock opening → opens_definition opening ≡ false
+    → CompletesAt d defined t frames nodes os (Inside p) lines
+    → CompletesAt d defined (tail t.closed false) (loosened_in t.run frames) nodes os (Inside p) lines
+completes-note d defined t frames nodes os p lines opening plain stays opens block other k = record {
+  below = k.below;
+  shape = shaped-loosened_in t.run frames k.shape;
+  whole = whole_by _ _ _ _ _ _ _ _ (λ forest tables fin. finish_derives _ _ _ _ _ _ _ _ k forest tables
+      (note_whole d defined frames t nodes os p lines opening forest tables plain stays opens block other fin));
+}

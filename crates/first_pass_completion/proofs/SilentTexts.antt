@@ -1,0 +1,45 @@
+-- A paragraph that is opened shows nothing of tables, and neither does what is below it: a definition list may take it in.
+use Rattle.std.proofs.Common.{◌≡◌, ℕ, ◌+◌, true, List, [], ◌∷◌, ◌++◌, length, drop, refl}
+use Rattle.first_pass_items.specs.declared.item.Item.{Item}
+use Rattle.first_pass_items.specs.declared.item.ItemBody.{ItemBody}
+use Rattle.first_pass_items.specs.declared.item.ItemBody.TheVariants.{Paragraph as ParagraphBody}
+use Rattle.first_pass_tree.specs.Forest.{at_depth}
+use Rattle.first_pass_lines.specs.Places.{Place}
+use Rattle.first_pass_grammar.specs.Before.{is_paragraph_body, begins_paragraph}
+use Rattle.first_pass_grammar.specs.Blocks.{LeafBlock, Block}
+use Rattle.first_pass_grammar.specs.Leaves.{Document}
+use Rattle.first_pass_grammar.specs.Skeleton.{From, Level, OpensLeaf, IsFirst}
+use Rattle.first_pass_completion.proofs.FlatBlocks.{HoldsOfMarker, opened_holds}
+use Rattle.first_pass_grammar.proofs.TableItems.{deeper_nodes}
+use Rattle.first_pass_grammar.proofs.TableMarks.{tokens_show}
+use Rattle.first_pass_grammar.specs.WholeTables.{AreEachNode, ShowsNothing, SilentFrom}
+
+paragraph_silent : (b : ItemBody) → is_paragraph_body b ≡ true → ShowsNothing b
+paragraph_silent ParagraphBody h = λ names depth start end. refl
+paragraph_silent b h = cc
+
+-- where the items after the first show nothing, all do
+pub text_silent : (items : List (ℕ × Item)) → begins_paragraph items ≡ true → (begins_paragraph items ≡ true → AreEachNode ShowsNothing (drop 1 items))
+    → AreEachNode ShowsNothing items
+text_silent [] begins h = cc
+text_silent (x ∷ items) begins h = (paragraph_silent x.1.body begins, h begins)
+
+-- the items of a first block that begins with a paragraph
+pub opened_silent : (d : Document) (l : Level) (from : From) (lines : List Place) (b : LeafBlock) (there : From) (left : List Place)
+    → HoldsOfMarker ShowsNothing from → IsFirst d l from lines (OpensLeaf (Block b) there left) → begins_paragraph b.items ≡ true
+    → AreEachNode ShowsNothing b.items
+opened_silent d l from lines b there left mark first begins =
+    text_silent b.items begins (opened_holds ShowsNothing d (tokens_show d.names.texts) l from lines b there left mark first).0.tokens
+
+-- nodes that show nothing, after others
+pub silent_behind : (nodes : List (ℕ × Item)) (n : ℕ × Item) (more : List (ℕ × Item)) → AreEachNode ShowsNothing (n ∷ more)
+    → SilentFrom (nodes ++ n ∷ more) (length nodes)
+silent_behind [] n more h = h
+silent_behind (m ∷ nodes) n more h = silent_behind nodes n more h
+
+-- a paragraph added at a depth
+pub silent_added : (nodes : List (ℕ × Item)) (depth : ℕ) (items : List (ℕ × Item)) → begins_paragraph items ≡ true → AreEachNode ShowsNothing items
+    → SilentFrom (nodes ++ at_depth depth items) (length nodes)
+silent_added nodes depth [] begins h = cc
+silent_added nodes depth (x ∷ items) begins h =
+    silent_behind nodes (depth + x.0, x.1) (at_depth depth items) (deeper_nodes ShowsNothing depth (x ∷ items) h)

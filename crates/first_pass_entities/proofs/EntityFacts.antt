@@ -1,0 +1,246 @@
+-- What a reference is made of: it has no backslash, ends with `;` and has more bytes than its character.
+use Rattle.std.proofs.Common.{◌≡◌, ◌⊎◌, inl, inr, ℕ, suc, ◌+◌, ◌-◌, ◌<◌, ◌≤◌, ◌==◌, ◌&&◌, nat_le, not, Bool, true, false, List, [], ◌∷◌, length, take, drop}
+use Rattle.std.proofs.Common.{get_or, Option, Some, None, refl, sym, ap, subst, ◌∙◌, arith, codes, if◌then◌else◌}
+use Rattle.std.specs.Option.{option_map, option_or}
+use Rattle.std.specs.List.{prefix_len}
+use Rattle.std.specs.Str.{bytes_eq}
+use Rattle.std.specs.Str.Parse.{digits_value}
+use Rattle.std.specs.Char.{is_ascii_digit, is_ascii_hexdigit, is_ascii_alphabetic, len_utf8}
+use Rattle.std.proofs.lemmas.Bool.{eqb-true, false≢true, cases_lt}
+use Rattle.std.proofs.lemmas.Bool.Decides.{nat_tests}
+use Rattle.std.proofs.lemmas.Grind.{common_steps}
+use Rattle.std.proofs.lemmas.Option.{some_pair_parts}
+use Rattle.std.proofs.lemmas.List.{get_or-drop}
+use Rattle.std.proofs.lemmas.List.Folds.{length-prefix_len}
+use Rattle.first_pass_lines.specs.Lines.{begins}
+use Rattle.first_pass_entities.specs.Entities.{referred, behind, number_at, numeric_at, named_in_xml, named_sign, named_punctuation, named, name_at, entity_at}
+
+-- no backslash
+abbrev pub is_plain : ℕ → Bool
+is_plain b = not (b == 92)
+
+-- the bytes that a reference ends with: none of them is a backslash, and the last is `;`
+pub record EndsReference (bs : List ℕ) (n : ℕ) : Type 0 where
+  pub some : 0 < n
+  pub plain : n ≤ prefix_len is_plain bs
+  pub last : get_or bs (n - 1) 0 ≡ 59
+
+-- the reference of n bytes that the bytes begin with, and its character
+pub record IsReference (bs : List ℕ) (n c : ℕ) : Type 0 where
+  pub ends : EndsReference bs n
+  pub shorter : len_utf8 c < n
+
+-- so many bytes, and a character
+abbrev both : ℕ → ℕ → ℕ × ℕ
+both n c = (n, c)
+
+-- bytes that pass a test that a backslash fails are plain
+plain_from : (p : ℕ → Bool) → p 92 ≡ false → (b : ℕ) → p b ≡ true → (t : Bool) → (b == 92) ≡ t → is_plain b ≡ true
+plain_from p q b h true e = absurd (false≢true (sym q ∙ ap p (sym (eqb-true b 92 e)) ∙ h))
+plain_from p q b h false e = rw e
+
+plain_by : (p : ℕ → Bool)
+    → p 92 ≡ false → (t : Bool) (b : ℕ) (bs : List ℕ) → p b ≡ t → prefix_len p bs + prefix_len is_plain (drop (prefix_len p bs) bs) ≡ prefix_len is_plain bs
+    → prefix_len p (b ∷ bs) + prefix_len is_plain (drop (prefix_len p (b ∷ bs)) (b ∷ bs)) ≡ prefix_len is_plain (b ∷ bs)
+plain_by p q true b bs h i =
+    let k : ℕ = prefix_len p bs in
+    let e : prefix_len p (b ∷ bs) ≡ suc k = rw h (omega arith) in
+    let f : prefix_len is_plain (b ∷ bs) ≡ 1 + prefix_len is_plain bs = rw (plain_from p q b h (b == 92) refl) in
+    rw e (omega arith)
+plain_by p q false b bs h i = let e : prefix_len p (b ∷ bs) ≡ 0 = rw h in rw e (omega arith)
+
+pub plain_through : (p : ℕ → Bool) → p 92 ≡ false → (bs : List ℕ) → prefix_len p bs + prefix_len is_plain (drop (prefix_len p bs) bs) ≡ prefix_len is_plain bs
+plain_through p q [] = refl
+plain_through p q (b ∷ bs) = plain_by p q (p b) b bs refl (plain_through p q bs)
+
+semicolon : (bs : List ℕ) → begins 59 bs ≡ true → (0 < prefix_len is_plain bs) × (get_or bs 0 0 ≡ 59)
+semicolon [] h = cc
+semicolon (b ∷ bs) h =
+    let e = eqb-true b 59 h in
+    let f : is_plain b ≡ true = rw e in
+    (rw f (omega arith), e)
+
+-- a run and then `;`
+run_ends : (p : ℕ → Bool) → p 92 ≡ false → (bs : List ℕ) → begins 59 (drop (prefix_len p bs) bs) ≡ true → EndsReference bs (prefix_len p bs + 1)
+run_ends p q bs h =
+    let k : ℕ = prefix_len p bs in
+    let s = semicolon (drop k bs) h in
+    let t = plain_through p q bs in
+    let i : k + 1 - 1 ≡ k + 0 = omega arith in
+    record { some = omega arith; plain = omega arith; last = ap (λ j. get_or bs j 0) i ∙ sym (get_or-drop k bs 0 0) ∙ s.1 }
+
+-- one byte more in front
+one_more : (b k n : ℕ) (bs : List ℕ) → begins k bs ≡ true → (k == 92) ≡ false → EndsReference (drop 1 bs) n → EndsReference bs (1 + n)
+one_more b k n [] h q e = cc
+one_more b k n (x ∷ xs) h q e =
+    let s = e.some in
+    let p = e.plain in
+    let f : is_plain x ≡ true = rw (eqb-true x k h) (rw q) in
+    let g : prefix_len is_plain (x ∷ xs) ≡ 1 + prefix_len is_plain xs = rw f in
+    let i : 1 + n - 1 ≡ suc (n - 1) = omega arith in
+    record { some = omega arith; plain = omega arith; last = ap (λ j. get_or (x ∷ xs) j 0) i ∙ e.last }
+
+-- a number has two bytes or more, and one digit stands for a character of at most three bytes
+pub record IsNumber (bs : List ℕ) (n c : ℕ) : Type 0 where
+  pub ends : EndsReference bs n
+  pub some : 2 ≤ n
+  pub short : n ≡ 2 → len_utf8 c ≤ 3
+
+low_is_short : (v : ℕ) → v ≤ 36 → len_utf8 (referred v) ≤ 3
+low_is_short v h = grind (arith, nat_tests)
+
+at_most_four : (c : ℕ) → len_utf8 c ≤ 4
+at_most_four c = grind (arith, nat_tests)
+
+one_digit : (radix : ℕ) (bs : List ℕ) → digits_value radix (take 1 bs) ≤ 36
+one_digit radix [] = omega arith
+one_digit radix (b ∷ bs) = grind (arith, nat_tests)
+
+number_by : (p : ℕ → Bool) → p 92 ≡ false → (t : Bool) (radix most : ℕ) (bs : List ℕ) (n c : ℕ)
+    → (nat_le 1 (prefix_len p bs) && nat_le (prefix_len p bs) most && begins 59 (drop (prefix_len p bs) bs)) ≡ t
+    → (if t then Some (both (prefix_len p bs + 1) (referred (digits_value radix (take (prefix_len p bs) bs)))) else None) ≡ Some (both n c)
+    → IsNumber bs n c
+number_by p q true radix most bs n c h e =
+    let k : ℕ = prefix_len p bs in
+    let low : 1 ≤ k = grind (arith, nat_tests, h) in
+    let m : begins 59 (drop k bs) ≡ true = grind (arith, h) in
+    let parts = some_pair_parts (k + 1) n (referred (digits_value radix (take k bs))) c e in
+    let a = parts.0 in
+    let d = parts.1 in
+    record {
+      ends = subst (EndsReference bs) a (run_ends p q bs m);
+      some = omega arith;
+      short = λ two.
+          let one : k ≡ 1 = omega arith in
+          subst (λ x. len_utf8 x ≤ 3) (ap (λ j. referred (digits_value radix (take j bs))) (sym one) ∙ d) (low_is_short _ (one_digit radix bs));
+    }
+number_by p q false radix most bs n c h e = cc
+
+number_facts : (p : ℕ → Bool) → p 92 ≡ false → (radix most : ℕ) (bs : List ℕ) (n c : ℕ) → number_at p radix most bs ≡ Some (n, c) → IsNumber bs n c
+unfolding number_at
+number_facts p q radix most bs n c e = number_by p q _ radix most bs n c refl e
+
+-- names
+pub record IsShortName (name : List ℕ) (c : ℕ) : Type 0 where
+  pub some : 2 ≤ length name
+  pub short : len_utf8 c ≤ 3
+
+name_case : (t : Bool) (text name : List ℕ) (v c : ℕ) (rest : Option ℕ) → bytes_eq name text ≡ t → 2 ≤ length text → len_utf8 v ≤ 3
+    → (rest ≡ Some c → IsShortName name c) → (if t then Some v else rest) ≡ Some c → IsShortName name c
+name_case true text name v c rest h some short f e =
+    let same : length name ≡ length text = grind (arith, common_steps, h) in
+    let d : v ≡ c = cc in
+    record { some = omega arith; short = subst (λ x. len_utf8 x ≤ 3) d short }
+name_case false text name v c rest h some short f e = f e
+
+no_name : (name : List ℕ) (c : ℕ) → None ≡ Some c → IsShortName name c
+no_name name c e = cc
+
+xml_facts : (name : List ℕ) (c : ℕ) → named_in_xml name ≡ Some c → IsShortName name c
+unfolding named_in_xml
+xml_facts name c e =
+    name_case _ (codes "amp") name 38 c _ refl (omega arith) (omega arith)
+    (name_case _ (codes "lt") name 60 c _ refl (omega arith) (omega arith)
+    (name_case _ (codes "gt") name 62 c _ refl (omega arith) (omega arith)
+    (name_case _ (codes "quot") name 34 c _ refl (omega arith) (omega arith)
+    (name_case _ (codes "apos") name 39 c _ refl (omega arith) (omega arith) (no_name name c))))) e
+
+sign_facts : (name : List ℕ) (c : ℕ) → named_sign name ≡ Some c → IsShortName name c
+unfolding named_sign
+sign_facts name c e =
+    name_case _ (codes "nbsp") name 0xA0 c _ refl (omega arith) (omega arith)
+    (name_case _ (codes "copy") name 0xA9 c _ refl (omega arith) (omega arith)
+    (name_case _ (codes "reg") name 0xAE c _ refl (omega arith) (omega arith)
+    (name_case _ (codes "AElig") name 0xC6 c _ refl (omega arith) (omega arith) (no_name name c)))) e
+
+punctuation_facts : (name : List ℕ) (c : ℕ) → named_punctuation name ≡ Some c → IsShortName name c
+unfolding named_punctuation
+punctuation_facts name c e =
+    name_case _ (codes "hellip") name 0x2026 c _ refl (omega arith) (omega arith)
+    (name_case _ (codes "mdash") name 0x2014 c _ refl (omega arith) (omega arith)
+    (name_case _ (codes "ndash") name 0x2013 c _ refl (omega arith) (omega arith) (no_name name c))) e
+
+named_by : (name : List ℕ) (c : ℕ) (x s p : Option ℕ) → (x ≡ Some c → IsShortName name c) → (s ≡ Some c → IsShortName name c)
+    → (p ≡ Some c → IsShortName name c) → option_or x (option_or s p) ≡ Some c → IsShortName name c
+named_by name c (Some v) s p f g h e = f e
+named_by name c None (Some v) p f g h e = g e
+named_by name c None None p f g h e = h e
+
+named_facts : (name : List ℕ) (c : ℕ) → named name ≡ Some c → IsShortName name c
+unfolding named
+named_facts name c e = named_by name c _ _ _ (xml_facts name c) (sign_facts name c) (punctuation_facts name c) e
+
+name_by : (t : Bool) (bs : List ℕ) (n c : ℕ) (o : Option ℕ) → (o ≡ Some c → IsShortName (take (prefix_len is_ascii_alphabetic bs) bs) c)
+    → begins 59 (drop (prefix_len is_ascii_alphabetic bs) bs) ≡ t
+    → (if t then option_map (both (prefix_len is_ascii_alphabetic bs + 1)) o else None) ≡ Some (both n c)
+    → EndsReference bs n × (len_utf8 c < 1 + n)
+name_by true bs n c (Some v) f h e =
+    let k : ℕ = prefix_len is_ascii_alphabetic bs in
+    let parts = some_pair_parts (k + 1) n v c e in
+    let a = parts.0 in
+    let s = f (ap (λ x. Some x) parts.1) in
+    let l = length-prefix_len is_ascii_alphabetic bs in
+    let some = s.some in
+    let short = s.short in
+    (subst (EndsReference bs) a (run_ends is_ascii_alphabetic refl bs h), omega arith)
+name_by true bs n c None f h e = cc
+name_by false bs n c o f h e = cc
+
+name_facts : (bs : List ℕ) (n c : ℕ) → name_at bs ≡ Some (n, c) → EndsReference bs n × (len_utf8 c < 1 + n)
+unfolding name_at
+name_facts bs n c e = name_by _ bs n c _ (named_facts _ c) refl e
+
+-- what stands after k bytes
+behind_some : (k n c : ℕ) (o : Option (ℕ × ℕ)) → behind k o ≡ Some (n, c) → (m : ℕ) × (o ≡ Some (m, c)) × (n ≡ k + m)
+behind_some k n c None e = cc
+behind_some k n c (Some r) e = let parts = some_pair_parts (k + r.0) n r.1 c e in (r.0, ap (λ x. Some (both r.0 x)) parts.1, sym parts.0)
+
+above : (n l : ℕ) → 2 ≤ n → l ≤ 4 → (n ≡ 2 → l ≤ 3) → (2 < n) ⊎ (n ≤ 2) → l < 2 + n
+above n l some four short (inl more) = omega arith
+above n l some four short (inr two) = let s = short (omega arith) in omega arith
+
+numeric_by : (t u : Bool) (bs : List ℕ) (n c : ℕ)
+    → begins 120 bs ≡ t → begins 88 bs ≡ u → numeric_at bs ≡ Some (n, c) → EndsReference bs n × (len_utf8 c < 2 + n)
+unfolding numeric_at
+numeric_by true u bs n c h h' e =
+    let b = behind_some 1 n c _ (rw h at e) in
+    let f = number_facts is_ascii_hexdigit refl 16 6 (drop 1 bs) b.0 c b.1 in
+    let some = f.some in
+    let four = at_most_four c in
+    let m = b.2 in
+    (subst (EndsReference bs) (sym m) (one_more 0 120 b.0 bs h refl f.ends), omega arith)
+numeric_by false true bs n c h h' e =
+    let b = behind_some 1 n c _ (rw (h, h') at e) in
+    let f = number_facts is_ascii_hexdigit refl 16 6 (drop 1 bs) b.0 c b.1 in
+    let some = f.some in
+    let four = at_most_four c in
+    let m = b.2 in
+    (subst (EndsReference bs) (sym m) (one_more 0 88 b.0 bs h' refl f.ends), omega arith)
+numeric_by false false bs n c h h' e =
+    let f = number_facts is_ascii_digit refl 10 7 bs n c (rw (h, h') at e) in
+    (f.ends, above n (len_utf8 c) f.some (at_most_four c) f.short (cases_lt 2 n))
+
+entity_by : (t u : Bool) (bs : List ℕ) (n c : ℕ) → begins 38 bs ≡ t → begins 35 (drop 1 bs) ≡ u → entity_at bs ≡ Some (n, c) → IsReference bs n c
+unfolding entity_at
+entity_by true true bs n c h h' e =
+    let a = behind_some 1 n c _ (rw (h, h') at e) in
+    let b = behind_some 1 a.0 c _ a.1 in
+    let f = numeric_by _ _ (drop 1 (drop 1 bs)) b.0 c refl refl b.1 in
+    let l = f.1 in
+    let k = a.2 in
+    let m = b.2 in
+    record {
+      ends = subst (EndsReference bs) (sym k)
+          (one_more 0 38 a.0 bs h refl (subst (EndsReference (drop 1 bs)) (sym m) (one_more 0 35 b.0 (drop 1 bs) h' refl f.0)));
+      shorter = omega arith;
+    }
+entity_by true false bs n c h h' e =
+    let a = behind_some 1 n c _ (rw (h, h') at e) in
+    let f = name_facts (drop 1 bs) a.0 c a.1 in
+    let l = f.1 in
+    let k = a.2 in
+    record { ends = subst (EndsReference bs) (sym k) (one_more 0 38 a.0 bs h refl f.0); shorter = omega arith }
+entity_by false u bs n c h h' e = let z : None ≡ Some (n, c) = rw h at e in cc
+
+pub entity_is_reference : (bs : List ℕ) (n c : ℕ) → entity_at bs ≡ Some (n, c) → IsReference bs n c
+entity_is_reference bs n c e = entity_by _ _ bs n c refl refl e

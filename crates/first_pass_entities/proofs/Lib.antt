@@ -1,0 +1,2 @@
+pub mod EntityFacts
+pub mod Numbers

@@ -1,0 +1,4 @@
+//! Entity and numeric character references.
+#![tactic(auto)]
+
+pub mod entity;

@@ -1,0 +1,126 @@
+-- Whatever is open can be completed, and each text has a derivation.
+use Rattle.std.proofs.Common.{◌≡◌, ℕ, suc, Bool, false, List, [], ◌∷◌, length, refl, sym, subst, arith}
+use Rattle.first_pass_items.specs.declared.item.Item.{Item}
+use Rattle.first_pass_items.specs.declared.option_set.Options.{Options}
+use Rattle.first_pass_lines.specs.Places.{Place, lines_at}
+use Rattle.first_pass_grammar.specs.declared.kind.Container.{Container}
+use Rattle.first_pass_grammar.specs.Names.{Names, Extends}
+use Rattle.first_pass_grammar.specs.Containers.{is_quote}
+use Rattle.first_pass_grammar.specs.Leaves.{Document, document}
+use Rattle.first_pass_grammar.specs.Skeleton.{From, Line, level, Left, Lines, InLine, onward, end_before, IsSequence}
+use Rattle.first_pass_grammar.specs.Before.{Before, nothing, after_container, before_end}
+use Rattle.first_pass_grammar.specs.Rows.{ItemsOf, Rows, any_gap, rows_of}
+use Rattle.first_pass_grammar.specs.Derivation.{Tables, Derives, no_tables, told_by, root_of, items_of}
+use Rattle.first_pass_grammar.specs.Completion.{OneList, Standing, Further, AreFurther, rows_on, rows_beyond, rendered, Frame, InContainer, InList, InDefinitions, definitions_open}
+use Rattle.first_pass_grammar.specs.Completion.{containers_of, loosened, container_closed, Becomes, Completes, CanGoOn, Completion}
+use Rattle.first_pass_exists.proofs.Found.{Found}
+use Rattle.first_pass_grammar.proofs.MoreNames.{extends_none, extends_both}
+use Rattle.first_pass_grammar.proofs.Finishes.{containers-loosened}
+use Rattle.first_pass_exists.proofs.SequencesFound.{sequence_found}
+
+pub line_goes_on : (path : List Container) → CanGoOn path Line
+line_goes_on [] = refl
+line_goes_on (c ∷ path) = tt
+
+onward_goes_on : (path : List Container) (left : Left) → CanGoOn path (onward left).0
+onward_goes_on [] (Lines lines) = refl
+onward_goes_on [] (InLine p lines) = refl
+onward_goes_on (c ∷ path) left = tt
+
+-- what the containers of a path take further
+further_found : (text : List ℕ) (options : Options) (names : Names) (path : List Container) (before : Before) (from : From) (lines : List Place)
+    → CanGoOn path from → Found names (List Further) (λ later further. AreFurther (document text options later) path before from lines further)
+unfolding AreFurther
+further_found text options names [] before from lines can =
+    let s = sequence_found text options names (level [] before) from lines in
+    let all : s.left ≡ Lines [] = s.ends refl can in
+    record {
+      value = record { blocks = s.blocks; «end» = length text } ∷ [];
+      more = s.more;
+      extends = s.extends;
+      holds = λ later x. (subst (λ z. IsSequence (document text options later) s.blocks (level [] before) from lines z) all (s.is later x), refl);
+    }
+further_found text options names (c ∷ path) before from lines can =
+    let s = sequence_found text options names (level (c ∷ path) before) from lines in
+    let now : Before = after_container c (before_end (is_quote c) before s.blocks) in
+    let outer = further_found text options s.more path now (onward s.left).0 (onward s.left).1 (onward_goes_on path s.left) in
+    record {
+      value = record { blocks = s.blocks; «end» = end_before (length text) path from s.left } ∷ outer.value;
+      more = outer.more;
+      extends = extends_both _ _ _ outer.extends s.extends;
+      holds = λ later x. (s.left, s.is later (extends_both _ _ _ x outer.extends), refl, outer.holds later x);
+    }
+
+-- what stands becomes something with what is taken further
+length-loosened : (gap : Bool) (frames : List Frame) → length (loosened gap frames) ≡ length frames
+length-loosened gap [] = refl
+length-loosened gap (InContainer c ∷ frames) = refl
+length-loosened gap (InList byte loose ∷ frames) = refl
+length-loosened gap (InDefinitions loose ∷ frames) = refl
+
+becomes_some : (d : Document) (frames : List Frame) (places : List ℕ) (w : Standing) (further : List Further) (from : From) (lines : List Place)
+    → length frames ≡ length places → AreFurther d (containers_of frames) w.before from lines further
+    → (forest : List (ℕ × Item)) × (tables : Tables) × Becomes frames places w further forest tables
+unfolding AreFurther Becomes
+becomes_some d [] [] w [] from lines size are = absurd are
+becomes_some d [] [] w (f ∷ []) from lines size are =
+    (rendered 1 f.«end» w.nodes w.list (rows_on false w f), told_by w.defined f.blocks, (refl, refl))
+becomes_some d [] [] w (f ∷ g ∷ more) from lines size are = absurd are
+becomes_some d [] (place ∷ places) w further from lines size are = absurd (omega arith)
+becomes_some d (frame ∷ frames) [] w further from lines size are = absurd (omega arith)
+becomes_some d (InList byte loose ∷ frames) (place ∷ places) w further from lines size are =
+    let inside : Standing = record { nodes = w.nodes; list = OneList place (ItemsOf byte) loose; before = w.before; defined = w.defined } in
+    becomes_some d frames places inside further from lines (omega arith) are
+becomes_some d (InDefinitions loose ∷ frames) (place ∷ places) w further from lines size are =
+    let inside : Standing = record { nodes = w.nodes; list = definitions_open place loose w.list; before = w.before; defined = w.defined } in
+    becomes_some d frames places inside further from lines (omega arith) are
+becomes_some d (InContainer c ∷ frames) (place ∷ places) w [] from lines size are = absurd are
+becomes_some d (InContainer c ∷ frames) (place ∷ places) w (f ∷ further) from lines size (left, sequence, ends, are) =
+    let rows : Rows = rows_on (is_quote c) w f in
+    let gap : Bool = any_gap (rows_beyond w.list rows) in
+    let now : Standing = container_closed c (suc (length (place ∷ places))) place w f rows in
+    becomes_some d (loosened gap frames) places now further (onward left).0 (onward left).1 (omega (arith, length-loosened gap frames))
+    (subst (λ (path : List Container). AreFurther d path now.before (onward left).0 (onward left).1 further) (sym (containers-loosened gap frames)) are)
+
+pub completion_found : (d : Document) (frames : List Frame) (places : List ℕ) (w : Standing) (from : From) (lines : List Place)
+    → length frames ≡ length places → CanGoOn (containers_of frames) from → Completion d frames places w from lines
+completion_found d frames places w from lines size can =
+    let further = further_found d.text d.options d.names (containers_of frames) w.before from lines can in
+    let taken = further.holds further.more (extends_none further.more) in
+    let becomes = becomes_some (document d.text d.options further.more) frames places w further.value from lines size taken in
+    record {
+      names = further.more;
+      extends = further.extends;
+      further = further.value;
+      forest = becomes.0;
+      tables = becomes.1;
+      taken = taken;
+      becomes = becomes.2;
+    }
+
+pub completion_derives : (d : Document) (frames : List Frame) (places : List ℕ) (w : Standing) (from : From) (lines : List Place)
+    → length frames ≡ length places → CanGoOn (containers_of frames) from
+    → ((more : Names) → Extends more d.names → Completes (document d.text d.options more) frames places w from lines)
+    → (c : Completion d frames places w from lines) × Derives (document d.text d.options c.names) c.forest c.tables
+completion_derives d frames places w from lines size can ready =
+    let c = completion_found d frames places w from lines size can in
+    (c, (ready c.names c.extends).whole c.further c.forest c.tables c.taken c.becomes)
+
+-- the whole text
+pub text_derives : (text : List ℕ) (options : Options) (names : Names)
+    → (more : Names) × (forest : List (ℕ × Item)) × (tables : Tables) × Extends more names × Derives (document text options more) forest tables
+text_derives text options names =
+    let top = level [] nothing in
+    let s = sequence_found text options names top Line (lines_at 0 text) in
+    let all : s.left ≡ Lines [] = s.ends refl refl in (
+      s.more,
+      root_of (length text) ∷ items_of 1 false (rows_of false nothing (length text) s.blocks),
+      told_by no_tables s.blocks,
+      s.extends,
+      record {
+        skeleton = s.blocks;
+        sequence = subst (λ z. IsSequence (document text options s.more) s.blocks top Line (lines_at 0 text) z) all (s.is s.more (extends_none s.more));
+        forest_is = refl;
+        tables_are = refl;
+      },
+    )

@@ -1,0 +1,260 @@
+-- At each place where blocks continue something opens, and inside a container less of the text is left.
+use Rattle.std.proofs.Common.{◌≡◌, inl, inr, ℕ, suc, ◌-◌, ◌<◌, ◌≤◌, Bool, true, false, List, [], ◌∷◌, length, Option, Some, None, refl, sym, ap, arith, nat_lt}
+use Rattle.std.proofs.Common.{if◌then◌else◌, ◌+◌, ◌&&◌, drop, MatchOption}
+use Rattle.std.proofs.lemmas.Bool.{false≢true, and_parts}
+use Rattle.std.specs.Option.{option_map, option_and_then}
+use Rattle.std.specs.List.{prefix_len}
+use Rattle.std.proofs.lemmas.List.{length-drop}
+use Rattle.std.proofs.lemmas.List.Sums.{prefix_len-le-length}
+use Rattle.std.proofs.lemmas.Option.{none-some, same_Some}
+use Rattle.first_pass_items.specs.declared.item.Item.{Item}
+use Rattle.first_pass_items.specs.declared.option_set.Options.{Options}
+use Rattle.first_pass_items.specs.OptionWords.{has, tasklists, footnotes, gfm_footnotes}
+use Rattle.first_pass_items.specs.Bytes.{colon, left_bracket, circumflex}
+use Rattle.first_pass_links.specs.Footnotes.{begins_footnote, head_behind, footnote_head}
+use Rattle.first_pass_links.specs.Labels.{label_at}
+use Rattle.first_pass_grammar.specs.Footnotes.{footnote_prefix, footnote_at, footnote_head_at, label_bytes, place_behind, behind_head}
+use Rattle.first_pass_grammar.specs.LinkRuns.{lines_beyond}
+use Rattle.first_pass_exists.proofs.Found.{named_label}
+use Rattle.first_pass_lines.specs.Lines.{is_content, begins, is_white}
+use Rattle.first_pass_lines.specs.Rest.{Rest, indent, after_columns, past_bytes, past_quote}
+use Rattle.first_pass_lines.specs.Places.{Place, offset, start_of}
+use Rattle.first_pass_lines.proofs.PlaceFacts.{columns_shorter, quote_shorter}
+use Rattle.first_pass_scan.specs.Markers.{item_of, task_of, definition_of}
+use Rattle.first_pass_scan.proofs.MarkerPlaces.{IsMarked, item-marked, task-marked, definition-marked}
+use Rattle.first_pass_grammar.specs.declared.kind.Container.{Container}
+use Rattle.first_pass_grammar.specs.declared.kind.Container.TheVariants.{BlockQuote}
+use Rattle.first_pass_grammar.specs.Names.{Names}
+use Rattle.first_pass_grammar.specs.Containers.{Context, context, at_rest, prefix, front, footnote_columns}
+use Rattle.first_pass_grammar.specs.Kinds.{Paragraph, all_taken, unindented, is_blank_rest, item_at, ends_tag, definition_marker_at}
+use Rattle.first_pass_grammar.specs.Leaves.{Document, document}
+use Rattle.first_pass_grammar.specs.Blocks.{leaf_block, FootnoteMarker, Head}
+use Rattle.first_pass_grammar.specs.Skeleton.{From, Line, At, May, Anything, ALeafAlone, TextOf, MarkAlone, Inside, behind_marker, Opening, OpensNode}
+use Rattle.first_pass_grammar.specs.Skeleton.{next_is_blank, task_alone}
+use Rattle.first_pass_grammar.specs.Openers.{task_by, task_behind}
+use Rattle.first_pass_grammar.specs.Skeleton.{behind_tag, Opens, OpensIf, Level, may_define}
+use Rattle.first_pass_exists.proofs.KindsFound.{IsShorter, leads_alone, leads_leaf, reach, Shrinks, Leads, leads_text, leads_block}
+use Rattle.first_pass_grammar.specs.Openers.{AfterMarker, OnLine, TaskText, LineEnds, TagAlone, Start, start_at}
+use Rattle.first_pass_grammar.specs.Skeleton.{OpensBy, OpensFootnote, footnote_opening, opening_by, opening_of, without_indent}
+use Rattle.first_pass_grammar.specs.Blocks.{opened}
+use Rattle.first_pass_grammar.proofs.OpenerFacts.{start_cases}
+use Rattle.first_pass_exists.proofs.RunsFound.{beyond_shorter}
+use Rattle.first_pass_grammar.specs.Leaves.{around}
+
+-- after a marker less is left
+mapped_to : {A B : Type 0} (f : A → B) (o : Option A) (y : B) → option_map f o ≡ Some y → (x : A) × (o ≡ Some x) × (f x ≡ y)
+mapped_to f None y h = absurd (none-some y h)
+mapped_to f (Some x) y h = (x, refl, same_Some (f x) y h)
+
+marked_shorter : (r s : Rest) → IsMarked r s → length s.left < length r.left
+marked_shorter r s m =
+    let some = m.some in
+    let within = m.within in
+    let fits = prefix_len-le-length is_content r.left in
+    let first = columns_shorter m.first (past_bytes m.width r) in
+    let further = columns_shorter m.further (after_columns m.first (past_bytes m.width r)) in
+    let left : length (past_bytes m.width r).left ≡ length r.left - m.width = length-drop m.width r.left in
+    let same = ap (λ (q : Rest). length q.left) m.same in
+    omega arith
+
+item_shorter_by : (t : Bool) (r : Rest) (item : (ℕ × ℕ × ℕ) × Rest) → (if t then item_of (indent r) (all_taken r) else None) ≡ Some item
+    → length item.1.left < length r.left
+item_shorter_by true r item h =
+    let marked = marked_shorter (all_taken r) item.1 (item-marked (indent r) (all_taken r) item h) in
+    let all = columns_shorter (indent r) r in
+    omega arith
+item_shorter_by false r item h = absurd (none-some item h)
+
+item_shorter : (r : Rest) (item : (ℕ × ℕ × ℕ) × Rest) → item_at r ≡ Some item → length item.1.left < length r.left
+unfolding item_at
+item_shorter r item h = item_shorter_by (nat_lt (indent r) 4) r item h
+
+marker_shorter_by : (t : Bool) (r : Rest) (marker : ℕ × Rest) → (if t then definition_of (indent r) (all_taken r) else None) ≡ Some marker
+    → length marker.1.left < length r.left
+marker_shorter_by true r marker h =
+    let marked = marked_shorter (all_taken r) marker.1 (definition-marked (indent r) (all_taken r) marker h) in
+    let all = columns_shorter (indent r) r in
+    omega arith
+marker_shorter_by false r marker h = absurd (none-some marker h)
+
+marker_shorter : (r : Rest) (marker : ℕ × Rest) → definition_marker_at r ≡ Some marker → length marker.1.left < length r.left
+unfolding definition_marker_at
+marker_shorter r marker h = marker_shorter_by (nat_lt (indent r) 4) r marker h
+
+task_shorter_by : (line : ℕ) (r : Rest) (o : Option (Bool × Rest)) → ((task : Bool × Rest) → o ≡ Some task → length task.1.left ≤ length r.left)
+    → length (task_by line r o).1.left ≤ length r.left
+task_shorter_by line r None f = omega arith
+task_shorter_by line r (Some task) f = f task refl
+
+task_if : (t : Bool) (r : Rest) (task : Bool × Rest) → (if t then task_of r else None) ≡ Some task → length task.1.left ≤ length r.left
+task_if true r task h =
+    let marked = marked_shorter (after_columns 3 r) task.1 (task-marked r task h) in
+    let three = columns_shorter 3 r in
+    omega arith
+task_if false r task h = absurd (none-some task h)
+
+task_shorter : (options : Options) (line : ℕ) (r : Rest) → length (task_behind options line r).1.left ≤ length r.left
+task_shorter options line r = task_shorter_by line r (if has options tasklists then task_of r else None) (task_if (has options tasklists) r)
+
+quote_shorter_by : (r inside : Rest) → prefix (BlockQuote None) r ≡ Some inside → length inside.left < length r.left
+unfolding prefix
+quote_shorter_by r inside h =
+    let marker = mapped_to (after_columns 1) (past_quote (after_columns 3 r)) inside h in
+    let three = columns_shorter 3 r in
+    let one = columns_shorter 1 marker.0 in
+    let quote = quote_shorter (after_columns 3 r) marker.0 marker.1 in
+    let same : length inside.left ≡ length (after_columns 1 marker.0).left = ap (λ (q : Rest). length q.left) (sym marker.2) in
+    omega arith
+
+-- what is left after a container's marker is shorter
+start_shorter : (options : Options) (may : Bool) (p : Place) (s : Start) → start_at options may p ≡ Some s → length s.rest.left < length p.rest.left
+start_shorter options may p =
+    start_cases options may p (λ s. length s.rest.left < length p.rest.left)
+    (λ item is. let less = item_shorter p.rest item is in let task = task_shorter options p.line item.1 in omega arith)
+    (λ marker none is. marker_shorter p.rest marker is)
+    (λ r none is. quote_shorter_by p.rest r is)
+
+-- after a container's marker
+marker_reach : (blanks : Option ℕ) → reach (behind_marker blanks) ≤ 0
+marker_reach None = omega arith
+marker_reach (Some e) = omega arith
+
+alone_reach : (marker : Option Item) (p : Place) (blanks : Option ℕ) → reach (task_alone marker p blanks) ≤ suc (length p.rest.left)
+alone_reach None p blanks = let none = marker_reach blanks in omega arith
+alone_reach (Some marker) p blanks = omega arith
+
+either_shrinks : (most : ℕ) (lines : List Place) (t : Bool) (o o' : Opening) → Shrinks most lines o → Shrinks most lines o'
+    → Shrinks most lines (if t then o else o')
+either_shrinks most lines true o o' h k = h
+either_shrinks most lines false o o' h k = k
+
+node_shrinks : (most : ℕ) (lines : List Place) (head : Head) (inside : From) → reach inside ≤ most → Shrinks most lines (OpensNode head inside lines)
+node_shrinks most lines head inside h = (omega arith, inl h)
+
+-- after a block quote's tag
+abbrev IsBehind : ℕ → List Place → From × List Place → Type 0
+IsBehind most lines (inside, behind) = IsShorter most lines inside behind
+
+tag_shrinks_by : (most : ℕ) (line p : Place) (lines : List Place) (t : Bool)
+    → IsBehind most (line ∷ lines) (if◌then◌else◌ {A = From × List Place} t (Line, line ∷ lines) (At p ALeafAlone, lines))
+tag_shrinks_by most line p lines true = (omega arith, inl (omega arith))
+tag_shrinks_by most line p lines false = (omega arith, inr (omega arith))
+
+tag_shrinks : (most : ℕ) (c : Context) (lines : List Place) → IsBehind most lines (behind_tag c lines)
+tag_shrinks most c [] = (omega arith, inl (omega arith))
+tag_shrinks most c (line ∷ lines) = tag_shrinks_by most line (unindented (at_rest line (front c.path line.rest))) lines (ends_tag c line.rest)
+
+start_shrinks : (d : Document) (most : ℕ) (path : List Container) (head : Head) (inside : Place) (lines : List Place) (after : AfterMarker)
+    → suc (length inside.rest.left) ≤ most → Shrinks most lines (opening_by d path head inside lines after)
+start_shrinks d most path head inside lines OnLine h = node_shrinks most lines head (Inside inside) h
+start_shrinks d most path head inside lines (TaskText marker) h = node_shrinks most lines head (At inside (TextOf marker)) h
+start_shrinks d most path head inside lines (LineEnds marker) h =
+    let blanks : Option ℕ = Some (start_of (length d.text) lines) in
+    let alone = alone_reach marker inside blanks in
+    let next = alone_reach marker inside None in
+    either_shrinks most lines (next_is_blank (opened head.opener ∷ path) lines) _ _
+    (node_shrinks most lines (record head { opener = without_indent head.opener }) (task_alone marker inside blanks) (omega arith))
+    (node_shrinks most lines head (task_alone marker inside None) (omega arith))
+start_shrinks d most path head inside lines TagAlone h = tag_shrinks most (around d (opened head.opener ∷ path)) lines
+
+-- what opens at a place
+leads_by : (text : List ℕ) (options : Options) (names : Names) (path : List Container) (p : Place) (lines : List Place) (o : Option Start)
+    → ((s : Start) → o ≡ Some s → length s.rest.left < length p.rest.left)
+    → Leads names (length p.rest.left) lines (λ later x. OpensBy (document text options later) path p lines o x)
+unfolding OpensBy
+leads_by text options names path p lines None less = leads_block text options names (length p.rest.left) path p lines
+leads_by text options names path p lines (Some s) less =
+    let d : Document = document text options names in
+    let shorter = less s refl in
+    leads_alone (opening_of d path p lines s) (λ later. refl)
+    (start_shrinks d (length p.rest.left) path s.head (at_rest p s.rest) lines s.after (omega arith))
+
+-- a footnote definition, after whose head less is left
+begun_head : (bs : List ℕ) (t : Bool) (o : Option (ℕ × List ℕ)) (head : ℕ × List ℕ) → (if t then o else None) ≡ Some head
+    → (t ≡ true) × (o ≡ Some head)
+begun_head bs true o head h = (refl, h)
+begun_head bs false o head h = absurd (none-some head h)
+
+head_size_if : (t : Bool) (label head : ℕ × List ℕ) → (if t then Some (label.0 + 3, label.1) else None) ≡ Some head → 0 < head.0
+head_size_if true label head h = let size = ap (λ (z : ℕ × List ℕ). z.0) (same_Some (label.0 + 3, label.1) head h) in omega arith
+head_size_if false label head h = absurd (none-some head h)
+
+head_size : (bs : List ℕ) (o : Option (ℕ × List ℕ)) (head : ℕ × List ℕ) → option_and_then (head_behind bs) o ≡ Some head → 0 < head.0
+head_size bs None head h = absurd (none-some head h)
+head_size bs (Some label) head h = head_size_if (begins colon (drop label.0 bs)) label head h
+
+some_bytes : (b : ℕ) (bs : List ℕ) → begins b bs ≡ true → 0 < length bs
+some_bytes b [] h = absurd (false≢true h)
+some_bytes b (c ∷ bs) h = omega arith
+
+head_shorter_by : (prefix : List ℕ → Option ℕ) (bs : List ℕ) (head : ℕ × List ℕ) → footnote_head prefix false bs ≡ Some head
+    → length (drop head.0 bs) < length bs
+unfolding footnote_head
+head_shorter_by prefix bs head h =
+    let begun = begun_head bs (begins_footnote bs) (option_and_then (head_behind (drop 2 bs)) (label_at prefix false (drop 2 bs))) head h in
+    let size = head_size (drop 2 bs) (label_at prefix false (drop 2 bs)) head begun.1 in
+    let some = some_bytes left_bracket bs (and_parts (begins left_bracket bs) (begins circumflex (drop 1 bs)) begun.0).0 in
+    let left = length-drop head.0 bs in
+    omega arith
+
+head_shorter : (c : Context) (p : Place) (head : ℕ × List ℕ) → footnote_head_at c p ≡ Some head
+    → length (drop head.0 (unindented p).rest.left) < length p.rest.left
+unfolding footnote_head_at
+head_shorter c p head h =
+    let found = (begun_head (unindented p).rest.left (has c.options footnotes && nat_lt (indent p.rest) 4)
+    (footnote_at false c (unindented p).rest.left) head h).1 in
+    let less = head_shorter_by (footnote_prefix c) (unindented p).rest.left head found in
+    let all = columns_shorter (indent p.rest) p.rest in
+    omega arith
+
+behind_if : (most : ℕ) (t : Bool) (q line : Place) (behind lines : List Place) → suc (length q.rest.left) ≤ most → length (line ∷ behind) ≤ length lines
+    → (let there : Place × List Place = if◌then◌else◌ {A = Place × List Place} t (line, behind) (q, line ∷ behind) in
+    IsShorter most lines (Inside there.0) there.1)
+behind_if most true q line behind lines less few = (omega arith, inr (omega arith))
+behind_if most false q line behind lines less few = (few, inl less)
+
+behind_shorter : (most : ℕ) (gfm : Bool) (q : Place) (behind lines : List Place) → suc (length q.rest.left) ≤ most → length behind ≤ length lines
+    → IsShorter most lines (Inside (behind_head gfm q behind).0) (behind_head gfm q behind).1
+behind_shorter most true q behind lines less few =
+    let n = length-drop (prefix_len is_white q.rest.left) q.rest.left in (few, inl (omega arith))
+behind_shorter most false q [] lines less few = (few, inl less)
+behind_shorter most false q (line ∷ behind) lines less few = behind_if most (is_blank_rest q.rest) q line behind lines less few
+
+leads_footnote : (text : List ℕ) (options : Options) (names : Names) (most : ℕ) (p : Place) (lines : List Place) (head : ℕ × List ℕ)
+    → length (drop head.0 (unindented p).rest.left) < most
+    → Leads names most lines (λ later x. OpensFootnote (document text options later) p lines head x)
+unfolding OpensFootnote
+leads_footnote text options names most p lines (size, label) less =
+    let ix = named_label names (label_bytes size (unindented p).rest.left) label in
+    let d : Document = document text options names in
+    let q : Place = place_behind size (unindented p) in
+    record {
+      opening = footnote_opening d p lines size (FootnoteMarker (footnote_columns options) ix.value label);
+      more = ix.more;
+      extends = ix.extends;
+      opens = λ later x. (ix.value, ix.holds later x, refl);
+      shrinks = behind_shorter most (gfm_footnotes options) q (lines_beyond (offset q) lines) lines (omega arith) (beyond_shorter (offset q) lines);
+    }
+
+leads_head : (text : List ℕ) (options : Options) (names : Names) (l : Level) (p : Place) (lines : List Place) (o : Option (ℕ × List ℕ))
+    → ((head : ℕ × List ℕ) → o ≡ Some head → length (drop head.0 (unindented p).rest.left) < length p.rest.left)
+    → Leads names (length p.rest.left) lines (λ later x. MatchOption o
+    (OpensBy (document text options later) l.path p lines (start_at options (may_define (document text options later) l) p) x)
+    (λ head. OpensFootnote (document text options later) p lines head x))
+leads_head text options names l p lines None less =
+    let may : Bool = may_define (document text options names) l in
+    leads_by text options names l.path p lines (start_at options may p) (start_shorter options may p)
+leads_head text options names l p lines (Some head) less = leads_footnote text options names (length p.rest.left) p lines head (less head refl)
+
+pub leads_any : (text : List ℕ) (options : Options) (names : Names) (l : Level) (p : Place) (lines : List Place)
+    → Leads names (length p.rest.left) lines (λ later x. Opens (document text options later) l p lines x)
+leads_any text options names l p lines =
+    leads_head text options names l p lines (footnote_head_at (context options l.path) p) (head_shorter (context options l.path) p)
+
+pub leads_if : (text : List ℕ) (options : Options) (names : Names) (l : Level) (may : May) (p : Place) (lines : List Place)
+    → Leads names (length p.rest.left) lines (λ later x. OpensIf (document text options later) l may p lines x)
+leads_if text options names l Anything p lines = leads_any text options names l p lines
+leads_if text options names l ALeafAlone p lines = leads_block text options names (length p.rest.left) l.path p lines
+leads_if text options names l (TextOf marker) p lines = leads_text text options names (length p.rest.left) l.path p lines (Some marker)
+leads_if text options names l (MarkAlone marker blanks) p lines =
+    leads_leaf (leaf_block Paragraph p ((0, marker) ∷ []) false) lines (λ later. refl) (omega arith)

@@ -1,0 +1,227 @@
+-- From each place on there is a sequence of blocks, so that what is open can be completed, and each text has a derivation.
+use Rattle.std.proofs.Common.{◌≡◌, inl, inr, ℕ, zero, suc, ◌<◌, ◌≤◌, List, [], ◌∷◌, length, Some, None, refl, ap, subst, arith}
+use Rattle.first_pass_items.specs.declared.option_set.Options.{Options}
+use Rattle.first_pass_lines.specs.Places.{Place}
+use Rattle.first_pass_grammar.specs.declared.kind.Container.{Container}
+use Rattle.first_pass_grammar.specs.Names.{Names, Extends}
+use Rattle.first_pass_grammar.specs.Leaves.{document}
+use Rattle.first_pass_grammar.specs.Blocks.{Leaf, Head, opened, Skeleton, Nil, Then, Node}
+use Rattle.first_pass_grammar.specs.Skeleton.{From, Line, Blanks, At, Anything, ALeafAlone, TextOf, MarkAlone, Opening, OpensLeaf, OpensNode, OpensAt}
+use Rattle.first_pass_grammar.specs.Skeleton.{Level, level, level_in, level_after_leaf, level_after, Left, Lines, InLine, Going, Begins, Ends, going, onward}
+use Rattle.first_pass_grammar.specs.Skeleton.{behind_first, blanks_alone, end_before, IsFirst, IsSequence}
+use Rattle.first_pass_grammar.proofs.Goings.{BeginsAt, LeavesAt, begins_at, leaves_at, all_taken_at}
+use Rattle.first_pass_grammar.proofs.MoreNames.{extends_none, extends_both}
+use Rattle.first_pass_exists.proofs.KindsFound.{reach, IsShorter, Shrinks, Leads, leads_also}
+use Rattle.first_pass_exists.proofs.OpeningsFound.{leads_any, leads_if}
+
+-- Less is left, or as much, where blocks continue around a container that leaves this.
+abbrev IsNoMore : From → List Place → Left → Type 0
+IsNoMore from lines left = IsShorter (reach from) lines (onward left).0 (onward left).1
+
+-- Blocks from a place on, with names that continue these, whatever is named besides. At the top, unless blank lines alone are taken, they take all lines.
+pub record SequenceFrom (text : List ℕ) (options : Options) (names : Names) (l : Level) (from : From) (lines : List Place) : Type 0 where
+  pub blocks : Skeleton
+  pub left : Left
+  pub more : Names
+  pub extends : Extends more names
+  pub is : (later : Names) → Extends later more → IsSequence (document text options later) blocks l from lines left
+  pub shorter : IsNoMore from lines left
+  pub ends : l.path ≡ [] → blanks_alone from ≡ None → left ≡ Lines []
+
+-- where blocks continue after a first one
+reach_behind : (from there : From) → reach (behind_first from there) ≤ reach there
+reach_behind Line there = omega arith
+reach_behind (Blanks e) there = omega arith
+reach_behind (At p Anything) there = omega arith
+reach_behind (At p ALeafAlone) there = omega arith
+reach_behind (At p (TextOf marker)) there = omega arith
+reach_behind (At p (MarkAlone marker None)) there = omega arith
+reach_behind (At p (MarkAlone marker (Some e))) there = omega arith
+
+alone_behind : (from there : From) → blanks_alone from ≡ None → blanks_alone there ≡ None → blanks_alone (behind_first from there) ≡ None
+alone_behind Line there h k = k
+alone_behind (Blanks e) there h k = h
+alone_behind (At p Anything) there h k = k
+alone_behind (At p ALeafAlone) there h k = k
+alone_behind (At p (TextOf marker)) there h k = k
+alone_behind (At p (MarkAlone marker None)) there h k = refl
+alone_behind (At p (MarkAlone marker (Some e))) there h k = h
+
+alone_onward : (left : Left) → blanks_alone (onward left).0 ≡ None
+alone_onward (Lines lines) = refl
+alone_onward (InLine p lines) = refl
+
+shorter_behind : (most : ℕ) (lines left : List Place) (from there : From) → IsShorter most lines there left
+    → IsShorter most lines (behind_first from there) left
+shorter_behind most lines left from there (less, inl near) = let reaches = reach_behind from there in (less, inl (omega arith))
+shorter_behind most lines left from there (less, inr fewer) = (less, inr fewer)
+
+shorter_both : (most : ℕ) (lines left further : List Place) (there then : From) → IsShorter most lines there left → IsShorter (reach there) left then further
+    → IsShorter most lines then further
+shorter_both most lines left further there then (less, inl near) (less', inl near') = (omega arith, inl (omega arith))
+shorter_both most lines left further there then (less, inl near) (less', inr fewer) = (omega arith, inr (omega arith))
+shorter_both most lines left further there then (less, inr fewer) (less', near) = (omega arith, inr (omega arith))
+
+-- what is less than is left where a block begins is less than is left where it is sought
+shorter_from : (path : List Container) (from there : From) (lines behind left : List Place) (p : Place) → BeginsAt path from lines p behind
+    → IsShorter (length p.rest.left) behind there left → IsShorter (reach from) lines there left
+shorter_from path Line there [] behind left p begins s = absurd begins
+shorter_from path Line there (line ∷ lines) behind left p (is, same) (less, near) = let n = ap length same in (omega arith, inr (omega arith))
+shorter_from path (Blanks e) there [] behind left p begins s = absurd begins
+shorter_from path (Blanks e) there (line ∷ lines) behind left p (is, same) (less, near) = let n = ap length same in (omega arith, inr (omega arith))
+shorter_from path (At q may) there lines behind left p (is, same) (less, inl near) =
+    let n = ap length same in let m = ap (λ (z : Place). length z.rest.left) is in (omega arith, inl (omega arith))
+shorter_from path (At q may) there lines behind left p (is, same) (less, inr fewer) = let n = ap length same in (omega arith, inr (omega arith))
+
+-- a sequence that has no block
+no_more_at : (path : List Container) (from : From) (lines behind : List Place) (p : Place) → BeginsAt path from lines p behind
+    → IsNoMore from lines (InLine p behind)
+no_more_at path Line [] behind p begins = absurd begins
+no_more_at path Line (line ∷ lines) behind p (is, same) = let n = ap length same in (omega arith, inr (omega arith))
+no_more_at path (Blanks e) [] behind p begins = absurd begins
+no_more_at path (Blanks e) (line ∷ lines) behind p (is, same) = let n = ap length same in (omega arith, inr (omega arith))
+no_more_at path (At q may) lines behind p (is, same) =
+    let n = ap length same in let m = ap (λ (z : Place). length z.rest.left) is in (omega arith, inl (omega arith))
+
+no_more : (path : List Container) (from : From) (lines : List Place) (left : Left) → LeavesAt path from lines left → IsNoMore from lines left
+no_more path from lines (Lines left) same = let n = ap length same in (omega arith, inl (omega arith))
+no_more path from lines (InLine p behind) at = no_more_at path from lines behind p at.0
+
+-- a first block, and those in it and after it
+module _ (text : List ℕ) (options : Options) where
+  -- blocks from each place on, of lines that are fewer than so many, or as many at most with a place that reaches less far
+  abbrev Fewer : ℕ → Type 0
+  Fewer n = (names : Names) (l : Level) (from : From) (lines : List Place) → length lines < n → SequenceFrom text options names l from lines
+
+  abbrev Nearer : ℕ → ℕ → Type 0
+  Nearer n k =
+      (names : Names) (l : Level) (from : From) (lines : List Place) → length lines ≤ n → reach from < k → SequenceFrom text options names l from lines
+
+  -- the blocks where less is left than these lines after a place
+  abbrev Others : ℕ → List Place → Type 0
+  Others most lines =
+      (names : Names) (l : Level) (from : From) (left : List Place) → IsShorter most lines from left → SequenceFrom text options names l from left
+
+  -- what is first from here on, whatever more is named later
+  abbrev AreFirst : Names → Level → From → List Place → Opening → Type 0
+  AreFirst names l from lines o = (later : Names) → Extends later names → IsFirst (document text options later) l from lines o
+
+  leaf_first : (names more : Names) (l : Level) (from there : From) (lines behind left : List Place) (p : Place) (leaf : Leaf)
+      → Extends more names → BeginsAt l.path from lines p behind → AreFirst more l from lines (OpensLeaf leaf there left)
+      → Shrinks (length p.rest.left) behind (OpensLeaf leaf there left) → Others (length p.rest.left) behind → SequenceFrom text options names l from lines
+  unfolding IsSequence
+  leaf_first names more l from there lines behind left p leaf extends begins first (less, alone) others =
+      let most : ℕ = length p.rest.left in
+      let next : From = behind_first from there in
+      let now = shorter_behind most behind left from there less in
+      let rest = others more (level_after_leaf l leaf) next left now in
+      record {
+        blocks = Then leaf rest.blocks;
+        left = rest.left;
+        more = rest.more;
+        extends = extends_both _ _ _ rest.extends extends;
+        is = λ later x. (there, left, first later (extends_both _ _ _ x rest.extends), rest.is later x);
+        shorter = shorter_from l.path from (onward rest.left).0 lines behind (onward rest.left).1 p begins
+            (shorter_both most behind left (onward rest.left).1 next (onward rest.left).0 now rest.shorter);
+        ends = λ top h. rest.ends top (alone_behind from there h alone);
+      }
+
+  node_first : (names more : Names) (l : Level) (from inside : From) (lines behind kids : List Place) (p : Place) (head : Head)
+      → Extends more names → BeginsAt l.path from lines p behind → AreFirst more l from lines (OpensNode head inside kids)
+      → Shrinks (length p.rest.left) behind (OpensNode head inside kids) → Others (length p.rest.left) behind → SequenceFrom text options names l from lines
+  unfolding IsSequence
+  node_first names more l from inside lines behind kids p head extends begins first shrinks others =
+      let most : ℕ = length p.rest.left in
+      let inner = others more (level_in (opened head.opener) l) inside kids shrinks in
+      let there : From = (onward inner.left).0 in
+      let left : List Place = (onward inner.left).1 in
+      let next : From = behind_first from there in
+      let now = shorter_behind most behind left from there (shorter_both most behind kids left inside there shrinks inner.shorter) in
+      let rest = others inner.more (level_after l head inner.blocks) next left now in
+      let extends_more = extends_both _ _ _ rest.extends inner.extends in
+      record {
+        blocks = Node head (end_before (length text) l.path inside inner.left) inner.blocks rest.blocks;
+        left = rest.left;
+        more = rest.more;
+        extends = extends_both _ _ _ extends_more extends;
+        is = λ later x.
+            let opens = first later (extends_both _ _ _ x extends_more) in
+            (inside, kids, inner.left, opens, inner.is later (extends_both _ _ _ x rest.extends), refl, rest.is later x);
+        shorter = shorter_from l.path from (onward rest.left).0 lines behind (onward rest.left).1 p begins
+            (shorter_both most behind left (onward rest.left).1 next (onward rest.left).0 now rest.shorter);
+        ends = λ top h. rest.ends top (alone_behind from there h (alone_onward inner.left));
+      }
+
+  opening_first : (names more : Names) (l : Level) (from : From) (lines behind : List Place) (p : Place) (o : Opening)
+      → Extends more names → BeginsAt l.path from lines p behind → AreFirst more l from lines o → Shrinks (length p.rest.left) behind o
+      → Others (length p.rest.left) behind → SequenceFrom text options names l from lines
+  opening_first names more l from lines behind p (OpensLeaf leaf there left) extends begins first shrinks others =
+      leaf_first names more l from there lines behind left p leaf extends begins first shrinks others
+  opening_first names more l from lines behind p (OpensNode head inside kids) extends begins first shrinks others =
+      node_first names more l from inside lines behind kids p head extends begins first shrinks others
+
+  leads_at : (names : Names) (l : Level) (from : From) (p : Place) (lines : List Place)
+      → Leads names (length p.rest.left) lines (λ later o. OpensAt (document text options later) l from p lines o)
+  leads_at names l Line p lines = leads_any text options names l p lines
+  leads_at names l (Blanks e) p lines = leads_any text options names l p lines
+  leads_at names l (At q may) p lines = leads_if text options names l may p lines
+
+  first_block : (names : Names) (l : Level) (from : From) (lines behind : List Place) (p : Place) → going options l from lines ≡ Begins p behind
+      → Others (length p.rest.left) behind → SequenceFrom text options names l from lines
+  first_block names l from lines behind p is others =
+      let leads : Leads names (length p.rest.left) behind (λ later o. IsFirst (document text options later) l from lines o) =
+      leads_also (leads_at names l from p behind) (λ later o opens. record { place = p; behind = behind; begins = is; opens = opens }) in
+      opening_first names leads.more l from lines behind p leads.opening leads.extends (begins_at options l from lines p behind is) leads.opens leads.shrinks
+      others
+
+  -- no block
+  no_block : (names : Names) (l : Level) (from : From) (lines : List Place) (left : Left) → going options l from lines ≡ Ends left
+      → SequenceFrom text options names l from lines
+  unfolding IsSequence
+  no_block names l from lines left is = record {
+    blocks = Nil;
+    left = left;
+    more = names;
+    extends = extends_none names;
+    is = λ later x. is;
+    shorter = no_more l.path from lines left (leaves_at options l from lines left is);
+    ends = λ top h. all_taken_at options l.before from lines left (subst (λ p. going options (level p l.before) from lines ≡ Ends left) top is) h;
+  }
+
+  -- by what is left of the text
+  others_at : (n k : ℕ) (path : List Container) (from : From) (lines behind : List Place) (p : Place) → BeginsAt path from lines p behind
+      → length lines ≤ n → reach from ≤ k → Fewer n → Nearer n k → Others (length p.rest.left) behind
+  others_at n k path Line [] behind p begins within near fewer nearer names l there left less = absurd begins
+  others_at n k path Line (line ∷ lines) behind p (is, same) within near fewer nearer names l there left (few, less) =
+      let m = ap length same in fewer names l there left (omega arith)
+  others_at n k path (Blanks e) [] behind p begins within near fewer nearer names l there left less = absurd begins
+  others_at n k path (Blanks e) (line ∷ lines) behind p (is, same) within near fewer nearer names l there left (few, less) =
+      let m = ap length same in fewer names l there left (omega arith)
+  others_at n k path (At q may) lines behind p (is, same) within near fewer nearer names l there left (few, inl less) =
+      let m = ap length same in
+      let r = ap (λ (z : Place). length z.rest.left) is in
+      nearer names l there left (omega arith) (omega arith)
+  others_at n k path (At q may) lines behind p (is, same) within near fewer nearer names l there left (few, inr fewest) =
+      let m = ap length same in fewer names l there left (omega arith)
+
+  goes : (n k : ℕ) (names : Names) (l : Level) (from : From) (lines : List Place) (g : Going) → going options l from lines ≡ g
+      → length lines ≤ n → reach from ≤ k → Fewer n → Nearer n k → SequenceFrom text options names l from lines
+  goes n k names l from lines (Ends left) is within near fewer nearer = no_block names l from lines left is
+  goes n k names l from lines (Begins p behind) is within near fewer nearer =
+      first_block names l from lines behind p is
+      (others_at n k l.path from lines behind p (begins_at options l from lines p behind is) within near fewer nearer)
+
+  nearer_by : (n k : ℕ) → Fewer n → Nearer n k → Nearer n (suc k)
+  nearer_by n k fewer nearer names l from lines within near =
+      goes n k names l from lines (going options l from lines) refl within (omega arith) fewer nearer
+
+  nearer_to : (n k : ℕ) → Fewer n → Nearer n k
+  nearer_to n zero fewer = λ names l from lines within near. absurd (omega arith)
+  nearer_to n (suc k) fewer = nearer_by n k fewer (nearer_to n k fewer)
+
+  fewer_than : (n : ℕ) → Fewer n
+  fewer_than zero names l from lines less = absurd (omega arith)
+  fewer_than (suc n) names l from lines less = nearer_to n (suc (reach from)) (fewer_than n) names l from lines (omega arith) (omega arith)
+
+  pub sequence_found : (names : Names) (l : Level) (from : From) (lines : List Place) → SequenceFrom text options names l from lines
+  sequence_found names l from lines = fewer_than (suc (length lines)) names l from lines (omega arith)

@@ -1,0 +1,6 @@
+//! Existence: every text has a derived tree, and whatever is open can be completed.
+#![tactic(auto)]
+
+mod laws;
+
+pub use laws::{always_a_completion, every_text_derives, some_completion_derives};

@@ -1,5 +1,0 @@
-use Rattle.first_pass_grammar.proofs.Completed.{completion_found}
-use Rattle.first_pass_grammar.proofs.laws.always_a_completion.Goals as goal
-
-pub returns : goal.returns
-returns c = completion_found

@@ -1,5 +1,0 @@
-use Rattle.first_pass_grammar.proofs.Completed.{completion_derives}
-use Rattle.first_pass_grammar.proofs.laws.some_completion_derives.Goals as goal
-
-pub returns : goal.returns
-returns c = completion_derives

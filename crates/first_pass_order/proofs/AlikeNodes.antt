@@ -1,0 +1,195 @@
+-- Nodes that differ in what closes nodes and notes blank lines alone: whether a list is loose, which columns an item needs, and what a paragraph stands for.
+use Rattle.std.proofs.Common.{◌≡◌, ℕ, zero, suc, ◌+◌, ◌==◌, Bool, true, false, if◌then◌else◌, List, [], ◌∷◌, nat_lt, slice_index, slice_get}
+use Rattle.std.proofs.Common.{Option, Some, None, is_some, refl, sym, subst, ◌∙◌}
+use Rattle.std.specs.Int.RustNames.{bit_and}
+use Rattle.std.specs.Option.{option_and_then}
+use Rattle.std.proofs.lemmas.Bool.{cond_both}
+use Rattle.std.proofs.lemmas.Option.{same_Some}
+use Rattle.first_pass_items.specs.declared.item.Item.{Item}
+use Rattle.first_pass_items.specs.declared.item.ItemBody.{ItemBody}
+use Rattle.first_pass_items.specs.declared.item.ItemBody.TheVariants.{BlockQuote as BlockQuoteBody, List as ListBody, ListItem as ListItemBody, Paragraph}
+use Rattle.first_pass_items.specs.declared.item.ItemBody.TheVariants.{DefinitionList, DefinitionListDefinition}
+use Rattle.first_pass_tree.specs.declared.tree_index.TreeIndex.{TreeIndex}
+use Rattle.first_pass_tree.specs.Forest.{Forest, depths, modify, with_body_at, body_at}
+use Rattle.first_pass_tree.specs.Tight.{tight_body, tightened, tight_run, tight_at, tight_items}
+use Rattle.first_pass_grammar.specs.Derivation.{list_flags}
+use Rattle.first_pass_grammar.specs.Counting.{is_row, is_cell}
+use Rattle.first_pass_grammar.specs.Names.{Names, Index, index_of}
+use Rattle.first_pass_grammar.specs.WholeTables.{Mark, shown, may_be_title}
+use Rattle.first_pass_lists.specs.Closing.{is_list, is_item, top_body, loosened_by, loosened_at, popped_by, gap_tree, gap_noted, loosened_top, list_kept, emptied}
+use Rattle.first_pass_lists.specs.Closing.{emptied_definition, blank_read_by, blank_read}
+use Rattle.first_pass_lists.specs.declared.reading.Reading.{Reading}
+use Rattle.first_pass_order.proofs.OrderLemmas.{flags_of}
+
+-- whether a node is a list, and whether it is an item
+abbrev pub class_of : ItemBody → Bool × Bool
+class_of b = (is_list (Some b), is_item (Some b))
+
+-- what a body tells of tables, of order, of nesting and of names
+abbrev pub told : ItemBody → Bool × Bool × (Bool × Bool × Bool × Bool) × (Bool × Bool) × Option Index × (Names → ℕ → ℕ → ℕ → List Mark)
+told b = (is_row b, is_cell b, flags_of b, class_of b, index_of b, λ names depth start end. shown names depth start end b)
+
+-- another body that tells the same; it is a text that a definition list may take in only if the first is
+abbrev pub IsBodyLike : ItemBody → ItemBody → Type 0
+IsBodyLike a b = (told b ≡ told a) × (may_be_title b ≡ true → may_be_title a ≡ true)
+
+-- a node with such a body
+pub record IsAlike (n m : ℕ × Item) : Type 0 where
+  pub depth : m.0 ≡ n.0
+  pub start : m.1.start ≡ n.1.start
+  pub «end» : m.1.«end» ≡ n.1.«end»
+  pub body : IsBodyLike n.1.body m.1.body
+
+-- nodes each of which is so
+pub data AreAlike : List (ℕ × Item) → List (ℕ × Item) → Type 0 where
+  NoNodes : AreAlike [] []
+  OneMore : (n m : ℕ × Item) (old new : List (ℕ × Item)) → IsAlike n m → AreAlike old new → AreAlike (n ∷ old) (m ∷ new)
+
+alike_node : (n : ℕ × Item) → IsAlike n n
+alike_node n = record { depth = refl; start = refl; «end» = refl; body = (refl, λ h. h) }
+
+pub alike_itself : (nodes : List (ℕ × Item)) → AreAlike nodes nodes
+alike_itself [] = NoNodes
+alike_itself (n ∷ nodes) = OneMore n n nodes nodes (alike_node n) (alike_itself nodes)
+
+alike_head : (nodes : List (ℕ × Item)) (d : ℕ) (x y : Item) → IsAlike (d, x) (d, y) → AreAlike ((d, x) ∷ nodes) ((d, y) ∷ nodes)
+alike_head nodes d x y h = OneMore (d, x) (d, y) nodes nodes h (alike_itself nodes)
+
+alike_tail : (n : ℕ × Item) (old new : List (ℕ × Item)) → AreAlike old new → AreAlike (n ∷ old) (n ∷ new)
+alike_tail n old new h = OneMore n n old new (alike_node n) h
+
+-- another such body at a place
+pub alike_body : (nodes : List (ℕ × Item)) (i : ℕ) (a b : ItemBody) → body_at nodes i ≡ Some a → IsBodyLike a b
+    → AreAlike nodes (modify nodes i (λ x. record x { body = b }))
+alike_body [] i a b is like = NoNodes
+alike_body (n ∷ nodes) zero a b is like =
+    let e : n.1.body ≡ a = same_Some n.1.body a is in
+    alike_head nodes n.0 n.1 (record { start = n.1.start; «end» = n.1.«end»; body = b })
+    (record { depth = refl; start = refl; «end» = refl; body = subst (λ c. IsBodyLike c b) (sym e) like })
+alike_body (n ∷ nodes) (suc i) a b is like = alike_tail n nodes _ (alike_body nodes i a b is like)
+
+-- the same end at a place of both; one after the other
+pub alike_ended : (old new : List (ℕ × Item)) (i e : ℕ) → AreAlike old new
+    → AreAlike (modify old i (λ x. record x { «end» = e })) (modify new i (λ x. record x { «end» = e }))
+alike_ended old new i e NoNodes = NoNodes
+alike_ended old new zero e (OneMore n m xs ys a h) =
+    OneMore (n.0, record { start = n.1.start; «end» = e; body = n.1.body }) (m.0, record { start = m.1.start; «end» = e; body = m.1.body }) xs ys
+    (record { depth = a.depth; start = a.start; «end» = refl; body = a.body }) h
+alike_ended old new (suc i) e (OneMore n m xs ys a h) = OneMore n m _ _ a (alike_ended xs ys i e h)
+
+pub alike_both : (one two three : List (ℕ × Item)) → AreAlike one two → AreAlike two three → AreAlike one three
+alike_both one two three NoNodes h = h
+alike_both one two three (OneMore n m xs ys a h) (OneMore m2 l ys2 zs b k) =
+    OneMore n l xs zs
+    (record {
+      depth = b.depth ∙ a.depth;
+      start = b.start ∙ a.start;
+      «end» = b.«end» ∙ a.«end»;
+      body = (b.body.0 ∙ a.body.0, λ t. a.body.1 (b.body.1 t));
+    })
+    (alike_both xs ys zs h k)
+
+-- the paragraphs of a list made tight
+tight_told : (b : ItemBody) → IsBodyLike b (tight_body b)
+tight_told Paragraph = (refl, λ h. refl)
+tight_told b = (refl, λ h. h)
+
+node_alike : (t : Bool) (d : ℕ) (x : Item)
+    → IsAlike (d, x) (d, if t then record { start = x.start; «end» = x.«end»; body = tight_body x.body } else x)
+node_alike true d x = record { depth = refl; start = refl; «end» = refl; body = tight_told x.body }
+node_alike false d x = alike_node (d, x)
+
+run_by : (t : Bool) (depth : ℕ) (n : ℕ × Item) (nodes : List (ℕ × Item)) → AreAlike nodes (tight_run depth nodes)
+    → AreAlike (n ∷ nodes) (if t then tightened (depth + 2) n ∷ tight_run depth nodes else n ∷ nodes)
+run_by true depth n nodes h = OneMore n (tightened (depth + 2) n) nodes (tight_run depth nodes) (node_alike (n.0 == depth + 2) n.0 n.1) h
+run_by false depth n nodes h = alike_itself (n ∷ nodes)
+
+alike_run : (depth : ℕ) (nodes : List (ℕ × Item)) → AreAlike nodes (tight_run depth nodes)
+unfolding tight_run
+alike_run depth [] = NoNodes
+alike_run depth (n ∷ nodes) = run_by (nat_lt depth n.0) depth n nodes (alike_run depth nodes)
+
+alike_tight : (depth from : ℕ) (nodes : List (ℕ × Item)) → AreAlike nodes (tight_at depth from nodes)
+unfolding tight_at
+alike_tight depth zero nodes = alike_run depth nodes
+alike_tight depth (suc from) [] = NoNodes
+alike_tight depth (suc from) (n ∷ nodes) = alike_tail n nodes (tight_at depth from nodes) (alike_tight depth from nodes)
+
+-- Trees of such nodes, in which the same nodes are open and current.
+pub record LooksAlike (f g : Forest Item) : Type 0 where
+  pub nodes : AreAlike f.nodes g.nodes
+  pub spine : g.spine ≡ f.spine
+  pub current : g.current ≡ f.current
+
+pub like_itself : (f : Forest Item) → LooksAlike f f
+like_itself f = record { nodes = alike_itself f.nodes; spine = refl; current = refl }
+
+pub like_body : (f : Forest Item) (ix : TreeIndex) (a b : ItemBody) → body_at f.nodes ix.0 ≡ Some a → IsBodyLike a b → LooksAlike f (with_body_at f ix b)
+like_body f ix a b is like = record { nodes = alike_body f.nodes ix.0 a b is like; spine = refl; current = refl }
+
+like_tight : (t : Bool) (f : Forest Item) (ix : TreeIndex) → LooksAlike f (if t then tight_items f ix else f)
+like_tight true f ix = record { nodes = alike_tight (slice_index (depths f.nodes) ix.0) (ix.0 + 1) f.nodes; spine = refl; current = refl }
+like_tight false f ix = like_itself f
+
+pub like_popped : (r : Reading) (f : Forest Item) (ix : TreeIndex) (b : Option ItemBody) → LooksAlike f (popped_by r f ix b).tree
+like_popped r f ix (Some (ListBody flags byte number)) = like_tight (bit_and flags.0 1 == 1) f ix
+like_popped r f ix (Some (DefinitionList flags)) = like_tight (bit_and flags.0 1 == 1) f ix
+like_popped r f ix (Some (ListItemBody columns)) = like_itself f
+like_popped r f ix (Some (DefinitionListDefinition columns)) = like_itself f
+like_popped r f ix None = like_itself f
+like_popped r f ix (Some b) = like_itself f
+
+-- a list made loose
+loosened_by_like : (f : Forest Item) (ix : TreeIndex) (b : Option ItemBody) → body_at f.nodes ix.0 ≡ b → LooksAlike f (loosened_by f ix b)
+loosened_by_like f ix (Some (ListBody flags byte number)) is =
+    like_body f ix (ListBody flags byte number) (ListBody (list_flags false) byte number) is (refl, λ h. h)
+loosened_by_like f ix (Some (DefinitionList flags)) is = like_body f ix (DefinitionList flags) (DefinitionList (list_flags false)) is (refl, λ h. h)
+loosened_by_like f ix None is = like_itself f
+loosened_by_like f ix (Some b) is = like_itself f
+
+pub like_loosened : (f : Forest Item) (ix : TreeIndex) → LooksAlike f (loosened_at f ix)
+like_loosened f ix = loosened_by_like f ix (body_at f.nodes ix.0) refl
+
+gap_like : (f : Forest Item) (s : List TreeIndex) → LooksAlike f (gap_tree f s)
+gap_like f [] = like_itself f
+gap_like f (ix ∷ []) = like_itself f
+gap_like f (ix ∷ outer ∷ rest) = like_loosened f outer
+
+pub like_noted : (r : Reading) → LooksAlike r.tree (gap_noted r).tree
+like_noted r = cond_both r.blank (record r { tree = gap_tree r.tree r.tree.spine; blank = false }) r (λ (q : Reading). LooksAlike r.tree q.tree)
+    (λ b. gap_like r.tree r.tree.spine) (λ b. like_itself r.tree)
+
+top_like : (f : Forest Item) (s : List TreeIndex) → LooksAlike f (loosened_top f s)
+top_like f [] = like_itself f
+top_like f (ix ∷ rest) = like_loosened f ix
+
+pub like_kept : (r : Reading) → LooksAlike r.tree (list_kept r).tree
+like_kept r = cond_both r.blank (record r { tree = loosened_top r.tree r.tree.spine; blank = false }) r (λ (q : Reading). LooksAlike r.tree q.tree)
+    (λ b. top_like r.tree r.tree.spine) (λ b. like_itself r.tree)
+
+-- a blank line
+emptied_like : (f : Forest Item) (s : List TreeIndex) (columns : ℕ)
+    → option_and_then (λ (ix : TreeIndex). body_at f.nodes ix.0) (slice_get s 0) ≡ Some (ListItemBody columns) → LooksAlike f (emptied f s)
+emptied_like f [] columns is = like_itself f
+emptied_like f (ix ∷ rest) columns is = like_body f ix (ListItemBody columns) (ListItemBody 0) is (refl, λ h. h)
+
+emptied_definition_like : (f : Forest Item) (s : List TreeIndex) (columns : ℕ)
+    → option_and_then (λ (ix : TreeIndex). body_at f.nodes ix.0) (slice_get s 0) ≡ Some (DefinitionListDefinition columns) → LooksAlike f (emptied_definition f s)
+emptied_definition_like f [] columns is = like_itself f
+emptied_definition_like f (ix ∷ rest) columns is =
+    like_body f ix (DefinitionListDefinition columns) (DefinitionListDefinition 0) is (refl, λ h. h)
+
+blank_by_like : (r : Reading) (b : Option ItemBody) → top_body r.tree ≡ b → LooksAlike r.tree (blank_read_by r b).tree
+blank_by_like r (Some (BlockQuoteBody kind)) is = like_itself r.tree
+blank_by_like r (Some (ListItemBody columns)) is =
+    cond_both (is_some r.empty_item) (emptied r.tree r.tree.spine) r.tree (LooksAlike r.tree) (λ b. emptied_like r.tree r.tree.spine columns is)
+    (λ b. like_itself r.tree)
+blank_by_like r (Some (DefinitionListDefinition columns)) is =
+    cond_both (is_some r.empty_item) (emptied_definition r.tree r.tree.spine) r.tree (LooksAlike r.tree)
+    (λ b. emptied_definition_like r.tree r.tree.spine columns is) (λ b. like_itself r.tree)
+blank_by_like r None is = like_itself r.tree
+blank_by_like r (Some b) is = like_itself r.tree
+
+pub like_blank : (r : Reading) → LooksAlike r.tree (blank_read r).tree
+unfolding blank_read
+like_blank r = blank_by_like r (top_body r.tree) refl

@@ -1,0 +1,217 @@
+-- Each index that nodes keep names an entry: what closes nodes and notes blank lines changes no index, and what opens a container adds none.
+use Rattle.std.proofs.Common.{◌≡◌, ℕ, zero, suc, ◌+◌, ◌<◌, Bool, true, false, List, [], ◌∷◌, ◌++◌, length}
+use Rattle.std.proofs.Common.{slice_get}
+use Rattle.std.proofs.Common.{Option, Some, map, take, drop}
+use Rattle.std.proofs.Common.{None, refl, sym, ap, subst}
+use Rattle.first_pass_items.specs.declared.item.Item.{Item}
+use Rattle.first_pass_items.specs.declared.item.ItemBody.{ItemBody}
+use Rattle.first_pass_items.specs.declared.item.ItemBody.TheVariants.{Paragraph}
+use Rattle.first_pass_items.specs.declared.item.ItemBody.TheVariants.{TaskListMarker, DefinitionList, DefinitionListTitle, DefinitionListDefinition}
+use Rattle.first_pass_items.specs.declared.item.ItemBody.TheVariants.{MaybeDefinitionListTitle}
+use Rattle.first_pass_tree.specs.declared.tree_index.TreeIndex.{TreeIndex}
+use Rattle.first_pass_tree.specs.Forest.{Forest, modify, empty_forest, with_end_at, with_end, with_body_at, item_at, is_text, added, at_depth}
+use Rattle.first_pass_tree.specs.Forest.{map_from, deeper, shallower}
+use Rattle.first_pass_grammar.specs.Names.{Names, Extends, index_of, NamesEntry, AreNamed}
+use Rattle.first_pass_grammar.specs.Derivation.{list_flags}
+use Rattle.first_pass_grammar.specs.Order.{is_task_marker}
+use Rattle.first_pass_order.proofs.LeavesNamed.{opens_named}
+use Rattle.first_pass_grammar.proofs.NamedItems.{IsNamed, named_more, named_both, named_deeper, named_modified}
+use Rattle.first_pass_items.specs.declared.option_set.Options.{Options}
+use Rattle.first_pass_lines.specs.Places.{Place, line_end}
+use Rattle.first_pass_grammar.specs.Kinds.{Kind}
+use Rattle.first_pass_grammar.specs.Leaves.{document}
+use Rattle.first_pass_grammar.specs.Completion.{lines_from}
+use Rattle.first_pass_names.proofs.NameLemmas.{extends_none}
+use Rattle.first_pass_open.specs.Path.{path_of}
+use Rattle.first_pass_order.specs.LeafBlocks.{AddsKind}
+use Rattle.first_pass_order.proofs.AlikeNodes.{AreAlike, NoNodes, OneMore}
+use Rattle.first_pass_order.proofs.PropertyKept.{IsLeft, Property, HoldsAt, popped_at_keeps, popped_keeps, item_finished_keeps, kept_keeps, blank_keeps}
+use Rattle.first_pass_order.proofs.PropertyKept.{list_finished_keeps, list_continued_keeps, quote_keeps, item_keeps, note_keeps}
+use Rattle.first_pass_open.specs.OpenBlock.{with_child, begun_item}
+use Rattle.first_pass_lists.specs.Closing.{list_continued, popped_at, popped, item_finished}
+use Rattle.first_pass_lists.specs.Closing.{list_finished, list_kept, begun}
+use Rattle.first_pass_lists.specs.Closing.{blank_read, footnote_begun, with_tree, current_moved}
+use Rattle.first_pass_lists.specs.Closing.{with_current, title_kept}
+use Rattle.first_pass_lists.specs.Closing.{definitions_by, definitions_at, definitions_opened, definition_begun}
+use Rattle.first_pass_items.specs.declared.item.CowIndex.{CowIndex}
+use Rattle.first_pass_lists.specs.declared.reading.Reading.{Reading}
+use Rattle.first_pass_lists.specs.Closing.{item_opened}
+
+-- the marker of a task is no text and has no index
+pub task_is_no_text : (body : ItemBody) → is_task_marker body ≡ true → is_text body ≡ false
+task_is_no_text (TaskListMarker checked) h = refl
+task_is_no_text body h = cc
+
+pub task_has_none : (body : ItemBody) → is_task_marker body ≡ true → index_of body ≡ None
+task_has_none (TaskListMarker checked) h = refl
+task_has_none body h = cc
+
+module _ (names : Names) where
+  -- the nodes of what is remembered
+  abbrev pub AreReadNamed : Reading → Type 0
+  AreReadNamed r = AreNamed names r.tree.nodes
+
+  -- nodes moved out of the one that is closed
+  shallower_named : (nodes : List (ℕ × Item)) → AreNamed names nodes → AreNamed names (map shallower nodes)
+  unfolding AreNamed
+  shallower_named [] h = tt
+  shallower_named (n ∷ nodes) h = (h.0, shallower_named nodes h.1)
+
+  moved_from_named : (place : ℕ) (nodes : List (ℕ × Item)) → AreNamed names nodes → AreNamed names (map_from shallower place nodes)
+  unfolding AreNamed
+  moved_from_named zero nodes h = shallower_named nodes h
+  moved_from_named (suc place) [] h = tt
+  moved_from_named (suc place) (n ∷ nodes) h = (h.0, moved_from_named place nodes h.1)
+
+  -- another body that keeps no index
+  body_named : (f : Forest Item) (c : TreeIndex) (b : ItemBody) → NamesEntry names (index_of b) → AreNamed names f.nodes
+      → AreNamed names (with_body_at f c b).nodes
+  body_named f c b none h = named_modified names f.nodes c.0 (λ x. record x { body = b }) (λ x k. none) h
+
+  pub named_alike : (old new : List (ℕ × Item)) → AreAlike old new → AreNamed names old → AreNamed names new
+  unfolding AreNamed
+  named_alike old new NoNodes h = tt
+  named_alike old new (OneMore n m xs ys a l) h = (subst (NamesEntry names) (sym (ap (λ t. t.4) a.body.0)) h.0, named_alike xs ys l h.1)
+
+  pub one_named : (nodes : List (ℕ × Item)) (n : ℕ × Item) → IsNamed names n.1 → AreNamed names nodes → AreNamed names (nodes ++ n ∷ [])
+  unfolding AreNamed
+  one_named nodes n own h = named_both names nodes (n ∷ []) h (own, tt)
+
+  pub ended_named : (nodes : List (ℕ × Item)) (i e : ℕ) → AreNamed names nodes → AreNamed names (modify nodes i (λ x. record x { «end» = e }))
+  ended_named nodes i e h = named_modified names nodes i (λ x. record x { «end» = e }) (λ x k. k) h
+
+  pub moved_named : (f g : Forest Item) (e : ℕ) (c : TreeIndex) → IsLeft f g e c → AreNamed names f.nodes → AreNamed names g.nodes
+  moved_named f g e c l h =
+      subst (AreNamed names) (sym l.nodes) (moved_from_named c.0 l.mid (named_alike _ l.mid l.alike (ended_named f.nodes l.list.0 e h)))
+
+  abbrev pub named_kept : Property
+  named_kept = record {
+    Holds = λ a k f. AreNamed names f.nodes;
+    Goes = λ a b. Unit {0};
+    Bounds = λ e. Unit {0};
+    Leaves = λ a e f c. Unit {0};
+    Opens = λ b. NamesEntry names (index_of b);
+    more = λ a k f h. h;
+    later = λ a b k f goes h. h;
+    like = λ a k f g l h. named_alike f.nodes g.nodes l.nodes h;
+    closed = λ a e k f ix rest spine goes ends h. ended_named f.nodes ix.0 e h;
+    left = λ a e k f g c l leaves h. moved_named f g e c l h;
+    opened = λ a start k f body goes ends opens h. one_named f.nodes (length f.spine + 1, begun_item start body) opens h;
+  }
+
+  named_at : (r : Reading) → AreReadNamed r → HoldsAt named_kept 0 0 r
+  named_at r h = record { holds = h; goes = tt; marked = λ e is. (tt, tt) }
+
+  pub popped_named : (e : ℕ) (r : Reading) → AreReadNamed r → AreReadNamed (popped e r)
+  popped_named e r h = popped_keeps named_kept 0 e 0 r (λ t is. tt) tt tt h
+
+  pub item_finished_named : (r : Reading) → AreReadNamed r → AreReadNamed (item_finished r)
+  item_finished_named r h = item_finished_keeps named_kept 0 0 r (named_at r h)
+
+  pub list_finished_named : (e : ℕ) (r : Reading) → AreReadNamed r → AreReadNamed (list_finished e r)
+  list_finished_named e r h = list_finished_keeps named_kept 0 e 0 0 r (named_at r h) (λ t is. tt) (λ list. tt) tt tt tt
+
+  pub blank_named : (r : Reading) → AreReadNamed r → AreReadNamed (blank_read r)
+  blank_named r h = blank_keeps named_kept 0 0 r h
+
+  pub continued_named : (start byte number : ℕ) (r : Reading) → AreReadNamed r → AreReadNamed (list_continued start byte number r)
+  continued_named start byte number r h = list_continued_keeps named_kept 0 start byte number 0 r (named_at r h) (λ t is. tt) tt tt tt tt tt
+
+  pub item_named : (start byte number columns : ℕ) (r : Reading) → AreReadNamed r → AreReadNamed (item_opened start byte number columns r)
+  item_named start byte number columns r h =
+      item_keeps named_kept 0 start byte number columns 0 r (named_at r h) (λ t is. tt) tt tt tt tt tt tt
+
+  pub quote_named : (line start : ℕ) (body : ItemBody) (r : Reading)
+      → NamesEntry names (index_of body) → AreReadNamed r → AreReadNamed (begun start body (list_finished line r))
+  quote_named line start body r own h =
+      quote_keeps named_kept 0 line 0 start 0 body r (named_at r h) (λ t is. tt) (λ list. tt) tt tt tt tt tt own
+
+  pub note_named : (start : ℕ) (index : CowIndex) (r : Reading) → index.0 < length names.texts → AreReadNamed r → AreReadNamed (footnote_begun start index r)
+  note_named start index r own h = note_keeps named_kept 0 start 0 index r (named_at r h) (λ t is. tt) tt tt tt own
+
+  -- what ends a definition list before a heading or a table
+  closed_named : (e : ℕ) (r : Reading) (o : Option TreeIndex) → AreReadNamed r → AreReadNamed (current_moved (popped_at e r r.tree.spine) o)
+  closed_named e r None h = popped_at_keeps named_kept 0 e 0 r r.tree.spine refl tt tt h
+  closed_named e r (Some c) h =
+      moved_from_named c.0 (popped_at e r r.tree.spine).tree.nodes (popped_at_keeps named_kept 0 e 0 r r.tree.spine refl tt tt h)
+
+  end_named : (f : Forest Item) (e : ℕ) (o : Option TreeIndex) → AreNamed names f.nodes → AreNamed names (with_end f e o).nodes
+  end_named f e None h = h
+  end_named f e (Some c) h = named_modified names f.nodes c.0 (λ x. record x { «end» = e }) (λ x k. k) h
+
+  title_named : (f : Forest Item) (o : Option TreeIndex) → AreNamed names f.nodes → AreNamed names (with_current f MaybeDefinitionListTitle o).nodes
+  title_named f None h = h
+  title_named f (Some c) h = body_named f c MaybeDefinitionListTitle tt h
+
+  pub title_kept_named : (e : ℕ) (r : Reading) → AreReadNamed r → AreReadNamed (title_kept e r)
+  unfolding title_kept
+  title_kept_named e r h =
+      end_named (with_current r.tree MaybeDefinitionListTitle r.tree.current) e (slice_get r.tree.spine 0) (title_named r.tree r.tree.current h)
+
+  -- a definition, in the list that is open or in a new one
+  deeper_named : (nodes : List (ℕ × Item)) → AreNamed names nodes → AreNamed names (map deeper nodes)
+  unfolding AreNamed
+  deeper_named [] h = tt
+  deeper_named (n ∷ nodes) h = (h.0, deeper_named nodes h.1)
+
+  wrapped_named : (nodes : List (ℕ × Item)) (j : ℕ) (t : ℕ × Item) → IsNamed names t.1 → AreNamed names nodes
+      → AreNamed names (take j nodes ++ t ∷ map deeper (drop j nodes))
+  unfolding AreNamed
+  wrapped_named nodes zero t own h = (own, deeper_named nodes h)
+  wrapped_named [] (suc j) t own h = (own, tt)
+  wrapped_named (n ∷ nodes) (suc j) t own h = (h.0, wrapped_named nodes j t own h.1)
+
+  opened_by_named : (f : Forest Item) (c : TreeIndex) (start e : ℕ) (b : ItemBody) → AreNamed names f.nodes
+      → AreNamed names (definitions_by f c start e b).nodes
+  opened_by_named f c start e MaybeDefinitionListTitle h = body_named f c DefinitionListTitle tt h
+  opened_by_named f c start e Paragraph h =
+      wrapped_named (with_body_at f c (DefinitionList (list_flags true))).nodes (c.0 + 1) _ tt (body_named f c (DefinitionList (list_flags true)) tt h)
+  opened_by_named f c start e b h = h
+
+  opened_at_named : (f : Forest Item) (c : TreeIndex) (o : Option Item) → AreNamed names f.nodes → AreNamed names (definitions_at f c o).nodes
+  opened_at_named f c None h = h
+  opened_at_named f c (Some x) h = opened_by_named f c x.start x.«end» x.body h
+
+  opened_named : (f : Forest Item) (o : Option TreeIndex) → AreNamed names f.nodes → AreNamed names (definitions_opened f o).nodes
+  opened_named f None h = h
+  opened_named f (Some c) h = opened_at_named f c (item_at f c) h
+
+  pub definition_named : (start columns : ℕ) (r : Reading) → AreReadNamed r → AreReadNamed (definition_begun start columns r)
+  unfolding definition_begun
+  definition_named start columns r h =
+      let q : Reading = with_tree r (definitions_opened r.tree r.tree.current) in
+      named_kept.opened 0 start 0 (list_kept q).tree (DefinitionListDefinition columns) tt tt tt
+      (kept_keeps named_kept 0 0 q (opened_named r.tree r.tree.current h))
+
+  -- the marker of a task
+  none_named : (o : Option Item) (f : Forest Item)
+      → ((x : Item) → o ≡ Some x → is_task_marker x.body ≡ true) → AreNamed names f.nodes → AreNamed names (with_child f o).nodes
+  unfolding AreNamed
+  none_named None f mark h = h
+  none_named (Some x) f mark h =
+      named_both names f.nodes ((length f.spine + 1, x) ∷ []) h (subst (NamesEntry names) (sym (task_has_none x.body (mark x refl))) tt, tt)
+
+  pub child_named : (f : Forest Item) (marker : Option Item)
+      → ((x : Item) → marker ≡ Some x → is_task_marker x.body ≡ true) → AreNamed names f.nodes → AreNamed names (with_child f marker).nodes
+  child_named f marker mark h = none_named marker f mark h
+
+  -- a block that is added, where more is named
+  pub block_added : (old : Names) (f new : Forest Item) (items : List (ℕ × Item))
+      → Extends names old → new ≡ added f items → AreNamed names items → AreNamed old f.nodes → AreNamed names new.nodes
+  unfolding AreNamed
+  block_added old f new items more is own h =
+      subst (λ (g : Forest Item). AreNamed names g.nodes) (sym is)
+      (named_both names f.nodes (at_depth (length f.spine + 1) items) (named_more names old f.nodes more h) (named_deeper names (length f.spine + 1) items own))
+
+-- a leaf block of a kind that was added
+pub kind_named : (text : List ℕ) (options : Options) (names : Names) (p : Place) (kind : Kind) (gap : Bool) (old new : Forest Item) (next : ℕ)
+    → (a : AddsKind (document text options names) p kind gap old new next) → AreNamed names a.items
+kind_named text options names p kind gap old new next a =
+    opens_named (document text options names) (path_of options old) p (lines_from text (line_end p)) kind a.items gap (lines_from text next)
+    (a.opens names (extends_none names))
+
+-- the root has no index
+pub first_named : (names : Names) (tree : Forest Item) (root : TreeIndex) (e : ℕ) → tree ≡ with_end_at empty_forest root e → AreNamed names tree.nodes
+unfolding AreNamed
+first_named names tree root e is = subst (λ (f : Forest Item). AreNamed names f.nodes) (sym is)
+    (named_modified names empty_forest.nodes root.0 (λ x. record x { «end» = e }) (λ x k. k) (tt, tt))

@@ -1,0 +1,253 @@
+-- Order is kept as what is remembered is closed, where lists and items end, and as blank lines are noted.
+use Rattle.std.proofs.Common.{◌≡◌, ◌⊎◌, inl, inr, ℕ, ◌≤◌, true, false, List, [], ◌∷◌, length}
+use Rattle.std.proofs.Common.{slice_get, Option, Some, None, IsCharBoundary, refl, sym, ap, subst, ◌∙◌, arith}
+use Rattle.std.proofs.lemmas.Bool.{cond_both}
+use Rattle.std.specs.Option.{option_and_then}
+use Rattle.first_pass_items.specs.declared.item.Item.{Item}
+use Rattle.first_pass_items.specs.declared.item.ItemBody.{ItemBody}
+use Rattle.first_pass_items.specs.declared.item.ItemBody.TheVariants.{BlockQuote as BlockQuoteBody, ListItem as ListItemBody}
+use Rattle.first_pass_items.specs.declared.item.ItemBody.TheVariants.{DefinitionList, DefinitionListDefinition, Paragraph}
+use Rattle.first_pass_tree.specs.declared.tree_index.TreeIndex.{TreeIndex}
+use Rattle.first_pass_tree.specs.Forest.{Forest, with_body_at, body_at}
+use Rattle.first_pass_grammar.specs.OpenOrder.{IsOrderedTo}
+use Rattle.first_pass_open.specs.OpenBlock.{closed_by}
+use Rattle.first_pass_lists.specs.Closing.{with_tree, top_body, is_list, is_item, popped_at, current_moved}
+use Rattle.first_pass_lists.specs.Closing.{definitions_closed, top_end, possible_title, title_closed, popped_after, popped, item_finished}
+use Rattle.first_pass_lists.specs.Closing.{gap_tree, list_finished, list_kept, list_continued}
+use Rattle.first_pass_lists.specs.Closing.{blank_read_by, blank_read, gap_noted, footnote_begun}
+use Rattle.first_pass_items.specs.declared.item.CowIndex.{CowIndex}
+use Rattle.first_pass_lists.specs.Closing.{is_definition_list as is_definitions}
+use Rattle.first_pass_lists.specs.declared.reading.Reading.{Reading}
+use Rattle.first_pass_order.specs.Ordered.{reached, IsOrderedAt, EndsBeforeTitle, IsReadTo}
+use Rattle.first_pass_order.proofs.AlikeNodes.{like_blank}
+use Rattle.first_pass_order.proofs.Nests.{title_there, popped_settled, item_finished_nested, like_item, like_nested}
+use Rattle.first_pass_order.proofs.Nests.{item_finished_last, blank_last, settled_closes, outside_closes, list_finished_outside, list_continued_settled}
+use Rattle.first_pass_order.proofs.Nests.{footnote_begun_settled}
+use Rattle.first_pass_order.proofs.LeftOrder.{title_later, order_kept, ordered_at, may_leave}
+use Rattle.std.proofs.lemmas.Bool.{true≢false}
+use Rattle.first_pass_order.proofs.PropertyKept.{popped_here, item_finished_keeps, item_finished_leaves, noted_keeps, kept_keeps, blank_keeps}
+use Rattle.first_pass_lists.proofs.NoEmptyItem.{finished_none}
+use Rattle.first_pass_order.proofs.PropertyKept.{list_finished_keeps, list_continued_keeps, note_keeps}
+use Rattle.first_pass_lists.proofs.NoEmptyItem.{list_finished_none, list_continued_none}
+use Rattle.first_pass_tree.proofs.BodyLemmas.{body-kept}
+use Rattle.first_pass_order.proofs.OrderLemmas.{ordered_none, ordered_at_later}
+use Rattle.first_pass_order.proofs.OrderLemmas.{popped_empty}
+
+empty_moved : (q : Reading) (o : Option TreeIndex) → (current_moved q o).empty_item ≡ q.empty_item
+empty_moved q None = refl
+empty_moved q (Some c) = refl
+
+empty_at : (e : ℕ) (r : Reading) (s : List TreeIndex) → r.empty_item ≡ None → (popped_at e r s).empty_item ≡ None
+empty_at e r [] none = none
+empty_at e r (ix ∷ rest) none = popped_empty r (closed_by r.tree e (ix ∷ rest)) ix (body_at (closed_by r.tree e (ix ∷ rest)).nodes ix.0) (inl none)
+
+title_empty : (r : Reading) (title : TreeIndex) → r.empty_item ≡ None → (title_closed r title).empty_item ≡ None
+unfolding definitions_closed
+title_empty r title none =
+    let g : Forest Item = with_body_at r.tree title Paragraph in
+    empty_moved (popped_at (top_end r.tree) (with_tree r g) g.spine) g.current ∙ empty_at (top_end r.tree) (with_tree r g) g.spine none
+
+-- the same of a list that ends before its last child
+pub closed_empty : (e : ℕ) (r : Reading) → r.empty_item ≡ None → (definitions_closed e r).empty_item ≡ None
+unfolding definitions_closed
+closed_empty e r none = empty_moved (popped_at e r r.tree.spine) r.tree.current ∙ empty_at e r r.tree.spine none
+
+pub noted_empty : (r : Reading) → (gap_noted r).empty_item ≡ r.empty_item
+noted_empty r =
+    cond_both r.blank (record r { tree = gap_tree r.tree r.tree.spine; blank = false }) r (λ (q : Reading). q.empty_item ≡ r.empty_item) (λ b. refl) (λ b. refl)
+
+list_no_item : (b : Option ItemBody) → is_definitions b ≡ true → is_item b ≡ true → ⊥
+list_no_item None a b = cc
+list_no_item (Some (DefinitionList flags)) a b = cc
+list_no_item (Some b) a c = cc
+
+-- no possible title is last in an item
+pub untitled_item : (text : List ℕ) (f : Forest Item) (at : ℕ) → is_item (top_body f) ≡ true → EndsBeforeTitle text f at
+untitled_item text f at item title is = absurd (list_no_item (top_body f) (title_there f title is).list item)
+
+empty_by : (text : List ℕ) (r : Reading) (at : ℕ) (o : Option ℕ)
+    → r.empty_item ≡ o → IsOrderedAt text r at → (r.empty_item ≡ None) ⊎ (is_item (top_body r.tree) ≡ true)
+empty_by text r at None is h = inl is
+empty_by text r at (Some e) is h = inr (h.innermost e is).0
+
+item_closed : (e : ℕ) (r : Reading) (s : List TreeIndex) → r.tree.spine ≡ s → is_item (top_body r.tree) ≡ true → (popped_at e r s).empty_item ≡ None
+item_closed e r [] spine item =
+    let none : is_item (top_body r.tree) ≡ false =
+    ap (λ (s : List TreeIndex). is_item (option_and_then (λ ix. body_at r.tree.nodes ix.0) (slice_get s 0))) spine in
+    absurd (true≢false (sym item ∙ none))
+item_closed e r (ix ∷ rest) spine item =
+    let f : Forest Item = closed_by r.tree e (ix ∷ rest) in
+    let same = body-kept r.tree.nodes ix.0 ix.0 (λ x. record { start = x.start; «end» = e; body = x.body }) (λ x. refl) in
+    let top : is_item (top_body r.tree) ≡ is_item (body_at r.tree.nodes ix.0) =
+    ap (λ (s : List TreeIndex). is_item (option_and_then (λ ix. body_at r.tree.nodes ix.0) (slice_get s 0))) spine in
+    popped_empty r f ix (body_at f.nodes ix.0) (inr (ap is_item same ∙ sym top ∙ item))
+
+after_empty : (e : ℕ) (r : Reading) (o : Option TreeIndex) → possible_title r.tree ≡ o → (r.empty_item ≡ None) ⊎ (is_item (top_body r.tree) ≡ true)
+    → (popped_after e r o).empty_item ≡ None
+after_empty e r None is (inl none) = empty_at e r r.tree.spine none
+after_empty e r None is (inr item) = item_closed e r r.tree.spine refl item
+after_empty e r (Some title) is (inl none) = title_empty r title none
+after_empty e r (Some title) is (inr item) = absurd (list_no_item (top_body r.tree) (title_there r.tree title is).list item)
+
+closes_empty : (e : ℕ) (r : Reading) → (r.empty_item ≡ None) ⊎ (is_item (top_body r.tree) ≡ true) → (popped e r).empty_item ≡ None
+unfolding popped
+closes_empty e r h = after_empty e r (possible_title r.tree) refl h
+
+-- the innermost open node closed
+pub ordered_popped : (text : List ℕ) (r : Reading) (at e : ℕ) → EndsBeforeTitle text r.tree at
+    → at ≤ e → e ≤ length text → IsCharBoundary text e → IsOrderedAt text r at → IsOrderedAt text (popped e r) e
+ordered_popped text r at e closes later within ends h =
+    let low : reached r.empty_item at ≤ at = h.later in
+    ordered_none text (popped e r) e (closes_empty e r (empty_by text r at r.empty_item refl h)) within
+    (popped_here (order_kept text) at e 0 r (ordered_at text r at h) (may_leave text r.tree at closes) (λ x is. (h.innermost x is).0)
+    (omega arith, within) ends)
+
+-- an item finished that began with two blank lines
+pub ordered_item_finished : (text : List ℕ) (r : Reading) (at : ℕ) → IsOrderedAt text r at → IsOrderedAt text (item_finished r) at
+ordered_item_finished text r at h =
+    ordered_none text (item_finished r) at (finished_none r) h.within (item_finished_keeps (order_kept text) at 0 r (ordered_at text r at h))
+
+item_finished_closes : (text : List ℕ) (r : Reading) (at : ℕ) → EndsBeforeTitle text r.tree at → EndsBeforeTitle text (item_finished r).tree at
+item_finished_closes text r at h title is =
+    let l = item_finished_leaves (order_kept text) at r (may_leave text r.tree at h) title is in
+    record { before = l.before; ends = l.ends; row = l.row; last = l.last; fits = l.fits }
+
+pub ordered_gap_noted : (text : List ℕ) (r : Reading) (a : ℕ) → IsOrderedTo text r.tree a → IsOrderedTo text (gap_noted r).tree a
+ordered_gap_noted text r a h = noted_keeps (order_kept text) a 0 r h
+
+-- a list that is kept
+pub ordered_list_kept : (text : List ℕ) (r : Reading) (a : ℕ) → IsOrderedTo text r.tree a → IsOrderedTo text (list_kept r).tree a
+ordered_list_kept text r a h = kept_keeps (order_kept text) a 0 r h
+
+-- a list finished before a block
+pub ordered_list_finished : (text : List ℕ) (r : Reading) (at e b : ℕ) → EndsBeforeTitle text r.tree at → at ≤ b → e ≤ b → b ≤ length text
+    → IsCharBoundary text e → (is_list (top_body (item_finished r).tree) ≡ true → at ≤ e) → IsOrderedAt text r at → IsOrderedAt text (list_finished e r) b
+ordered_list_finished text r at e b closes later short within ends order h =
+    let e_within : e ≤ length text = omega arith in
+    ordered_none text (list_finished e r) b (list_finished_none e r) within
+    (list_finished_keeps (order_kept text) at e b 0 r (ordered_at text r at h) (may_leave text r.tree at closes) (λ t. (order t, e_within)) ends (short, within)
+    (later, within))
+
+-- a footnote definition opened where what is innermost ends
+pub ordered_note : (text : List ℕ) (r : Reading) (at start : ℕ) (index : CowIndex) → EndsBeforeTitle text r.tree at → at ≤ start → start ≤ length text
+    → IsCharBoundary text start → IsOrderedAt text r at → IsOrderedTo text (footnote_begun start index r).tree start
+ordered_note text r at start index closes later within starts h =
+    let there : start ≤ start = omega arith in
+    note_keeps (order_kept text) at start 0 index r (ordered_at text r at h) (may_leave text r.tree at closes) (later, within) (there, within) starts tt
+
+-- a list that continues, or a new one
+pub ordered_list_continued : (text : List ℕ) (r : Reading) (at start byte number : ℕ) → EndsBeforeTitle text r.tree at
+    → at ≤ start → start ≤ length text → IsCharBoundary text start → IsOrderedAt text r at → IsOrderedAt text (list_continued start byte number r) start
+ordered_list_continued text r at start byte number closes later within starts h =
+    let here : at ≤ at = omega arith in
+    let there : start ≤ start = omega arith in
+    ordered_none text (list_continued start byte number r) start (list_continued_none start byte number r) within
+    (list_continued_keeps (order_kept text) at start byte number 0 r (ordered_at text r at h) (may_leave text r.tree at closes) (here, h.within) (later, within)
+    (there, within) starts tt)
+
+-- a blank line read
+blank_by_empty : (r : Reading) (b : Option ItemBody) → (blank_read_by r b).empty_item ≡ r.empty_item
+blank_by_empty r None = refl
+blank_by_empty r (Some (BlockQuoteBody kind)) = refl
+blank_by_empty r (Some (ListItemBody columns)) = refl
+blank_by_empty r (Some (DefinitionListDefinition columns)) = refl
+blank_by_empty r (Some b) = refl
+
+blank_empty : (r : Reading) → (blank_read r).empty_item ≡ r.empty_item
+unfolding blank_read
+blank_empty r = blank_by_empty r (top_body r.tree)
+
+pub ordered_blank_read : (text : List ℕ) (r : Reading) (at b : ℕ) → at ≤ b → b ≤ length text → IsOrderedAt text r at → IsOrderedAt text (blank_read r) b
+ordered_blank_read text r at b later within h =
+    let same : (blank_read r).empty_item ≡ r.empty_item = blank_empty r in
+    let reach : reached (blank_read r).empty_item at ≡ reached r.empty_item at = ap (λ o. reached o at) same in
+    let low : reached r.empty_item at ≤ at = h.later in
+    ordered_at_later text (blank_read r) at b later within
+    (record {
+      ordered = subst (λ n. IsOrderedTo text (blank_read r).tree n) (sym reach) (blank_keeps (order_kept text) (reached r.empty_item at) 0 r h.ordered);
+      later = omega arith;
+      within = h.within;
+      innermost = λ e is. (let inner = h.innermost e (sym same ∙ is) in (like_item r.tree (blank_read r).tree (like_blank r) ∙ inner.0, inner.1));
+    })
+
+-- the same of what can be closed further
+pub read_popped : (text : List ℕ) (r : Reading) (at e : ℕ)
+    → at ≤ e → e ≤ length text → IsCharBoundary text e → IsReadTo text r at → IsReadTo text (popped e r) e
+read_popped text r at e later within ends h =
+    (ordered_popped text r at e h.1.title later within ends h.0, settled_closes text (popped e r) e (popped_settled e r h.1.nested h.1.last))
+
+-- the same of what can be closed further
+pub read_item_finished : (text : List ℕ) (r : Reading) (at : ℕ) → IsReadTo text r at → IsReadTo text (item_finished r) at
+read_item_finished text r at h = (
+  ordered_item_finished text r at h.0,
+  record {
+    nested = item_finished_nested r h.1.nested;
+    last = item_finished_last r h.1.nested h.1.last;
+    title = item_finished_closes text r at h.1.title;
+  },
+)
+
+-- the tree is the same after a blank line, or an item is innermost in it
+blank_closes_by : (text : List ℕ) (r : Reading) (at : ℕ) (b : Option ItemBody) → top_body r.tree ≡ b
+    → (is_item (top_body r.tree) ≡ true → is_item (top_body (blank_read_by r b).tree) ≡ true) → EndsBeforeTitle text r.tree at
+    → EndsBeforeTitle text (blank_read_by r b).tree at
+blank_closes_by text r at (Some (BlockQuoteBody kind)) is item h = h
+blank_closes_by text r at (Some (ListItemBody columns)) is item h =
+    untitled_item text (blank_read_by r (Some (ListItemBody columns))).tree at (item (ap is_item is))
+blank_closes_by text r at (Some (DefinitionListDefinition columns)) is item h =
+    untitled_item text (blank_read_by r (Some (DefinitionListDefinition columns))).tree at (item (ap is_item is))
+blank_closes_by text r at None is item h = h
+blank_closes_by text r at (Some b) is item h = h
+
+blank_closes : (text : List ℕ) (r : Reading) (at : ℕ) → EndsBeforeTitle text r.tree at → EndsBeforeTitle text (blank_read r).tree at
+unfolding blank_read
+blank_closes text r at h =
+    blank_closes_by text r at (top_body r.tree) refl (λ item. like_item r.tree (blank_read_by r (top_body r.tree)).tree (like_blank r) ∙ item) h
+
+-- the same of what can be closed further
+pub read_blank_read : (text : List ℕ) (r : Reading) (at b : ℕ) → at ≤ b → b ≤ length text → IsReadTo text r at → IsReadTo text (blank_read r) b
+read_blank_read text r at b later within h = (
+  ordered_blank_read text r at b later within h.0,
+  record {
+    nested = like_nested r.tree (blank_read r).tree (like_blank r) h.1.nested;
+    last = blank_last r h.1.last;
+    title = title_later text (blank_read r).tree at b later (blank_closes text r at h.1.title);
+  },
+)
+
+-- what a call of pop remembers
+pub pop_keeps_order : (text : List ℕ) (r q : Reading) (at e : ℕ) → q ≡ popped e r → at ≤ e → e ≤ length text → IsCharBoundary text e → IsReadTo text r at
+    → IsReadTo text q e
+pop_keeps_order text r q at e is later within ends h = subst (λ (s : Reading). IsReadTo text s e) (sym is) (read_popped text r at e later within ends h)
+
+-- what a call of finish_empty_list_item remembers
+pub finish_item_keeps_order : (text : List ℕ) (r q : Reading) (at : ℕ) → q ≡ item_finished r → IsReadTo text r at → IsReadTo text q at
+finish_item_keeps_order text r q at is h = subst (λ (s : Reading). IsReadTo text s at) (sym is) (read_item_finished text r at h)
+
+-- what a call of finish_list remembers
+pub finish_list_keeps_order : (text : List ℕ) (r q : Reading) (at e : ℕ) → q ≡ list_finished e r → at ≤ e → e ≤ length text → IsCharBoundary text e
+    → IsReadTo text r at → IsReadTo text q e
+finish_list_keeps_order text r q at e is later within ends (o, c) =
+    let here : e ≤ e = omega arith in
+    subst (λ (s : Reading). IsReadTo text s e) (sym is) (
+      ordered_list_finished text r at e e c.title later here within ends (λ list. later) o,
+      outside_closes text (list_finished e r) e (list_finished_outside e r c.nested),
+    )
+
+-- what a call of continue_list remembers
+pub continue_list_keeps_order : (text : List ℕ) (r q : Reading) (at start byte number : ℕ) → q ≡ list_continued start byte number r → at ≤ start
+    → start ≤ length text → IsCharBoundary text start → IsReadTo text r at → IsReadTo text q start
+continue_list_keeps_order text r q at start byte number is later within starts (o, c) =
+    subst (λ (s : Reading). IsReadTo text s start) (sym is) (
+      ordered_list_continued text r at start byte number c.title later within starts o,
+      settled_closes text (list_continued start byte number r) start (list_continued_settled start byte number r c.nested),
+    )
+
+-- what a call that opens a footnote definition remembers
+pub footnote_keeps_order : (text : List ℕ) (r q : Reading) (at start : ℕ) (index : CowIndex) → q ≡ footnote_begun start index r → at ≤ start
+    → start ≤ length text → IsCharBoundary text start → (footnote_begun start index r).empty_item ≡ None → IsReadTo text r at → IsReadTo text q start
+footnote_keeps_order text r q at start index is later within starts none (o, c) =
+    subst (λ (s : Reading). IsReadTo text s start) (sym is) (
+      ordered_none text (footnote_begun start index r) start none within (ordered_note text r at start index c.title later within starts o),
+      settled_closes text (footnote_begun start index r) start (footnote_begun_settled start index r c.nested),
+    )

@@ -1,0 +1,98 @@
+-- No node of a derived forest may still become a title.
+use Rattle.std.proofs.Common.{◌≡◌, ℕ, suc, Bool, true, false, List, [], ◌∷◌, length, refl, sym, subst}
+use Rattle.std.proofs.lemmas.Bool.{true≢false}
+use Rattle.first_pass_items.specs.declared.cow_str.CowStr.{CowStr}
+use Rattle.first_pass_items.specs.declared.item.Item.{Item}
+use Rattle.first_pass_items.specs.declared.item.ItemBody.{ItemBody}
+use Rattle.first_pass_items.specs.declared.item.ItemBody.TheVariants.{Paragraph, MaybeDefinitionListTitle}
+use Rattle.first_pass_tree.specs.Forest.{at_depth}
+use Rattle.first_pass_tree.specs.Tight.{tight_body}
+use Rattle.first_pass_tokens.proofs.PieceFacts.{is_markup}
+use Rattle.first_pass_grammar.specs.Before.{nothing}
+use Rattle.first_pass_grammar.specs.Blocks.{LeafBlock}
+use Rattle.first_pass_grammar.specs.Derivation.{block_items, as_title, row_items, tight_in, items_of, Tables, Derives}
+use Rattle.first_pass_grammar.specs.Leaves.{Document}
+use Rattle.first_pass_grammar.specs.Rows.{What, ALeaf, AQuote, AList, AnItem, AFootnote, ADefinitionList, ATitle, ADefinition, Rows, End, OneOf, is_loose}
+use Rattle.first_pass_grammar.specs.Rows.{rows_of}
+use Rattle.first_pass_grammar.proofs.EachLeaf.{HoldsOfBlocks, HoldsInBlocks, IsBlockOf}
+use Rattle.first_pass_grammar.proofs.EachRow.{HoldsOfRow, HoldsOfEachRow, derived_rows, tight_nodes}
+use Rattle.first_pass_grammar.proofs.TableItems.{both_nodes, deeper_nodes}
+use Rattle.first_pass_grammar.proofs.TokensNamed.{NamesWithin}
+use Rattle.first_pass_order.specs.Settled.{IsSettled, AreSettled}
+
+-- no token is a possible title, and no leaf block is one, or has one in it
+markup_settled : (texts : List CowStr) (body : ItemBody) → is_markup body ≡ true → NamesWithin texts body → IsSettled body
+markup_settled texts MaybeDefinitionListTitle h k = absurd (true≢false (sym h))
+markup_settled texts body h k = refl
+
+inside_settled : (texts : List CowStr) → HoldsInBlocks texts IsSettled
+inside_settled texts = record {
+  tokens = record { text = λ escaped. refl; soft = refl; hard = λ by_backslash. refl; markup = markup_settled texts };
+  raw = record { html = refl; columns = λ ix. refl };
+  head = refl;
+  row = refl;
+  cell = refl;
+  task = λ checked. refl;
+}
+
+blocks_settled : HoldsOfBlocks IsSettled
+blocks_settled = record {
+  paragraph = refl;
+  heading = λ level index. refl;
+  table = λ index. refl;
+  indented = refl;
+  fenced = λ info. refl;
+  metadata = λ kind. refl;
+  html = refl;
+  rule = refl;
+  task = λ checked. refl;
+}
+
+-- the items of a leaf block, also where its paragraph is made tight, or is a title
+abbrev SettledBlock : List (ℕ × Item) → Type 0
+SettledBlock items = IsBlockOf IsSettled IsSettled items
+
+items_settled : (items : List (ℕ × Item)) → SettledBlock items → AreSettled items
+items_settled [] h = tt
+items_settled (x ∷ items) h = (h.1, h.2)
+
+tight_settled : (b : ItemBody) → IsSettled b → IsSettled (tight_body b)
+tight_settled Paragraph h = refl
+tight_settled b h = h
+
+block_settled : (depth : ℕ) (tight : Bool) (block : LeafBlock) → AreSettled block.items → AreSettled (block_items depth tight block)
+block_settled depth true block h =
+    tight_nodes IsSettled tight_settled depth (at_depth depth block.items) (deeper_nodes IsSettled depth block.items h)
+block_settled depth false block h = deeper_nodes IsSettled depth block.items h
+
+title_settled : (items : List (ℕ × Item)) → SettledBlock items → AreSettled (as_title items)
+title_settled [] h = tt
+title_settled (x ∷ items) h = (refl, h.2)
+
+-- the items of rows
+row_settled : (depth : ℕ) (tight loose : Bool) (start : ℕ) (w : What) (inner : Rows) → HoldsOfRow SettledBlock w inner
+    → AreSettled (row_items depth tight loose start w)
+row_settled depth tight loose start (ALeaf block) inner h = block_settled depth tight block (items_settled block.items h.0)
+row_settled depth tight loose start (AQuote kind e) inner h = (refl, tt)
+row_settled depth tight loose start (AList byte number e) inner h = (refl, tt)
+row_settled depth tight loose start (AnItem columns e) inner h = (refl, tt)
+row_settled depth tight loose start (AFootnote index e) inner h = (refl, tt)
+row_settled depth tight loose start (ADefinitionList t e) inner h = (refl, tt)
+row_settled depth tight loose start (ATitle block) inner h = deeper_nodes IsSettled depth (as_title block.items) (title_settled block.items h.0)
+row_settled depth tight loose start (ADefinition columns e) inner h = (refl, tt)
+
+forest_settled : (depth : ℕ) (tight : Bool) (rows : Rows) → HoldsOfEachRow SettledBlock rows → AreSettled (items_of depth tight rows)
+unfolding HoldsOfEachRow items_of
+forest_settled depth tight End h = tt
+forest_settled depth tight (OneOf row inner next) h =
+    both_nodes IsSettled (row_items depth tight (is_loose inner) row.start row.what) _
+    (row_settled depth tight (is_loose inner) row.start row.what inner h.0)
+    (both_nodes IsSettled (items_of (suc depth) (tight_in tight (is_loose inner) row.what) inner) (items_of depth tight next)
+    (forest_settled (suc depth) (tight_in tight (is_loose inner) row.what) inner h.1) (forest_settled depth tight next h.2))
+
+-- No node that a text derives may still become a title.
+pub derived_settled : (d : Document) (forest : List (ℕ × Item)) (tables : Tables) → Derives d forest tables → AreSettled forest
+derived_settled d forest tables h =
+    let rows = rows_of false nothing (length d.text) h.skeleton in
+    let each = derived_rows IsSettled IsSettled d forest tables blocks_settled (inside_settled d.names.texts) h in
+    subst AreSettled (sym h.forest_is) (refl, forest_settled 1 false rows each)

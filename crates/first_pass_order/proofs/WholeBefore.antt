@@ -1,0 +1,178 @@
+-- Nodes that something completes show whole tables already: what is still open in them is no part of a table.
+use Rattle.std.proofs.Common.{◌≡◌, ℕ, suc, Bool, true, false, List, [], ◌∷◌, ◌++◌, length, map, refl, sym, ap, subst, ◌∙◌, arith}
+use Rattle.std.proofs.lemmas.Bool.{true≢false}
+use Rattle.first_pass_items.specs.declared.item.Item.{Item}
+use Rattle.first_pass_items.specs.declared.item.ItemBody.{ItemBody}
+use Rattle.first_pass_items.specs.declared.item.ItemBody.TheVariants.{Table}
+use Rattle.first_pass_lines.specs.Places.{Place}
+use Rattle.first_pass_grammar.specs.declared.kind.Container.{Container}
+use Rattle.first_pass_grammar.specs.Names.{Names, Extends, index_of, NamesEntry, AreNamed}
+use Rattle.first_pass_grammar.specs.Leaves.{Document, document}
+use Rattle.first_pass_grammar.specs.Skeleton.{From, level, Lines, onward}
+use Rattle.first_pass_grammar.specs.Rows.{ItemsOf, Rows, any_gap}
+use Rattle.first_pass_grammar.specs.Derivation.{Tables, Derives}
+use Rattle.first_pass_grammar.specs.Completion.{ended, Pending, OneList, Standing, Further, AreFurther, rows_on, rows_beyond, rendered, Frame, InContainer}
+use Rattle.first_pass_grammar.specs.Completion.{InList, InDefinitions, definitions_open, containers_of, loosened, container_closed, Becomes, Completion}
+use Rattle.first_pass_grammar.specs.Containers.{is_quote}
+use Rattle.first_pass_grammar.specs.WholeTables.{Mark, ATable, ARow, ACell, shown, marks, RowCells, row_marks, TableRows, table_marks, AreFull, AreWholeTables}
+use Rattle.first_pass_grammar.proofs.EachRow.{each_row}
+use Rattle.first_pass_grammar.proofs.Finishes.{containers-loosened}
+use Rattle.first_pass_grammar.proofs.FullHeads.{heads_are_full}
+use Rattle.first_pass_grammar.proofs.MoreNames.{alignments_kept}
+use Rattle.first_pass_grammar.proofs.PlacesKept.{AreAt}
+use Rattle.first_pass_completion.proofs.SilentNodes.{IsSilent, AreSilent, SilentList, ShowsMore, more_both, marks_ended, rendered_shows, silent_rendered}
+use Rattle.first_pass_completion.proofs.SilentNodes.{silent_place, silent_as, silent_definitions}
+use Rattle.first_pass_grammar.proofs.WholeBlocks.{HeadsAreFull, PlainFrom, sequence_whole}
+use Rattle.first_pass_grammar.proofs.WholeForests.{WholeRows, derived_whole}
+
+-- the nodes still open show nothing where a container is closed
+silent_places : (depth last place e : ℕ) (nodes : List (ℕ × Item)) (list : Pending) (rows : Rows) (places : List ℕ) → SilentList nodes list
+    → AreSilent nodes places → AreSilent (ended (rendered depth last nodes list rows) place e) places
+silent_places depth last place e nodes list rows [] silent h = tt
+silent_places depth last place e nodes list rows (i ∷ places) silent h =
+    (silent_place depth last place e nodes list rows i silent h.0, silent_places depth last place e nodes list rows places silent h.1)
+
+container_shows : (names : Names) (depth place : ℕ) (w : Standing) (f : Further) (rows : Rows) → SilentList w.nodes w.list → IsSilent w.nodes place
+    → WholeRows names rows → ShowsMore names w.nodes (ended (rendered depth f.«end» w.nodes w.list rows) place f.«end»)
+container_shows names depth place w f rows list silent whole =
+    let (more, shows) = rendered_shows names depth f.«end» w.nodes w.list rows list whole in
+    let still = silent_rendered depth f.«end» w.nodes w.list rows place list silent in
+    (more, marks_ended names (rendered depth f.«end» w.nodes w.list rows) place f.«end» still ∙ shows)
+
+-- What completes nodes shows what they show, and then tables: each of the containers takes blocks that show whole tables, or nothing.
+module _ (d : Document) (full : HeadsAreFull d) where
+  becomes_shows : (frames : List Frame) (places : List ℕ) (w : Standing) (further : List Further) (from : From) (lines : List Place)
+      (forest : List (ℕ × Item)) (tables : Tables) → PlainFrom d.text from → AreAt d.text lines → AreSilent w.nodes places → SilentList w.nodes w.list
+      → AreFurther d (containers_of frames) w.before from lines further → Becomes frames places w further forest tables → ShowsMore d.names w.nodes forest
+  unfolding AreFurther Becomes
+  becomes_shows [] [] w [] from lines forest tables plain at silent list are becomes = absurd are
+  becomes_shows [] [] w (f ∷ []) from lines forest tables plain at silent list (sequence, ends) (is, told) =
+      let blocks = (sequence_whole d full f.blocks (level [] w.before) from lines (Lines []) plain at sequence).0 in
+      let rows = each_row (AreWholeTables d.names) false w.before f.«end» f.blocks blocks in
+      subst (ShowsMore d.names w.nodes) (sym is) (rendered_shows d.names 1 f.«end» w.nodes w.list (rows_on false w f) list rows)
+  becomes_shows [] [] w (f ∷ g ∷ more) from lines forest tables plain at silent list are becomes = absurd are
+  becomes_shows [] (place ∷ places) w further from lines forest tables plain at silent list are becomes = absurd becomes
+  becomes_shows (InList byte loose ∷ frames) [] w further from lines forest tables plain at silent list are becomes = absurd becomes
+  becomes_shows (InDefinitions loose ∷ frames) [] w further from lines forest tables plain at silent list are becomes = absurd becomes
+  becomes_shows (InContainer c ∷ frames) [] w further from lines forest tables plain at silent list are becomes = absurd becomes
+  becomes_shows (InList byte loose ∷ frames) (place ∷ places) w further from lines forest tables plain at silent list are becomes =
+      let inside : Standing = record { nodes = w.nodes; list = OneList place (ItemsOf byte) loose; before = w.before; defined = w.defined } in
+      becomes_shows frames places inside further from lines forest tables plain at silent.1 silent.0 are becomes
+  becomes_shows (InDefinitions loose ∷ frames) (place ∷ places) w further from lines forest tables plain at silent list are becomes =
+      let inside : Standing = record { nodes = w.nodes; list = definitions_open place loose w.list; before = w.before; defined = w.defined } in
+      becomes_shows frames places inside further from lines forest tables plain at silent.1
+      (silent_definitions w.nodes place loose w.list silent.0 list) are becomes
+  becomes_shows (InContainer c ∷ frames) (place ∷ places) w [] from lines forest tables plain at silent list are becomes = absurd are
+  becomes_shows (InContainer c ∷ frames) (place ∷ places) w (f ∷ further) from lines forest tables plain at silent list (left, sequence, ends, are) becomes =
+      let rows : Rows = rows_on (is_quote c) w f in
+      let gap : Bool = any_gap (rows_beyond w.list rows) in
+      let depth : ℕ = suc (length (place ∷ places)) in
+      let now : Standing = container_closed c depth place w f rows in
+      let blocks = sequence_whole d full f.blocks (level (c ∷ containers_of frames) w.before) from lines left plain at sequence in
+      let whole = each_row (AreWholeTables d.names) (is_quote c) w.before f.«end» f.blocks blocks.0 in
+      let here = container_shows d.names depth place w f rows list silent.0 whole in
+      let still = silent_places depth f.«end» place f.«end» w.nodes w.list rows places list silent.1 in
+      more_both d.names w.nodes now.nodes forest here
+      (becomes_shows (loosened gap frames) places now further (onward left).0 (onward left).1 forest tables blocks.1.0 blocks.1.1 still
+      (silent_as now.nodes c f.«end»)
+      (subst (λ (path : List Container). AreFurther d path now.before (onward left).0 (onward left).1 further) (sym (containers-loosened gap frames)) are)
+      becomes)
+
+-- Where tables stand after marks, and all of it is whole tables, the marks are whole tables: those in a row or a cell begin no table.
+abbrev is_table : Mark → Bool
+is_table (ATable depth columns) = true
+is_table (ARow depth «end») = false
+is_table (ACell depth start) = false
+
+abbrev NoTables : List Mark → Type 0
+NoTables [] = Unit {0}
+NoTables (m ∷ ms) = (is_table m ≡ false) × NoTables ms
+
+no_tables_both : (a b : List Mark) → NoTables a → NoTables b → NoTables (a ++ b)
+no_tables_both [] b h k = k
+no_tables_both (m ∷ a) b h k = (h.0, no_tables_both a b h.1 k)
+
+cells_no_tables : (depth : ℕ) (starts : List ℕ) → NoTables (map (ACell depth) starts)
+cells_no_tables depth [] = tt
+cells_no_tables depth (start ∷ starts) = (refl, cells_no_tables depth starts)
+
+rows_no_tables : (depth : ℕ) (rows : List RowCells) → NoTables (row_marks depth rows)
+unfolding row_marks
+rows_no_tables depth [] = tt
+rows_no_tables depth (row ∷ rows) = (
+  refl,
+  no_tables_both (map (ACell (suc depth)) row.starts) (row_marks depth rows) (cells_no_tables (suc depth) row.starts) (rows_no_tables depth rows),
+)
+
+first_same : (m k : Mark) (ms ks : List Mark) → m ∷ ms ≡ k ∷ ks → m ≡ k
+first_same m k ms ks e = cc
+
+rest_same : (m k : Mark) (ms ks : List Mark) → m ∷ ms ≡ k ∷ ks → ms ≡ ks
+rest_same m k ms ks e = cc
+
+behind_rows : (rows m all : List Mark) (more : List TableRows) → NoTables rows → m ++ table_marks more ≡ rows ++ all
+    → (behind : List Mark) × (m ≡ rows ++ behind) × (behind ++ table_marks more ≡ all)
+unfolding table_marks
+behind_rows [] m all more none e = (m, refl, e)
+behind_rows (k ∷ rows) [] all [] none e = absurd (let n = ap length e in omega arith)
+behind_rows (k ∷ rows) [] all (t ∷ more) none e =
+    absurd (true≢false (ap is_table (first_same (ATable t.depth t.columns) k (row_marks (suc t.depth) t.rows ++ table_marks more) (rows ++ all) e) ∙ none.0))
+behind_rows (k ∷ rows) (b ∷ m) all more none e =
+    let first = first_same b k (m ++ table_marks more) (rows ++ all) e in
+    let (behind, is, rest) = behind_rows rows m all more none.1 (rest_same b k (m ++ table_marks more) (rows ++ all) e) in
+    (behind, ap (λ (z : Mark). z ∷ m) first ∙ ap (λ (z : List Mark). k ∷ z) is, rest)
+
+front_of : (m : List Mark) (more all : List TableRows) → m ++ table_marks more ≡ table_marks all → AreFull all
+    → (front : List TableRows) × (m ≡ table_marks front) × AreFull front
+unfolding table_marks AreFull
+front_of [] more all e full = ([], refl, tt)
+front_of (b ∷ m) more [] e full = absurd (let n = ap length e in omega arith)
+front_of (b ∷ m) more (t ∷ all) e full =
+    let rest = row_marks (suc t.depth) t.rows ++ table_marks all in
+    let first = first_same b (ATable t.depth t.columns) (m ++ table_marks more) rest e in
+    let (behind, is, further) = behind_rows (row_marks (suc t.depth) t.rows) m (table_marks all) more (rows_no_tables (suc t.depth) t.rows)
+    (rest_same b (ATable t.depth t.columns) (m ++ table_marks more) rest e) in
+    let (front, same, whole) = front_of behind more all further full.2 in (
+      t ∷ front,
+      ap (λ (z : Mark). z ∷ m) first
+          ∙ ap (λ (z : List Mark). ATable t.depth t.columns ∷ z) (is ∙ ap (λ (z : List Mark). row_marks (suc t.depth) t.rows ++ z) same),
+      (full.0, full.1, whole),
+    )
+
+front_whole : (names : Names) (nodes after : List (ℕ × Item)) → ShowsMore names nodes after → AreWholeTables names after → AreWholeTables names nodes
+unfolding AreWholeTables
+front_whole names nodes after (more, shows) (all, is, full) = front_of (marks names nodes) more all (sym shows ∙ is) full
+
+-- What is completed, under the names that complete it.
+pub completed_whole : (d : Document) (frames : List Frame) (places : List ℕ) (w : Standing) (from : From) (lines : List Place) → PlainFrom d.text from
+    → AreAt d.text lines → AreSilent w.nodes places → SilentList w.nodes w.list → (c : Completion d frames places w from lines)
+    → Derives (document d.text d.options c.names) c.forest c.tables → AreWholeTables c.names w.nodes
+completed_whole d frames places w from lines plain at silent list c derives =
+    let named : Document = document d.text d.options c.names in
+    front_whole c.names w.nodes c.forest
+    (becomes_shows named (heads_are_full named) frames places w c.further from lines c.forest c.tables plain at silent list c.taken c.becomes)
+    (derived_whole named c.forest c.tables derives)
+
+-- What each index names, it names under more names too.
+shown_still : (more names : Names) (depth start «end» : ℕ) (b : ItemBody) → Extends more names → NamesEntry names (index_of b)
+    → shown more depth start «end» b ≡ shown names depth start «end» b
+shown_still more names depth start end (Table ix) e h = ap (λ z. ATable depth (length z) ∷ []) (alignments_kept more names ix e h)
+shown_still more names depth start end b e h = refl
+
+marks_still : (more names : Names) (nodes : List (ℕ × Item)) → Extends more names → AreNamed names nodes → marks more nodes ≡ marks names nodes
+unfolding marks AreNamed
+marks_still more names [] e h = refl
+marks_still more names (n ∷ nodes) e h =
+    ap (λ (z : List Mark). z ++ marks more nodes) (shown_still more names n.0 n.1.start n.1.«end» n.1.body e h.0)
+    ∙ ap (λ (z : List Mark). shown names n.0 n.1.start n.1.«end» n.1.body ++ z) (marks_still more names nodes e h.1)
+
+pub whole_already : (more names : Names) (nodes : List (ℕ × Item)) → Extends more names → AreNamed names nodes → AreWholeTables more nodes
+    → AreWholeTables names nodes
+unfolding AreWholeTables
+whole_already more names nodes e named (tables, is, full) = (tables, sym (marks_still more names nodes e named) ∙ is, full)
+
+-- and so tables that are whole stay so where more is named
+pub whole_still : (more names : Names) (nodes : List (ℕ × Item)) → Extends more names → AreNamed names nodes → AreWholeTables names nodes
+    → AreWholeTables more nodes
+unfolding AreWholeTables
+whole_still more names nodes e named (tables, is, full) = (tables, marks_still more names nodes e named ∙ is, full)

@@ -1,0 +1,3 @@
+pub mod LeafBlocks
+pub mod Ordered
+pub mod Settled

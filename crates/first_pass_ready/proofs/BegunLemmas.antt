@@ -1,0 +1,163 @@
+-- A container opened in the tree, after what is open already.
+use Rattle.std.proofs.Common.{◌≡◌, ℕ, suc, ◌+◌, ◌<◌, ◌==◌, Bool, true, false, List, [], ◌∷◌, ◌++◌, length, map, slice_index, Option, Some, None}
+use Rattle.std.proofs.Common.{IfSome, MatchOption, inl, inr, refl, sym, ap, subst, ◌∙◌, arith}
+use Rattle.std.proofs.lemmas.List.{length-map}
+use Rattle.std.proofs.lemmas.Bool.{cases_lt, cases_eq}
+use Rattle.std.specs.Option.{option_and_then}
+use Rattle.first_pass_items.specs.declared.item.Item.{Item}
+use Rattle.first_pass_items.specs.declared.item.ItemBody.{ItemBody}
+use Rattle.first_pass_items.specs.declared.item.ItemBody.TheVariants.{BlockQuote as BlockQuoteBody, List as ListBody, ListItem as ListItemBody}
+use Rattle.first_pass_items.specs.declared.item.ItemBody.TheVariants.{FootnoteDefinition as FootnoteDefinitionBody, DefinitionList, DefinitionListDefinition}
+use Rattle.first_pass_items.specs.declared.option_set.Options.{Options}
+use Rattle.first_pass_tree.specs.declared.tree_index.TreeIndex.{TreeIndex}
+use Rattle.first_pass_tree.specs.Forest.{Forest, IsForest, IsOpenPath, IsLastAt, depths, body_at, in_table, in_table_by, appended, pushed}
+use Rattle.first_pass_lines.specs.Places.{Place}
+use Rattle.first_pass_grammar.specs.declared.kind.Container.{Container}
+use Rattle.first_pass_grammar.specs.Leaves.{Document, around}
+use Rattle.first_pass_grammar.specs.Footnotes.{footnote_head_at}
+use Rattle.first_pass_grammar.specs.Openers.{Start, start_at}
+use Rattle.first_pass_grammar.specs.Skeleton.{From, Opening, Level, may_define, opening_of, OpensBy, OpensFootnote, Opens}
+use Rattle.first_pass_grammar.specs.Derivation.{Tables}
+use Rattle.first_pass_grammar.specs.Completion.{OtherClosed, Frame, InContainer, InList, InDefinitions, containers_of, AreBelow, IsPlain}
+use Rattle.first_pass_completion.proofs.Completions.{fresh}
+use Rattle.first_pass_grammar.proofs.Finishes.{CompletesAt}
+use Rattle.first_pass_open.specs.Path.{path_of}
+use Rattle.first_pass_lists.specs.Closing.{top_body, is_list}
+use Rattle.first_pass_lists.specs.declared.reading.Reading.{Reading}
+use Rattle.first_pass_ready.specs.State.{is_footnote_in_another, frame_of, AreOpen, closed_none, closed_in, ReadyAt}
+use Rattle.first_pass_ready.proofs.ClosedIn.{definitions_no_container, list_at, definitions_at, IsTop, top_of}
+use Rattle.first_pass_ready.proofs.OpenLemmas.{open_path, open_below, frame-append, get_end}
+use Rattle.first_pass_ready.proofs.PopLemmas.{ready_as}
+
+-- a node that is opened after others
+pub opened_too : (options : Options) (nodes : List (ℕ × Item)) (k : ℕ) (x : Item) (s : List TreeIndex) (frames : List Frame) (frame : Frame)
+    → frame_of options x.body ≡ Some frame → is_footnote_in_another frame frames ≡ false → AreBelow (length nodes) (map (λ ix. ix.0) s)
+    → AreOpen options nodes s frames
+    → AreOpen options (nodes ++ (k, x) ∷ []) (record { 0 = length nodes } ∷ s) (frame ∷ frames)
+opened_too options nodes k x s frames frame is apart below o = (
+  ap (option_and_then (frame_of options)) (get_end nodes (k, x) [] (length nodes) refl) ∙ is,
+  open_below options nodes (nodes ++ (k, x) ∷ []) (length nodes) s frames (λ i h. frame-append options nodes ((k, x) ∷ []) i h) below o,
+  apart,
+)
+
+pub depth_of : (s : List TreeIndex) → suc (length (map (λ (i : TreeIndex). i.0) s)) ≡ length s + 1
+depth_of s = let k = length-map s (λ (i : TreeIndex). i.0) in omega arith
+
+-- what is innermost, of which the frame is a container's, holds nothing yet
+none_there : (options : Options) (b : ItemBody) (c : Container) → frame_of options b ≡ Some (InContainer c) → closed_none (Some b) ≡ OtherClosed
+none_there options (DefinitionList flags) c h = absurd (definitions_no_container (flags.0 == 1) (flags.0 == 0) c h)
+none_there options b c h = refl
+
+-- the tree with an item opened in what is innermost
+abbrev pub with_open : Forest Item → Item → Forest Item
+with_open f x = pushed (appended f x) (record { 0 = length f.nodes })
+
+pub top_opened : (f : Forest Item) (x : Item) → top_body (with_open f x) ≡ Some x.body
+top_opened f x = get_end f.nodes (length f.spine + 1, x) [] (length f.nodes) refl
+
+-- a container is open, and holds nothing yet
+pub record IsBegun (d : Document) (defined : Tables) (f : Forest Item) (c : Container) (from : From) (lines : List Place) (path : List Container)
+    : Type 0 where
+  pub ready : ReadyAt d defined f false from lines
+  pub path_is : path_of d.options f ≡ c ∷ path
+
+-- what is remembered once a container is open
+pub record HasBegun (d : Document) (defined : Tables) (old new : Reading) (c : Container) (from : From) (lines : List Place) : Type 0 where
+  pub is_begun : IsBegun d defined new.tree c from lines (path_of d.options old.tree)
+  pub blank : new.blank ≡ false
+  pub none : new.empty_item ≡ None
+
+pub begun_ready : (d : Document) (defined : Tables) (f : Forest Item) (x : Item) (c : Container) (frames : List Frame) (from : From) (lines : List Place)
+    → frame_of d.options x.body ≡ Some (InContainer c) → is_footnote_in_another (InContainer c) frames ≡ false
+    → AreOpen d.options f.nodes f.spine frames → AreBelow (length f.nodes) (map (λ (i : TreeIndex). i.0) f.spine)
+    → (let os : List ℕ = map (λ (i : TreeIndex). i.0) f.spine in
+    CompletesAt d defined fresh (InContainer c ∷ frames) (f.nodes ++ (suc (length os), x) ∷ []) (length f.nodes ∷ os) from lines)
+    → IsBegun d defined (with_open f x) c from lines (containers_of frames)
+begun_ready d defined f x c frames from lines is apart o below k =
+    let g : Forest Item = with_open f x in
+    let os : List ℕ = map (λ (i : TreeIndex). i.0) f.spine in
+    let none : closed_in g ≡ OtherClosed = ap closed_none (top_opened f x) ∙ none_there d.options x.body c is in
+    let open_now = opened_too d.options f.nodes (length f.spine + 1) x f.spine frames (InContainer c) is apart below o in
+    record {
+      ready = ready_as d defined g false from lines (InContainer c ∷ frames) OtherClosed none open_now tt
+          (subst (λ z. CompletesAt d defined fresh (InContainer c ∷ frames) (f.nodes ++ (z, x) ∷ []) (length f.nodes ∷ os) from lines) (depth_of f.spine) k);
+      path_is = open_path d.options g.nodes g.spine (InContainer c ∷ frames) open_now;
+    }
+
+-- where no footnote definition begins, what else does
+pub opens_bare : (d : Document) (l : Level) (p : Place) (lines : List Place) (opening : Opening)
+    → footnote_head_at (around d l.path) p ≡ None → OpensBy d l.path p lines (start_at d.options (may_define d l) p) opening → Opens d l p lines opening
+opens_bare d l p lines opening bare h =
+    subst (λ z. MatchOption z (OpensBy d l.path p lines (start_at d.options (may_define d l) p) opening) (λ head. OpensFootnote d p lines head opening))
+    (sym bare) h
+
+-- what begins a container opens it
+pub opens_start : (d : Document) (l : Level) (p : Place) (lines : List Place) (s : Start) → footnote_head_at (around d l.path) p ≡ None
+    → start_at d.options (may_define d l) p ≡ Some s → Opens d l p lines (opening_of d l.path p lines s)
+unfolding OpensBy
+opens_start d l p lines s bare begins =
+    let opening : Opening = opening_of d l.path p lines s in
+    opens_bare d l p lines opening bare (subst (λ o. OpensBy d l.path p lines o opening) (sym begins) refl)
+
+-- where what is innermost is no list, so the frames say
+pub plain_top : (options : Options) (top : Option ItemBody) (frames : List Frame) → IsTop options top frames → is_list top ≡ false → IsPlain frames
+plain_top options top [] is none = tt
+plain_top options top (InContainer c ∷ frames) is none = tt
+plain_top options top (InList byte loose ∷ frames) is none =
+    let b = list_at options top byte loose is in let t : is_list top ≡ true = ap is_list b.3 in cc
+plain_top options top (InDefinitions loose ∷ frames) is none =
+    let b = definitions_at options top loose is in let t : is_list top ≡ true = ap is_list b.1 in cc
+
+pub plain_open : (options : Options) (f : Forest Item) (frames : List Frame) → AreOpen options f.nodes f.spine frames → is_list (top_body f) ≡ false
+    → IsPlain frames
+plain_open options f frames o none = plain_top options (top_body f) frames (top_of options f.nodes f.spine frames o) none
+
+-- the current node is after what is open
+not_before : (ds : List ℕ) (d i c : ℕ) → IsLastAt ds d i → IsLastAt ds (suc d) c → c < i → ⊥
+not_before ds d i c first last h = let b = last.behind i h first.within in let e = first.depth in absurd (omega arith)
+
+not_same : (ds : List ℕ) (d i c : ℕ) → IsLastAt ds d i → IsLastAt ds (suc d) c → c ≡ i → ⊥
+not_same ds d i c first last h = let e = first.depth in let k = ap (slice_index ds) h in let l = last.depth in absurd (omega arith)
+
+last_after : (ds : List ℕ) (d i c : ℕ) → IsLastAt ds d i → IsLastAt ds (suc d) c → i < c
+last_after ds d i c first last = elim (cases_lt i c) [
+  | inl less ↦ less
+  | inr more ↦ elim (cases_eq c i) [
+    | inl same ↦ absurd (not_same ds d i c first last same)
+    | inr other ↦ absurd (not_before ds d i c first last (omega arith))
+  ]
+]
+
+current_by : (ds : List ℕ) (n c : ℕ) (s : List TreeIndex) → IsOpenPath ds s → IsLastAt ds (length s + 1) c
+    → AreBelow n (map (λ (i : TreeIndex). i.0) s) → AreBelow c (map (λ (i : TreeIndex). i.0) s)
+current_by ds n c [] path last below = tt
+current_by ds n c (ix ∷ s) path last below =
+    let k : length (ix ∷ s) + 1 ≡ suc (length s + 1) = omega arith in
+    (last_after ds (length s + 1) ix.0 c path.0 (subst (λ z. IsLastAt ds z c) k last), below.1)
+
+pub current_after : (f : Forest Item) (c : TreeIndex) → IsForest f → f.current ≡ Some c
+    → AreBelow (length f.nodes) (map (λ (i : TreeIndex). i.0) f.spine) → AreBelow c.0 (map (λ (i : TreeIndex). i.0) f.spine)
+current_after f c forest current below =
+    current_by (depths f.nodes) (length f.nodes) c.0 f.spine forest.opened
+    (subst (λ z. IfSome z (λ (c : TreeIndex). IsLastAt (depths f.nodes) (length f.spine + 1) c.0)) current forest.at_current) below
+
+-- Where containers and lists alone are open no table is.
+no_table_by : (options : Options) (b : ItemBody) (frame : Frame) (outer : Bool) → frame_of options b ≡ Some frame → in_table_by outer (Some b) ≡ false
+no_table_by options (BlockQuoteBody kind) frame outer is = refl
+no_table_by options (ListItemBody columns) frame outer is = refl
+no_table_by options (FootnoteDefinitionBody label) frame outer is = refl
+no_table_by options (DefinitionListDefinition columns) frame outer is = refl
+no_table_by options (ListBody flags byte number) frame outer is = refl
+no_table_by options (DefinitionList flags) frame outer is = refl
+no_table_by options b frame outer is = cc
+
+no_table_at : (options : Options) (o : Option ItemBody) (frame : Frame) (outer : Bool) → option_and_then (frame_of options) o ≡ Some frame
+    → in_table_by outer o ≡ false
+no_table_at options None frame outer is = refl
+no_table_at options (Some b) frame outer is = no_table_by options b frame outer is
+
+pub no_table : (options : Options) (nodes : List (ℕ × Item)) (spine : List TreeIndex) (frames : List Frame) → AreOpen options nodes spine frames
+    → in_table nodes spine ≡ false
+no_table options nodes [] frames o = refl
+no_table options nodes (ix ∷ spine) [] o = absurd o
+no_table options nodes (ix ∷ spine) (frame ∷ frames) o = no_table_at options (body_at nodes ix.0) frame (in_table nodes spine) o.0

@@ -1,0 +1,563 @@
+-- A line entered after what it continues: a blank line read, or the place where blocks begin in it.
+use Rattle.std.proofs.Common.{◌≡◌, ℕ, zero, suc, ◌+◌, ◌<◌, ◌==◌, nat_lt, Bool, true, false, not, ◌||◌, ◌&&◌, List, [], ◌∷◌, length, map, drop}
+use Rattle.std.proofs.Common.{Option, Some, None, is_some, refl, sym, ap, subst, ◌∙◌, arith, if◌then◌else◌, MatchOption}
+use Rattle.std.proofs.lemmas.Bool.Decides.{nat_tests}
+use Rattle.std.specs.List.{prefix_len}
+use Rattle.std.specs.Option.{option_map, option_map_or, option_and_then}
+use Rattle.first_pass_items.specs.declared.item.Item.{Item}
+use Rattle.first_pass_items.specs.declared.item.ItemBody.{ItemBody}
+use Rattle.first_pass_items.specs.declared.item.ItemBody.TheVariants.{BlockQuote as BlockQuoteBody, List as ListBody, ListItem as ListItemBody}
+use Rattle.first_pass_items.specs.declared.item.ItemBody.TheVariants.{FootnoteDefinition as FootnoteDefinitionBody, DefinitionList, DefinitionListDefinition}
+use Rattle.first_pass_tree.specs.declared.tree_index.TreeIndex.{TreeIndex}
+use Rattle.first_pass_tree.specs.Forest.{Forest, with_body_at, body_at}
+use Rattle.first_pass_items.specs.Bytes.{left_bracket, circumflex, colon}
+use Rattle.first_pass_items.specs.OptionWords.{has, footnotes}
+use Rattle.first_pass_links.specs.Footnotes.{footnote_head}
+use Rattle.first_pass_lines.specs.Lines.{begins, is_white, eol_len, blank_len}
+use Rattle.first_pass_lines.specs.Rest.{Rest, column_of_byte, next_column, after_columns, indent, past_quote_byte}
+use Rattle.first_pass_scan.specs.LeafLines.{hrule_len}
+use Rattle.first_pass_scan.specs.Markers.{bullet_marker, ordered_marker, list_marker, item_by, item_of, definition_of}
+use Rattle.first_pass_lines.specs.Places.{Place}
+use Rattle.first_pass_grammar.specs.declared.kind.Container.{Container}
+use Rattle.first_pass_grammar.specs.declared.kind.Container.TheVariants.{BlockQuote, ListItem, FootnoteDefinition, Definition}
+use Rattle.first_pass_grammar.specs.Containers.{Context, at_rest, has_columns, prefix, after, footnote_columns, is_quote, in_quote}
+use Rattle.first_pass_grammar.specs.Before.{Before, Last, LastItem, list_is_open}
+use Rattle.first_pass_grammar.specs.Kinds.{Blank, all_taken, unindented, is_blank_rest, item_at, definition_marker_at}
+use Rattle.first_pass_grammar.specs.Footnotes.{footnote_prefix, footnote_at, footnote_head_at}
+use Rattle.first_pass_grammar.specs.Openers.{start_at}
+use Rattle.first_pass_grammar.specs.Leaves.{Document, around}
+use Rattle.first_pass_grammar.specs.Blocks.{BlankLine}
+use Rattle.first_pass_grammar.specs.Skeleton.{From, Line, Inside, Blanks, Opening, OpensLeaf, OpensFootnote, OpensAs, Opens, is_blank_behind, next_is_blank}
+use Rattle.first_pass_grammar.specs.Skeleton.{Level, level, may_define, Lines, end_before}
+use Rattle.first_pass_grammar.specs.Derivation.{Tables, node_of}
+use Rattle.first_pass_grammar.specs.Completion.{Closed, Frame, InContainer, InList, InDefinitions, containers_of, AreBelow, last_plain, last_defined}
+use Rattle.first_pass_grammar.proofs.Finishes.{CompletesAt, Tail}
+use Rattle.first_pass_completion.proofs.Extending.{tail, lvl}
+use Rattle.first_pass_grammar.proofs.Goings.{stops_blank}
+use Rattle.first_pass_kinds.proofs.KindLemmas.{blank_kind}
+use Rattle.first_pass_completion.proofs.Completions.{counted_after, completes-enter, completes-blank_line, completes-only_blank}
+use Rattle.first_pass_open.specs.OpenBlock.{closed_by}
+use Rattle.first_pass_lists.specs.Closing.{top_body, is_item, popped_by, popped, item_finished_by, item_finished, emptied, emptied_definition, blank_read_by}
+use Rattle.first_pass_lists.specs.Closing.{blank_read}
+use Rattle.first_pass_lists.specs.declared.reading.Reading.{Reading}
+use Rattle.first_pass_open.specs.Path.{container_of, container_at, with_container, path_in, path_of}
+use Rattle.first_pass_ready.specs.State.{frame_of, frame_at, item_columns, emptied_as, emptied_top, closed_in, AreOpen, ReadyAt, ReadyBeforeLine}
+use Rattle.first_pass_ready.specs.State.{ReadyInItem, ReadyEmpty, ReadyWith, Ready}
+use Rattle.first_pass_ready.proofs.OpenLemmas.{open_path}
+use Rattle.first_pass_ready.proofs.OldFootnotes.{ends_here, stays_unblank, stays_in_list, goes_on_at}
+use Rattle.first_pass_tree.proofs.BodyLemmas.{body-changed, body-other, not_changed}
+use Rattle.first_pass_ready.proofs.PopLemmas.{leave_container}
+use Rattle.first_pass_ready.proofs.StateLemmas.{ready_plain, popped_as, same_path, closed_containers}
+use Rattle.first_pass_ready.proofs.ClosedIn.{items_no_container, definitions_no_container, definitions_at, list_at, top_in, HasDefined, open_defined}
+use Rattle.first_pass_ready.proofs.ClosedIn.{defined_open, plain_not_open}
+use Rattle.first_pass_ready.proofs.ItemBodies.{item_body, item_container, columns_are, item_is, item_columns_of, item_frame, item_path, item_true}
+use Rattle.first_pass_ready.proofs.ItemBodies.{item_no_list, item_no_quote, emptied_is, after_zero}
+use Rattle.first_pass_items.specs.declared.option_set.Options.{Options}
+use Rattle.first_pass_grammar.specs.Skeleton.{OpensBy}
+use Rattle.first_pass_grammar.proofs.OpenerFacts.{marker_where, start_none}
+
+-- Columns change nothing of whether a line is blank.
+some_mapped : (o : Option ℕ) (f : ℕ → ℕ) → is_some (option_map f o) ≡ is_some o
+some_mapped None f = refl
+some_mapped (Some n) f = refl
+
+white_first : (b : ℕ) (bs : List ℕ) → is_white b ≡ true → is_some (blank_len (b ∷ bs)) ≡ is_some (blank_len bs)
+white_first b bs h =
+    let n : ℕ = prefix_len is_white bs in
+    let m : ℕ = prefix_len is_white (b ∷ bs) in
+    let z : 1 + n ≡ suc n = omega arith in
+    let first : m ≡ 1 + n = rw h refl in
+    some_mapped (eol_len (drop m (b ∷ bs))) (λ k. m + k) ∙ ap (λ j. is_some (eol_len (drop j (b ∷ bs)))) (first ∙ z)
+    ∙ sym (some_mapped (eol_len (drop n bs)) (λ k. n + k))
+
+space_white : (b : ℕ) → (b == 32) ≡ true → is_white b ≡ true
+space_white b h = grind (arith, nat_tests, h)
+
+tab_white : (b : ℕ) → (b == 9) ≡ true → is_white b ≡ true
+tab_white b h = grind (arith, nat_tests, h)
+
+byte_by : (t u : Bool) (r s x y : Rest) (b : ℕ) (bs : List ℕ) → (b == 32) ≡ t → (b == 9) ≡ u → x.left ≡ bs → y.left ≡ bs
+    → (if t then Some x else (if u then Some y else None)) ≡ Some s → is_some (blank_len s.left) ≡ is_some (blank_len (b ∷ bs))
+byte_by true u r s x y b bs h g e f k =
+    let z : x ≡ s = cc in
+    ap (λ (q : Rest). is_some (blank_len q.left)) (sym z) ∙ ap (λ l. is_some (blank_len l)) e ∙ sym (white_first b bs (space_white b h))
+byte_by false true r s x y b bs h g e f k =
+    let z : y ≡ s = cc in
+    ap (λ (q : Rest). is_some (blank_len q.left)) (sym z) ∙ ap (λ l. is_some (blank_len l)) f ∙ sym (white_first b bs (tab_white b g))
+byte_by false false r s x y b bs h g e f k = cc
+
+byte_column : (r s : Rest) (left : List ℕ) → column_of_byte r left ≡ Some s → is_some (blank_len s.left) ≡ is_some (blank_len left)
+byte_column r s [] h = cc
+byte_column r s (b ∷ bs) h = byte_by (b == 32) (b == 9) r s _ _ b bs refl refl refl refl h
+
+column_by : (o : ℕ) (r s : Rest) → r.owed ≡ o → next_column r ≡ Some s → is_blank_rest s ≡ is_blank_rest r
+column_by zero r s e h = byte_column r s r.left (let z : column_of_byte r r.left ≡ next_column r = rw e refl in z ∙ h)
+column_by (suc o) r s e h =
+    (let z : Some (record r { owed = o }) ≡ next_column r = rw e refl in let y : record r { owed = o } ≡ s = cc in ap is_blank_rest (sym y))
+
+columns_by : (k : ℕ) (r : Rest) (o : Option Rest) → next_column r ≡ o → ((s : Rest) → is_blank_rest (after_columns k s) ≡ is_blank_rest s)
+    → is_blank_rest (option_map_or (after_columns k) o r) ≡ is_blank_rest r
+columns_by k r None e f = refl
+columns_by k r (Some s) e f = f s ∙ column_by r.owed r s refl e
+
+pub blank_columns : (k : ℕ) (r : Rest) → is_blank_rest (after_columns k r) ≡ is_blank_rest r
+blank_columns zero r = refl
+blank_columns (suc k) r = columns_by k r (next_column r) refl (λ s. blank_columns k s)
+
+item_blank_by : (t : Bool) (n : ℕ) (q : Rest) → is_blank_behind (if t then Some (after_columns n q) else None) ≡ true → is_blank_rest q ≡ true
+item_blank_by true n q h = sym (blank_columns n q) ∙ h
+item_blank_by false n q h = cc
+
+item_blank : (b : ItemBody) (n : ℕ) (q : Rest) → is_blank_behind (prefix (item_container b n) q) ≡ true → is_blank_rest q ≡ true
+unfolding prefix
+item_blank (DefinitionListDefinition columns) n q h = item_blank_by (has_columns n q) n q h
+item_blank b n q h = item_blank_by (has_columns n q) n q h
+
+blank_behind_item : (b : ItemBody) (n : ℕ) (o : Option Rest) → is_blank_behind (option_and_then (prefix (item_container b n)) o) ≡ true
+    → is_blank_behind o ≡ true
+blank_behind_item b n None h = h
+blank_behind_item b n (Some q) h = item_blank b n q h
+
+-- a line that is blank after what an item or a definition takes is blank after what is around it
+pub blank_behind : (b : ItemBody) (n : ℕ) (path : List Container) (r : Rest)
+    → is_blank_behind (after (item_container b n ∷ path) r) ≡ true → is_blank_behind (after (item_container b 0 ∷ path) r) ≡ true
+unfolding after
+blank_behind b n path r h = ap is_blank_behind (after_zero b path r) ∙ blank_behind_item b n (after path r) h
+
+-- No container begins on a blank line.
+first_by : (t u v : Bool) (b : ℕ) (bs : List ℕ) → is_white b ≡ t → (b == 10) ≡ u → (b == 13) ≡ v → is_some (blank_len (b ∷ bs)) ≡ true → (t || (u || v)) ≡ true
+first_by true u v b bs e f g h = refl
+first_by false true v b bs e f g h = refl
+first_by false false true b bs e f g h = refl
+first_by false false false b bs e f g h = rw (e, f, g) at h
+
+first_of_blank : (b : ℕ) (bs : List ℕ) → is_some (blank_len (b ∷ bs)) ≡ true → (is_white b || ((b == 10) || (b == 13))) ≡ true
+first_of_blank b bs h = first_by (is_white b) (b == 10) (b == 13) b bs refl refl refl h
+
+no_quote_byte : (r : Rest) (left : List ℕ) → is_some (blank_len left) ≡ true → past_quote_byte r left ≡ None
+no_quote_byte r [] h = refl
+no_quote_byte r (b ∷ bs) h = let f = first_of_blank b bs h in let z : (b == 62) ≡ false = grind (arith, nat_tests, f) in rw z refl
+
+no_quote_rest : (t : Bool) (r : Rest) → is_blank_rest r ≡ true → (if t then past_quote_byte r r.left else None) ≡ None
+no_quote_rest true r h = no_quote_byte r r.left h
+no_quote_rest false r h = refl
+
+no_quote : (r : Rest) → is_blank_rest r ≡ true → prefix (BlockQuote None) r ≡ None
+unfolding prefix
+no_quote r h =
+    let q : Rest = after_columns 3 r in
+    ap (option_map (after_columns 1)) (no_quote_rest (q.owed == 0) q (blank_columns 3 r ∙ h))
+
+marker_by : (b : ℕ) (bs : List ℕ)
+    → (is_white b || ((b == 10) || (b == 13))) ≡ true → (if is_some (bullet_marker (b ∷ bs)) then bullet_marker (b ∷ bs) else ordered_marker (b ∷ bs)) ≡ None
+marker_by b bs f = grind (arith, nat_tests, f)
+
+no_marker : (bs : List ℕ) → is_some (blank_len bs) ≡ true → list_marker bs ≡ None
+unfolding list_marker
+no_marker [] h = refl
+no_marker (b ∷ bs) h = let f = first_of_blank b bs h in marker_by b bs f
+
+no_item_of : (t : Bool) (outer : ℕ) (r : Rest) → is_blank_rest r ≡ true → (if t then item_by outer r (list_marker r.left) else None) ≡ None
+no_item_of true outer r h = ap (item_by outer r) (no_marker r.left h)
+no_item_of false outer r h = refl
+
+no_item_by : (t : Bool) (r : Rest) → is_blank_rest r ≡ true
+    → (if t then (let q : Rest = all_taken r in if (q.owed == 0) && not (is_some (hrule_len q.left)) then item_by (indent r) q (list_marker q.left) else None)
+    else None) ≡ None
+no_item_by true r h = no_item_of _ (indent r) (all_taken r) (blank_columns (indent r) r ∙ h)
+no_item_by false r h = refl
+
+no_item : (r : Rest) → is_blank_rest r ≡ true → item_at r ≡ None
+unfolding item_at item_of
+no_item r h = no_item_by (nat_lt (indent r) 4) r h
+
+-- nor does a definition
+colon_by : (b : ℕ) → (is_white b || ((b == 10) || (b == 13))) ≡ true → (b == 58) ≡ false
+colon_by b f = grind (arith, nat_tests, f)
+
+no_colon : (bs : List ℕ) → is_some (blank_len bs) ≡ true → begins colon bs ≡ false
+no_colon [] h = refl
+no_colon (b ∷ bs) h = colon_by b (first_of_blank b bs h)
+
+no_definition_of : (t u : Bool) (x : ℕ × Rest) → u ≡ false → (if t && u then Some x else None) ≡ None
+no_definition_of true u x h = rw h refl
+no_definition_of false u x h = refl
+
+no_definition_by : (t : Bool) (o : Option (ℕ × Rest)) → o ≡ None → (if t then o else None) ≡ None
+no_definition_by true o h = h
+no_definition_by false o h = refl
+
+no_definition : (r : Rest) → is_blank_rest r ≡ true → definition_marker_at r ≡ None
+unfolding definition_marker_at definition_of
+no_definition r h =
+    let q : Rest = all_taken r in
+    no_definition_by (nat_lt (indent r) 4) _
+    (no_definition_of (q.owed == 0) (begins colon q.left) _ (no_colon q.left (blank_columns (indent r) r ∙ h)))
+
+no_marker_where : (may : Bool) (p : Place) → is_blank_rest p.rest ≡ true → marker_where may p ≡ None
+no_marker_where true p h = no_definition p.rest h
+no_marker_where false p h = refl
+
+-- nor does a footnote definition
+bracket_by : (b : ℕ) → (is_white b || ((b == 10) || (b == 13))) ≡ true → (b == 91) ≡ false
+bracket_by b f = grind (arith, nat_tests, f)
+
+no_bracket : (bs : List ℕ) → is_some (blank_len bs) ≡ true → begins left_bracket bs ≡ false
+no_bracket [] h = refl
+no_bracket (b ∷ bs) h = bracket_by b (first_of_blank b bs h)
+
+if_not : (t u : Bool) (o : Option (ℕ × List ℕ)) → t ≡ false → (if t && u then o else None) ≡ None
+if_not true u o h = cc
+if_not false u o h = refl
+
+no_head_by : (prefix : List ℕ → Option ℕ) (bs : List ℕ) → begins left_bracket bs ≡ false → footnote_head prefix false bs ≡ None
+unfolding footnote_head
+no_head_by prefix bs h = if_not (begins left_bracket bs) (begins circumflex (drop 1 bs)) _ h
+
+if_none : (t : Bool) (o : Option (ℕ × List ℕ)) → o ≡ None → (if t then o else None) ≡ None
+if_none true o none = none
+if_none false o none = refl
+
+no_head_at : (around : Context) (p : Place) → is_blank_rest p.rest ≡ true → footnote_head_at around p ≡ None
+unfolding footnote_head_at
+no_head_at around p h =
+    if_none (has around.options footnotes && nat_lt (indent p.rest) 4) (footnote_at false around (unindented p).rest.left)
+    (no_head_by (footnote_prefix around) (unindented p).rest.left (no_bracket (unindented p).rest.left (blank_columns (indent p.rest) p.rest ∙ h)))
+
+-- a blank line at a place
+pub opens_blank : (d : Document) (l : Level) (p : Place) (lines : List Place)
+    → is_blank_rest p.rest ≡ true → Opens d l p lines (OpensLeaf BlankLine Line lines)
+unfolding OpensBy OpensAs
+opens_blank d l p lines h =
+    let opening : Opening = OpensLeaf BlankLine Line lines in
+    let may : Bool = may_define d l in
+    subst (λ o. MatchOption o (OpensBy d l.path p lines (start_at d.options may p) opening) (λ head. OpensFootnote d p lines head opening))
+    (sym (no_head_at (around d l.path) p h))
+    (subst (λ o. OpensBy d l.path p lines o opening)
+    (sym (start_none d.options may p (no_item p.rest h) (no_marker_where may p h) (no_quote p.rest h)))
+    (Blank, blank_kind d.options p.rest h, refl))
+
+-- inside a line that all open containers continue
+pub ready_enter : (d : Document) (defined : Tables) (f : Forest Item) (run : Bool) (line : Place) (lines : List Place) (r : Rest)
+    → after (path_of d.options f) line.rest ≡ Some r → ends_here d.options f run ≡ false → ReadyAt d defined f run Line (line ∷ lines)
+    → ReadyAt d defined f run (Inside (at_rest line r)) lines
+ready_enter d defined f run line lines r is stays ready =
+    let path = open_path d.options f.nodes f.spine ready.frames ready.are_open in
+    record {
+      frames = ready.frames;
+      are_open = ready.are_open;
+      completes = completes-enter d defined (tail (closed_in f) run) ready.frames f.nodes (map (λ (i : TreeIndex). i.0) f.spine) line (at_rest line r) lines
+          (ap (option_map (at_rest line)) (ap (λ z. after z line.rest) (sym path) ∙ is))
+          (goes_on_at d.options f ready.frames run ready.are_open stays) ready.completes;
+      silent = ready.silent;
+    }
+
+or_true : (a : Bool) → (a || true) ≡ true
+or_true true = refl
+or_true false = refl
+
+or_false : (a : Bool) → (a || false) ≡ a
+or_false true = refl
+or_false false = refl
+
+-- whether a blank line counts, by what is innermost
+plain_counts : (run quote : Bool) (closed : Closed) → (run || (not quote || list_is_open (last_plain closed))) ≡ (run || not quote)
+plain_counts run quote closed = ap (λ t. run || (not quote || t)) (plain_not_open closed) ∙ ap (λ t. run || t) (or_false (not quote))
+
+open_counts : (run a : Bool) (last : Last) → list_is_open last ≡ true → (run || (a || list_is_open last)) ≡ true
+open_counts run a last h = ap (λ t. run || (a || t)) h ∙ ap (λ t. run || t) (or_true a) ∙ or_true run
+
+container_counts : (options : Options) (r : Reading) (b : Option ItemBody) (c : Container) → option_and_then (frame_of options) b ≡ Some (InContainer c)
+    → (r.blank || not (is_quote c)) ≡ (blank_read_by r b).blank
+container_counts options r None c h = cc
+container_counts options r (Some (BlockQuoteBody kind)) c h =
+    let same : BlockQuote kind ≡ c = cc in ap (λ z. r.blank || not (is_quote z)) (sym same) ∙ or_false r.blank
+container_counts options r (Some (ListItemBody columns)) c h =
+    let same : ListItem columns ≡ c = cc in ap (λ z. r.blank || not (is_quote z)) (sym same) ∙ or_true r.blank
+container_counts options r (Some (DefinitionListDefinition columns)) c h =
+    let same : Definition columns ≡ c = cc in ap (λ z. r.blank || not (is_quote z)) (sym same) ∙ or_true r.blank
+container_counts options r (Some (FootnoteDefinitionBody label)) c h =
+    let same : FootnoteDefinition (footnote_columns options) ≡ c = cc in ap (λ z. r.blank || not (is_quote z)) (sym same) ∙ or_true r.blank
+container_counts options r (Some (ListBody flags list number)) c h = absurd (items_no_container (flags.0 == 1) (flags.0 == 0) list c h)
+container_counts options r (Some (DefinitionList flags)) c h = absurd (definitions_no_container (flags.0 == 1) (flags.0 == 0) c h)
+container_counts options r (Some b) c h = cc
+
+counts_by : (options : Options) (r : Reading) (closed : Closed) (b : Option ItemBody) (frame : Frame) (frames : List Frame)
+    → option_and_then (frame_of options) b ≡ Some frame → HasDefined (frame ∷ frames) closed
+    → counted_after (frame ∷ frames) (tail closed r.blank) ≡ (blank_read_by r b).blank
+counts_by options r closed b (InContainer c) frames h has = plain_counts r.blank (is_quote c) closed ∙ container_counts options r b c h
+counts_by options r closed b (InList byte loose) frames h has =
+    let l = list_at options b byte loose h in
+    open_counts r.blank (not (in_quote (containers_of frames))) LastItem refl ∙ ap (λ z. (blank_read_by r z).blank) (sym l.3)
+counts_by options r closed b (InDefinitions loose) frames h has =
+    let l = definitions_at options b loose h in
+    open_counts r.blank (not (in_quote (containers_of frames))) (last_defined closed) (defined_open closed has)
+    ∙ ap (λ z. (blank_read_by r z).blank) (sym l.1)
+
+module _ (d : Document) (defined : Tables) (r : Reading) (p : Place) (lines : List Place) (blank : is_blank_rest p.rest ≡ true) where
+  blank_at : (closed : Closed) (frames : List Frame) (s : List TreeIndex) → AreOpen d.options r.tree.nodes s frames → HasDefined frames closed
+      → counted_after frames (tail closed r.blank) ≡ (blank_read_by r (top_in r.tree.nodes s)).blank
+  blank_at closed [] [] o has = plain_counts r.blank false closed ∙ or_true r.blank
+  blank_at closed (frame ∷ frames) [] o has = absurd o
+  blank_at closed [] (ix ∷ rest) o has = absurd o
+  blank_at closed (frame ∷ frames) (ix ∷ rest) o has = counts_by d.options r closed (body_at r.tree.nodes ix.0) frame frames o.0 has
+
+  same_tree : (b : Option ItemBody) → r.empty_item ≡ None → (blank_read_by r b).tree ≡ r.tree
+  same_tree None none = refl
+  same_tree (Some (BlockQuoteBody kind)) none = refl
+  same_tree (Some (ListItemBody columns)) none = rw none refl
+  same_tree (Some (DefinitionListDefinition columns)) none = rw none refl
+  same_tree (Some b) none = refl
+
+  same_none : (b : Option ItemBody) → (blank_read_by r b).empty_item ≡ r.empty_item
+  same_none None = refl
+  same_none (Some (BlockQuoteBody kind)) = refl
+  same_none (Some (ListItemBody columns)) = refl
+  same_none (Some (DefinitionListDefinition columns)) = refl
+  same_none (Some b) = refl
+
+  -- a blank line read where no item is empty
+  pub ready_blank : r.empty_item ≡ None → ReadyAt d defined r.tree r.blank (Inside p) lines → Ready d defined (blank_read r) lines
+  unfolding blank_read
+  ready_blank none ready =
+      let b : Option ItemBody = top_body r.tree in
+      let t : Tail = tail (closed_in r.tree) r.blank in
+      let counts : counted_after ready.frames t ≡ (blank_read_by r b).blank =
+      blank_at (closed_in r.tree) ready.frames r.tree.spine ready.are_open (open_defined d.options r.tree ready.frames ready.are_open) in
+      let now : ReadyAt d defined r.tree (counted_after ready.frames t) Line lines = record {
+        frames = ready.frames;
+        are_open = ready.are_open;
+        completes = completes-blank_line d defined t ready.frames r.tree.nodes (map (λ (i : TreeIndex). i.0) r.tree.spine) p lines lines
+            (opens_blank d (lvl ready.frames t) p lines blank) ready.completes;
+        silent = ready.silent;
+      } in
+      ready_plain d defined (blank_read_by r b) lines (same_none b ∙ none)
+      (subst (λ t. ReadyAt d defined t (blank_read_by r b).blank Line lines) (sym (same_tree b none))
+      (subst (λ t. ReadyAt d defined r.tree t Line lines) counts now))
+
+blank_place : (line : Place) (o : Option Rest) → is_blank_behind o ≡ true → (q : Rest) × (o ≡ Some q) × (is_blank_rest q ≡ true)
+blank_place line None h = cc
+blank_place line (Some q) h = (q, refl, h)
+
+only_blank_by : (d : Document) (defined : Tables) (f : Forest Item) (t : Tail) (e : ℕ) (ix : TreeIndex) (rest : List TreeIndex) (c : Container) (line : Place)
+    (lines : List Place) (frames : List Frame) → frame_at d.options f.nodes ix.0 ≡ Some (InContainer c) → is_quote c ≡ false
+    → is_blank_behind (after (c ∷ path_in d.options f.nodes rest) line.rest) ≡ true → AreOpen d.options f.nodes (ix ∷ rest) frames
+    → CompletesAt d defined t frames f.nodes (ix.0 ∷ map (λ (i : TreeIndex). i.0) rest) (Blanks e) (line ∷ lines)
+    → CompletesAt d defined (tail t.closed true) frames f.nodes (ix.0 ∷ map (λ (i : TreeIndex). i.0) rest) (Blanks e) lines
+only_blank_by d defined f t e ix rest c line lines [] is quote blank o k = absurd o
+only_blank_by d defined f t e ix rest c line lines (InList byte loose ∷ frames) is quote blank o k =
+    (let x : Some (InContainer c) ≡ Some (InList byte loose) = sym is ∙ o.0 in cc)
+only_blank_by d defined f t e ix rest c line lines (InDefinitions loose ∷ frames) is quote blank o k =
+    (let x : Some (InContainer c) ≡ Some (InDefinitions loose) = sym is ∙ o.0 in cc)
+only_blank_by d defined f t e ix rest c line lines (InContainer a ∷ frames) is quote blank o k =
+    let os : List ℕ = ix.0 ∷ map (λ (i : TreeIndex). i.0) rest in
+    let x : Some (InContainer c) ≡ Some (InContainer a) = sym is ∙ o.0 in
+    let same : c ≡ a = cc in
+    let path : path_in d.options f.nodes rest ≡ containers_of frames = open_path d.options f.nodes rest frames o.1 in
+    let b = blank_place line (after (c ∷ containers_of frames) line.rest) (subst (λ z. is_blank_behind (after (c ∷ z) line.rest) ≡ true) path blank) in
+    let k' : CompletesAt d defined t (InContainer c ∷ frames) f.nodes os (Blanks e) (line ∷ lines) =
+    subst (λ z. CompletesAt d defined t (InContainer z ∷ frames) f.nodes os (Blanks e) (line ∷ lines)) (sym same) k in
+    subst (λ z. CompletesAt d defined (tail t.closed true) (InContainer z ∷ frames) f.nodes os (Blanks e) lines) same
+    (completes-only_blank d defined t c frames f.nodes os e line (at_rest line b.0) lines quote
+    (ap (option_map (at_rest line)) b.1) b.2
+    (opens_blank d (lvl (InContainer c ∷ frames) t) (at_rest line b.0) lines b.2) k')
+
+-- a blank line in an item or a definition that takes blank lines alone
+only_blank : (d : Document) (defined : Tables) (f : Forest Item) (run : Bool) (e : ℕ) (ix : TreeIndex) (rest : List TreeIndex) (b : ItemBody) (line : Place)
+    (lines : List Place) → f.spine ≡ ix ∷ rest → body_at f.nodes ix.0 ≡ Some (item_body b 0)
+    → is_blank_behind (after (item_container b 0 ∷ path_in d.options f.nodes rest) line.rest) ≡ true → ReadyAt d defined f run (Blanks e) (line ∷ lines)
+    → ReadyAt d defined f true (Blanks e) lines
+only_blank d defined f run e ix rest b line lines spine item blank ready =
+    let t : Tail = tail (closed_in f) run in
+    let o : AreOpen d.options f.nodes (ix ∷ rest) ready.frames = subst (λ s. AreOpen d.options f.nodes s ready.frames) spine ready.are_open in
+    let k : CompletesAt d defined t ready.frames f.nodes (ix.0 ∷ map (λ (i : TreeIndex). i.0) rest) (Blanks e) (line ∷ lines) =
+    subst (λ s. CompletesAt d defined t ready.frames f.nodes (map (λ (i : TreeIndex). i.0) s) (Blanks e) (line ∷ lines)) spine ready.completes in
+    record {
+      frames = ready.frames;
+      are_open = ready.are_open;
+      completes = subst (λ s. CompletesAt d defined (tail (closed_in f) true) ready.frames f.nodes (map (λ (i : TreeIndex). i.0) s) (Blanks e) lines)
+          (sym spine)
+          (only_blank_by d defined f t e ix rest (item_container b 0) line lines ready.frames
+          (ap (option_and_then (frame_of d.options)) item ∙ item_frame d.options b 0) (item_no_quote b 0) blank o k);
+      silent = ready.silent;
+    }
+
+-- what is below a place alone counts
+pub path_below : (options : Options) (nodes other : List (ℕ × Item)) (n : ℕ) (s : List TreeIndex)
+    → ((i : ℕ) → i < n → body_at other i ≡ body_at nodes i) → AreBelow n (map (λ ix. ix.0) s) → path_in options other s ≡ path_in options nodes s
+path_below options nodes other n [] h b = refl
+path_below options nodes other n (ix ∷ s) h b =
+    let w : ix.0 < n = b.0 in
+    ap (λ o. with_container (option_and_then (container_of options) o) (path_in options other s)) (h ix.0 w)
+    ∙ ap (with_container (container_at options nodes ix)) (path_below options nodes other ix.0 s (λ i l. h i (omega arith)) b.1)
+
+and_true : (a : Bool) → (a && true) ≡ a
+and_true true = refl
+and_true false = refl
+
+-- a blank line read in an item or a definition that is empty
+blank_item_is : (r : Reading) (e : ℕ) (b : ItemBody) (n : ℕ) → r.empty_item ≡ Some e
+    → blank_read_by r (Some (item_body b n)) ≡ record r { tree = emptied_as r.tree (Some (item_body b n)); blank = true }
+blank_item_is r e (DefinitionListDefinition columns) n some =
+    ap (λ o. record r { tree = if is_some o then emptied_definition r.tree r.tree.spine else r.tree; blank = true }) some
+blank_item_is r e b n some = ap (λ o. record r { tree = if is_some o then emptied r.tree r.tree.spine else r.tree; blank = true }) some
+
+-- an item or a definition closed
+item_popped : (r : Reading) (g : Forest Item) (ix : TreeIndex) (b : ItemBody) (n : ℕ)
+    → popped_by r g ix (Some (item_body b n)) ≡ record r { tree = g; empty_item = None }
+item_popped r g ix (DefinitionListDefinition columns) n = refl
+item_popped r g ix b n = refl
+
+module _ (d : Document) (defined : Tables) (r : Reading) (line : Place) (lines : List Place) (rest : Rest)
+    (goes : after (path_of d.options r.tree) line.rest ≡ Some rest) where
+  module _ (e : ℕ) (empty : ReadyEmpty d defined r e (line ∷ lines)) where
+    -- the item or the definition that is empty
+    own : (b : ItemBody) × (body_at r.tree.nodes empty.place.0 ≡ Some (item_body b empty.columns))
+    own =
+        let b = columns_are (body_at r.tree.nodes empty.place.0) empty.columns empty.item in
+        (b.0, b.1 ∙ ap (λ z. Some z) (sym (item_is b.0 empty.columns b.2)))
+
+    abbrev path : List Container
+    path = path_in d.options r.tree.nodes empty.outer
+
+    module _ (b : ItemBody) (is : body_at r.tree.nodes empty.place.0 ≡ Some (item_body b empty.columns)) where
+      abbrev zero_tree : Forest Item
+      zero_tree = with_body_at r.tree empty.place (item_body b 0)
+
+      abbrev change : Item → Item
+      change x = record { start = x.start; «end» = x.«end»; body = item_body b 0 }
+
+      on_path : after (item_container b empty.columns ∷ path) line.rest ≡ Some rest
+      on_path =
+          sym (ap (λ s. after (path_in d.options r.tree.nodes s) line.rest) empty.spine
+          ∙ ap (λ o. after (with_container o path) line.rest) (ap (option_and_then (container_of d.options)) is ∙ item_path d.options b empty.columns)) ∙ goes
+
+      blank_item : is_blank_rest rest ≡ true → is_blank_behind (after (item_container b 0 ∷ path) line.rest) ≡ true
+      blank_item blank = blank_behind b empty.columns path line.rest (ap is_blank_behind on_path ∙ blank)
+
+      top_item : top_body r.tree ≡ Some (item_body b empty.columns)
+      top_item = ap (top_in r.tree.nodes) empty.spine ∙ is
+
+      zero_is : emptied_top r.tree ≡ zero_tree
+      zero_is = ap (emptied_as r.tree) top_item ∙ emptied_is r.tree empty.place empty.outer b empty.columns empty.spine
+
+      zero_body : body_at zero_tree.nodes empty.place.0 ≡ Some (item_body b 0)
+      zero_body = body-changed r.tree.nodes empty.place.0 change (item_body b empty.columns) (item_body b 0) is (λ x h. refl)
+
+      zero_same : empty.columns ≡ 0 → zero_tree ≡ r.tree
+      zero_same none = ap (λ ns. record r.tree { nodes = ns })
+          (not_changed r.tree.nodes empty.place.0 change (item_body b 0) (is ∙ ap (λ n. Some (item_body b n)) none)
+          (λ x h. ap (λ z. node_of x.start x.«end» z) (sym h)))
+
+      -- the nodes around the item stay
+      outer_path : (run : Bool) (from : From) (ls : List Place) → ReadyAt d defined zero_tree run from ls
+          → path_in d.options zero_tree.nodes empty.outer ≡ path
+      outer_path run from ls ready =
+          let below = subst (λ s. AreBelow (length zero_tree.nodes) (map (λ (i : TreeIndex). i.0) s)) empty.spine ready.completes.below in
+          path_below d.options r.tree.nodes zero_tree.nodes empty.place.0 empty.outer (λ i h. body-other r.tree.nodes empty.place.0 i change h) below.1
+
+      emptied_blank : (blank : Bool) → r.blank ≡ blank → is_blank_rest rest ≡ true → ReadyInItem d defined r.tree e (line ∷ lines) blank
+          → ReadyAt d defined zero_tree true (Blanks e) lines
+      emptied_blank true run h ready =
+          let none = empty.none run in
+          let item : body_at r.tree.nodes empty.place.0 ≡ Some (item_body b 0) = is ∙ ap (λ n. Some (item_body b n)) none in
+          subst (λ f. ReadyAt d defined f true (Blanks e) lines) (sym (zero_same none))
+          (only_blank d defined r.tree true e empty.place empty.outer b line lines empty.spine item (blank_item h) ready)
+      emptied_blank false run h ready =
+          let test : next_is_blank (path_of d.options r.tree) (line ∷ lines) ≡ true = ap is_blank_behind goes ∙ h in
+          let now : ReadyAt d defined (emptied_top r.tree) false (Blanks e) (line ∷ lines) =
+          subst (ReadyBeforeLine d defined r.tree e (line ∷ lines)) test ready in
+          let zero : ReadyAt d defined zero_tree false (Blanks e) (line ∷ lines) =
+          subst (λ f. ReadyAt d defined f false (Blanks e) (line ∷ lines)) zero_is now in
+          only_blank d defined zero_tree false e empty.place empty.outer b line lines empty.spine zero_body
+          (subst (λ z. is_blank_behind (after (item_container b 0 ∷ z) line.rest) ≡ true) (sym (outer_path false (Blanks e) (line ∷ lines) zero))
+          (blank_item h)) zero
+
+      -- what is remembered once the blank line is read
+      read_is : r.empty_item ≡ Some e → blank_read r ≡ record r { tree = zero_tree; blank = true }
+      unfolding blank_read
+      read_is some = ap (blank_read_by r) top_item ∙ blank_item_is r e b empty.columns some ∙ ap (λ f. record r { tree = f; blank = true })
+          (emptied_is r.tree empty.place empty.outer b empty.columns empty.spine)
+
+      ready_emptied : r.empty_item ≡ Some e → is_blank_rest rest ≡ true → Ready d defined (blank_read r) lines
+      unfolding Ready
+      ready_emptied some h =
+          let now : Reading = record r { tree = zero_tree; blank = true } in
+          let ready : ReadyEmpty d defined now e lines = record {
+            place = empty.place;
+            outer = empty.outer;
+            columns = 0;
+            spine = empty.spine;
+            item = ap (option_and_then item_columns) zero_body ∙ item_columns_of b 0;
+            none = λ on. refl;
+            ready = emptied_blank r.blank refl h empty.ready;
+          } in
+          subst (λ q. ReadyWith d defined q lines q.empty_item) (sym (read_is some)) (subst (λ o. ReadyWith d defined now lines o) (sym some) ready)
+
+  blank_with : (o : Option ℕ) → r.empty_item ≡ o → ends_here d.options r.tree r.blank ≡ false → is_blank_rest rest ≡ true
+      → ReadyWith d defined r (line ∷ lines) o → Ready d defined (blank_read r) lines
+  blank_with None none stays h ready =
+      ready_blank d defined r (at_rest line rest) lines h none (ready_enter d defined r.tree r.blank line lines rest goes stays ready)
+  blank_with (Some e) some stays h ready = let b = own e ready in ready_emptied e ready b.0 b.1 some h
+
+  -- a blank line read that all open containers continue
+  pub ready_blank_line : ends_here d.options r.tree r.blank ≡ false → is_blank_rest rest ≡ true
+      → Ready d defined r (line ∷ lines) → Ready d defined (blank_read r) lines
+  unfolding Ready
+  ready_blank_line stays h ready = blank_with r.empty_item refl stays h ready
+
+  module _ (e : ℕ) (empty : ReadyEmpty d defined r e (line ∷ lines)) where
+    finished_is : (blank : Bool) → r.blank ≡ blank → item_finished_by r (Some e) ≡ record (if blank then popped e r else r) { empty_item = None }
+    finished_is blank is =
+        let b = own e empty in
+        ap (λ o. record (if r.blank && is_item o then popped e r else r) { empty_item = None }) (top_item e empty b.0 b.1)
+        ∙ ap (λ t. record (if r.blank && t then popped e r else r) { empty_item = None }) (item_true b.0 empty.columns)
+        ∙ ap (λ t. record (if t then popped e r else r) { empty_item = None }) (and_true r.blank ∙ is)
+
+    -- the item ends before a line that isn't blank
+    emptied_ends : (blank : Bool) → r.blank ≡ blank → is_blank_rest rest ≡ false → ReadyInItem d defined r.tree e (line ∷ lines) blank
+        → (
+        let q : Reading = record (if blank then popped e r else r) { empty_item = None } in ReadyAt d defined q.tree q.blank (Inside (at_rest line rest)) lines)
+    emptied_ends true is h ready =
+        let none = empty.none is in
+        let o = own e empty in
+        let b : ItemBody = o.0 in
+        let path : List Container = path_in d.options r.tree.nodes empty.outer in
+        let g : Forest Item = closed_by r.tree e (empty.place ∷ empty.outer) in
+        let item : body_at r.tree.nodes empty.place.0 ≡ Some (item_body b 0) = o.1 ∙ ap (λ n. Some (item_body b n)) none in
+        let on : after (item_container b 0 ∷ path) line.rest ≡ Some rest =
+        ap (λ n. after (item_container b n ∷ path) line.rest) (sym none) ∙ on_path e empty b o.1 in
+        let outer : after path line.rest ≡ Some rest = sym (after_zero b path line.rest) ∙ on in
+        let last : e ≡ end_before (length d.text) path (Blanks e) (Lines (line ∷ lines)) = sym (ap (λ t. if t then e else line.line) (ap is_some outer)) in
+        let before : Before = record { last = last_plain (closed_in r.tree); counted = true } in
+        let left =
+        leave_container d defined r.tree true (Blanks e) (line ∷ lines) e empty.place empty.outer (item_container b 0) empty.spine
+        (ap (option_and_then (frame_of d.options)) item ∙ item_frame d.options b 0)
+        (stops_blank d.options (level (item_container b 0 ∷ path) before) e (line ∷ lines)
+        (ap is_blank_behind on ∙ h)) last ready in
+        let now : popped e r ≡ record r { tree = g; empty_item = None } =
+        popped_as e r empty.place empty.outer (item_body b 0) empty.spine item (item_no_list b 0) ∙ item_popped r g empty.place b 0 in
+        let same : path_of d.options g ≡ path =
+        same_path d.options r.tree.nodes g.nodes (closed_containers e r empty.place empty.outer d.options) empty.outer in
+        let inside : ReadyAt d defined g true (Inside (at_rest line rest)) lines =
+        ready_enter d defined g true line lines rest (ap (λ z. after z line.rest) same ∙ outer)
+        (stays_in_list d defined g true (line ∷ lines) left.ready b 0 left.stands) left.ready in
+        subst (λ (q : Reading). ReadyAt d defined q.tree q.blank (Inside (at_rest line rest)) lines) (sym now)
+        (subst (λ t. ReadyAt d defined g t (Inside (at_rest line rest)) lines) (sym is) inside)
+    emptied_ends false is h ready =
+        let test : next_is_blank (path_of d.options r.tree) (line ∷ lines) ≡ false = ap is_blank_behind goes ∙ h in
+        let now : ReadyAt d defined r.tree false Line (line ∷ lines) = subst (ReadyBeforeLine d defined r.tree e (line ∷ lines)) test ready in
+        subst (λ t. ReadyAt d defined r.tree t (Inside (at_rest line rest)) lines) (sym is)
+        (ready_enter d defined r.tree false line lines rest goes (stays_unblank d.options r.tree) now)
+
+  entered_with : (o : Option ℕ) → ends_here d.options r.tree r.blank ≡ false → is_blank_rest rest ≡ false → ReadyWith d defined r (line ∷ lines) o
+      → (let q : Reading = item_finished_by r o in ReadyAt d defined q.tree q.blank (Inside (at_rest line rest)) lines)
+  entered_with None stays h ready = ready_enter d defined r.tree r.blank line lines rest goes stays ready
+  entered_with (Some e) stays h ready = subst (λ (q : Reading). ReadyAt d defined q.tree q.blank (Inside (at_rest line rest)) lines)
+      (sym (finished_is e ready r.blank refl)) (emptied_ends e ready r.blank refl h ready.ready)
+
+  -- the place in a line that isn't blank, where all open containers continue it
+  pub ready_line : ends_here d.options r.tree r.blank ≡ false → is_blank_rest rest ≡ false → Ready d defined r (line ∷ lines)
+      → ReadyAt d defined (item_finished r).tree (item_finished r).blank (Inside (at_rest line rest)) lines
+  unfolding Ready item_finished
+  ready_line stays h ready = entered_with r.empty_item stays h ready

@@ -1,0 +1,539 @@
+-- What a new block ends: the list that is innermost; and what it notes: a blank line before it.
+use Rattle.std.proofs.Common.{◌≡◌, ℕ, ◌<◌, ◌==◌, Bool, true, false, ◌||◌, List, [], ◌∷◌, map, Option, Some, None, refl, sym, ap, subst}
+use Rattle.std.proofs.Common.{◌∙◌, if◌then◌else◌}
+use Rattle.std.specs.Option.{option_and_then, option_map_or}
+use Rattle.first_pass_items.specs.declared.item.Item.{Item}
+use Rattle.first_pass_items.specs.declared.item.ItemBody.{ItemBody}
+use Rattle.first_pass_items.specs.declared.item.ItemBody.TheVariants.{List as ListBody, DefinitionList, Paragraph as ParagraphBody}
+use Rattle.first_pass_items.specs.declared.item.ListFlags.{ListFlags}
+use Rattle.first_pass_tree.specs.declared.tree_index.TreeIndex.{TreeIndex}
+use Rattle.first_pass_tree.specs.Forest.{Forest, IsForest, with_body_at, body_at}
+use Rattle.first_pass_lines.specs.Places.{Place}
+use Rattle.first_pass_grammar.specs.declared.kind.Container.{Container}
+use Rattle.first_pass_grammar.specs.declared.kind.Container.TheVariants.{BlockQuote, ListItem, FootnoteDefinition, Definition}
+use Rattle.first_pass_grammar.specs.Leaves.{Document}
+use Rattle.first_pass_grammar.specs.Before.{is_paragraph_body, takes_definition as takes_after}
+use Rattle.first_pass_grammar.specs.Skeleton.{Inside, Opening, Opens}
+use Rattle.first_pass_grammar.specs.Derivation.{Tables, node_of, list_flags}
+use Rattle.first_pass_grammar.specs.Completion.{flagged, Closed, OtherClosed, ParagraphAt, DefinitionClosed, TitleAt, Frame, InContainer, InList, InDefinitions}
+use Rattle.first_pass_grammar.specs.Completion.{IsPlain, last_defined}
+use Rattle.first_pass_grammar.specs.WholeTables.{ShowsNothing, SilentClosed}
+use Rattle.first_pass_grammar.proofs.Finishes.{CompletesAt, Tail}
+use Rattle.first_pass_completion.proofs.Extending.{tail, StaysAt, loosened_in}
+use Rattle.first_pass_completion.proofs.EarlierNodes.{IsBefore}
+use Rattle.first_pass_completion.proofs.Moved.{OpensBlock, opens_definition}
+use Rattle.first_pass_completion.proofs.Notes.{completes-note}
+use Rattle.first_pass_completion.proofs.TitleNodes.{reflagged}
+use Rattle.first_pass_completion.proofs.Flags.{completes-reflag, completes-reflag_definition}
+use Rattle.first_pass_completion.proofs.SilentNodes.{from_modified}
+use Rattle.first_pass_lists.specs.Closing.{loosened_by, loosened_at, top_body, top_end, is_definition_list, is_list, possible_title, popped}
+use Rattle.first_pass_lists.specs.Closing.{item_finished_by, item_finished, list_left, gap_tree, gap_noted, list_finished}
+use Rattle.first_pass_lists.specs.declared.reading.Reading.{Reading}
+use Rattle.first_pass_open.specs.Path.{container_of, with_container, path_in, path_of}
+use Rattle.first_pass_ready.specs.State.{frame_of, frame_at, is_footnote_in_another, closed_elsewhere, closed_in, AreOpen, ReadyAt}
+use Rattle.first_pass_ready.proofs.OpenLemmas.{open_path, open_below}
+use Rattle.first_pass_tree.proofs.BodyLemmas.{body-other, body-later, body-changed, changed_alike}
+use Rattle.first_pass_ready.proofs.ListLemmas.{list_flags_of, open_flags}
+use Rattle.first_pass_ready.proofs.ClosedIn.{items_no_container, definitions_no_container, items_no_definitions, definitions_no_items}
+use Rattle.first_pass_ready.proofs.ClosedIn.{definitions_at, list_at, last_below, last_in, level_of, open_level}
+use Rattle.first_pass_ready.proofs.ClosedIn.{closed_same, closed_renamed, top_in, top_no_definitions, IsTitle, title_is}
+use Rattle.first_pass_ready.proofs.PopLemmas.{list_popped, list_spine, ready_as, PlainAfter, EndsItAt, leave_list}
+use Rattle.first_pass_ready.proofs.TitlePops.{title_popped, leave_title}
+use Rattle.first_pass_ready.proofs.StateLemmas.{no_title_at, has_definition, popped_list, popped_title, popped_paths, popped_spine, popped_keeps, same_path}
+use Rattle.first_pass_ready.proofs.StateLemmas.{unnamed}
+use Rattle.first_pass_ready.proofs.Levels.{opens_as, opens_none, plain_last_in, open_before, outer_before}
+use Rattle.first_pass_items.specs.declared.option_set.Options.{Options}
+
+-- the nodes continue at a place in a line, and no list is innermost
+abbrev pub ReadyPlain : Document → Tables → Forest Item → Bool → Place → List Place → Type 0
+ReadyPlain d defined f run p lines = (q : ReadyAt d defined f run (Inside p) lines) × IsPlain q.frames
+
+-- what opens at a place ends the list that is innermost, at an offset, where this is last in it
+abbrev pub EndsListAt : ℕ → Option ItemBody → Closed → Opening → Type 0
+EndsListAt at None closed opening = Unit {0}
+EndsListAt at (Some b) closed opening = EndsItAt at b closed opening
+
+no_items : (options : Options) (b : Option ItemBody) (byte : ℕ) (loose : Bool) → option_and_then (frame_of options) b ≡ Some (InList byte loose)
+    → is_list b ≡ false → ⊥
+no_items options b byte loose h n = let l = list_at options b byte loose h in let z : is_list b ≡ true = ap is_list l.3 in cc
+
+no_definitions : (options : Options) (b : Option ItemBody) (loose : Bool) → option_and_then (frame_of options) b ≡ Some (InDefinitions loose)
+    → is_list b ≡ false → ⊥
+no_definitions options b loose h n = let l = definitions_at options b loose h in let z : is_list b ≡ true = ap is_list l.1 in cc
+
+pub plain_by : (options : Options) (nodes : List (ℕ × Item)) (s : List TreeIndex) (frames : List Frame)
+    → AreOpen options nodes s frames → is_list (top_in nodes s) ≡ false → IsPlain frames
+plain_by options nodes [] [] o n = tt
+plain_by options nodes [] (frame ∷ frames) o n = absurd o
+plain_by options nodes (ix ∷ s) [] o n = absurd o
+plain_by options nodes (ix ∷ s) (InContainer c ∷ frames) o n = tt
+plain_by options nodes (ix ∷ s) (InList byte loose ∷ frames) o n = absurd (no_items options (body_at nodes ix.0) byte loose o.0 n)
+plain_by options nodes (ix ∷ s) (InDefinitions loose ∷ frames) o n = absurd (no_definitions options (body_at nodes ix.0) loose o.0 n)
+
+-- what is closed is no container
+left_path : (options : Options) (r : Reading) (at : ℕ) (ix : TreeIndex) (rest : List TreeIndex) (b : ItemBody) → container_of options b ≡ None
+    → r.tree.spine ≡ ix ∷ rest → body_at r.tree.nodes ix.0 ≡ Some b → path_of options (popped at r).tree ≡ path_of options r.tree
+left_path options r at ix rest b none spine is =
+    popped_paths at r ix rest options spine (popped at r).tree.spine ∙ ap (path_in options r.tree.nodes) (popped_spine at r ix rest spine)
+    ∙ sym (ap (path_in options r.tree.nodes) spine
+    ∙ ap (λ o. with_container (option_and_then (container_of options) o) (path_in options r.tree.nodes rest)) is
+    ∙ ap (λ o. with_container o (path_in options r.tree.nodes rest)) none)
+
+pub path_left : (options : Options) (r : Reading) (at : ℕ) (s : List TreeIndex) (b : Option ItemBody)
+    → r.tree.spine ≡ s → top_in r.tree.nodes s ≡ b
+    → path_of options (if is_list b then popped at r else r).tree ≡ path_of options r.tree
+path_left options r at [] None spine is = refl
+path_left options r at [] (Some b) spine is = cc
+path_left options r at (ix ∷ rest) None spine is = refl
+path_left options r at (ix ∷ rest) (Some (ListBody flags list number)) spine is =
+    left_path options r at ix rest (ListBody flags list number) refl spine is
+path_left options r at (ix ∷ rest) (Some (DefinitionList flags)) spine is = left_path options r at ix rest (DefinitionList flags) refl spine is
+path_left options r at (ix ∷ rest) (Some b) spine is = refl
+
+-- what is remembered once the list that is innermost, if one is, is closed
+pub kept_left : (r : Reading) (at : ℕ) (s : List TreeIndex) (b : Option ItemBody) → r.tree.spine ≡ s → top_in r.tree.nodes s ≡ b
+    → ((if is_list b then popped at r else r).blank ≡ r.blank)
+    × (r.empty_item ≡ None → (if is_list b then popped at r else r).empty_item ≡ None)
+kept_left r at [] None spine is = (refl, λ none. none)
+kept_left r at [] (Some b) spine is = cc
+kept_left r at (ix ∷ rest) None spine is = (refl, λ none. none)
+kept_left r at (ix ∷ rest) (Some (ListBody flags list number)) spine is = popped_keeps at r ix rest spine
+kept_left r at (ix ∷ rest) (Some (DefinitionList flags)) spine is = popped_keeps at r ix rest spine
+kept_left r at (ix ∷ rest) (Some b) spine is = (refl, λ none. none)
+
+-- after a possible title a definition may begin
+takes_title : (f : Forest Item) (title : TreeIndex) (t : IsTitle f title) → takes_after (last_in f) ≡ true
+takes_title f title t =
+    ap (λ z. takes_after (last_below z (closed_in f))) t.top ∙ ap (λ z. takes_after (last_defined z)) t.closed
+
+-- the nodes continue at a place, no list is innermost, and the same opens there
+pub record LeftPlain (d : Document) (defined : Tables) (f : Forest Item) (run : Bool) (p : Place) (lines : List Place) (opening : Opening) : Type 0 where
+  pub ready : ReadyPlain d defined f run p lines
+  pub opens : Opens d (level_of d.options f run) p lines opening
+  pub before : (ix jx : TreeIndex) (s : List TreeIndex) → f.spine ≡ ix ∷ jx ∷ s → IsBefore jx.0 (closed_in f)
+
+module _ (d : Document) (defined : Tables) (r : Reading) (p : Place) (lines : List Place) (at : ℕ) (opening : Opening) (forest : IsForest r.tree)
+    (stays : StaysAt d (path_of d.options r.tree) p) (opens : Opens d (level_of d.options r.tree r.blank) p lines opening)
+    (block : OpensBlock opening) (other : opens_definition opening ≡ false) where
+  abbrev LeftAs : Forest Item → Type 0
+  LeftAs f = LeftPlain d defined f r.blank p lines opening
+
+  -- a list without a possible title
+  left_list : (ix : TreeIndex) (rest : List TreeIndex) (b : ItemBody) (flags : ListFlags) → container_of d.options b ≡ None → r.tree.spine ≡ ix ∷ rest
+      → body_at r.tree.nodes ix.0 ≡ Some b → list_flags_of b ≡ Some flags → possible_title r.tree ≡ None → EndsItAt at b (closed_in r.tree) opening
+      → ReadyAt d defined r.tree r.blank (Inside p) lines → LeftAs (popped at r).tree
+  left_list ix rest b flags no_path spine is listed none away ready =
+      let q = leave_list d defined r.tree r.blank lines at ix rest b flags forest spine is listed p opening
+      (has_definition r.tree ix rest b spine is none) stays opens away ready in
+      let now = popped_list at r ix rest b flags spine is listed none in
+      let last : takes_after (last_in (list_popped r.tree at ix rest flags)) ≡ false =
+      ap takes_after (plain_last_in d.options (list_popped r.tree at ix rest flags) q.ready.frames OtherClosed q.ready.are_open q.plain q.last) in
+      let path = ap (λ (z : Reading). path_of d.options z.tree) (sym now) ∙ left_path d.options r at ix rest b no_path spine is in
+      subst (λ (z : Reading). LeftAs z.tree) (sym now) (record {
+        ready = (q.ready, q.plain);
+        opens = opens_none d r.tree (list_popped r.tree at ix rest flags) r.blank r.blank p lines opening path other last opens;
+        before = λ a b s e. subst (IsBefore b.0) (sym q.last) tt;
+      })
+
+  -- a definition list with one
+  left_title : (ix : TreeIndex) (rest : List TreeIndex) (flags : ListFlags) (title : TreeIndex) → r.tree.spine ≡ ix ∷ rest
+      → body_at r.tree.nodes ix.0 ≡ Some (DefinitionList flags) → possible_title r.tree ≡ Some title
+      → ReadyAt d defined r.tree r.blank (Inside p) lines → LeftAs (popped at r).tree
+  left_title ix rest flags title spine is titled ready =
+      let t = title_is r.tree title titled in
+      let q = leave_title d defined r.tree r.blank lines ix rest title forest spine t p opening stays opens block other ready in
+      let now = popped_title at r ix rest title t spine titled in
+      let g : Forest Item = title_popped r.tree (top_end r.tree) ix rest t.flags title in
+      let last : takes_after (last_in g) ≡ true =
+      ap takes_after (plain_last_in d.options g q.ready.frames (ParagraphAt title.0) q.ready.are_open q.plain q.last) in
+      let before : takes_after (last_in r.tree) ≡ true = takes_title r.tree title t in
+      let path = ap (λ (z : Reading). path_of d.options z.tree) (sym now) ∙ left_path d.options r at ix rest (DefinitionList flags) refl spine is in
+      subst (λ (z : Reading). LeftAs z.tree) (sym now) (record {
+        ready = (q.ready, q.plain);
+        opens = opens_as d r.tree g r.blank r.blank p lines opening path (before ∙ sym last) opens;
+        before = λ a b s e. subst (IsBefore b.0) (sym q.last)
+            (outer_before r.tree ix a b title rest s forest spine
+            (sym (list_spine (with_body_at r.tree title ParagraphBody) (top_end r.tree) ix rest t.flags) ∙ e)
+            t.current);
+      })
+
+  definitions_left : (ix : TreeIndex) (rest : List TreeIndex) (flags : ListFlags) (o : Option TreeIndex) → possible_title r.tree ≡ o → r.tree.spine ≡ ix ∷ rest
+      → body_at r.tree.nodes ix.0 ≡ Some (DefinitionList flags) → EndsItAt at (DefinitionList flags) (closed_in r.tree) opening
+      → ReadyAt d defined r.tree r.blank (Inside p) lines → LeftAs (popped at r).tree
+  definitions_left ix rest flags None none spine is away ready = left_list ix rest (DefinitionList flags) flags refl spine is refl none away ready
+  definitions_left ix rest flags (Some title) titled spine is away ready = left_title ix rest flags title spine is titled ready
+
+  still : is_list (top_body r.tree) ≡ false → ReadyAt d defined r.tree r.blank (Inside p) lines → LeftAs r.tree
+  still h ready = record {
+    ready = (ready, plain_by d.options r.tree.nodes r.tree.spine ready.frames ready.are_open h);
+    opens = opens;
+    before = λ ix jx s e. open_before r.tree ix jx s forest e;
+  }
+
+  left_by : (s : List TreeIndex) (b : Option ItemBody) → r.tree.spine ≡ s → top_in r.tree.nodes s ≡ b → EndsListAt at b (closed_in r.tree) opening
+      → ReadyAt d defined r.tree r.blank (Inside p) lines → LeftAs (if is_list b then popped at r else r).tree
+  left_by [] None spine is away ready = still (ap (λ z. is_list (top_in r.tree.nodes z)) spine) ready
+  left_by [] (Some b) spine is away ready = cc
+  left_by (ix ∷ rest) None spine is away ready = still (ap (λ z. is_list (top_in r.tree.nodes z)) spine ∙ ap is_list is) ready
+  left_by (ix ∷ rest) (Some (ListBody flags list number)) spine is away ready =
+      left_list ix rest (ListBody flags list number) flags refl spine is refl
+      (no_title_at r.tree ix rest (ListBody flags list number) spine is refl) away ready
+  left_by (ix ∷ rest) (Some (DefinitionList flags)) spine is away ready =
+      definitions_left ix rest flags (possible_title r.tree) refl spine is away ready
+  left_by (ix ∷ rest) (Some b) spine is away ready = still (ap (λ z. is_list (top_in r.tree.nodes z)) spine ∙ ap is_list is) ready
+
+  -- the list that is innermost, if one is, closed
+  pub ready_left : EndsListAt at (top_body r.tree) (closed_in r.tree) opening → ReadyAt d defined r.tree r.blank (Inside p) lines
+      → LeftAs (list_left at r).tree
+  ready_left away ready = left_by r.tree.spine (top_body r.tree) refl refl away ready
+
+or_true : (a : Bool) → (a || true) ≡ true
+or_true true = refl
+or_true false = refl
+
+-- a list of either kind that is made loose
+pub loosened_is : (f : Forest Item) (ix : TreeIndex) (b : ItemBody) (flags : ListFlags) → list_flags_of b ≡ Some flags
+    → loosened_by f ix (Some b) ≡ with_body_at f ix (flagged true b)
+loosened_is f ix (ListBody flags list number) other h = refl
+loosened_is f ix (DefinitionList flags) other h = refl
+loosened_is f ix b other h = cc
+
+pub loose_is : (f : Forest Item) (ix : TreeIndex) (b : ItemBody) (flags : ListFlags) → body_at f.nodes ix.0 ≡ Some b → list_flags_of b ≡ Some flags
+    → (loosened_at f ix).nodes ≡ reflagged f.nodes ix.0 true
+unfolding reflagged
+loose_is f ix b flags is listed =
+    ap (λ z. (loosened_by f ix z).nodes) is ∙ ap (λ (z : Forest Item). z.nodes) (loosened_is f ix b flags listed)
+    ∙ changed_alike f.nodes ix.0 _ _ b is (λ x h. ap (λ z. node_of x.start x.«end» (flagged true z)) (sym h))
+
+pub loosened_spine : (f : Forest Item) (ix : TreeIndex) (b : Option ItemBody) → (loosened_by f ix b).spine ≡ f.spine
+loosened_spine f ix None = refl
+loosened_spine f ix (Some (ListBody flags list number)) = refl
+loosened_spine f ix (Some (DefinitionList flags)) = refl
+loosened_spine f ix (Some b) = refl
+
+pub loosened_paths : (options : Options) (f : Forest Item) (ix : TreeIndex) (b : Option ItemBody)
+    → body_at f.nodes ix.0 ≡ b → (s : List TreeIndex) → path_in options (loosened_by f ix b).nodes s ≡ path_in options f.nodes s
+loosened_paths options f ix None is s = refl
+loosened_paths options f ix (Some (ListBody flags list number)) is s =
+    same_path options f.nodes (with_body_at f ix (ListBody (list_flags false) list number)).nodes
+    (unnamed options f.nodes ix.0 (ListBody flags list number) (ListBody (list_flags false) list number) refl refl is) s
+loosened_paths options f ix (Some (DefinitionList flags)) is s =
+    same_path options f.nodes (with_body_at f ix (DefinitionList (list_flags false))).nodes
+    (unnamed options f.nodes ix.0 (DefinitionList flags) (DefinitionList (list_flags false)) refl refl is) s
+loosened_paths options f ix (Some b) is s = refl
+
+-- the frame of a list that is made loose
+abbrev pub loose_frame_of : Frame → Frame
+loose_frame_of (InContainer c) = InContainer c
+loose_frame_of (InList byte loose) = InList byte (loose || true)
+loose_frame_of (InDefinitions loose) = InDefinitions (loose || true)
+
+loose_frame_by : (options : Options) (b : ItemBody) (flags : ListFlags) (frame : Frame) → list_flags_of b ≡ Some flags → frame_of options b ≡ Some frame
+    → frame_of options (flagged true b) ≡ Some (loose_frame_of frame)
+loose_frame_by options (ListBody flags list number) other (InContainer c) listed h =
+    absurd (items_no_container (flags.0 == 1) (flags.0 == 0) list c h)
+loose_frame_by options (ListBody flags list number) other (InList byte loose) listed h =
+    let set = open_flags options flags list number byte loose h in
+    ap (λ b. Some (InList b true)) set.0 ∙ ap (λ l. Some (InList byte l)) (sym (or_true loose))
+loose_frame_by options (ListBody flags list number) other (InDefinitions loose) listed h =
+    absurd (items_no_definitions (flags.0 == 1) (flags.0 == 0) list loose h)
+loose_frame_by options (DefinitionList flags) other (InContainer c) listed h =
+    absurd (definitions_no_container (flags.0 == 1) (flags.0 == 0) c h)
+loose_frame_by options (DefinitionList flags) other (InList byte loose) listed h =
+    absurd (definitions_no_items (flags.0 == 1) (flags.0 == 0) byte loose h)
+loose_frame_by options (DefinitionList flags) other (InDefinitions loose) listed h = ap (λ l. Some (InDefinitions l)) (sym (or_true loose))
+loose_frame_by options b other frame listed h = cc
+
+pub loose_frame : (options : Options) (f : Forest Item) (ix : TreeIndex) (b : ItemBody) (flags : ListFlags) (frame : Frame)
+    → body_at f.nodes ix.0 ≡ Some b → list_flags_of b ≡ Some flags → frame_at options f.nodes ix.0 ≡ Some frame
+    → frame_at options (loosened_at f ix).nodes ix.0 ≡ Some (loose_frame_of frame)
+loose_frame options f ix b flags frame is listed framed =
+    let now : body_at (loosened_at f ix).nodes ix.0 ≡ Some (flagged true b) =
+    ap (λ z. body_at (loosened_by f ix z).nodes ix.0) is ∙ ap (λ (z : Forest Item). body_at z.nodes ix.0) (loosened_is f ix b flags listed)
+    ∙ body-changed f.nodes ix.0 _ b (flagged true b) is (λ x h. refl) in
+    ap (option_and_then (frame_of options)) now
+    ∙ loose_frame_by options b flags frame listed (sym (ap (option_and_then (frame_of options)) is) ∙ framed)
+
+-- a list that is made loose, around what is innermost: what is last stays
+list_no_paragraph : (b : ItemBody) (flags : ListFlags) → list_flags_of b ≡ Some flags → is_paragraph_body b ≡ false
+list_no_paragraph (ListBody flags list number) other h = refl
+list_no_paragraph (DefinitionList flags) other h = refl
+list_no_paragraph b other h = cc
+
+flagged_no_paragraph : (b : ItemBody) (flags : ListFlags) → list_flags_of b ≡ Some flags → is_paragraph_body (flagged true b) ≡ false
+flagged_no_paragraph (ListBody flags list number) other h = refl
+flagged_no_paragraph (DefinitionList flags) other h = refl
+flagged_no_paragraph b other h = cc
+
+silent_flagged : (loose : Bool) (b : ItemBody) → ShowsNothing b → ShowsNothing (flagged loose b)
+silent_flagged loose (ListBody flags list number) h = λ names depth start end. refl
+silent_flagged loose (DefinitionList flags) h = λ names depth start end. refl
+silent_flagged loose b h = h
+
+silent_reflagged : (nodes : List (ℕ × Item)) (o : ℕ) (loose : Bool) (closed : Closed) → SilentClosed nodes closed
+    → SilentClosed (reflagged nodes o loose) closed
+unfolding reflagged
+silent_reflagged nodes o loose OtherClosed h = tt
+silent_reflagged nodes o loose (ParagraphAt at) h = from_modified nodes o at _ (λ x k. silent_flagged loose x.body k) h
+silent_reflagged nodes o loose (DefinitionClosed e blanks) h = tt
+silent_reflagged nodes o loose (TitleAt e at) h = from_modified nodes o at _ (λ x k. silent_flagged loose x.body k) h
+
+-- the list around a container, which may be loose then
+reflag_around : (d : Document) (defined : Tables) (closed : Closed) (c : Container) (frame : Frame) (frames : List Frame) (nodes : List (ℕ × Item))
+    (x o : ℕ) (os : List ℕ) (p : Place) (lines : List Place) → ((b : Container) → frame ≡ InContainer b → ⊥) → IsBefore o closed
+    → CompletesAt d defined (tail closed false) (InContainer c ∷ frame ∷ frames) nodes (x ∷ o ∷ os) (Inside p) lines
+    → CompletesAt d defined (tail closed false) (InContainer c ∷ frame ∷ frames) (reflagged nodes o true) (x ∷ o ∷ os) (Inside p) lines
+reflag_around d defined closed c (InContainer b) frames nodes x o os p lines none before k = absurd (none b refl)
+reflag_around d defined closed c (InList byte loose) frames nodes x o os p lines none before k =
+    completes-reflag d defined (tail closed false) c byte loose true frames nodes x o os (Inside p) lines before k
+reflag_around d defined closed (Definition columns) (InDefinitions loose) frames nodes x o os p lines none before k =
+    completes-reflag_definition d defined (tail closed false) columns loose true frames nodes x o os (Inside p) lines before k
+reflag_around d defined closed (BlockQuote kind) (InDefinitions loose) frames nodes x o os p lines none before k = absurd k.shape.0
+reflag_around d defined closed (ListItem columns) (InDefinitions loose) frames nodes x o os p lines none before k = absurd k.shape.0
+reflag_around d defined closed (FootnoteDefinition columns) (InDefinitions loose) frames nodes x o os p lines none before k = absurd k.shape.0
+
+list_frame_only : (options : Options) (b : ItemBody) (flags : ListFlags) (frame : Frame) → list_flags_of b ≡ Some flags → frame_of options b ≡ Some frame
+    → (c : Container) → frame ≡ InContainer c → ⊥
+list_frame_only options (ListBody flags list number) other frame listed h c is =
+    items_no_container (flags.0 == 1) (flags.0 == 0) list c (h ∙ ap (λ z. Some z) is)
+list_frame_only options (DefinitionList flags) other frame listed h c is =
+    definitions_no_container (flags.0 == 1) (flags.0 == 0) c (h ∙ ap (λ z. Some z) is)
+list_frame_only options b other frame listed h c is = cc
+
+loose_only : (frame : Frame) → ((c : Container) → frame ≡ InContainer c → ⊥) → (c : Container) → loose_frame_of frame ≡ InContainer c → ⊥
+loose_only (InContainer b) none c is = none b refl
+loose_only (InList byte loose) none c is = cc
+loose_only (InDefinitions loose) none c is = cc
+
+-- no list is a container
+no_list_at : (options : Options) (b : Option ItemBody) (c : Container) → option_and_then (frame_of options) b ≡ Some (InContainer c) → (f : Forest Item)
+    (ix : TreeIndex) → loosened_by f ix b ≡ f
+no_list_at options None c h f ix = refl
+no_list_at options (Some (ListBody flags list number)) c h f ix = absurd (items_no_container (flags.0 == 1) (flags.0 == 0) list c h)
+no_list_at options (Some (DefinitionList flags)) c h f ix = absurd (definitions_no_container (flags.0 == 1) (flags.0 == 0) c h)
+no_list_at options (Some b) c h f ix = refl
+
+-- no footnote definition is directly in another one then either
+apart_loose : (frame : Frame) (frames : List Frame) → ((b : Container) → frame ≡ InContainer b → ⊥)
+    → is_footnote_in_another (loose_frame_of frame) frames ≡ false
+apart_loose (InContainer b) frames none = absurd (none b refl)
+apart_loose (InList byte loose) frames none = refl
+apart_loose (InDefinitions loose) frames none = refl
+
+apart_in : (c : Container) (frame : Frame) (frames : List Frame) → ((b : Container) → frame ≡ InContainer b → ⊥)
+    → is_footnote_in_another (InContainer c) (frame ∷ frames) ≡ false → is_footnote_in_another (InContainer c) (loose_frame_of frame ∷ frames) ≡ false
+apart_in c (InContainer b) frames none h = h
+apart_in c (InList byte loose) frames none h = h
+apart_in c (InDefinitions loose) frames none h = h
+
+-- the frames around a container with a gap noted, where the outer is a list's
+loosened_frames : (c : Container) (frame : Frame) (frames : List Frame) → ((b : Container) → frame ≡ InContainer b → ⊥)
+    → loosened_in true (InContainer c ∷ frame ∷ frames) ≡ InContainer c ∷ loose_frame_of frame ∷ frames
+loosened_frames c (InContainer b) frames none = refl
+loosened_frames c (InList byte loose) frames none = refl
+loosened_frames c (InDefinitions loose) frames none = refl
+
+module _ (d : Document) (defined : Tables) (f : Forest Item) (p : Place) (lines : List Place) (opening : Opening)
+    (before : (ix jx : TreeIndex) (s : List TreeIndex) → f.spine ≡ ix ∷ jx ∷ s → IsBefore jx.0 (closed_in f))
+    (stays : StaysAt d (path_of d.options f) p) (opens : Opens d (level_of d.options f true) p lines opening) (block : OpensBlock opening)
+    (other : opens_definition opening ≡ false) where
+  abbrev t : Tail
+  t = tail (closed_in f) true
+
+  noted_at : (frames : List Frame)
+      → IsPlain frames → AreOpen d.options f.nodes f.spine frames
+      → CompletesAt d defined t frames f.nodes (map (λ (i : TreeIndex). i.0) f.spine) (Inside p) lines
+      → CompletesAt d defined (tail (closed_in f) false) (loosened_in true frames) f.nodes (map (λ (i : TreeIndex). i.0) f.spine) (Inside p) lines
+  noted_at frames plain o k =
+      completes-note d defined t frames f.nodes (map (λ (i : TreeIndex). i.0) f.spine) p lines opening plain
+      (subst (λ z. StaysAt d z p) (open_path d.options f.nodes f.spine frames o) stays)
+      (subst (λ z. Opens d z p lines opening) (open_level d.options f frames true o) opens) block other k
+
+  -- where no list is around what is innermost
+  noted_still : (frames : List Frame) → SilentClosed f.nodes (closed_in f) → loosened_in true frames ≡ frames → IsPlain frames
+      → AreOpen d.options f.nodes f.spine frames
+      → CompletesAt d defined t frames f.nodes (map (λ (i : TreeIndex). i.0) f.spine) (Inside p) lines
+      → PlainAfter d defined f false (Inside p) lines (closed_in f)
+  noted_still frames silent same plain o k =
+      let q : ReadyAt d defined f false (Inside p) lines =
+      ready_as d defined f false (Inside p) lines frames (closed_in f) refl o silent
+      (subst (λ z. CompletesAt d defined (tail (closed_in f) false) z f.nodes (map (λ (i : TreeIndex). i.0) f.spine) (Inside p) lines) same
+      (noted_at frames plain o k)) in
+      record { ready = q; plain = plain; last = refl }
+
+  -- where one is
+  noted_loose : (ix jx : TreeIndex) (s : List TreeIndex) (c : Container) (frame : Frame) (frames : List Frame) (b : ItemBody) (flags : ListFlags)
+      → f.spine ≡ ix ∷ jx ∷ s → SilentClosed f.nodes (closed_in f) → body_at f.nodes jx.0 ≡ Some b → list_flags_of b ≡ Some flags
+      → AreOpen d.options f.nodes (ix ∷ jx ∷ s) (InContainer c ∷ frame ∷ frames)
+      → CompletesAt d defined (tail (closed_in f) false) (InContainer c ∷ loose_frame_of frame ∷ frames) f.nodes (ix.0 ∷ jx.0 ∷ map (λ (i : TreeIndex). i.0) s)
+      (Inside p) lines
+      → PlainAfter d defined (loosened_at f jx) false (Inside p) lines (closed_in f)
+  noted_loose ix jx s c frame frames b flags spine silent is listed o k =
+      let g : Forest Item = loosened_at f jx in
+      let now : Forest Item = with_body_at f jx (flagged true b) in
+      let as_now : g ≡ now = ap (loosened_by f jx) is ∙ loosened_is f jx b flags listed in
+      let change : Item → Item = λ x. record { start = x.start; «end» = x.«end»; body = flagged true b } in
+      let nodes : g.nodes ≡ reflagged f.nodes jx.0 true = loose_is f jx b flags is listed in
+      let same : g.spine ≡ ix ∷ jx ∷ s = loosened_spine f jx (body_at f.nodes jx.0) ∙ spine in
+      let below : jx.0 < ix.0 = k.below.1.0 in
+      let top_is : body_at g.nodes ix.0 ≡ body_at f.nodes ix.0 =
+      ap (λ (z : Forest Item). body_at z.nodes ix.0) as_now ∙ body-later f.nodes jx.0 ix.0 change below in
+      let first : frame_at d.options g.nodes ix.0 ≡ Some (InContainer c) = ap (option_and_then (frame_of d.options)) top_is ∙ o.0 in
+      let outer : AreOpen d.options g.nodes s frames =
+      subst (λ (z : Forest Item). AreOpen d.options z.nodes s frames) (sym as_now)
+      (open_below d.options f.nodes now.nodes jx.0 s frames (λ i h. ap (option_and_then (frame_of d.options)) (body-other f.nodes jx.0 i change h))
+      k.below.1.1 o.1.1) in
+      let own : frame_of d.options b ≡ Some frame = sym (ap (option_and_then (frame_of d.options)) is) ∙ o.1.0 in
+      let none = list_frame_only d.options b flags frame listed own in
+      let opened : AreOpen d.options g.nodes (ix ∷ jx ∷ s) (InContainer c ∷ loose_frame_of frame ∷ frames) =
+      (first, (loose_frame d.options f jx b flags frame is listed o.1.0, outer, apart_loose frame frames none), apart_in c frame frames none o.2) in
+      let old_top : is_definition_list (top_body f) ≡ false = ap (λ z. is_definition_list (top_in f.nodes z)) spine
+      ∙ top_no_definitions d.options (body_at f.nodes ix.0) (InContainer c ∷ frame ∷ frames) o.0 tt in
+      let new_top : is_definition_list (top_body g) ≡ false = ap (λ z. is_definition_list (top_in g.nodes z)) same
+      ∙ top_no_definitions d.options (body_at g.nodes ix.0) (InContainer c ∷ frame ∷ frames) first tt in
+      let last : closed_in g ≡ closed_in f =
+      closed_same f g old_top new_top (ap (λ (z : Forest Item). z.current) as_now)
+      (λ i. ap (λ (z : Forest Item). option_map_or (closed_elsewhere i) (body_at z.nodes i) OtherClosed) as_now
+      ∙ closed_renamed f.nodes jx.0 b (flagged true b) (list_no_paragraph b flags listed) (flagged_no_paragraph b flags listed) is i i) in
+      let done = reflag_around d defined (closed_in f) c (loose_frame_of frame) frames f.nodes ix.0 jx.0 (map (λ (i : TreeIndex). i.0) s) p lines
+      (loose_only frame none) (before ix jx s spine) k in
+      let q : ReadyAt d defined g false (Inside p) lines =
+      ready_as d defined g false (Inside p) lines (InContainer c ∷ loose_frame_of frame ∷ frames) (closed_in f) last
+      (subst (λ z. AreOpen d.options g.nodes z (InContainer c ∷ loose_frame_of frame ∷ frames)) (sym same) opened)
+      (subst (λ z. SilentClosed z (closed_in f)) (sym nodes) (silent_reflagged f.nodes jx.0 true (closed_in f) silent))
+      (subst (λ z. CompletesAt d defined (tail (closed_in f) false) (InContainer c ∷ loose_frame_of frame ∷ frames) g.nodes (map (λ (i : TreeIndex). i.0) z)
+      (Inside p) lines) (sym same)
+      (subst (λ z. CompletesAt d defined (tail (closed_in f) false) (InContainer c ∷ loose_frame_of frame ∷ frames) z
+      (ix.0 ∷ jx.0 ∷ map (λ (i : TreeIndex). i.0) s) (Inside p) lines) (sym nodes) done)) in
+      record { ready = q; plain = tt; last = last }
+
+  -- what is opened by these, of the tree's own
+  opened_here : (s : List TreeIndex) (frames : List Frame) → f.spine ≡ s → AreOpen d.options f.nodes s frames → AreOpen d.options f.nodes f.spine frames
+  opened_here s frames spine o = subst (λ z. AreOpen d.options f.nodes z frames) (sym spine) o
+
+  becoming_here : (s : List TreeIndex) (frames : List Frame) → f.spine ≡ s
+      → CompletesAt d defined t frames f.nodes (map (λ (i : TreeIndex). i.0) s) (Inside p) lines
+      → CompletesAt d defined t frames f.nodes (map (λ (i : TreeIndex). i.0) f.spine) (Inside p) lines
+  becoming_here s frames spine k =
+      subst (λ z. CompletesAt d defined t frames f.nodes (map (λ (i : TreeIndex). i.0) z) (Inside p) lines) (sym spine) k
+
+  noted_around : (ix jx : TreeIndex) (s : List TreeIndex) (c : Container) (frame : Frame) (frames : List Frame) (b : ItemBody) (flags : ListFlags)
+      → f.spine ≡ ix ∷ jx ∷ s → SilentClosed f.nodes (closed_in f) → body_at f.nodes jx.0 ≡ Some b → list_flags_of b ≡ Some flags
+      → AreOpen d.options f.nodes (ix ∷ jx ∷ s) (InContainer c ∷ frame ∷ frames)
+      → CompletesAt d defined t (InContainer c ∷ frame ∷ frames) f.nodes (ix.0 ∷ jx.0 ∷ map (λ (i : TreeIndex). i.0) s) (Inside p) lines
+      → PlainAfter d defined (loosened_at f jx) false (Inside p) lines (closed_in f)
+  noted_around ix jx s c frame frames b flags spine silent is listed o k =
+      let here : List Frame = InContainer c ∷ frame ∷ frames in
+      let own : frame_of d.options b ≡ Some frame = sym (ap (option_and_then (frame_of d.options)) is) ∙ o.1.0 in
+      let noted = noted_at here tt (opened_here (ix ∷ jx ∷ s) here spine o) (becoming_here (ix ∷ jx ∷ s) here spine k) in
+      noted_loose ix jx s c frame frames b flags spine silent is listed o
+      (subst (λ z. CompletesAt d defined (tail (closed_in f) false) z f.nodes (ix.0 ∷ jx.0 ∷ map (λ (i : TreeIndex). i.0) s) (Inside p) lines)
+      (loosened_frames c frame frames (list_frame_only d.options b flags frame listed own))
+      (subst (λ z. CompletesAt d defined (tail (closed_in f) false) (loosened_in true here) f.nodes (map (λ (i : TreeIndex). i.0) z) (Inside p) lines)
+      spine noted))
+
+  noted_by : (s : List TreeIndex) (frames : List Frame) → f.spine ≡ s → SilentClosed f.nodes (closed_in f) → IsPlain frames
+      → AreOpen d.options f.nodes s frames
+      → CompletesAt d defined t frames f.nodes (map (λ (i : TreeIndex). i.0) s) (Inside p) lines
+      → PlainAfter d defined (gap_tree f s) false (Inside p) lines (closed_in f)
+  noted_by [] [] spine silent plain o k = noted_still [] silent refl tt (opened_here [] [] spine o) (becoming_here [] [] spine k)
+  noted_by [] (frame ∷ frames) spine silent plain o k = absurd o
+  noted_by (ix ∷ s) [] spine silent plain o k = absurd o
+  noted_by (ix ∷ s) (InList byte loose ∷ frames) spine silent plain o k = absurd plain
+  noted_by (ix ∷ s) (InDefinitions loose ∷ frames) spine silent plain o k = absurd plain
+  noted_by (ix ∷ []) (InContainer c ∷ []) spine silent plain o k =
+      noted_still (InContainer c ∷ []) silent refl tt (opened_here (ix ∷ []) (InContainer c ∷ []) spine o)
+      (becoming_here (ix ∷ []) (InContainer c ∷ []) spine k)
+  noted_by (ix ∷ []) (InContainer c ∷ frame ∷ frames) spine silent plain o k = absurd o.1
+  noted_by (ix ∷ jx ∷ s) (InContainer c ∷ []) spine silent plain o k = absurd o.1
+  noted_by (ix ∷ jx ∷ s) (InContainer c ∷ InContainer b ∷ frames) spine silent plain o k =
+      let here : List Frame = InContainer c ∷ InContainer b ∷ frames in
+      let same : loosened_at f jx ≡ f = no_list_at d.options (body_at f.nodes jx.0) b o.1.0 f jx in
+      subst (λ g. PlainAfter d defined g false (Inside p) lines (closed_in f)) (sym same)
+      (noted_still here silent refl tt (opened_here (ix ∷ jx ∷ s) here spine o) (becoming_here (ix ∷ jx ∷ s) here spine k))
+  noted_by (ix ∷ jx ∷ s) (InContainer c ∷ InList byte loose ∷ frames) spine silent plain o k =
+      let b = list_at d.options (body_at f.nodes jx.0) byte loose o.1.0 in
+      noted_around ix jx s c (InList byte loose) frames (ListBody b.0 b.1 b.2) b.0 spine silent b.3 refl o k
+  noted_by (ix ∷ jx ∷ s) (InContainer c ∷ InDefinitions loose ∷ frames) spine silent plain o k =
+      let b = definitions_at d.options (body_at f.nodes jx.0) loose o.1.0 in
+      noted_around ix jx s c (InDefinitions loose) frames (DefinitionList b.0) b.0 spine silent b.1 refl o k
+
+  -- a blank line before a block noted
+  pub noted_run : ReadyPlain d defined f true p lines → PlainAfter d defined (gap_tree f f.spine) false (Inside p) lines (closed_in f)
+  noted_run (q, plain) = noted_by f.spine q.frames refl q.silent plain q.are_open q.completes
+
+gap_paths : (options : Options) (f : Forest Item) (spine s : List TreeIndex) → path_in options (gap_tree f spine).nodes s ≡ path_in options f.nodes s
+gap_paths options f [] s = refl
+gap_paths options f (ix ∷ []) s = refl
+gap_paths options f (ix ∷ jx ∷ rest) s = loosened_paths options f jx (body_at f.nodes jx.0) refl s
+
+gap_spine : (f : Forest Item) (spine : List TreeIndex) → (gap_tree f spine).spine ≡ f.spine
+gap_spine f [] = refl
+gap_spine f (ix ∷ []) = refl
+gap_spine f (ix ∷ jx ∷ rest) = loosened_spine f jx (body_at f.nodes jx.0)
+
+gap_path : (options : Options) (f : Forest Item) (spine : List TreeIndex) → path_of options (gap_tree f spine) ≡ path_of options f
+gap_path options f spine = ap (path_in options (gap_tree f spine).nodes) (gap_spine f spine) ∙ gap_paths options f spine f.spine
+
+-- what is remembered once a new block has ended what it ends, where this opens at the place
+pub record Finished (d : Document) (defined : Tables) (old new : Reading) (p : Place) (lines : List Place) (opening : Opening) : Type 0 where
+  pub ready : ReadyPlain d defined new.tree false p lines
+  pub opens : Opens d (level_of d.options new.tree false) p lines opening
+  pub path : path_of d.options new.tree ≡ path_of d.options old.tree
+  pub blank : new.blank ≡ false
+  pub none : new.empty_item ≡ None
+
+pub noted_as : (d : Document) (defined : Tables) (r : Reading) (p : Place) (lines : List Place) (opening : Opening) (run : Bool)
+    → r.blank ≡ run → r.empty_item ≡ None → StaysAt d (path_of d.options r.tree) p → OpensBlock opening → opens_definition opening ≡ false
+    → LeftPlain d defined r.tree run p lines opening
+    → (let q : Reading = if run then record r { tree = gap_tree r.tree r.tree.spine; blank = false } else r in Finished d defined r q p lines opening)
+noted_as d defined r p lines opening true is none stays block other left =
+    let g : Forest Item = gap_tree r.tree r.tree.spine in
+    let n = noted_run d defined r.tree p lines opening left.before stays left.opens block other left.ready in
+    let path = gap_path d.options r.tree r.tree.spine in
+    let q = left.ready.0 in
+    let takes : takes_after (last_in r.tree) ≡ takes_after (last_in g) =
+    ap takes_after (plain_last_in d.options r.tree q.frames (closed_in r.tree) q.are_open left.ready.1 refl
+    ∙ sym (plain_last_in d.options g n.ready.frames (closed_in r.tree) n.ready.are_open n.plain n.last)) in
+    record {
+      ready = (n.ready, n.plain);
+      opens = opens_as d r.tree g true false p lines opening path takes left.opens;
+      path = path;
+      blank = refl;
+      none = none;
+    }
+noted_as d defined r p lines opening false is none stays block other left =
+    record { ready = left.ready; opens = left.opens; path = refl; blank = is; none = none }
+
+-- a new block ends the list that is innermost, and a blank line before it is noted
+pub ready_finished : (d : Document) (defined : Tables) (r : Reading) (p : Place) (lines : List Place) (at : ℕ) (opening : Opening)
+    → IsForest r.tree → StaysAt d (path_of d.options r.tree) p → Opens d (level_of d.options r.tree r.blank) p lines opening
+    → OpensBlock opening → opens_definition opening ≡ false
+    → EndsListAt at (top_body r.tree) (closed_in r.tree) opening → r.empty_item ≡ None → ReadyAt d defined r.tree r.blank (Inside p) lines
+    → Finished d defined r (list_finished at r) p lines opening
+unfolding list_finished item_finished
+ready_finished d defined r p lines at opening forest stays opens block other away none ready =
+    let l : Reading = list_left at r in
+    let kept = kept_left r at r.tree.spine (top_body r.tree) refl refl in
+    let path : path_of d.options l.tree ≡ path_of d.options r.tree = path_left d.options r at r.tree.spine (top_body r.tree) refl refl in
+    let left : LeftPlain d defined l.tree r.blank p lines opening =
+    ready_left d defined r p lines at opening forest stays opens block other away ready in
+    let left' : LeftPlain d defined l.tree l.blank p lines opening = subst (λ t. LeftPlain d defined l.tree t p lines opening) (sym kept.0) left in
+    let done = noted_as d defined l p lines opening l.blank refl (kept.1 none) (subst (λ z. StaysAt d z p) (sym path) stays) block other left' in
+    let same : item_finished_by r r.empty_item ≡ r = ap (item_finished_by r) none in
+    subst (λ q. Finished d defined r (gap_noted (list_left at q)) p lines opening) (sym same)
+    (record { ready = done.ready; opens = done.opens; path = done.path ∙ path; blank = done.blank; none = done.none })
+
+path_noted : (options : Options) (t : Bool) (r : Reading)
+    → path_of options (if t then record r { tree = gap_tree r.tree r.tree.spine; blank = false } else r).tree ≡ path_of options r.tree
+path_noted options true r = gap_path options r.tree r.tree.spine
+path_noted options false r = refl
+
+-- a new block ends no container
+pub path_finished : (options : Options) (at : ℕ) (r : Reading) → r.empty_item ≡ None → path_of options (list_finished at r).tree ≡ path_of options r.tree
+unfolding list_finished item_finished
+path_finished options at r none =
+    let same : item_finished_by r r.empty_item ≡ r = ap (item_finished_by r) none in
+    let l : Reading = list_left at r in
+    subst (λ q. path_of options (gap_noted (list_left at q)).tree ≡ path_of options r.tree) (sym same)
+    (path_noted options l.blank l ∙ path_left options r at r.tree.spine (top_body r.tree) refl refl)

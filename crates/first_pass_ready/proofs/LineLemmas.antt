@@ -1,0 +1,100 @@
+-- A line read: containers closed, and the line entered.
+use Rattle.std.proofs.Common.{◌≡◌, ℕ, ◌+◌, ◌<◌, ◌≤◌, true, false, List, ◌∷◌, length, drop, Some, None, is_some, IsUtf8}
+use Rattle.std.proofs.Common.{IsCharBoundary, refl, sym, ap, subst, ◌∙◌}
+use Rattle.first_pass_items.specs.declared.item.Item.{Item}
+use Rattle.first_pass_tree.specs.declared.tree_index.TreeIndex.{TreeIndex}
+use Rattle.first_pass_tree.specs.Forest.{Forest}
+use Rattle.first_pass_lines.specs.Lines.{blank_len, line_len}
+use Rattle.first_pass_lines.specs.Rest.{Rest}
+use Rattle.first_pass_lines.specs.Places.{Place, line_rest, line_place, place_at, line_end, start_of, IsPlaceOf}
+use Rattle.first_pass_lines.proofs.LineFacts.{lines_at-line}
+use Rattle.first_pass_lines.proofs.PlaceFacts.{line_is_place}
+use Rattle.first_pass_grammar.specs.Containers.{after}
+use Rattle.first_pass_grammar.specs.Leaves.{Document}
+use Rattle.first_pass_grammar.specs.Skeleton.{Inside}
+use Rattle.first_pass_grammar.specs.Derivation.{Tables}
+use Rattle.first_pass_grammar.specs.Completion.{lines_from}
+use Rattle.first_pass_lists.specs.Closing.{item_finished}
+use Rattle.first_pass_lists.specs.Closing.{blank_read}
+use Rattle.first_pass_lists.specs.declared.reading.Reading.{Reading}
+use Rattle.first_pass_open.specs.Path.{path_in, path_of, outer}
+use Rattle.first_pass_ready.specs.State.{NoMore, Ready, ReadyAt}
+use Rattle.first_pass_open.proofs.PlaceLemmas.{after_keeps, line_start_end}
+use Rattle.first_pass_ready.proofs.EnterLemmas.{ready_blank_line, ready_line}
+use Rattle.first_pass_ready.proofs.OldFootnotes.{ends_here, ended_path, ended_ready}
+use Rattle.first_pass_lists.specs.Closing.{footnote_ended}
+use Rattle.first_pass_items.specs.declared.option_set.Options.{Options}
+
+-- a line and those after it, of which the containers that don't continue it are closed
+pub record IsAtLine (d : Document) (defined : Tables) (old new : Reading) (start : ℕ) (r : Rest) : Type 0 where
+  pub goes : after (path_of d.options new.tree) (line_rest (drop start d.text)) ≡ Some r
+  pub ready : Ready d defined old (lines_from d.text start)
+      → Ready d defined new (line_place start (drop start d.text) ∷ lines_from d.text (start + line_len (drop start d.text)))
+
+pub at_line : (d : Document) (defined : Tables) (old new : Reading) (start kept : ℕ) (line r : Rest)
+    → line ≡ line_rest (drop start d.text) → start < length d.text → new.tree.spine ≡ outer kept old.tree.spine
+    → ((s : List TreeIndex) → path_in d.options new.tree.nodes s ≡ path_in d.options old.tree.nodes s)
+    → ((d : Document) (lines : List Place) → start_of (length d.text) lines ≡ start → NoMore d.options old.tree kept lines → Ready d defined old lines
+    → Ready d defined new lines)
+    → after (path_in d.options old.tree.nodes (outer kept old.tree.spine)) line ≡ Some r
+    → ((m : ℕ) → kept < m → m ≤ length old.tree.spine → after (path_in d.options old.tree.nodes (outer m old.tree.spine)) line ≡ None)
+    → IsAtLine d defined old new start r
+at_line d defined old new start kept line r line_is within spine paths closes taken stops =
+    let here : Place = line_place start (drop start d.text) in
+    let lines : List Place = lines_from d.text (start + line_len (drop start d.text)) in
+    let first : lines_from d.text start ≡ here ∷ lines = lines_at-line d.text start within in
+    let path : path_of d.options new.tree ≡ path_in d.options old.tree.nodes (outer kept old.tree.spine) =
+    paths new.tree.spine ∙ ap (path_in d.options old.tree.nodes) spine in
+    record {
+      goes = ap (λ p. after p (line_rest (drop start d.text))) path ∙ ap (after (path_in d.options old.tree.nodes (outer kept old.tree.spine))) (sym line_is)
+          ∙ taken;
+      ready = λ ready.
+          closes d (here ∷ lines) refl
+          (λ m low high. ap is_some (ap (after (path_in d.options old.tree.nodes (outer m old.tree.spine))) (sym line_is) ∙ stops m low high))
+          (subst (Ready d defined old) first ready);
+    }
+
+-- the same once a footnote definition in the old form has ended there, if one does: what is innermost then doesn't
+pub record IsSettled (d : Document) (defined : Tables) (old new : Reading) (start : ℕ) (r : Rest) : Type 0 where
+  pub goes : after (path_of d.options new.tree) (line_rest (drop start d.text)) ≡ Some r
+  pub ready : Ready d defined old (lines_from d.text start)
+      → Ready d defined new (line_place start (drop start d.text) ∷ lines_from d.text (start + line_len (drop start d.text)))
+      × (ends_here d.options new.tree new.blank ≡ false)
+
+pub settled : (d : Document) (defined : Tables) (old new : Reading) (start : ℕ) (r : Rest) → IsAtLine d defined old new start r
+    → IsSettled d defined old (footnote_ended d.options start new) start r
+settled d defined old new start r line =
+    let here : Place = line_place start (drop start d.text) in
+    let lines : List Place = lines_from d.text (start + line_len (drop start d.text)) in
+    record {
+      goes = ended_path d start new (line_rest (drop start d.text)) ∙ line.goes;
+      ready = λ ready. ended_ready d defined start new here lines refl (line.ready ready);
+    }
+
+-- a blank line read
+pub blank_line_read : (d : Document) (defined : Tables) (old new : Reading) (start : ℕ) (r : Rest)
+    → IsSettled d defined old new start r → is_some (blank_len r.left) ≡ true → Ready d defined old (lines_from d.text start)
+    → Ready d defined (blank_read new) (lines_from d.text (start + line_len (drop start d.text)))
+blank_line_read d defined old new start r line blank ready =
+    let now = line.ready ready in
+    ready_blank_line d defined new (line_place start (drop start d.text)) (lines_from d.text (start + line_len (drop start d.text))) r line.goes
+    now.1 blank now.0
+
+-- a line that isn't blank
+pub line_entered : (d : Document) (defined : Tables) (old new : Reading) (start : ℕ) (r : Rest)
+    → IsSettled d defined old new start r → is_some (blank_len r.left) ≡ false → Ready d defined old (lines_from d.text start)
+    → ReadyAt d defined (item_finished new).tree (item_finished new).blank (Inside (place_at start r))
+    (lines_from d.text (start + line_len (drop start d.text)))
+line_entered d defined old new start r line blank ready =
+    let now = line.ready ready in
+    ready_line d defined new (line_place start (drop start d.text)) (lines_from d.text (start + line_len (drop start d.text))) r line.goes
+    now.1 blank now.0
+
+-- a line has what is left of it after what it continues
+pub line_kept : (options : Options) (text : List ℕ) (start kept : ℕ) (f : Forest Item) (r : Rest) → IsUtf8 text → IsCharBoundary text start
+    → after (path_in options f.nodes (outer kept f.spine)) (line_rest (drop start text)) ≡ Some r
+    → IsPlaceOf text (place_at start r) × (line_end (place_at start r) ≡ start + line_len (drop start text))
+line_kept options text start kept f r utf8 boundary taken =
+    let k =
+    after_keeps text start (path_in options f.nodes (outer kept f.spine)) (line_rest (drop start text)) r utf8 taken (line_is_place text start boundary) in
+    (k.0, k.1 ∙ line_start_end text start)

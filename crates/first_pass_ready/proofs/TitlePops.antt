@@ -1,0 +1,269 @@
+-- A definition list closed whose last child is a possible title, which is a paragraph after it then.
+use Rattle.std.proofs.Common.{◌≡◌, ℕ, zero, suc, ◌+◌, ◌<◌, ◌==◌, Bool, true, false, not, List, [], ◌∷◌, length, map, slice_index, Some, refl, sym, ap}
+use Rattle.std.proofs.Common.{subst, ◌∙◌, arith}
+use Rattle.std.proofs.lemmas.List.{length-map}
+use Rattle.std.proofs.lemmas.Bool.Decides.{nat_tests}
+use Rattle.std.specs.Option.{option_and_then}
+use Rattle.first_pass_items.specs.declared.item.Item.{Item}
+use Rattle.first_pass_items.specs.declared.item.ItemBody.{ItemBody}
+use Rattle.first_pass_items.specs.declared.option_set.Options.{Options}
+use Rattle.first_pass_items.specs.declared.item.ItemBody.TheVariants.{Paragraph as ParagraphBody, DefinitionList}
+use Rattle.first_pass_items.specs.declared.item.ListFlags.{ListFlags}
+use Rattle.first_pass_tree.specs.declared.tree_index.TreeIndex.{TreeIndex}
+use Rattle.first_pass_tree.specs.Forest.{Forest, IsForest, IsLastAt, depths, modify, map_from, shallower, last_before, moved_from, with_body_at, body_at}
+use Rattle.first_pass_tree.specs.Tight.{tightened}
+use Rattle.first_pass_tree.proofs.Keeps.{depths-modify, modified-is}
+use Rattle.first_pass_tree.proofs.BodyLemmas.{body-other}
+use Rattle.first_pass_lines.specs.Places.{Place}
+use Rattle.first_pass_grammar.specs.Footnotes.{ends_footnote}
+use Rattle.first_pass_grammar.specs.Leaves.{Document, around}
+use Rattle.first_pass_grammar.specs.Containers.{next_goes_on}
+use Rattle.first_pass_grammar.specs.Skeleton.{From, Line, Inside, Opening, Opens}
+use Rattle.first_pass_grammar.specs.Derivation.{Tables, list_flags}
+use Rattle.first_pass_grammar.specs.Completion.{list_closed, title_left, ParagraphAt, TitleAt, Frame, InContainer, InList, InDefinitions}
+use Rattle.first_pass_grammar.specs.Completion.{containers_of, AreBelow, IsPlain}
+use Rattle.first_pass_grammar.specs.WholeTables.{SilentFrom, SilentClosed}
+use Rattle.first_pass_grammar.proofs.Finishes.{CompletesAt}
+use Rattle.first_pass_completion.proofs.Extending.{tail, lvl, StaysAt}
+use Rattle.first_pass_completion.proofs.Moved.{OpensBlock, opens_definition}
+use Rattle.first_pass_completion.proofs.PoppedLists.{completes-pop_title, completes-pop_title_in_line}
+use Rattle.first_pass_completion.proofs.Closings.{completes-close_title}
+use Rattle.first_pass_completion.proofs.SilentNodes.{from_closed, from_left}
+use Rattle.first_pass_grammar.proofs.Tightening.{length-closed}
+use Rattle.first_pass_open.specs.Path.{path_of}
+use Rattle.first_pass_lists.specs.Closing.{top_body, top_end, is_definition_list}
+use Rattle.first_pass_ready.specs.State.{frame_of, frame_at, closed_in, AreOpen, ReadyAt}
+use Rattle.first_pass_ready.proofs.OpenLemmas.{open_path, open_below, frame-closed}
+use Rattle.first_pass_ready.proofs.ClosedIn.{definitions_no_items, top_in, top_of, level_of, open_level, closed_at_body, plain_no_definitions}
+use Rattle.first_pass_ready.proofs.ClosedIn.{top_no_definitions, IsTitle}
+use Rattle.first_pass_ready.proofs.PopLemmas.{list_depth, ready_as, PlainAfter, list_popped, list_spine, list_nodes, definitions_set, list_no_frame}
+use Rattle.first_pass_ready.proofs.TitleMoved.{last_child, closed_changed, moved_current}
+
+-- the tree once a definition list is closed at an offset, whose last child is a possible title
+abbrev pub title_popped : Forest Item → ℕ → TreeIndex → List TreeIndex → ListFlags → TreeIndex → Forest Item
+title_popped f e ix rest flags title = moved_from (list_popped (with_body_at f title ParagraphBody) e ix rest flags) title.0
+
+-- the innermost open node is a definition list with these flags
+pub record IsInDefinitions (frames : List Frame) (flags : ListFlags) : Type 0 where
+  pub loose : Bool
+  pub outer : List Frame
+  pub is : frames ≡ InDefinitions loose ∷ outer
+  pub set : flags ≡ list_flags (not loose)
+
+no_items : (options : Options) (flags : ListFlags) (byte : ℕ) (loose : Bool) → frame_of options (DefinitionList flags) ≡ Some (InList byte loose) → ⊥
+no_items options flags byte loose h = definitions_no_items (flags.0 == 1) (flags.0 == 0) byte loose h
+
+pub in_definitions : (options : Options) (nodes : List (ℕ × Item)) (ix : TreeIndex) (rest : List TreeIndex) (flags : ListFlags) (frames : List Frame)
+    → body_at nodes ix.0 ≡ Some (DefinitionList flags) → AreOpen options nodes (ix ∷ rest) frames → IsInDefinitions frames flags
+in_definitions options nodes ix rest flags [] is o = absurd o
+in_definitions options nodes ix rest flags (InContainer c ∷ frames) is o =
+    absurd (list_no_frame options (DefinitionList flags) flags c refl (sym (ap (option_and_then (frame_of options)) is) ∙ o.0))
+in_definitions options nodes ix rest flags (InList byte loose ∷ frames) is o =
+    absurd (no_items options flags byte loose (sym (ap (option_and_then (frame_of options)) is) ∙ o.0))
+in_definitions options nodes ix rest flags (InDefinitions loose ∷ frames) is o = record {
+  loose = loose;
+  outer = frames;
+  is = refl;
+  set = definitions_set options (DefinitionList flags) flags loose refl (sym (ap (option_and_then (frame_of options)) is) ∙ o.0);
+}
+
+-- depths and bodies of nodes that are changed
+depths-tight : (nodes : List (ℕ × Item)) (o d : ℕ) → depths (map_from (tightened d) o nodes) ≡ depths nodes
+depths-tight [] zero d = refl
+depths-tight [] (suc o) d = refl
+depths-tight (n ∷ nodes) zero d = ap (λ z. n.0 ∷ z) (depths-tight nodes 0 d)
+depths-tight (n ∷ nodes) (suc o) d = ap (λ z. n.0 ∷ z) (depths-tight nodes o d)
+
+pub depths-closed : (nodes : List (ℕ × Item)) (o d : ℕ) (loose : Bool) (e : ℕ) → depths (list_closed nodes o d loose e) ≡ depths nodes
+unfolding list_closed
+depths-closed nodes o d true e = depths-modify nodes o _
+depths-closed nodes o d false e = depths-modify (map_from (tightened d) o nodes) o _ ∙ depths-tight nodes o d
+
+pub body-moved : (nodes : List (ℕ × Item)) (e i : ℕ) → body_at (map_from shallower e nodes) i ≡ body_at nodes i
+body-moved [] zero i = refl
+body-moved (n ∷ nodes) zero zero = refl
+body-moved (n ∷ nodes) zero (suc i) = body-moved nodes 0 i
+body-moved [] (suc e) i = refl
+body-moved (n ∷ nodes) (suc e) zero = refl
+body-moved (n ∷ nodes) (suc e) (suc i) = body-moved nodes e i
+
+pub body-set : (nodes : List (ℕ × Item)) (at : ℕ) (b : ItemBody) → at < length nodes
+    → body_at (modify nodes at (λ x. record { start = x.start; «end» = x.«end»; body = b })) at ≡ Some b
+body-set [] at b h = absurd (omega arith)
+body-set (n ∷ nodes) zero b h = refl
+body-set (n ∷ nodes) (suc at) b h = body-set nodes at b (omega arith)
+
+frame-left : (options : Options) (nodes : List (ℕ × Item)) (at i : ℕ) → i < at → frame_at options (title_left nodes at) i ≡ frame_at options nodes i
+unfolding title_left
+frame-left options nodes at i h = ap (option_and_then (frame_of options)) (body-moved (modify nodes at _) at i ∙ body-other nodes at i _ h)
+
+module _ (d : Document) (defined : Tables) (f : Forest Item) (run : Bool) (lines : List Place) (ix : TreeIndex) (rest : List TreeIndex) (title : TreeIndex)
+    (forest : IsForest f) (spine : f.spine ≡ ix ∷ rest) (t : IsTitle f title) where
+  abbrev os : List ℕ
+  os = map (λ (i : TreeIndex). i.0) rest
+
+  abbrev e : ℕ
+  e = top_end f
+
+  abbrev deep : ℕ
+  deep = suc (suc (suc (length rest)))
+
+  abbrev now : Forest Item
+  now = title_popped f e ix rest t.flags title
+
+  is_list : body_at f.nodes ix.0 ≡ Some (DefinitionList t.flags)
+  is_list = ap (top_in f.nodes) (sym spine) ∙ t.top
+
+  module _ (loose : Bool) (set : t.flags ≡ list_flags (not loose)) where
+    abbrev closed_nodes : List (ℕ × Item)
+    closed_nodes = list_closed f.nodes ix.0 deep loose e
+
+    -- the nodes of the list that is closed, with the paragraph still in it
+    list_is : (list_popped (with_body_at f title ParagraphBody) e ix rest t.flags).nodes
+        ≡ modify closed_nodes title.0 (λ x. record { start = x.start; «end» = x.«end»; body = ParagraphBody })
+    list_is =
+        let c = last_child f ix rest title forest spine t.current in
+        let g : Item → Item = λ x. record { start = x.start; «end» = x.«end»; body = ParagraphBody } in
+        let at : slice_index (depths f.nodes) title.0 ≡ length rest + 2 = c.child.depth in
+        let other : (slice_index (depths f.nodes) title.0 == deep) ≡ false = grind (arith, nat_tests, at) in
+        list_nodes (with_body_at f title ParagraphBody) e ix rest (DefinitionList t.flags) t.flags loose (modified-is f title.0 g forest) spine
+        (body-other f.nodes title.0 ix.0 g c.after ∙ is_list) refl set
+        ∙ closed_changed f.nodes ix.0 title.0 deep g loose e c.after c.child.within other
+
+    title_nodes : now.nodes ≡ title_left closed_nodes title.0
+    unfolding title_left
+    title_nodes = ap (map_from shallower title.0) list_is
+
+    moved_to : now.current ≡ Some title
+    moved_to =
+        let c = last_child f ix rest title forest spine t.current in
+        let g : Forest Item = list_popped (with_body_at f title ParagraphBody) e ix rest t.flags in
+        let same : depths g.nodes ≡ depths f.nodes =
+        ap (λ z. depths z) list_is ∙ depths-modify closed_nodes title.0 _ ∙ depths-closed f.nodes ix.0 deep loose e in
+        let next : length rest + 2 ≡ (length rest + 1) + 1 = omega arith in
+        let here : IsLastAt (depths g.nodes) ((length rest + 1) + 1) title.0 =
+        subst (λ n. IsLastAt (depths g.nodes) n title.0) next (subst (λ z. IsLastAt z (length rest + 2) title.0) (sym same) c.child) in
+        let s : g.spine ≡ rest = list_spine (with_body_at f title ParagraphBody) e ix rest t.flags in
+        let place : ℕ → TreeIndex = λ n. record { 0 = n } in
+        ap (λ (z : List TreeIndex). Some (place (last_before (depths now.nodes) (length z + 1) (length now.nodes)))) s
+        ∙ ap (λ n. Some (place n)) (moved_current g.nodes (length rest + 1) title.0 here)
+
+    moved_spine : now.spine ≡ rest
+    moved_spine = list_spine (with_body_at f title ParagraphBody) e ix rest t.flags
+
+    moved_body : body_at now.nodes title.0 ≡ Some ParagraphBody
+    unfolding title_left
+    moved_body =
+        let c = last_child f ix rest title forest spine t.current in
+        let n : length closed_nodes ≡ length f.nodes = length-closed f.nodes ix.0 deep loose e in
+        let m : length (depths f.nodes) ≡ length f.nodes = length-map f.nodes (λ n. n.0) in
+        let w : title.0 < length (depths f.nodes) = c.child.within in
+        ap (λ z. body_at z title.0) title_nodes
+        ∙ body-moved (modify closed_nodes title.0 (λ x. record { start = x.start; «end» = x.«end»; body = ParagraphBody })) title.0 title.0
+        ∙ body-set closed_nodes title.0 ParagraphBody (omega arith)
+
+    -- what is left open
+    title_left_open : (from : From) (frames : List Frame)
+        → AreOpen d.options f.nodes rest frames → AreBelow ix.0 os → IsPlain frames → SilentFrom f.nodes title.0
+        → CompletesAt d defined (tail (ParagraphAt title.0) run) frames (title_left (list_closed f.nodes ix.0 (suc (suc (suc (length os)))) loose e) title.0) os
+        from lines
+        → PlainAfter d defined now run from lines (ParagraphAt title.0)
+    title_left_open from frames o below plain silent k =
+        let c = last_child f ix rest title forest spine t.current in
+        let after : ix.0 < title.0 = c.after in
+        let k' : CompletesAt d defined (tail (ParagraphAt title.0) run) frames (title_left closed_nodes title.0) os from lines =
+        subst (λ n. CompletesAt d defined (tail (ParagraphAt title.0) run) frames (title_left (list_closed f.nodes ix.0 n loose e) title.0) os from lines)
+        (list_depth rest) k in
+        let o' : AreOpen d.options now.nodes rest frames = subst (λ z. AreOpen d.options z rest frames) (sym title_nodes)
+        (open_below d.options f.nodes (title_left closed_nodes title.0) ix.0 rest frames
+        (λ i h. frame-left d.options closed_nodes title.0 i (omega arith) ∙ frame-closed d.options f.nodes ix.0 deep loose e i h) below o) in
+        let none : is_definition_list (top_body now) ≡ false = ap (λ s. is_definition_list (top_in now.nodes s)) moved_spine
+        ∙ top_no_definitions d.options (top_in now.nodes rest) frames (top_of d.options now.nodes rest frames o') (plain_no_definitions frames plain) in
+        let last : closed_in now ≡ ParagraphAt title.0 = closed_at_body now title ParagraphBody none moved_to moved_body in
+        let q : ReadyAt d defined now run from lines =
+        ready_as d defined now run from lines frames (ParagraphAt title.0) last
+        (subst (λ z. AreOpen d.options now.nodes z frames) (sym moved_spine) o')
+        (subst (λ z. SilentFrom z title.0) (sym title_nodes)
+        (from_left closed_nodes title.0 title.0 (from_closed f.nodes ix.0 deep loose e title.0 silent)))
+        (subst (λ z. CompletesAt d defined (tail (ParagraphAt title.0) run) frames now.nodes (map (λ (i : TreeIndex). i.0) z) from lines) (sym moved_spine)
+        (subst (λ z. CompletesAt d defined (tail (ParagraphAt title.0) run) frames z os from lines) (sym title_nodes) k')) in
+        record { ready = q; plain = plain; last = last }
+
+  -- what is ready, of the open nodes from the list on
+  abbrev Open : List Frame → Type 0
+  Open frames = AreOpen d.options f.nodes (ix ∷ rest) frames
+
+  abbrev Becoming : From → List Frame → Type 0
+  Becoming from frames = CompletesAt d defined (tail (TitleAt e title.0) run) frames f.nodes (ix.0 ∷ os) from lines
+
+  open_of : (frames : List Frame) → AreOpen d.options f.nodes f.spine frames → Open frames
+  open_of frames o = subst (λ s. AreOpen d.options f.nodes s frames) spine o
+
+  becoming_of : (from : From) (frames : List Frame)
+      → CompletesAt d defined (tail (closed_in f) run) frames f.nodes (map (λ (i : TreeIndex). i.0) f.spine) from lines → Becoming from frames
+  becoming_of from frames k =
+      subst (λ z. CompletesAt d defined (tail z run) frames f.nodes (ix.0 ∷ os) from lines) t.closed
+      (subst (λ s. CompletesAt d defined (tail (closed_in f) run) frames f.nodes (map (λ (i : TreeIndex). i.0) s) from lines) spine k)
+
+  silent_of : SilentClosed f.nodes (closed_in f) → SilentFrom f.nodes title.0
+  silent_of h = subst (SilentClosed f.nodes) t.closed h
+
+  popped_title : (frames : List Frame) → IsInDefinitions frames t.flags → SilentFrom f.nodes title.0
+      → next_goes_on (containers_of frames) lines ≡ false → Open frames → Becoming Line frames → PlainAfter d defined now run Line lines (ParagraphAt title.0)
+  popped_title frames v silent ends o k =
+      let o' = subst Open v.is o in
+      let k' = subst (Becoming Line) v.is k in
+      title_left_open v.loose v.set Line v.outer o'.1 k'.below.1 k'.shape.0 silent
+      (completes-pop_title d defined e title.0 run v.loose v.outer f.nodes ix.0 os lines
+      (subst (λ z. next_goes_on (containers_of z) lines ≡ false) v.is ends) k')
+
+  -- such a list closed with what is around it
+  pub pop_title : next_goes_on (path_of d.options f) lines ≡ false → ReadyAt d defined f run Line lines → ReadyAt d defined now run Line lines
+  pop_title ends ready =
+      let o = open_of ready.frames ready.are_open in
+      let q = popped_title ready.frames (in_definitions d.options f.nodes ix rest t.flags ready.frames is_list o) (silent_of ready.silent)
+      (subst (λ z. next_goes_on z lines ≡ false) (open_path d.options f.nodes f.spine ready.frames ready.are_open) ends) o
+      (becoming_of Line ready.frames ready.completes) in
+      q.ready
+
+  left_title : (p : Place) (opening : Opening) (frames : List Frame) → IsInDefinitions frames t.flags → SilentFrom f.nodes title.0
+      → StaysAt d (containers_of frames) p → Opens d (lvl frames (tail (TitleAt e title.0) run)) p lines opening → OpensBlock opening
+      → opens_definition opening ≡ false → Open frames → Becoming (Inside p) frames → PlainAfter d defined now run (Inside p) lines (ParagraphAt title.0)
+  left_title p opening frames v silent stays opens block other o k =
+      let o' = subst Open v.is o in
+      let k' = subst (Becoming (Inside p)) v.is k in
+      title_left_open v.loose v.set (Inside p) v.outer o'.1 k'.below.1 k'.shape.0 silent
+      (completes-close_title d defined e title.0 run v.loose v.outer f.nodes ix.0 os p lines opening
+      (subst (λ z. StaysAt d (containers_of z) p) v.is stays)
+      (subst (λ z. Opens d (lvl z (tail (TitleAt e title.0) run)) p lines opening) v.is opens) block other k')
+
+  -- such a list closed before a block that is no definition
+  pub leave_title : (p : Place) (opening : Opening)
+      → StaysAt d (path_of d.options f) p → Opens d (level_of d.options f run) p lines opening → OpensBlock opening
+      → opens_definition opening ≡ false → ReadyAt d defined f run (Inside p) lines → PlainAfter d defined now run (Inside p) lines (ParagraphAt title.0)
+  leave_title p opening stays opens block other ready =
+      let o = open_of ready.frames ready.are_open in
+      left_title p opening ready.frames (in_definitions d.options f.nodes ix rest t.flags ready.frames is_list o) (silent_of ready.silent)
+      (subst (λ z. StaysAt d z p) (open_path d.options f.nodes f.spine ready.frames ready.are_open) stays)
+      (subst (λ z. Opens d (lvl ready.frames (tail z run)) p lines opening) t.closed
+      (subst (λ z. Opens d z p lines opening) (open_level d.options f ready.frames run ready.are_open) opens))
+      block other o (becoming_of (Inside p) ready.frames ready.completes)
+
+  ended_title : (p : Place) (frames : List Frame) → IsInDefinitions frames t.flags → SilentFrom f.nodes title.0
+      → ends_footnote (around d (containers_of frames)) p ≡ true → Open frames → Becoming (Inside p) frames
+      → PlainAfter d defined now run (Inside p) lines (ParagraphAt title.0)
+  ended_title p frames v silent ends o k =
+      let o' = subst Open v.is o in
+      let k' = subst (Becoming (Inside p)) v.is k in
+      title_left_open v.loose v.set (Inside p) v.outer o'.1 k'.below.1 k'.shape.0 silent
+      (completes-pop_title_in_line d defined e title.0 run v.loose v.outer f.nodes ix.0 os p lines
+      (subst (λ z. ends_footnote (around d (containers_of z)) p ≡ true) v.is ends) k')
+
+  -- such a list closed with the footnote definition around it, where another begins
+  pub end_title : (p : Place) → ends_footnote (around d (path_of d.options f)) p ≡ true
+      → ReadyAt d defined f run (Inside p) lines → PlainAfter d defined now run (Inside p) lines (ParagraphAt title.0)
+  end_title p ends ready =
+      let o = open_of ready.frames ready.are_open in
+      ended_title p ready.frames (in_definitions d.options f.nodes ix rest t.flags ready.frames is_list o) (silent_of ready.silent)
+      (subst (λ z. ends_footnote (around d z) p ≡ true) (open_path d.options f.nodes f.spine ready.frames ready.are_open) ends) o
+      (becoming_of (Inside p) ready.frames ready.completes)
