@@ -10,7 +10,7 @@ use Rattle.first_pass_items.specs.declared.item.ItemBody.TheVariants.{Text}
 use Rattle.first_pass_tree.specs.declared.tree_index.TreeIndex.{TreeIndex}
 use Rattle.first_pass_tree.specs.Forest.{Forest, IsForest, IsLastAt, depths, item_at, is_text, ends_text_at, joins_at, with_end_at, with_end, appended}
 use Rattle.first_pass_tree.proofs.Keeps.{appended-is, modified-is}
-use Rattle.first_pass_tokens.specs.Order.{AreInOrder}
+use Rattle.first_pass_tokens.proofs.InOrder.{AreInOrder}
 use Rattle.first_pass_tokens.specs.TreeTokens.{with_token, with_tokens, AppendsLine, AppendsCell}
 use Rattle.first_pass_tokens.proofs.OrderLemmas.{order_bound, order_to, order_from, line_in_order, cell_in_order, cell_end_place}
 use Rattle.first_pass_grammar.specs.Leaves.{Document}

@@ -41,7 +41,7 @@ use Rattle.first_pass_ready.proofs.PopLemmas.{ready_as}
 use Rattle.first_pass_ready.proofs.BegunLemmas.{depth_of, with_open, top_opened, IsBegun, opens_start, plain_open}
 use Rattle.first_pass_ready.proofs.DefinitionOpened.{list_class, definition_is_open}
 use Rattle.first_pass_blocks.proofs.OpenerLemmas.{begins_at, item_is_open}
-use Rattle.first_pass_lists.specs.Closing.{item_opened}
+use Rattle.first_pass_lists.proofs.NoEmptyItem.{item_opened}
 
 -- an item is no list
 item_not_list : (b : ItemBody) (n : ℕ) → is_list (Some (item_body b n)) ≡ false

@@ -46,7 +46,7 @@ use Rattle.first_pass_ready.proofs.ListLemmas.{open_flags}
 use Rattle.first_pass_ready.proofs.FinishLemmas.{EndsListAt, Finished, ready_finished, loose_is, loose_frame, loosened_spine}
 use Rattle.first_pass_ready.proofs.BegunLemmas.{opened_too, depth_of, with_open, top_opened, IsBegun, HasBegun, begun_ready, opens_start, plain_open}
 use Rattle.first_pass_ready.proofs.DefinitionOpened.{definition_is_open}
-use Rattle.first_pass_lists.specs.Closing.{item_opened}
+use Rattle.first_pass_lists.proofs.NoEmptyItem.{item_opened}
 
 or_false : (a : Bool) → (a || false) ≡ a
 or_false true = refl

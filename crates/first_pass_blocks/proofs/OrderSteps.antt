@@ -36,7 +36,7 @@ use Rattle.first_pass_open.proofs.PathLemmas.{get_front}
 use Rattle.first_pass_ready.proofs.OpenLemmas.{get_end}
 use Rattle.first_pass_open.proofs.PlaceLemmas.{all_keep, task_keeps, option_on, quote_less}
 use Rattle.first_pass_lists.proofs.NoEmptyItem.{list_finished_none, list_continued_none}
-use Rattle.first_pass_lists.specs.Closing.{item_opened}
+use Rattle.first_pass_lists.proofs.NoEmptyItem.{item_opened}
 use Rattle.first_pass_order.proofs.OrderLemmas.{ordered_later, ordered_appended, ordered_added, ordered_begun, ordered_none}
 use Rattle.first_pass_order.proofs.LeftOrder.{title_later}
 use Rattle.first_pass_order.proofs.PopOrder.{ordered_list_finished, ordered_list_continued, ordered_note}

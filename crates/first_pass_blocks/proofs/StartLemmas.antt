@@ -54,7 +54,7 @@ use Rattle.first_pass_blocks.proofs.OrderSteps.{ordered_container}
 use Rattle.first_pass_blocks.proofs.OrderSteps.{ordered_empty_item, quote_stands, place_before_end}
 use Rattle.first_pass_ready.proofs.ClosedIn.{takes_same}
 use Rattle.first_pass_blocks.proofs.OpenerLemmas.{begins_at, ready_item, ready_definition, ready_quote, ready_tagged, after_opened, ready_after}
-use Rattle.first_pass_lists.specs.Closing.{item_opened}
+use Rattle.first_pass_lists.proofs.NoEmptyItem.{item_opened}
 use Rattle.first_pass_blocks.proofs.EmptyItems.{IsNoParagraph, empty_item_read, ready_empty_item, ready_empty_definition}
 use Rattle.first_pass_blocks.proofs.StartFound.{may_if}
 use Rattle.first_pass_grammar.specs.Skeleton.{Inside}

@@ -24,7 +24,9 @@ use Rattle.first_pass_grammar.specs.Kinds.{Paragraph, unindented}
 use Rattle.first_pass_grammar.specs.Leaves.{Document, around, TextLines}
 use Rattle.first_pass_grammar.specs.LinkRuns.{kind_in, Ended, FlowsOn}
 use Rattle.first_pass_grammar.specs.Rows.{is_paragraph}
-use Rattle.first_pass_grammar.specs.Openers.{AfterMarker, OnLine, TaskText, LineEnds, TagAlone, Start, start_at}
+use Rattle.first_pass_grammar.specs.Openers.{Start, start_at}
+use Rattle.first_pass_grammar.specs.declared.kind.AfterMarker.{AfterMarker}
+use Rattle.first_pass_grammar.specs.declared.kind.AfterMarker.TheVariants.{OnLine, TaskText, LineEnds, TagAlone}
 use Rattle.first_pass_grammar.specs.Skeleton.{From, Line, Blanks, At, Anything, ALeafAlone, TextOf, MarkAlone, Opening, OpensLeaf, OpensNode, OpensText}
 use Rattle.first_pass_grammar.specs.Skeleton.{OpensRun, OpensAs, OpensBlockAt, OpensBy, OpensFootnote, Opens, OpensAt, opening_by}
 use Rattle.first_pass_grammar.specs.Skeleton.{next_is_blank, Level, may_define, IsFirst}

@@ -34,7 +34,9 @@ use Rattle.first_pass_grammar.specs.Skeleton.{next_is_blank, task_alone}
 use Rattle.first_pass_grammar.specs.Openers.{task_by, task_behind}
 use Rattle.first_pass_grammar.specs.Skeleton.{behind_tag, Opens, OpensIf, Level, may_define}
 use Rattle.first_pass_exists.proofs.KindsFound.{IsShorter, leads_alone, leads_leaf, reach, Shrinks, Leads, leads_text, leads_block}
-use Rattle.first_pass_grammar.specs.Openers.{AfterMarker, OnLine, TaskText, LineEnds, TagAlone, Start, start_at}
+use Rattle.first_pass_grammar.specs.Openers.{Start, start_at}
+use Rattle.first_pass_grammar.specs.declared.kind.AfterMarker.{AfterMarker}
+use Rattle.first_pass_grammar.specs.declared.kind.AfterMarker.TheVariants.{OnLine, TaskText, LineEnds, TagAlone}
 use Rattle.first_pass_grammar.specs.Skeleton.{OpensBy, OpensFootnote, footnote_opening, opening_by, opening_of, without_indent}
 use Rattle.first_pass_grammar.specs.Blocks.{opened}
 use Rattle.first_pass_grammar.proofs.OpenerFacts.{start_cases}

@@ -1,19 +1,17 @@
 -- Rows of nodes and where they fit, as nodes are added, opened and closed.
-use Rattle.std.proofs.Common.{◌≡◌, inl, inr, ℕ, zero, suc, ◌+◌, ◌-◌, ◌*◌, ◌<◌, ◌≤◌, ◌==◌, Bool, true, false, if◌then◌else◌, List, [], ◌∷◌, ◌++◌, length}
+use Rattle.std.proofs.Common.{◌≡◌, inl, inr, ℕ, zero, suc, ◌+◌, ◌-◌, ◌*◌, ◌<◌, ◌≤◌, Bool, true, false, if◌then◌else◌, List, [], ◌∷◌, ◌++◌, length}
 use Rattle.std.proofs.Common.{Some, None, IsCharBoundary, refl, sym, ap, subst, ◌∙◌, arith, append_assoc}
 use Rattle.std.proofs.lemmas.List.{append-nil, map-append, length-map}
 use Rattle.first_pass_items.specs.declared.item.Item.{Item}
 use Rattle.first_pass_items.specs.declared.item.ItemBody.{ItemBody}
-use Rattle.first_pass_items.specs.declared.item.ItemBody.TheVariants.{Paragraph as ParagraphBody}
 use Rattle.first_pass_tree.specs.declared.tree_index.TreeIndex.{TreeIndex}
 use Rattle.first_pass_tree.specs.Forest.{modify, at_depth, body_at, block_of}
-use Rattle.first_pass_tree.specs.Tight.{tight_body, tightened}
 use Rattle.first_pass_tree.proofs.Blocks.{at_depth-append}
-use Rattle.first_pass_tokens.specs.Order.{AreInOrder}
+use Rattle.first_pass_tokens.proofs.InOrder.{AreInOrder}
 use Rattle.first_pass_tokens.specs.TreeTokens.{leaves}
 use Rattle.first_pass_tokens.proofs.OrderLemmas.{order_bound}
-use Rattle.first_pass_grammar.specs.Order.{Extent, is_text_block, is_task_marker, is_list_item, extent_of, extents, Siblings, Empty, Node, laid, IsBetween, Within}
-use Rattle.first_pass_grammar.specs.Order.{Elsewhere, InItem, InText, InFirst, is_definition_list, below, beyond, IsLead, Fits, FitsBetween}
+use Rattle.first_pass_grammar.specs.Order.{Extent, extent_of, extents, Siblings, Empty, Node, laid, IsBetween, Within}
+use Rattle.first_pass_grammar.specs.Order.{Elsewhere, InItem, InText, InFirst, below, beyond, IsLead, Fits, FitsBetween}
 use Rattle.first_pass_grammar.specs.OpenOrder.{laid_open, AreAt, open_within, FitsOpen}
 use Rattle.first_pass_grammar.proofs.OwnNodes.{own_at_most}
 
@@ -351,36 +349,6 @@ pub extents-kept : (nodes : List (ℕ × Item)) (k : ℕ) (g : Item → Item) (b
 extents-kept [] k g b is same = refl
 extents-kept (n ∷ nodes) zero g b is same = (let e : n.1.body ≡ b = cc in ap (λ (x : Extent). (n.0, x) ∷ extents nodes) (same n.1 e))
 extents-kept (n ∷ nodes) (suc k) g b is same = ap (λ (z : List (ℕ × Extent)). (n.0, extent_of n.1) ∷ z) (extents-kept nodes k g b is same)
-
-paragraph_tight : (b : ItemBody) → is_text_block (tight_body b) ≡ is_text_block b
-paragraph_tight ParagraphBody = refl
-paragraph_tight b = refl
-
-marker_tight : (b : ItemBody) → is_task_marker (tight_body b) ≡ is_task_marker b
-marker_tight ParagraphBody = refl
-marker_tight b = refl
-
-item_tight : (b : ItemBody) → is_list_item (tight_body b) ≡ is_list_item b
-item_tight ParagraphBody = refl
-item_tight b = refl
-
-definitions_tight : (b : ItemBody) → is_definition_list (tight_body b) ≡ is_definition_list b
-definitions_tight ParagraphBody = refl
-definitions_tight b = refl
-
-extent_by : (t : Bool) (x : Item) → extent_of (if t then record { start = x.start; «end» = x.«end»; body = tight_body x.body } else x) ≡ extent_of x
-extent_by true x =
-    let with : Bool → Bool → Bool → Bool → Extent =
-    λ p m i d. record { start = x.start; «end» = x.«end»; text_block = p; marker = m; item = i; definitions = d } in
-    ap (λ p. with p (is_task_marker (tight_body x.body)) (is_list_item (tight_body x.body)) (is_definition_list (tight_body x.body))) (paragraph_tight x.body)
-    ∙ ap (λ m. with (is_text_block x.body) m (is_list_item (tight_body x.body)) (is_definition_list (tight_body x.body))) (marker_tight x.body)
-    ∙ ap (λ i. with (is_text_block x.body) (is_task_marker x.body) i (is_definition_list (tight_body x.body))) (item_tight x.body)
-    ∙ ap (with (is_text_block x.body) (is_task_marker x.body) (is_list_item x.body)) (definitions_tight x.body)
-extent_by false x = refl
-
--- a paragraph made tight keeps its extent
-pub extent-tightened : (depth : ℕ) (n : ℕ × Item) → extent_of (tightened depth n).1 ≡ extent_of n.1
-extent-tightened depth n = extent_by (n.0 == depth) n.1
 
 -- where no node but the root is open, the whole tree is in order
 pub fits-whole : (text : List ℕ) (root : Extent) (to : ℕ) (row : Siblings)

@@ -1,12 +1,11 @@
 -- How many nodes of its own a list of nodes has: no more than there are, as many at another depth or with what closes nodes changed, and no more than its
 -- parts have together.
-use Rattle.std.proofs.Common.{◌≡◌, ℕ, zero, suc, ◌+◌, ◌≤◌, ◌==◌, Bool, true, false, if◌then◌else◌, List, [], ◌∷◌, ◌++◌, length, Option, Some, None, refl, sym}
+use Rattle.std.proofs.Common.{◌≡◌, ℕ, zero, suc, ◌+◌, ◌≤◌, Bool, true, false, if◌then◌else◌, List, [], ◌∷◌, ◌++◌, length, Option, Some, None, refl, sym}
 use Rattle.std.proofs.Common.{ap, ◌∙◌, arith, eq-eqb}
 use Rattle.first_pass_items.specs.declared.item.Item.{Item}
 use Rattle.first_pass_items.specs.declared.item.ItemBody.{ItemBody}
-use Rattle.first_pass_items.specs.declared.item.ItemBody.TheVariants.{Paragraph, TableCell}
+use Rattle.first_pass_items.specs.declared.item.ItemBody.TheVariants.{TableCell}
 use Rattle.first_pass_tree.specs.Forest.{modify, at_depth, body_at}
-use Rattle.first_pass_tree.specs.Tight.{tight_body, tightened}
 use Rattle.first_pass_grammar.specs.Counting.{is_row, is_cell, last_cell, is_filled_behind, own, own_nodes}
 
 -- a node counts once at most
@@ -105,22 +104,6 @@ pub own_changed : (nodes : List (ℕ × Item)) (i : ℕ) (b c : ItemBody) → bo
 own_changed nodes i b c is cell row =
     own_modified None nodes i (λ x. record x { body = c })
     (λ x at. (let same : x.body ≡ b = cc in record { start = refl; cell = cell ∙ ap is_cell (sym same); row = row ∙ ap is_row (sym same) }))
-
--- a paragraph made tight
-cell_tight : (b : ItemBody) → is_cell (tight_body b) ≡ is_cell b
-cell_tight Paragraph = refl
-cell_tight b = refl
-
-row_tight : (b : ItemBody) → is_row (tight_body b) ≡ is_row b
-row_tight Paragraph = refl
-row_tight b = refl
-
-alike_by : (t : Bool) (x : Item) → CountAlike x (if t then record { start = x.start; «end» = x.«end»; body = tight_body x.body } else x)
-alike_by true x = record { start = refl; cell = cell_tight x.body; row = row_tight x.body }
-alike_by false x = record { start = refl; cell = refl; row = refl }
-
-pub alike_tightened : (depth : ℕ) (n : ℕ × Item) → CountAlike n.1 (tightened depth n).1
-alike_tightened depth n = alike_by (n.0 == depth) n.1
 
 -- cells that all start at one offset
 unfoldable pub AreCellsAt : ℕ → List (ℕ × Item) → Type 0

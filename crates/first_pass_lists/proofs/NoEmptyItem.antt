@@ -84,3 +84,7 @@ continued_by false start byte number r none = list_finished_none start r
 pub list_continued_none : (start byte number : ℕ) (r : Reading) → (list_continued start byte number r).empty_item ≡ None
 unfolding list_continued
 list_continued_none start byte number r = continued_by (is_list_of byte (top_body (item_finished r).tree)) start byte number (item_finished r) (finished_none r)
+
+-- an item of this byte and number, opened in its list, which continues or begins
+abbrev pub item_opened : ℕ → ℕ → ℕ → ℕ → Reading → Reading
+item_opened start byte number columns r = begun start (ListItemBody columns) (list_continued start byte number r)

@@ -225,10 +225,6 @@ list_continued start byte number r =
     let s = item_finished r in
     if is_list_of byte (top_body s.tree) then list_kept s else begun start (ListBody (list_flags true) byte number) (list_finished start s)
 
--- an item of this byte and number is opened, which needs so many columns, in its list
-abbrev pub item_opened : ℕ → ℕ → ℕ → ℕ → Reading → Reading
-item_opened start byte number columns r = begun start (ListItemBody columns) (list_continued start byte number r)
-
 -- the innermost open node is an item or a definition that takes blank lines alone
 abbrev pub emptied : Forest Item → List TreeIndex → Forest Item
 emptied f [] = f

@@ -40,7 +40,7 @@ use Rattle.first_pass_order.proofs.AlikeNodes.{AreAlike, NoNodes, OneMore}
 use Rattle.first_pass_order.proofs.PropertyKept.{IsLeft, Property, HoldsAt, popped_at_keeps, popped_keeps, item_finished_keeps, noted_keeps, kept_keeps, blank_keeps}
 use Rattle.first_pass_order.proofs.PropertyKept.{list_finished_keeps, quote_keeps, item_keeps, note_keeps}
 use Rattle.first_pass_open.specs.Between.{AddsBetween}
-use Rattle.first_pass_lists.specs.Closing.{item_opened}
+use Rattle.first_pass_lists.proofs.NoEmptyItem.{item_opened}
 
 -- how many nodes of its own what is remembered has
 abbrev pub count : Reading → ℕ

@@ -25,17 +25,17 @@ use Rattle.first_pass_names.proofs.NameLemmas.{extends_none}
 use Rattle.first_pass_open.specs.Path.{path_of}
 use Rattle.first_pass_order.specs.LeafBlocks.{AddsKind}
 use Rattle.first_pass_order.proofs.AlikeNodes.{AreAlike, NoNodes, OneMore}
-use Rattle.first_pass_order.proofs.PropertyKept.{IsLeft, Property, HoldsAt, popped_at_keeps, popped_keeps, item_finished_keeps, kept_keeps, blank_keeps}
+use Rattle.first_pass_order.proofs.PropertyKept.{IsLeft, Property, HoldsAt, popped_keeps, item_finished_keeps, kept_keeps, blank_keeps}
 use Rattle.first_pass_order.proofs.PropertyKept.{list_finished_keeps, list_continued_keeps, quote_keeps, item_keeps, note_keeps}
 use Rattle.first_pass_open.specs.OpenBlock.{with_child, begun_item}
-use Rattle.first_pass_lists.specs.Closing.{list_continued, popped_at, popped, item_finished}
+use Rattle.first_pass_lists.specs.Closing.{list_continued, popped, item_finished}
 use Rattle.first_pass_lists.specs.Closing.{list_finished, list_kept, begun}
-use Rattle.first_pass_lists.specs.Closing.{blank_read, footnote_begun, with_tree, current_moved}
+use Rattle.first_pass_lists.specs.Closing.{blank_read, footnote_begun, with_tree}
 use Rattle.first_pass_lists.specs.Closing.{with_current, title_kept}
 use Rattle.first_pass_lists.specs.Closing.{definitions_by, definitions_at, definitions_opened, definition_begun}
 use Rattle.first_pass_items.specs.declared.item.CowIndex.{CowIndex}
 use Rattle.first_pass_lists.specs.declared.reading.Reading.{Reading}
-use Rattle.first_pass_lists.specs.Closing.{item_opened}
+use Rattle.first_pass_lists.proofs.NoEmptyItem.{item_opened}
 
 -- the marker of a task is no text and has no index
 pub task_is_no_text : (body : ItemBody) → is_task_marker body ≡ true → is_text body ≡ false
@@ -128,12 +128,6 @@ module _ (names : Names) where
 
   pub note_named : (start : ℕ) (index : CowIndex) (r : Reading) → index.0 < length names.texts → AreReadNamed r → AreReadNamed (footnote_begun start index r)
   note_named start index r own h = note_keeps named_kept 0 start 0 index r (named_at r h) (λ t is. tt) tt tt tt own
-
-  -- what ends a definition list before a heading or a table
-  closed_named : (e : ℕ) (r : Reading) (o : Option TreeIndex) → AreReadNamed r → AreReadNamed (current_moved (popped_at e r r.tree.spine) o)
-  closed_named e r None h = popped_at_keeps named_kept 0 e 0 r r.tree.spine refl tt tt h
-  closed_named e r (Some c) h =
-      moved_from_named c.0 (popped_at e r r.tree.spine).tree.nodes (popped_at_keeps named_kept 0 e 0 r r.tree.spine refl tt tt h)
 
   end_named : (f : Forest Item) (e : ℕ) (o : Option TreeIndex) → AreNamed names f.nodes → AreNamed names (with_end f e o).nodes
   end_named f e None h = h

@@ -221,9 +221,6 @@ ordered_none text r at none within h =
       innermost = λ e is. absurd (no_some r.empty_item e none is);
     }
 
-false_true : (t : Bool) → t ≡ false → t ≡ true → ⊥
-false_true t a b = cc
-
 later_by : (text : List ℕ) (r : Reading) (at b : ℕ) (o : Option ℕ) → r.empty_item ≡ o → at ≤ b → b ≤ length text → IsOrderedTo text r.tree (reached o at)
     → reached o at ≤ at → IsOrderedTo text r.tree (reached o b) × (reached o b ≤ b)
 later_by text r at b None is later within h order = (let here : b ≤ b = omega arith in (ordered_later text r.tree at b later within h, here))

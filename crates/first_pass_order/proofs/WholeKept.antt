@@ -54,7 +54,7 @@ use Rattle.first_pass_order.proofs.Nests.{title_there}
 use Rattle.first_pass_order.proofs.AlikeNodes.{IsBodyLike, IsAlike, AreAlike, NoNodes, OneMore, LooksAlike}
 use Rattle.first_pass_order.proofs.PropertyKept.{IsLeft, Property, MayLeave, none_leaves, HoldsAt, popped_keeps, item_finished_keeps, list_finished_keeps}
 use Rattle.first_pass_order.proofs.PropertyKept.{quote_keeps, item_keeps, note_keeps, blank_keeps}
-use Rattle.first_pass_lists.specs.Closing.{item_opened}
+use Rattle.first_pass_lists.proofs.NoEmptyItem.{item_opened}
 
 -- a node stands at a place, and is no row and no text that a definition list may take in
 abbrev pub may_not_open : ItemBody → Bool

@@ -20,7 +20,7 @@ use Rattle.first_pass_lines.specs.Places.{Place, offset, line_of, line_end, line
 use Rattle.first_pass_lines.proofs.LineFacts.{line_len-parts, line_len-some, line_len-within, lines_at-line, lines_at-end}
 use Rattle.first_pass_lines.proofs.PlaceFacts.{line_is_place, columns_keep, columns_line_end, place_length, start_of-lines}
 use Rattle.first_pass_tokens.specs.Chains.{text_token, touches, add_token, add_tokens}
-use Rattle.first_pass_tokens.specs.Order.{AreInOrder}
+use Rattle.first_pass_tokens.proofs.InOrder.{AreInOrder}
 use Rattle.first_pass_tokens.proofs.OrderLemmas.{order_from, order_to, order_append, order_adds}
 use Rattle.first_pass_grammar.specs.declared.kind.Container.{Container}
 use Rattle.first_pass_grammar.specs.Containers.{has_columns, at_rest, after, taken}

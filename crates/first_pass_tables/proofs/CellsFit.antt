@@ -15,7 +15,7 @@ use Rattle.first_pass_lines.specs.Places.{line_place}
 use Rattle.first_pass_lines.proofs.PlaceFacts.{line_is_place, white_keeps}
 use Rattle.first_pass_tokens.specs.Braces.{MathBraces}
 use Rattle.first_pass_tokens.specs.LineTokens.{Spot, IsCell}
-use Rattle.first_pass_tokens.specs.Order.{AreInOrder}
+use Rattle.first_pass_tokens.proofs.InOrder.{AreInOrder}
 use Rattle.first_pass_tokens.specs.TreeTokens.{leaves}
 use Rattle.first_pass_tokens.proofs.BytesLemmas.{few_in_cell}
 use Rattle.first_pass_tokens.proofs.LineLemmas.{cell_ends}

@@ -6,4 +6,5 @@ pub mod OrderParagraph
 pub mod OrderPlain
 pub mod ParagraphLemmas
 pub mod PlainTexts
+pub mod SoFar
 pub mod TextFronts

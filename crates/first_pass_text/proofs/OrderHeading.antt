@@ -20,7 +20,7 @@ use Rattle.first_pass_lines.proofs.LineFacts.{line_len-none, line_len-step, line
 use Rattle.first_pass_lines.proofs.PlaceFacts.{line_is_place, signs_keep, white_keeps}
 use Rattle.first_pass_lines.proofs.HeadingFacts.{atx_level-signs}
 use Rattle.first_pass_tokens.specs.Chains.{add_tokens, close_break, cut}
-use Rattle.first_pass_tokens.specs.Order.{AreInOrder}
+use Rattle.first_pass_tokens.proofs.InOrder.{AreInOrder}
 use Rattle.first_pass_tokens.proofs.BytesLemmas.{few_in_order, bytes_adds, bytes_closed, line_has_bytes, cut_few}
 use Rattle.first_pass_tokens.proofs.LineLemmas.{ends_line as line_ends}
 use Rattle.first_pass_tokens.proofs.OrderLemmas.{order_bound, order_from, order_to, order_adds, line_in_order, closed_line_in_order, suffix_first}

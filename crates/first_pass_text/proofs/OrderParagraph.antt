@@ -10,7 +10,7 @@ use Rattle.first_pass_lines.proofs.PlaceFacts.{start_of-lines}
 use Rattle.first_pass_tokens.specs.Braces.{MathBraces, no_braces}
 use Rattle.first_pass_tokens.specs.LineTokens.{spot, IsLine, IsBreak, is_break, EndsLine, text_end}
 use Rattle.first_pass_tokens.specs.Chains.{add_tokens, close_break, cut}
-use Rattle.first_pass_tokens.specs.Order.{AreInOrder, HaveBytes}
+use Rattle.first_pass_tokens.proofs.InOrder.{AreInOrder, HaveBytes}
 use Rattle.first_pass_tokens.proofs.BytesLemmas.{bytes_adds, bytes_closed, bytes_append, line_has_bytes}
 use Rattle.first_pass_tokens.proofs.Escapes.{EscapesStand, escapes_adds, escapes_append, line_escapes, cut_escaped, cut_has_bytes}
 use Rattle.first_pass_tokens.proofs.LineLemmas.{ends_line}

@@ -9,7 +9,7 @@ use Rattle.first_pass_tree.specs.Forest.{Forest, is_text, is_escaped}
 use Rattle.first_pass_lines.specs.Places.{start_of}
 use Rattle.first_pass_lines.proofs.PlaceFacts.{start_of-lines}
 use Rattle.first_pass_tokens.specs.Chains.{close_break, cut}
-use Rattle.first_pass_tokens.specs.Order.{AreInOrder, HaveBytes}
+use Rattle.first_pass_tokens.proofs.InOrder.{AreInOrder, HaveBytes}
 use Rattle.first_pass_tokens.proofs.BytesLemmas.{few_in_order, bytes_closed}
 use Rattle.first_pass_tokens.proofs.OrderLemmas.{order_bound, order_to, order_closed, suffix_first}
 use Rattle.first_pass_grammar.specs.Leaves.{Document, document, marker_items, TextLines, block_with}

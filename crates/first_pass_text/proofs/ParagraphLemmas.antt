@@ -33,7 +33,7 @@ use Rattle.first_pass_open.specs.Between.{line_end_at}
 use Rattle.first_pass_text.specs.Appends.{with_closed_break, AppendsLines}
 use Rattle.first_pass_open.specs.OpenBlock.{with_child}
 use Rattle.first_pass_open.specs.Path.{container_of, with_container, path_of}
-use Rattle.first_pass_text.specs.Reading.{LinesSoFar}
+use Rattle.first_pass_text.proofs.SoFar.{LinesSoFar}
 use Rattle.first_pass_kinds.specs.NextLines.{next_by, next_line_of}
 use Rattle.first_pass_open.proofs.PathLemmas.{AreIn, front-end, path_in-append, path_of-chained, path_of-opened, opened_in}
 use Rattle.first_pass_open.proofs.PlaceLemmas.{ends_past, text_place}

@@ -1,4 +1,3 @@
 pub mod Appends
 pub mod CutTexts
-pub mod Reading
 pub mod LineBreaks

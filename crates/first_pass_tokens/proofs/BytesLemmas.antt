@@ -15,7 +15,7 @@ use Rattle.first_pass_tokens.specs.Pieces.{Inline, found_at, size}
 use Rattle.first_pass_tokens.specs.Chains.{text_token, token, run_tokens, touches, add_token, add_tokens, add_text, is_backslash_break, close_break, cut}
 use Rattle.first_pass_tokens.specs.LineTokens.{Spot, spot, ArePieces, IsLine, IsCell, add_piece, add_pieces, text_end, line_end_len, blanks_at_end}
 use Rattle.first_pass_tokens.specs.TreeTokens.{with_token, with_tokens, AppendsLine, AppendsCell}
-use Rattle.first_pass_tokens.specs.Order.{AreInOrder, HaveBytes}
+use Rattle.first_pass_tokens.proofs.InOrder.{AreInOrder, HaveBytes}
 use Rattle.first_pass_tokens.proofs.PieceFacts.{IsPieceAt}
 use Rattle.first_pass_tokens.proofs.LineLemmas.{piece_of, piece_some}
 

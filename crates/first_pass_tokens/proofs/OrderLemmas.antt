@@ -20,7 +20,7 @@ use Rattle.first_pass_tokens.specs.Pieces.{Inline, found_at}
 use Rattle.first_pass_tokens.specs.LineTokens.{Spot, spot, ends_at, ends_cell, ArePieces, IsLine, IsCell, EndsLine, add_pieces, text_end, breaks_by_backslash}
 use Rattle.first_pass_tokens.specs.LineTokens.{backslashes_at_end, blanks_at_end, line_end_len, break_of, line_break}
 use Rattle.first_pass_tokens.specs.Chains.{text_token, token, run_tokens, touches, add_token, add_tokens, add_text, is_backslash_break, close_break}
-use Rattle.first_pass_tokens.specs.Order.{AreInOrder}
+use Rattle.first_pass_tokens.proofs.InOrder.{AreInOrder}
 use Rattle.first_pass_tokens.proofs.ChainLemmas.{add_text-none}
 use Rattle.first_pass_tokens.proofs.PieceFacts.{IsVisible, IsEscape, IsMarkup, IsDelimiterRun, delimiter_other, at_byte, visible_solid}
 use Rattle.first_pass_tokens.proofs.LineLemmas.{piece_of, pieces_reach, ended_by, content_of, ends_line}

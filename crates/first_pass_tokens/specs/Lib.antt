@@ -1,10 +1,9 @@
-pub mod Pieces
-pub mod Braces
-pub mod NamedTexts
 pub mod Alike
-pub mod MarkupBytes
+pub mod Braces
 pub mod Chains
-pub mod LineTokens
-pub mod Order
-pub mod TreeTokens
 pub mod HeldText
+pub mod LineTokens
+pub mod MarkupBytes
+pub mod NamedTexts
+pub mod Pieces
+pub mod TreeTokens

@@ -8,7 +8,7 @@ use Rattle.first_pass_items.specs.declared.item.HeadingLevel.{HeadingLevel}
 use Rattle.first_pass_tree.specs.Forest.{Forest}
 use Rattle.first_pass_open.specs.OpenBlock.{with_child}
 use Rattle.first_pass_text.specs.Appends.{AppendsLines}
-use Rattle.first_pass_text.specs.Reading.{LinesSoFar}
+use Rattle.first_pass_text.proofs.SoFar.{LinesSoFar}
 use Rattle.first_pass_grammar.specs.Leaves.{Document, document}
 use Rattle.first_pass_open.proofs.PathLemmas.{open_are_in}
 use Rattle.first_pass_text.proofs.ParagraphLemmas.{same_end, next_boundary, so_far_start, so_far_next, so_far_stop, stops_by, underlined_by}

@@ -2,7 +2,7 @@ use Rattle.std.proofs.Common.{◌≤◌, ℕ, List, None, IsCharBoundary, refl}
 use Rattle.first_pass_items.specs.declared.item.Item.{Item}
 use Rattle.first_pass_grammar.specs.Leaves.{Document, document}
 use Rattle.first_pass_grammar.specs.RawLines.{IsRawLine}
-use Rattle.first_pass_tokens.specs.Order.{AreInOrder}
+use Rattle.first_pass_tokens.proofs.InOrder.{AreInOrder}
 use Rattle.first_pass_raw.specs.RawBlocks.{range_of}
 use Rattle.first_pass_raw.specs.declared.raw_line.RawKind.{RawKind}
 use Rattle.first_pass_raw.specs.declared.raw_line.RawKind.TheVariants.{Code, Html}
