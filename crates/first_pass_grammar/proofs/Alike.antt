@@ -1,4 +1,4 @@
--- Items that read alike: they differ at most in indices that name one text, the same alignments, or the same attributes.
+-- Items that read alike: they differ at most in indices that name the same text, alignments or attributes.
 use Rattle.std.proofs.Common.{◌≡◌, ℕ, zero, suc, ◌+◌, ◌==◌, Bool, true, false, List, [], ◌∷◌, ◌++◌, map, Option, Some, None, refl, sym, ap, ◌∙◌, if◌then◌else◌}
 use Rattle.std.specs.Option.{option_and_then, option_map}
 use Rattle.std.proofs.lemmas.List.{map-append}
@@ -29,19 +29,19 @@ use Rattle.first_pass_grammar.specs.Derivation.{node_of}
 use Rattle.first_pass_grammar.proofs.NoIndex.{IsWithoutIndex, HasNoIndex, HaveNoIndex, read_alone}
 use Rattle.first_pass_grammar.proofs.EachToken.{range_text_each, raw_each}
 
--- the same document, where indices name other texts
+-- the same document with other names for the indices
 abbrev pub with_names : Document → Names → Document
 with_names d n = document d.text d.options n
 
--- chains, and nodes, that read alike
+-- chains that read alike; the next definition is for nodes
 abbrev pub AlikeChains : Names → Names → List Item → List Item → Type 0
 AlikeChains m n xs ys = map (read m) xs ≡ map (read n) ys
 
 abbrev pub AlikeNodes : Names → Names → List (ℕ × Item) → List (ℕ × Item) → Type 0
 AlikeNodes m n xs ys = read_nodes m xs ≡ read_nodes n ys
 
--- leaf blocks, openings and skeletons that are one but for nodes that read alike
--- what a leaf block is, and where it and its line start
+-- leaf blocks, openings and skeletons that differ at most in nodes that read alike
+-- the kind of a leaf block, the start of its line, and its own start
 abbrev pub stands : LeafBlock → Kind × ℕ × ℕ
 stands b = (b.kind, b.line, b.start)
 
@@ -51,7 +51,7 @@ AlikeLeaf m n BlankLine (Block b) = ⊥
 AlikeLeaf m n (Block b) BlankLine = ⊥
 AlikeLeaf m n (Block b) (Block b') = (stands b ≡ stands b') × AlikeNodes m n b.items b'.items × (b.gap ≡ b'.gap) × (b.definitions ≡ b'.definitions)
 
--- where blocks continue stands no item that has an index
+-- the marker where blocks continue, if there is one, has no index
 abbrev pub HoldsNoIndex : From → Type 0
 HoldsNoIndex Line = Unit {0}
 HoldsNoIndex (Blanks e) = Unit {0}
@@ -60,7 +60,7 @@ HoldsNoIndex (At p ALeafAlone) = Unit {0}
 HoldsNoIndex (At p (TextOf marker)) = HasNoIndex marker
 HoldsNoIndex (At p (MarkAlone marker blanks)) = HasNoIndex marker
 
--- what opens a container, whatever the index of its label is
+-- an opener with the index of its label replaced by 0
 abbrev pub opener_alone : Opener → Opener
 opener_alone (QuoteMarker kind) = QuoteMarker kind
 opener_alone (ItemMarker byte number columns) = ItemMarker byte number columns
@@ -70,7 +70,7 @@ opener_alone (DefinitionMarker columns) = DefinitionMarker columns
 abbrev pub head_alone : Head → Head
 head_alone head = record { opener = opener_alone head.opener; line = head.line; start = head.start }
 
--- a node that has the index of its label, if it has one
+-- a node with the index of the container's label, if it has one
 abbrev pub label_node : Opener → List (ℕ × Item)
 label_node (QuoteMarker kind) = []
 label_node (ItemMarker byte number columns) = []
@@ -127,7 +127,7 @@ nodes_append m n xs xs' ys ys' h k =
     let b : read_nodes n (xs' ++ ys') ≡ read_nodes n xs' ++ read_nodes n ys' = map-append (λ (x : ℕ × Item). (x.0, read n x.1)) xs' ys' in
     cc
 
--- a chain that was read, with one more item that was read: what is read of a chain and an item that are joined
+-- a chain that was read with one more item that was read; the item may be joined to the chain
 abbrev join_read : List (Item × Option Named) → Item × Option Named → List (Item × Option Named)
 join_read [] y = y ∷ []
 join_read (x ∷ []) y = if touches x.0 y.0 then (record { start = x.0.start; «end» = y.0.«end»; body = x.0.body }, x.1) ∷ [] else x ∷ y ∷ []
@@ -186,7 +186,7 @@ named_attributes names None (Some attributes) h = absurd h
 named_attributes names (Some ix) None h = absurd h
 named_attributes names (Some ix) (Some attributes) h = rw h refl
 
--- two headings have an index each, or none, where they have the same attributes or none
+-- two headings have an index each if they have the same attributes, and none if they have none
 abbrev index_alone : Option HeadingIndex → Option HeadingIndex
 index_alone ix = option_map (λ (at : HeadingIndex). record { 0 = 0 }) ix
 
@@ -200,7 +200,7 @@ both_given m n (Some i) None None h k = absurd h
 both_given m n (Some i) None (Some attributes) h k = absurd k
 both_given m n (Some i) (Some j) attributes h k = refl
 
--- Items that differ at most in their indices read alike, where these name the same.
+-- Items that differ only in their indices read alike if these name the same.
 indexed_alike : (m n : Names) (start «end» : ℕ) (body body' : ItemBody) → kind_alone body ≡ kind_alone body'
     → option_and_then (named m) (index_of body) ≡ option_and_then (named n) (index_of body')
     → read m (node_of start «end» body) ≡ read n (node_of start «end» body')
@@ -225,7 +225,7 @@ text_free = range_text_each IsWithoutIndex (λ escaped. refl)
 pub html_free : AreFree range_html
 html_free from to = (refl, tt)
 
--- columns with items after them that have no index
+-- columns, followed by items without indices
 line_alike : (m n : Names) (owed at : ℕ) (more xs ys : List Item) → HaveNoIndex more
     → (columns : List Item) × AreColumns m owed at columns × (xs ≡ columns ++ more)
     → (columns : List Item) × AreColumns n owed at columns × (ys ≡ columns ++ more) → AlikeChains m n xs ys
@@ -264,7 +264,7 @@ pub table_alike : (m n : Names) (start «end» : ℕ) (i j : AlignmentIndex) (al
 table_alike m n start end i j alignments h k =
     indexed_alike m n start end (Table i) (Table j) refl (named_alignments m i alignments h ∙ sym (named_alignments n j alignments k))
 
--- footnote definitions whose indices name one label
+-- footnote definitions whose indices name the same label
 pub label_named : (m n : Names) (columns : ℕ) (i j : CowIndex) (written label : List ℕ) → NamesLabel m i written label → NamesLabel n j written label
     → AlikeNodes m n (label_node (FootnoteMarker columns i label)) (label_node (FootnoteMarker columns j label))
 label_named m n columns i j written label h k =
@@ -279,7 +279,7 @@ heading_alike m n start end level i j attributes h k =
     indexed_alike m n start end (Heading level i) (Heading level j) (ap (Heading level) (both_given m n i j attributes h k))
     (named_attributes m i attributes h ∙ sym (named_attributes n j attributes k))
 
--- Making a paragraph tight leaves an item's index as it is.
+-- Tightening a paragraph does not change an item's index.
 tight_alone : (b : ItemBody) → kind_alone (tight_body b) ≡ tight_body (kind_alone b)
 tight_alone Paragraph = refl
 tight_alone (SynthesizeText ix) = refl
@@ -293,7 +293,7 @@ tight_index : (b : ItemBody) → index_of (tight_body b) ≡ index_of b
 tight_index Paragraph = refl
 tight_index b = refl
 
--- a node read, made tight
+-- a node as it is read, after tightening
 abbrev pub tight_read : ℕ → ℕ × (Item × Option Named) → ℕ × (Item × Option Named)
 tight_read depth x = (x.0, if x.0 == depth then (node_of x.1.0.start x.1.0.«end» (tight_body x.1.0.body), x.1.1) else x.1)
 

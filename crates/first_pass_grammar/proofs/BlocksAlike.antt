@@ -1,4 +1,4 @@
--- Rows whose cells read alike read alike.
+-- Rows with cells that read alike read alike themselves.
 use Rattle.std.proofs.Common.{◌≡◌, ℕ, zero, suc, ◌-◌, List, [], ◌∷◌, ◌++◌, length, take, replicate, refl, sym, ap, ◌∙◌, subst}
 use Rattle.first_pass_items.specs.declared.item.Item.{Item}
 use Rattle.first_pass_items.specs.declared.item.ItemBody.{ItemBody}
@@ -8,7 +8,7 @@ use Rattle.first_pass_grammar.specs.Derivation.{node_of}
 use Rattle.first_pass_grammar.specs.Tables.{cell_block, filled, side_by_side, row_cells, row_block}
 use Rattle.first_pass_grammar.proofs.Alike.{AlikeNodes, nodes_append, read_at_depth}
 
--- two lists have as many blocks, each of which reads like that at its place in the other
+-- two lists have as many blocks, and blocks at the same place read alike
 abbrev pub AlikeBlocks : Names → Names → List (List (ℕ × Item)) → List (List (ℕ × Item)) → Type 0
 AlikeBlocks m n [] [] = Unit {0}
 AlikeBlocks m n [] (y ∷ ys) = ⊥
@@ -44,7 +44,7 @@ side_alike m n [] (y ∷ ys) h = absurd h
 side_alike m n (x ∷ xs) [] h = absurd h
 side_alike m n (x ∷ xs) (y ∷ ys) h = nodes_append m n x y (side_by_side xs) (side_by_side ys) h.0 (side_alike m n xs ys h.1)
 
--- blocks read alike where their items and their children do
+-- blocks read alike if their items and their children do
 pub own_alike : (m n : Names) (x y : Item) (kids kids' : List (ℕ × Item)) → read m x ≡ read n y → AlikeNodes m n kids kids'
     → AlikeNodes m n (block_of x kids) (block_of y kids')
 own_alike m n x y kids kids' h k =

@@ -1,4 +1,4 @@
--- Lines whose tokens differ at most in the indices of the texts that they name read alike, and so do the chains that they give.
+-- Lines whose tokens differ only in the indices of the texts that they name read alike, and so do their chains.
 use Rattle.std.proofs.Common.{◌≡◌, ℕ, ◌+◌, ◌-◌, ◌==◌, ◌&&◌, Bool, true, false, nat_lt, List, [], ◌∷◌, ◌++◌, map, slice_get, Option, Some, None, IfSome, refl}
 use Rattle.std.proofs.Common.{sym, ap, ◌∙◌, subst, if◌then◌else◌}
 use Rattle.std.specs.Option.{option_and_then, option_map}
@@ -19,7 +19,7 @@ use Rattle.first_pass_grammar.proofs.NoIndex.{HasNoIndex, HasTextIndex, reads_al
 use Rattle.first_pass_grammar.proofs.EachToken.{AreEach}
 use Rattle.first_pass_grammar.proofs.Alike.{AlikeChains, chains_append, tokens_alike}
 
--- what an index of a text names is the text among those that are named
+-- the index of a text names the text at its place among those that are named
 read_text : (o : Option CowStr) → option_map (λ (cow : CowStr). AText (text_of cow)) o ≡ option_map AText (option_map text_of o)
 read_text None = refl
 read_text (Some cow) = refl
@@ -27,7 +27,7 @@ read_text (Some cow) = refl
 texts_read : (m n : Names) (ix iy : CowIndex) → text_among m.texts ix ≡ text_among n.texts iy → named m (TextAt ix) ≡ named n (TextAt iy)
 texts_read m n ix iy same = read_text (slice_get m.texts ix.0) ∙ ap (option_map AText) same ∙ sym (read_text (slice_get n.texts iy.0))
 
--- kinds that are alike read alike, where they have no index but of a text
+-- bodies that are alike read alike if they have no index except that of a text
 abbrev ReadAlike : Names → Names → ItemBody → ItemBody → Type 0
 ReadAlike m n b c = (kind_alone b ≡ kind_alone c) × (option_and_then (named m) (index_of b) ≡ option_and_then (named n) (index_of c))
 
@@ -56,20 +56,20 @@ alike_reads m n (x ∷ xs) (y ∷ ys) free h =
     let more = alike_reads m n xs ys free.1 h.1 in
     λ i. first i ∷ more i
 
--- one chain or another
+-- one chain or the other
 unless_alike : (m n : Names) (t : Bool) (xs ys us vs : List Item) → AlikeChains m n xs us → AlikeChains m n ys vs
     → AlikeChains m n (if t then xs else ys) (if t then us else vs)
 unless_alike m n true xs ys us vs h k = h
 unless_alike m n false xs ys us vs h k = k
 
--- a text after each
+-- chains with a text added to each
 text_alike : (m n : Names) (from to : ℕ) (escaped : Bool) (xs us : List Item) → AlikeChains m n xs us
     → AlikeChains m n (add_text from to escaped xs) (add_text from to escaped us)
 text_alike m n from to escaped xs us h =
     let x : Item = text_token from to escaped in
     unless_alike m n (nat_lt from to) (add_token xs x) xs (add_token us x) us (tokens_alike m n xs us (x ∷ []) (x ∷ []) h refl) h
 
--- the break after each, and what is left of it after the last line
+-- chains with a break added to each, or with the part of the break that stays after the last line
 pub close_alike : (m n : Names) (o : Option Item) (xs us : List Item) → AlikeChains m n xs us → AlikeChains m n (close_break o xs) (close_break o us)
 close_alike m n None xs us h = h
 close_alike m n (Some x) xs us h =
@@ -81,7 +81,7 @@ pub break_alike : (m n : Names) (o : Option Item) (xs us : List Item) → IfSome
 break_alike m n None xs us free h = h
 break_alike m n (Some x) xs us free h = chains_append m n xs us (x ∷ []) (x ∷ []) h (ap (λ z. z ∷ []) (reads_alone m n x free))
 
--- a marker before each
+-- chains with a marker before each
 pub marked_alike : (m n : Names) (marker : Option Item) (xs us : List Item) → IfSome marker HasNoIndex → AlikeChains m n xs us
     → AlikeChains m n (marker_items marker ++ xs) (marker_items marker ++ us)
 marked_alike m n None xs us free h = h
@@ -89,7 +89,7 @@ marked_alike m n (Some x) xs us free h =
     let first = reads_alone m n x free in
     λ i. first i ∷ h i
 
--- chains that read alike end at one place
+-- chains that read alike end at the same place
 abbrev end_read : ℕ → List (Item × Option Named) → ℕ
 end_read start [] = start
 end_read start (x ∷ []) = x.0.«end»
@@ -103,7 +103,7 @@ read_end m start (x ∷ y ∷ ys) = read_end m start (y ∷ ys)
 pub ends_alike : (m n : Names) (start : ℕ) (xs us : List Item) → AlikeChains m n xs us → chain_end start xs ≡ chain_end start us
 ends_alike m n start xs us h = sym (read_end m start xs) ∙ ap (end_read start) h ∙ read_end n start us
 
--- chains that read alike, cut at one place, read alike
+-- chains that read alike and are cut at the same place read alike
 abbrev cut_read_item : ℕ → Item × Option Named → Item × Option Named
 cut_read_item e x = (cut_item e x.0, x.1)
 

@@ -1,4 +1,4 @@
--- A count that falls finds the rows of a table: how many more cells may be filled in.
+-- The rows of a table are found by a count that falls: how many more cells they may be filled with.
 use Rattle.std.proofs.Common.{◌≡◌, ◌⊎◌, inl, inr, ℕ, ◌-◌, ◌<◌, ◌≤◌, ◌&&◌, Bool, true, false, nat_lt, nat_le, List, [], ◌∷◌, ◌++◌, length, None, refl, sym, ap}
 use Rattle.std.proofs.Common.{subst, arith}
 use Rattle.std.proofs.lemmas.Bool.{and_parts, leb-true}
@@ -11,15 +11,16 @@ use Rattle.first_pass_grammar.specs.Leaves.{Document, around}
 use Rattle.first_pass_grammar.specs.Tables.{filled, row_block, row_text, Taken, taking, FoundRow, HasCells, braces_after_rows, TakesRows, all_filled}
 use Rattle.first_pass_grammar.specs.Tables.{TableSoFar, table_so_far, with_rows, EndRows, row_blocks, AreRows}
 
--- a line with these cells is a row of a table where it has one, and no more are to be filled in than may be
+-- a line with these cells is a row if it has a cell and needs no more filled cells than allowed
 abbrev pub is_row : TableSoFar → List (List (ℕ × Item)) → Bool
 is_row table cells = nat_lt 0 (length cells) && nat_le (filled table.columns cells) table.room
 
--- a table after a row more
+-- a table after one more row
 abbrev pub with_row : TableSoFar → FoundRow → TableSoFar
 with_row table row = table_so_far table.columns (table.room - filled table.columns row.cells) row.after
 
--- The rows of a table among lines, up to the first line that is none, where what may be filled in falls by what is filled into each.
+-- The rows of a table among lines, up to the first line that is no row; the number of filled cells that are allowed
+-- falls with each row.
 unfoldable pub CountedRows : Document → List Container → TableSoFar → List Place → Taken → Type 0
 CountedRows d path table [] t = t ≡ taking [] []
 CountedRows d path table (line ∷ lines) t =
@@ -30,7 +31,8 @@ CountedRows d path table (line ∷ lines) t =
     × (more : Taken) × CountedRows d path (with_row table row) lines more
     × (t ≡ taking (row_block TableRow table.columns row.start row.cells row.row_end ++ more.items) more.left))))
 
--- a row has a cell, and what is filled in may be; else it has none, or more would be filled in than may be
+-- a row has a cell, and its filled cells are allowed; otherwise it has no cell, or needs more filled cells than
+-- allowed
 row_parts : (table : TableSoFar) (cells : List (List (ℕ × Item))) → is_row table cells ≡ true
     → (0 < length cells) × (filled table.columns cells ≤ table.room)
 row_parts table cells h =
@@ -41,7 +43,7 @@ row_parts table cells h =
 row_of : (table : TableSoFar) (cells : List (List (ℕ × Item))) → 0 < length cells → filled table.columns cells ≤ table.room → is_row table cells ≡ true
 row_of table cells some few = grind (arith, nat_tests)
 
--- what may be filled in of a table where nothing is filled in yet
+-- the number of filled cells that are allowed in a table before any is filled in
 all_room : (table : TableSoFar) → table_so_far table.columns (table.room - 0) table.braces ≡ table
 all_room table =
     let room : table.room - 0 ≡ table.room = omega arith in
@@ -55,13 +57,13 @@ none_of : (table : TableSoFar) (cells : List (List (ℕ × Item))) → (cells �
 none_of table cells (inl none) = subst (λ z. is_row table z ≡ false) (sym none) refl
 none_of table cells (inr over) = grind (arith, nat_tests)
 
--- rows end after a row and others where they end after all of them
+-- rows end after a first row and other rows if they end after all of them
 rows_after : (table : TableSoFar) (row : FoundRow) (rows : List FoundRow) → with_rows (with_row table row) rows ≡ with_rows table (row ∷ rows)
 rows_after table row rows =
     let room : table.room - filled table.columns row.cells - all_filled table.columns rows ≡ table.room - all_filled table.columns (row ∷ rows) = omega arith in
     ap (λ (k : ℕ). table_so_far table.columns k (braces_after_rows row.after rows)) room
 
--- a longest run of rows is found so
+-- each longest run of rows is found by the count
 none_counted : (d : Document) (path : List Container) (table : TableSoFar) (lines : List Place) → EndRows d path table lines
     → CountedRows d path table lines (taking [] lines)
 unfolding EndRows CountedRows
@@ -88,7 +90,7 @@ counted d path table lines t h =
     subst (λ z. CountedRows d path table lines (taking z t.left)) (sym h.items_are)
     (all_counted d path table h.rows lines t.left h.takes h.fits h.ends)
 
--- what is found so is a longest run of rows
+-- what the count finds is a longest run of rows
 no_rows : (d : Document) (path : List Container) (table : TableSoFar) (lines : List Place) (t : Taken) → t ≡ taking [] lines → EndRows d path table lines
     → AreRows d path table lines t
 unfolding TakesRows

@@ -1,4 +1,4 @@
--- What holds of the bodies of leaf blocks, and of those in them, holds of the items of each leaf block of a derived sequence.
+-- A property of the bodies in leaf blocks holds for the items of each leaf block of a derived sequence.
 use Rattle.std.proofs.Common.{◌≡◌, ℕ, Bool, true, false, List, [], ◌∷◌, ◌++◌, ◌-◌, length, drop, Option, Some, None, MatchOption, IfSome, refl, sym, ap, subst}
 use Rattle.std.proofs.Common.{if◌then◌else◌}
 use Rattle.std.proofs.lemmas.Bool.{true≢false}
@@ -50,7 +50,7 @@ use Rattle.first_pass_grammar.proofs.EachToken.{range_text_each, range_html_each
 use Rattle.first_pass_grammar.proofs.OpenerFacts.{start_cases}
 use Rattle.first_pass_grammar.proofs.TableItems.{both_nodes, deeper_nodes, leaves_nodes, row_nodes, cells_nodes, rows_nodes}
 
--- this holds of each body that a leaf block begins with; where a task's marker stands alone, it is the block
+-- a property of the first body of each leaf block; a task list item marker without a text is such a body too
 pub record HoldsOfBlocks (P : ItemBody → Type 0) : Type 0 where
   pub paragraph : P ParagraphBody
   pub heading : (level : HeadingLevel) (index : Option HeadingIndex) → P (HeadingBody level index)
@@ -62,7 +62,8 @@ pub record HoldsOfBlocks (P : ItemBody → Type 0) : Type 0 where
   pub rule : P Rule
   pub task : (checked : Bool) → P (TaskListMarker checked)
 
--- this holds of each body in a leaf block, after the first: of tokens, whose texts are among these, of raw lines, of rows and cells, and of a task's marker
+-- a property of each later body in a leaf block: of tokens, whose texts are among these, of raw lines, rows and cells,
+-- and of a task list item marker
 pub record HoldsInBlocks (texts : List CowStr) (P : ItemBody → Type 0) : Type 0 where
   pub tokens : HoldsOfTokens texts P
   pub raw : HoldsOfRaw P
@@ -71,12 +72,13 @@ pub record HoldsInBlocks (texts : List CowStr) (P : ItemBody → Type 0) : Type 
   pub cell : P TableCell
   pub task : (checked : Bool) → P (TaskListMarker checked)
 
--- there are no items, or the first is at depth 0 and has a body of the one kind, and each after it has one of the other
+-- there are no items; or the first is at depth 0 and has a body with one property, and each later one has the other
+-- property
 abbrev pub IsBlockOf : (ItemBody → Type 0) → (ItemBody → Type 0) → List (ℕ × Item) → Type 0
 IsBlockOf Own Inner [] = Unit {0}
 IsBlockOf Own Inner (x ∷ items) = (x.0 ≡ 0) × Own x.1.body × AreEachNode Inner items
 
--- this holds of the items of a leaf, and of each leaf block of a sequence
+-- a property of the items of a leaf; the next definition: of each leaf block in a sequence
 abbrev pub HoldsOfLeaf : (List (ℕ × Item) → Type 0) → Leaf → Type 0
 HoldsOfLeaf P BlankLine = Unit {0}
 HoldsOfLeaf P (Block b) = P b.items
@@ -86,14 +88,14 @@ HoldsOfEachLeaf P Nil = Unit {0}
 HoldsOfEachLeaf P (Then leaf next) = HoldsOfLeaf P leaf × HoldsOfEachLeaf P next
 HoldsOfEachLeaf P (Node head e kids next) = HoldsOfEachLeaf P kids × HoldsOfEachLeaf P next
 
--- the marker of a task, where there is one
+-- the body of a task list item marker, if there is a marker
 abbrev IsTask : ItemBody → Type 0
 IsTask body = is_task_marker body ≡ true
 
 abbrev IsMark : Option Item → Type 0
 IsMark marker = IfSome marker (λ x. IsTask x.body)
 
--- where blocks continue, what stands before a text, or alone, is the marker of a task
+-- where blocks continue, what precedes a text, or is the block without one, is a task list item marker
 abbrev pub TaskBefore : From → Type 0
 TaskBefore Line = Unit {0}
 TaskBefore (Blanks e) = Unit {0}
@@ -102,7 +104,7 @@ TaskBefore (At p ALeafAlone) = Unit {0}
 TaskBefore (At p (TextOf marker)) = IsTask marker.body
 TaskBefore (At p (MarkAlone marker blanks)) = IsTask marker.body
 
--- so after the marker of a container
+-- the same after the marker of a container
 abbrev TaskAfter : AfterMarker → Type 0
 TaskAfter OnLine = Unit {0}
 TaskAfter (TaskText marker) = IsTask marker.body
@@ -151,7 +153,7 @@ onward_before : (left : Left) → TaskBefore (onward left).0
 onward_before (Lines lines) = tt
 onward_before (InLine p lines) = tt
 
--- what holds of the marker of a task
+-- a property of task list item markers
 task_holds : (P : ItemBody → Type 0) (body : ItemBody) → ((checked : Bool) → P (TaskListMarker checked)) → IsTask body → P body
 task_holds P (TaskListMarker checked) holds h = holds checked
 task_holds P body holds h = absurd (true≢false (sym h))
@@ -173,7 +175,7 @@ module _ (Own Inner : ItemBody → Type 0) (d : Document) (own : HoldsOfBlocks O
   chain_block start stop body chain items is holds h =
       subst IsBlock (sym is) (refl, holds, deeper_nodes Inner 1 (leaves chain) (leaves_nodes Inner chain h))
 
-  -- a heading or a paragraph
+  -- a setext heading or a paragraph
   ended_block : (start : ℕ) (marker : Option Item) (l : TextLines) (t : Taken) (o : Option (ℕ × HeadingLevel)) → HoldsOfMark marker
       → AreEach Inner l.chain
       → MatchOption o (t ≡ plain_text d start marker l) (λ underline. IsUnderlined d start marker l underline.1 t) → IsBlock t.items
@@ -197,7 +199,7 @@ module _ (Own Inner : ItemBody → Type 0) (d : Document) (own : HoldsOfBlocks O
       subst IsBlock (sym h.items_are)
       (refl, own.table h.index, deeper_nodes Inner 1 (head ++ h.body) (both_nodes Inner head h.body first rows))
 
-  -- what stands for a text
+  -- a paragraph, a setext heading or a table
   text_by : (path : List Container) (p : Place) (marker : Option Item) (lines : List Place) (t : Taken) (o : Option (List Alignment)) → HoldsOfMark marker
       → MatchOption o (IsPlainText d path (offset p) marker lines t) (λ alignments. IsTable d path p alignments lines t) → IsBlock t.items
   text_by path p marker lines t None mark (l, are, is) =
@@ -305,7 +307,7 @@ module _ (Own Inner : ItemBody → Type 0) (d : Document) (own : HoldsOfBlocks O
   opens_first : (l : Level) (from : From) (lines : List Place) (o : Opening) → TaskBefore from → IsFirst d l from lines o → OpensBlocks o
   opens_first l from lines o mark first = opens_at l from first.place first.behind o mark first.opens
 
-  -- so it is in each leaf block of a sequence
+  -- each leaf block in a sequence has the property
   pub each_leaf : (s : Skeleton) (l : Level) (from : From) (lines : List Place) (left : Left) → TaskBefore from → IsSequence d s l from lines left
       → HoldsOfEachLeaf (IsBlockOf Own Inner) s
   unfolding IsSequence HoldsOfEachLeaf

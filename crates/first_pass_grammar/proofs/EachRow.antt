@@ -1,4 +1,4 @@
--- What holds of the items of each leaf block of a sequence holds of those of each leaf block of its rows.
+-- A property of the items of each leaf block in a sequence holds for each leaf block in its rows.
 use Rattle.std.proofs.Common.{◌≡◌, ℕ, ◌==◌, Bool, true, false, List, [], ◌∷◌, length, map, Option, Some, None, refl, if◌then◌else◌}
 use Rattle.std.specs.Option.{option_map, option_map_or}
 use Rattle.first_pass_items.specs.declared.item.Item.{Item}
@@ -24,7 +24,7 @@ abbrev pub IsEnd : Rows → Type 0
 IsEnd End = Unit {0}
 IsEnd (OneOf row inner next) = ⊥
 
--- no rows stand in a leaf block, and this holds of its items; a title is a paragraph
+-- a leaf block has no rows in it, and its items have the property; a title is a paragraph
 abbrev pub HoldsOfRow : (List (ℕ × Item) → Type 0) → What → Rows → Type 0
 HoldsOfRow P (ALeaf block) inner = P block.items × IsEnd inner
 HoldsOfRow P (AQuote kind e) inner = Unit {0}
@@ -35,12 +35,12 @@ HoldsOfRow P (ADefinitionList t e) inner = Unit {0}
 HoldsOfRow P (ATitle block) inner = P block.items × IsEnd inner × (begins_paragraph block.items ≡ true)
 HoldsOfRow P (ADefinition columns e) inner = Unit {0}
 
--- so it is in each row of rows
+-- each row in rows has the property
 unfoldable pub HoldsOfEachRow : (List (ℕ × Item) → Type 0) → Rows → Type 0
 HoldsOfEachRow P End = Unit {0}
 HoldsOfEachRow P (OneOf row inner next) = HoldsOfRow P row.what inner × HoldsOfEachRow P inner × HoldsOfEachRow P next
 
--- so it is in definitions that are first of rows, if there are some
+-- the definitions at the start of rows, if there are any, have the property
 abbrev pub HoldsOfFirst : (List (ℕ × Item) → Type 0) → Option Definitions → Type 0
 HoldsOfFirst P None = Unit {0}
 HoldsOfFirst P (Some ds) = HoldsOfEachRow P ds.items × HoldsOfEachRow P ds.beside
@@ -55,7 +55,7 @@ module _ (P : List (ℕ × Item) → Type 0) where
   unless_rows true a b h k = h
   unless_rows false a b h k = k
 
-  -- the items of a list that continues, and what is after it
+  -- the further items of a list, and the rows after it
   pub items_rows : (joins : Joins) (rows : Rows) → HoldsOfEachRow P rows → HoldsOfEachRow P (items_behind joins rows)
   unfolding HoldsOfEachRow
   items_rows joins End h = tt
@@ -85,7 +85,7 @@ module _ (P : List (ℕ × Item) → Type 0) where
   container_what (FootnoteMarker columns index label) e inner = tt
   container_what (DefinitionMarker columns) e inner = tt
 
-  -- definitions that are first of rows
+  -- definitions at the start of rows
   apart_rows : (row : Row) (inner : Rows) (o : Option Definitions) → HoldsOfRow P row.what inner → HoldsOfEachRow P inner → HoldsOfFirst P o
       → HoldsOfFirst P (option_map (apart_after row inner) o)
   unfolding HoldsOfEachRow
@@ -104,7 +104,7 @@ module _ (P : List (ℕ × Item) → Type 0) where
   first_rows End h = tt
   first_rows (OneOf row inner next) h = first_by (is_untitled row.what) (is_run_row row.what) row inner next _ h (first_rows next h.2)
 
-  -- a leaf block before rows, as the title of definitions that are first of them or not
+  -- a leaf block before rows, which may be the title of the definitions at their start
   titled_rows : (block : LeafBlock) (gap p : Bool) (o : Option Definitions) (next : Rows) → begins_paragraph block.items ≡ p → P block.items
       → HoldsOfFirst P o → HoldsOfEachRow P next
       → HoldsOfEachRow P (option_map_or (titled block gap) (if p then o else None) (OneOf (row_of_leaf block gap) End next))
@@ -113,7 +113,7 @@ module _ (P : List (ℕ × Item) → Type 0) where
   titled_rows block gap true None next is h f k = ((h, tt), tt, k)
   titled_rows block gap false o next is h f k = ((h, tt), tt, k)
 
-  -- so it is in the rows of a sequence
+  -- the rows of a sequence have the property
   pub each_row : (quoted : Bool) (before : Before) (last : ℕ) (s : Skeleton) → HoldsOfEachLeaf P s → HoldsOfEachRow P (rows_of quoted before last s)
   unfolding HoldsOfEachLeaf HoldsOfEachRow rows_of
   each_row quoted before last Nil h = tt
@@ -125,7 +125,7 @@ module _ (P : List (ℕ × Item) → Type 0) where
       container_rows last head.opener (row_of head e before.counted) _ _ (container_what head.opener e _)
       (each_row (is_quote (opened head.opener)) nothing e kids h.0) (each_row quoted _ last next h.1)
 
--- so it is in the rows of a derived tree
+-- the rows of a derived tree have the property
 pub derived_rows : (Own Inner : ItemBody → Type 0) (d : Document) (forest : List (ℕ × Item)) (tables : Tables) → HoldsOfBlocks Own
     → HoldsInBlocks d.names.texts Inner → (h : Derives d forest tables)
     → HoldsOfEachRow (IsBlockOf Own Inner) (rows_of false nothing (length d.text) h.skeleton)
@@ -133,7 +133,7 @@ derived_rows Own Inner d forest tables own within h =
     each_row (IsBlockOf Own Inner) false nothing (length d.text) h.skeleton
     (each_leaf Own Inner d own within h.skeleton (level [] nothing) Line (lines_at 0 d.text) (Lines []) tt h.sequence)
 
--- where a body that is made tight keeps what holds of it, nodes do
+-- nodes keep a property that tightening a body keeps
 module _ (P : ItemBody → Type 0) (tight : (body : ItemBody) → P body → P (tight_body body)) where
   tight_by : (t : Bool) (x : Item) → P x.body
       → P (if◌then◌else◌ {A = Item} t (record { start = x.start; «end» = x.«end»; body = tight_body x.body }) x).body

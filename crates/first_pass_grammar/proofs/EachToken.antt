@@ -1,4 +1,4 @@
--- What holds of each token holds of each item in the chain of a paragraph, of a heading and of a cell, and of raw lines.
+-- A property of each token holds for each item in the chain of a paragraph, a heading or a cell, and in raw lines.
 use Rattle.std.proofs.Common.{◌≡◌, inl, inr, ℕ, zero, suc, ◌+◌, ◌-◌, ◌==◌, ◌&&◌, Bool, true, false, nat_lt, nat_le, min, List, [], ◌∷◌, ◌++◌, length, Option}
 use Rattle.std.proofs.Common.{Some, None, IfSome, sym, subst, if◌then◌else◌, refl}
 use Rattle.first_pass_items.specs.declared.cow_str.CowStr.{CowStr}
@@ -29,19 +29,19 @@ use Rattle.first_pass_grammar.specs.Headings.{kept_before, heading_braces}
 use Rattle.first_pass_attributes.specs.AttributeBlocks.{Braces}
 use Rattle.first_pass_items.specs.declared.item.HeadingIndex.{HeadingIndex}
 
--- each of these items is one of which this holds
+-- each of these items has a property
 abbrev pub AreEach : (ItemBody → Type 0) → List Item → Type 0
 AreEach P [] = Unit {0}
 AreEach P (x ∷ xs) = P x.body × AreEach P xs
 
--- this holds of each token of a text's lines, whose texts are among these
+-- each token of a text's lines has a property; the texts of the tokens are among these
 pub record HoldsOfTokens (texts : List CowStr) (P : ItemBody → Type 0) : Type 0 where
   pub text : (escaped : Bool) → P (Text escaped)
   pub soft : P SoftBreak
   pub hard : (by_backslash : Bool) → P (HardBreak by_backslash)
   pub markup : (body : ItemBody) → is_markup body ≡ true → NamesWithin texts body → P body
 
--- this holds of what stands for raw lines beside texts
+-- the items of raw lines other than texts have a property
 pub record HoldsOfRaw (P : ItemBody → Type 0) : Type 0 where
   pub html : P Html
   pub columns : (ix : CowIndex) → P (SynthesizeText ix)
@@ -112,7 +112,7 @@ module _ (P : ItemBody → Type 0) (text : (escaped : Bool) → P (Text escaped)
   unfolding heading_chain
   heading_chain_each kept start chain h = unless_each P (kept == 0) [] (cut (start + kept) chain) tt (cut_each (start + kept) chain h)
 
-  -- the children of a heading that is underlined
+  -- the children of a setext heading
   cut_children_each : (d : Document) (start : ℕ) (marker : Option Item) (t : TextLines) (o : Option Braces) → AreEach P (marker_items marker ++ t.chain)
       → AreEach P (text_children marker t)
       → AreEach P (children_without d start marker t o)

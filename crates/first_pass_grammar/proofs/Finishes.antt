@@ -1,4 +1,4 @@
--- What completes open nodes, as one type over what each open container takes further.
+-- The completions of open nodes, as one type over the remaining parts of the open containers.
 use Rattle.std.proofs.Common.{◌≡◌, ℕ, suc, Bool, false, List, [], ◌∷◌, length, refl, sym, ap, ◌∙◌, subst}
 use Rattle.first_pass_items.specs.declared.item.Item.{Item}
 use Rattle.first_pass_lines.specs.Places.{Place}
@@ -13,7 +13,7 @@ use Rattle.first_pass_grammar.specs.Completion.{ended, Pending, NoList, OneList,
 use Rattle.first_pass_grammar.specs.Completion.{Closed, InDefinitions, closed_as, definitions_open, InList, containers_of, loosened, last_of, Becomes, Completes}
 use Rattle.first_pass_grammar.specs.Containers.{is_quote}
 
--- some sequence that the innermost container takes, and so on outwards
+-- some remaining sequence of the innermost container, and so on outwards
 unfoldable pub Finish : Document → Tables → Pending → Before → List Frame → List (ℕ × Item) → List ℕ → From → List Place → List (ℕ × Item) → Tables → Type 0
 Finish d defined list before [] nodes [] from lines forest tables =
     (s : Skeleton) × IsSequence d s (level [] before) from lines (Lines [])
@@ -38,7 +38,7 @@ containers-loosened gap (InContainer c ∷ frames) = refl
 containers-loosened gap (InList byte loose ∷ frames) = refl
 containers-loosened gap (InDefinitions loose ∷ frames) = refl
 
--- what stands, by its parts
+-- the state with these parts
 abbrev pub standing : Tables → List (ℕ × Item) → Pending → Before → Standing
 standing defined nodes list before = record { nodes = nodes; list = list; before = before; defined = defined }
 
@@ -107,20 +107,21 @@ of_finish d defined (o ∷ os) list before (InContainer c ∷ frames) nodes from
     containers-loosened (any_gap (rows_beyond list rows)) frames in
     (further_to s e ∷ r.0, (mid, seq, refl, subst (λ p. AreFurther d p now (onward mid).0 (onward mid).1 r.0) path r.1), r.2)
 
--- how open nodes end: with what is last in the innermost, and a run of blank lines that holds one that counts, or doesn't
+-- the end of open nodes: the last child of the innermost one, and whether the blank lines after it include a counting
+-- one
 pub record Tail : Type 0 where
   pub closed : Closed
   pub run : Bool
 
--- what stands before the next block in open nodes that end so
+-- what precedes the next block in open nodes with this end
 abbrev pub before_of : List Frame → Tail → Before
 before_of frames t = record { last = last_of frames t.closed; counted = t.run }
 
--- nodes, open at these places as the frames say, after which a run of blank lines holds one that counts, or doesn't: whatever completes them, the text derives
+-- open nodes at these places, as the frames list them, with this end: every completion of them is derived by the text
 abbrev pub CompletesAt : Document → Tables → Tail → List Frame → List (ℕ × Item) → List ℕ → From → List Place → Type 0
 CompletesAt d defined t frames nodes os from lines = Completes d frames os (standing defined nodes (NoList t.closed) (before_of frames t)) from lines
 
--- such nodes are finished as this forest, with these tables
+-- such nodes are completed to this forest and these tables
 abbrev pub FinishesAt : Document → Tables → Tail → List Frame → List (ℕ × Item) → List ℕ → From → List Place → List (ℕ × Item) → Tables → Type 0
 FinishesAt d defined t frames nodes os from lines forest tables =
     Finish d defined (NoList t.closed) (before_of frames t) frames nodes os from lines forest tables

@@ -1,5 +1,5 @@
--- A table that takes the labels of footnote definitions one after the other holds their first spellings in the order of the foldings: as a table of links does
--- that says nothing but labels.
+-- A table that takes the labels of footnote definitions in order has their first spellings in the order of the
+-- foldings. It is like a table of links with nothing but labels.
 use Rattle.std.proofs.Common.{◌≡◌, ℕ, Bool, true, false, cond, List, [], ◌∷◌, map, Option, None, Some, refl, sym, ap, subst, ◌∙◌}
 use Rattle.std.specs.Cmp.Lexicographic.{pointwise}
 use Rattle.std.specs.Option.{option_map}
@@ -12,7 +12,7 @@ use Rattle.first_pass_labels.specs.Foldings.{folded}
 use Rattle.first_pass_grammar.specs.LinkTables.{LinkEntry, folded_cmp, with_link, with_links, link_under, with_label, with_labels, label_under}
 use Rattle.first_pass_grammar.proofs.FirstLinks.{first_under, order_of_links}
 
--- a definition with this label, and nothing else
+-- a link reference definition with only this label
 abbrev link_of : List ℕ → LinkEntry
 link_of label = record { label = label; dest = []; title = None; start = 0; «end» = 0 }
 

@@ -1,4 +1,5 @@
--- A table that takes link reference definitions one after the other returns as the definitions in the order of the text.
+-- A table that takes link reference definitions in order finds the same entries as the definitions in the order of the
+-- text.
 use Rattle.std.proofs.Common.{◌≡◌, ℕ, Bool, true, false, cond, List, [], ◌∷◌, map, Option, None, Some, nat_eq, refl, sym, ap, ◌∙◌}
 use Rattle.std.proofs.lemmas.Bool.{true≢false}
 use Rattle.std.specs.Cmp.{IsTotalOrder, on_total}
@@ -36,7 +37,7 @@ not_both f x y is a b =
     let same = sym ((bytes_decides f (folded x.label)).0 a) ∙ (bytes_decides f (folded y.label)).0 b in
     true≢false (ap is_eq (sym (folding_tied x.label y.label same) ∙ is))
 
--- ---- a definition more keeps the order
+-- ---- one more definition keeps the order
 
 folded_total : IsTotalOrder folded_cmp
 folded_total = on_total folded nat_list_cmp_total
@@ -45,7 +46,7 @@ folded_total = on_total folded nat_list_cmp_total
 abbrev labels : List LinkEntry → List (List ℕ)
 labels links = map (λ x. x.label) links
 
--- a label is before all of these
+-- a label comes before all of these
 abbrev IsBelow : List ℕ → List LinkEntry → Type 0
 IsBelow k links = AllByRecursion (λ y. folded_cmp k y ≡ Less) (labels links)
 
@@ -87,9 +88,9 @@ pub order_of_links : (definitions : List LinkEntry) → IsInFoldedOrder (with_li
 unfolding IsStrictlySortedBy
 order_of_links definitions = order_with_links [] definitions tt
 
--- ---- what stands under a folding
+-- ---- the entry under a folding
 
--- an answer, or else another
+-- the first entry, or the second if there is no first one
 abbrev first_of : Option LinkEntry → Option LinkEntry → Option LinkEntry
 first_of None o = o
 first_of (Some x) o = Some x
@@ -111,7 +112,7 @@ module _ (f : List ℕ) (x : LinkEntry) where
   none_cons a true y o not is rest = absurd (not is refl)
   none_cons a false y o not is rest = rest
 
-  -- none of those after a definition has its folding
+  -- no definition after this one has its folding
   none_behind : (links : List LinkEntry) → IsBelow x.label links → has f x ≡ true → link_under f links ≡ None
   unfolding link_under
   none_behind [] below is = refl

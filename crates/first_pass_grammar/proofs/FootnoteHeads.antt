@@ -1,4 +1,5 @@
--- A footnote definition takes nothing from the labels of others: the head of one is the same in a footnote definition as around that.
+-- A footnote definition does not change the labels of others: the head of one is the same inside a footnote definition
+-- as around it.
 use Rattle.std.proofs.Common.{◌≡◌, ℕ, ◌&&◌, ◌||◌, not, Bool, true, false, nat_lt, List, [], ◌∷◌, drop, Option, Some, None, refl, ap, sym, ◌∙◌, if◌then◌else◌}
 use Rattle.std.specs.Option.{option_map, option_and_then, is_some}
 use Rattle.std.proofs.Math.Dec.{leb-zero}
@@ -24,7 +25,7 @@ use Rattle.first_pass_grammar.specs.Footnotes.{footnote_prefix, footnote_head_at
 abbrev with_old : List Container → List Container
 with_old path = FootnoteDefinition 0 ∷ path
 
--- such a definition takes nothing of a line
+-- such a definition has no prefix in a line
 after_by : (o : Option Rest) → option_and_then (prefix (FootnoteDefinition 0)) o ≡ o
 unfolding prefix
 after_by None = refl
@@ -47,14 +48,14 @@ front_same : (path : List Container) (r : Rest) → front (with_old path) r ≡ 
 unfolding front
 front_same path r = ap (λ (o : Option Rest). or_shorter o (front path r)) (after_same path r) ∙ front_again path r
 
--- nor does it change what interrupts a paragraph
+-- it does not change what interrupts a paragraph
 table_same : (path : List Container) (bs : List ℕ) → table_at (with_old path) bs ≡ table_at path bs
 unfolding table_at
 table_same path bs =
     ap (λ (o : Option Rest). option_and_then (if_as_many (head_columns bs)) (option_and_then delimiter_row_of o))
     (after_same path (line_rest (drop (line_len bs) bs)))
 
--- nor which container stops a line
+-- it does not change which container stops a line
 stopped_none : (c : Container) (o : Option Rest) → is_some o ≡ false → is_some (option_and_then (prefix c) o) ≡ true → ⊥
 stopped_none c None e h = cc
 stopped_none c (Some r) e h = cc
@@ -65,7 +66,7 @@ whole_by : (c : Container) (path : List Container) (r : Rest) (t : Bool) → is_
 whole_by c path r true e h = ap (λ b. is_definition c && not b) h ∙ and-false (is_definition c)
 whole_by c path r false e h = absurd (stopped_none c (after path r) e h)
 
--- no container stops a line that continues all
+-- no container stops a line that continues all containers
 pub whole_none : (path : List Container) (r : Rest) → is_some (after path r) ≡ true → at_definition path r ≡ false
 unfolding at_definition after
 whole_none [] r h = refl
@@ -114,7 +115,7 @@ crossed_same options path in_label r =
     ∙ ap (λ q. by (ends_paragraph (context options path) r) q (after (with_old path) r)) (front_same path r)
     ∙ ap (by (ends_paragraph (context options path) r) (front path r)) (after_same path r)
 
--- as GitHub has footnotes, no label continues in another line
+-- in GitHub's form, no label continues on another line
 prefix_by : (options : Options) (columns : ℕ) (path : List Container) (bs : List ℕ) (t : Bool) → gfm_footnotes options ≡ t
     → columns ≡ (if t then 4 else 0)
     → footnote_prefix (context options (FootnoteDefinition columns ∷ path)) bs ≡ footnote_prefix (context options path) bs

@@ -1,4 +1,4 @@
--- Nothing is filled into the header row of a table.
+-- The header row of a table is filled with no cells.
 use Rattle.std.proofs.Common.{◌≡◌, ℕ, ◌-◌, ◌==◌, ◌&&◌, not, Bool, true, false, List, length}
 use Rattle.std.proofs.Common.{Option, Some, None, refl, sym, ap, ◌∙◌, arith, if◌then◌else◌}
 use Rattle.std.specs.Option.{option_and_then}
@@ -19,7 +19,7 @@ use Rattle.first_pass_grammar.proofs.PlacesKept.{IsAt}
 use Rattle.first_pass_grammar.proofs.WholeBlocks.{HeadsAreFull}
 use Rattle.first_pass_grammar.proofs.HeadCells.{head_has_cells}
 
--- the columns of a table that a text heads
+-- the columns of a table whose header row is the first line of a text
 as_many_by : (t : Bool) (columns : ℕ) (xs alignments : List Alignment) → (length xs == columns) ≡ t → (if t then Some xs else None) ≡ Some alignments
     → length alignments ≡ columns
 as_many_by true columns xs alignments same e = ap length (sym (same_Some xs alignments e)) ∙ eqb-true (length xs) columns same
@@ -36,7 +36,7 @@ headed_by true true o alignments e = (refl, e)
 headed_by true false o alignments e = absurd (none-some alignments e)
 headed_by false s o alignments e = absurd (none-some alignments e)
 
--- Nothing is filled into a header row.
+-- A header row is filled with no cells.
 pub head_is_full : (d : Document) (path : List Container) (p : Place) (alignments : List Alignment) (cells : List (List (ℕ × Item))) (to : Spot) → IsAt d.text p
     → headed_table (around d path) p.rest.left ≡ Some alignments → AreCells d (spot (offset p) no_braces) cells to → filled (length alignments) cells ≡ 0
 unfolding headed_table table_at

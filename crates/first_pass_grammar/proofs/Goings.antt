@@ -15,7 +15,8 @@ use Rattle.first_pass_grammar.specs.Skeleton.{From, Line, Blanks, At, Anything, 
 use Rattle.first_pass_grammar.specs.Skeleton.{Level, level, Left, Lines, InLine, Going, Begins, Ends, ends_old_footnote, going_at, going_in}
 use Rattle.first_pass_grammar.specs.Skeleton.{blanks_alone, going_blank, going}
 
--- the place of a block, with the lines after it: a place inside a line, or the one after what the path takes of the next line
+-- the place of a block and the lines after it: a place inside a line, or the place after the path's prefixes in the
+-- next line
 abbrev pub BeginsAt : List Container → From → List Place → Place → List Place → Type 0
 BeginsAt path (At p may) lines q behind = (q ≡ p) × (behind ≡ lines)
 BeginsAt path Line [] q behind = ⊥
@@ -23,7 +24,7 @@ BeginsAt path Line (line ∷ lines) q behind = (taken path line ≡ Some q) × (
 BeginsAt path (Blanks e) [] q behind = ⊥
 BeginsAt path (Blanks e) (line ∷ lines) q behind = (taken path line ≡ Some q) × (behind ≡ lines)
 
--- what a sequence leaves that has no block: all of the lines, or a place where one might begin
+-- what a sequence without blocks leaves: all lines, or a place where a block might begin
 abbrev pub LeavesAt : List Container → From → List Place → Left → Type 0
 LeavesAt path from lines (Lines left) = left ≡ lines
 LeavesAt path from lines (InLine p behind) = BeginsAt path from lines p behind × (in_footnote path ≡ true)
@@ -72,7 +73,7 @@ goes_at options l Line (line ∷ lines) = at_line options l line lines (taken l.
 goes_at options l (Blanks e) [] = refl
 goes_at options l (Blanks e) (line ∷ lines) = at_blank l.path e line lines (taken l.path line) refl
 
--- a block begins at a place, and what is left is left there
+-- the place of the next block of a sequence; the next lemma: what a sequence without blocks leaves
 pub begins_at : (options : Options) (l : Level) (from : From) (lines : List Place) (p : Place) (behind : List Place)
     → going options l from lines ≡ Begins p behind → BeginsAt l.path from lines p behind
 begins_at options l from lines p behind is = subst (GoesAt l.path from lines) is (goes_at options l from lines)
@@ -99,7 +100,7 @@ all_taken_at options before Line [] left is none = sym (same_left (Lines []) lef
 all_taken_at options before Line (line ∷ lines) left is none = absurd (begun_not_ended (at_rest line line.rest) lines left is)
 all_taken_at options before (Blanks e) lines left is none = absurd (none-some e (sym none))
 
--- a block begins inside a line where no footnote definition ends there, and else the sequence ends
+-- a block begins inside a line if no footnote definition ends there; otherwise the sequence ends
 pub begins_inside : (options : Options) (l : Level) (p : Place) (lines : List Place)
     → ends_footnote (context options l.path) p ≡ false → going options l (Inside p) lines ≡ Begins p lines
 unfolding going
@@ -110,7 +111,8 @@ pub ends_inside : (options : Options) (l : Level) (p : Place) (lines : List Plac
 unfolding going
 ends_inside options l p lines h = rw h refl
 
--- a line that continues the path is read at its place, but after a blank line that ends an old footnote definition
+-- a line that continues the path is read at its place, unless a blank line before it ends a footnote definition in the
+-- old form
 pub enters : (options : Options) (l : Level) (line q : Place) (lines : List Place) → taken l.path line ≡ Some q → ends_old_footnote l ≡ false
     → going options l Line (line ∷ lines) ≡ going options l (Inside q) lines
 unfolding going
@@ -124,13 +126,13 @@ ends_old_by options l line lines None old = refl
 ends_old_by options l line lines (Some q) old =
     ap (λ (t : Bool). if◌then◌else◌ {A = Going} t (Ends (Lines (line ∷ lines))) (going_at (context options l.path) q lines)) old
 
--- an old footnote definition ends after a blank line that counts
+-- a footnote definition in the old form ends after a counting blank line
 pub ends_old : (options : Options) (l : Level) (lines : List Place) → ends_old_footnote l ≡ true → going options l Line lines ≡ Ends (Lines lines)
 unfolding going
 ends_old options l [] old = refl
 ends_old options l (line ∷ lines) old = ends_old_by options l line lines (taken l.path line) old
 
--- a line that doesn't continue the path ends a sequence, and so does the text's end
+-- a line that does not continue the path ends a sequence, and so does the end of the text
 stops_by : (options : Options) (l : Level) (line : Place) (lines : List Place) (o : Option Rest) → is_some o ≡ false
     → going_in options l (option_map (at_rest line) o) (line ∷ lines) ≡ Ends (Lines (line ∷ lines))
 stops_by options l line lines None h = refl
@@ -141,7 +143,7 @@ unfolding going
 stops options l [] h = refl
 stops options l (line ∷ lines) h = stops_by options l line lines (after l.path line.rest) h
 
--- an item that takes blank lines alone
+-- an item that takes only blank lines
 stops_blank_by : (line : Place) (lines : List Place) (o : Option Rest) → is_blank_behind o ≡ false
     → going_blank (option_map (at_rest line) o) (line ∷ lines) ≡ Ends (Lines (line ∷ lines))
 stops_blank_by line lines None h = refl
@@ -160,7 +162,7 @@ begins_blank options l e line q lines is blank =
     ap (λ (o : Option Place). going_blank o (line ∷ lines)) is
     ∙ ap (λ (t : Bool). if◌then◌else◌ {A = Going} t (Begins q lines) (Ends (Lines (line ∷ lines)))) blank
 
--- inside a line, and where blank lines are taken alone, it is the same whatever is before
+-- inside a line, and if only blank lines are taken, what precedes the place makes no difference
 pub going_inside : (options : Options) (path : List Container) (before before' : Before) (p : Place) (lines : List Place)
     → going options (level path before) (Inside p) lines ≡ going options (level path before') (Inside p) lines
 unfolding going

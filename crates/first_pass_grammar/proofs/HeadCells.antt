@@ -1,4 +1,5 @@
--- A header row has at least as many cells as its table has columns: each pipe that is not directly after a backslash ends one, but the first in its line.
+-- A header row has at least as many cells as its table has columns: each pipe without a backslash directly before it
+-- ends a cell, except a pipe at the start of the line.
 use Rattle.std.proofs.Common.{◌≡◌, inl, inr, ℕ, zero, suc, ◌+◌, ◌-◌, ◌<◌, ◌≤◌, ◌==◌, ◌&&◌, not, Bool, true, false, List, [], ◌∷◌, length, take, drop}
 use Rattle.std.proofs.Common.{slice_index, Option, Some, None, is_some, refl, sym, ap, subst, ◌∙◌, arith, add-one, drop-drop, if◌then◌else◌}
 use Rattle.std.specs.Option.{option_map, option_map_or}
@@ -19,14 +20,15 @@ use Rattle.first_pass_tokens.proofs.LineLemmas.{pieces_reach}
 use Rattle.first_pass_grammar.specs.Leaves.{Document}
 use Rattle.first_pass_grammar.specs.Tables.{cell_content, cell_start, cell_text, AreCells}
 
--- one element more
+-- one more element
 take_next : (n c : ℕ) (cs : List ℕ) → take (n + 1) (c ∷ cs) ≡ c ∷ take n cs
 take_next n c cs = rw add-one
 
 drop_next : (n c : ℕ) (cs : List ℕ) → drop (n + 1) (c ∷ cs) ≡ drop n cs
 drop_next n c cs = rw add-one
 
--- how many cells a line's content gives at least, by its next byte: one for each pipe, and one where something else stands after the last
+-- the least number of cells that a line's content has from its next byte on: one for each pipe, and one for anything
+-- else after the last pipe
 abbrev step : Bool → Bool → Bool → ℕ → ℕ
 step content ends white more = if content then (if ends then suc more else (if white then more else suc (more - 1))) else 0
 
@@ -61,13 +63,13 @@ step_escaped false true true w m = omega arith
 step_escaped true true true true m = omega arith
 step_escaped true true true false m = omega arith
 
--- no fewer where no backslash stands before
+-- no fewer if no backslash comes before
 cells_unescaped : (b : ℕ) (bs : List ℕ) → cells_of b bs ≤ cells_of 0 bs
 unfolding cells_of
 cells_unescaped b [] = omega arith
 cells_unescaped b (c ∷ cs) = step_escaped (is_content c) (is_pipe c) (b == backslash) (is_white c) (cells_of c cs)
 
--- white space before gives none
+-- white space at the front adds none
 white_other : (t : Bool) (c : ℕ) → is_pipe c ≡ t → is_white c ≡ true → is_pipe c ≡ false
 white_other true c p w = absurd (true≢false (sym w ∙ ap is_white (eqb-true c 124 p)))
 white_other false c p w = p
@@ -95,7 +97,7 @@ unfolding cells_of
 cells_white b [] = omega arith
 cells_white b (c ∷ cs) = cells_white_by (is_white c) b c cs refl (cells_white c cs)
 
--- where the line ends there are none
+-- there are none if the line ends
 line_end_by : (t u : Bool) (b n : ℕ) (k : Option ℕ)
     → (b == 10) ≡ t → (b == 13) ≡ u → (if t then Some 1 else (if u then k else None)) ≡ Some n → is_content b ≡ false
 line_end_by true u b n k h l e = ap is_content (eqb-true b 10 h)
@@ -109,7 +111,7 @@ cells_end b (c ∷ cs) n e =
     let ends = line_end_by (c == 10) (c == 13) c n _ refl refl e in
     ap (λ (t : Bool). step t (is_pipe c && not (b == backslash)) (is_white c) (cells_of c cs)) ends
 
--- after a pipe, or where none stands
+-- after a pipe, or where there is none
 first_by : (text : List ℕ) (at : ℕ) (t : Bool) → (slice_index text at == pipe) ≡ t
     → cells_of 0 (drop at text) ≤ (if t then 1 else 0) + cells_of 0 (drop (cell_start text at) text)
 unfolding cells_of
@@ -140,7 +142,7 @@ to_text text at =
     let same = ap (λ (bs : List ℕ). cells_of 0 bs) (drop-drop (prefix_len is_white (drop start text)) start text) in
     omega arith
 
--- the content of a cell gives one
+-- the content of a cell adds one
 escaped_by : (t : Bool) (b c : ℕ) → is_pipe c ≡ t → (c ≡ pipe → b ≡ backslash) → (is_pipe c && not (b == backslash)) ≡ false
 escaped_by true b c p h =
     let behind = eq-eqb b 92 (h (eqb-true c 124 p)) in
@@ -182,7 +184,7 @@ one_cell {after} d at before tokens stop on is =
     through d.text (stop - at) at 0 stop (omega arith) (λ low stands. absurd (let first = (escaped at (omega arith) low stands).0 in omega arith))
     (λ k low high stands. (escaped k (omega arith) high stands).1)
 
--- a row has so many cells, but for the pipe that it begins with
+-- a row has this many cells, apart from the pipe at its start
 at_most_one : (t : Bool) → (if t then 1 else 0) ≤ 1
 at_most_one true = omega arith
 at_most_one false = omega arith
@@ -201,7 +203,7 @@ cells_least d p (cell ∷ cells) to on (line, tokens, stop, is, same, more) =
     let one = at_most_one (slice_index d.text stop.at == pipe) in
     omega arith
 
--- where something stands before the line end there is one
+-- there is one cell if anything precedes the line ending
 end_blank : (b : ℕ) (bs : List ℕ) (t u : Bool) → (b == 10) ≡ t → (b == 13) ≡ u → is_content b ≡ false → is_blank_line (b ∷ bs) ≡ true
 end_blank b bs true u h k is = ap (λ (x : ℕ). is_blank_line (x ∷ bs)) (eqb-true b 10 h)
 end_blank b bs false true h k is = ap (λ (x : ℕ). is_blank_line (x ∷ bs)) (eqb-true b 13 k)
@@ -246,7 +248,7 @@ tail_by : (t : Bool) (bs : List ℕ) (b : ℕ) → is_blank_line bs ≡ t → (i
 tail_by true bs b h = rw h (omega arith)
 tail_by false bs b h = (let some = some_left b bs h in rw h some)
 
--- up to the last pipe there is one for each, and one more where something stands after it
+-- up to the last pipe there is one cell for each pipe, and one more if anything follows the last pipe
 abbrev UpTo : ℕ → List ℕ → ℕ → Type 0
 UpTo b bs last = pipes_behind b (take (last + 1) bs) + (if is_blank_line (drop (last + 1) bs) then 0 else 1) ≤ cells_of b bs
 
@@ -309,7 +311,7 @@ up_to_last b [] last e = absurd (none-some last e)
 up_to_last b (c ∷ cs) last e =
     up_if (is_content c) b c cs last refl (up_to_last c cs) (ap (last_pipe_behind b) (sym (content_front (is_content c) c cs refl)) ∙ e)
 
--- so a header row has no more columns, without the pipe that it begins with
+-- so a header row has no more columns than that, without the pipe at its start
 less_first : (pipes tail most : ℕ) (t : Bool) → pipes + tail ≤ most → pipes - (if t then 1 else 0) + tail ≤ most
 less_first pipes tail most true h = omega arith
 less_first pipes tail most false h = omega arith
@@ -347,7 +349,7 @@ begins_there text at =
       | inr past ↦ at_drop_all (begins pipe) text at past ∙ sym (ap (λ (b : ℕ). b == pipe) (get_or_past text at 0 past))
     ]
 
--- A row that begins at a place has at least as many cells as its line has columns as a header row.
+-- The row that begins at a place has at least as many cells as its line has columns when read as a header row.
 pub head_has_cells : (d : Document) (p : Spot) (cells : List (List (ℕ × Item))) (to : Spot) → has d.options tables ≡ true → AreCells d p cells to
     → head_columns (drop p.at d.text) ≤ length cells
 head_has_cells d p cells to on are =

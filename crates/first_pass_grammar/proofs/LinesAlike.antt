@@ -1,4 +1,4 @@
--- Paragraphs and headings have one chain, but for the indices of the texts that it names.
+-- Paragraphs and headings have one chain, apart from the indices of the texts that it names.
 use Rattle.std.proofs.Common.{◌≡◌, inl, inr, ℕ, List, [], ◌∷◌, Option, IfSome, refl, sym, ap, ◌∙◌, subst}
 use Rattle.first_pass_items.specs.declared.item.HeadingIndex.{HeadingIndex}
 use Rattle.first_pass_items.specs.declared.item.Item.{Item}
@@ -21,14 +21,14 @@ use Rattle.first_pass_grammar.proofs.Alike.{with_names, AlikeChains, tokens_alik
 use Rattle.first_pass_grammar.proofs.ChainsAlike.{alike_reads, close_alike, break_alike, heading_chain_alike}
 use Rattle.std.proofs.lemmas.Bool.{true≢false}
 
--- two lines of one source have tokens that read alike, one answer, and the same brace contexts after them
+-- two readings of a line have tokens that read alike, the same end and break, and the same brace contexts after them
 one_line_read : (d : Document) (n : Names) (s : Inline) (k k' : List Item) (a a' : ℕ × Option Item) (b b' : MathBraces) → IsLine d.names.texts s k a b
     → IsLine n.texts s k' a' b' → AlikeChains d.names n k k' × (a ≡ a') × (b ≡ b')
 one_line_read d n s k k' a a' b b' i i' =
     let o = one_line d.names.texts n.texts s k k' a a' b b' i i' in
     (alike_reads d.names n k k' (line_each d.names.texts HasTextIndex (tokens_textual d.names.texts) s k a i) o.0, o.1, o.2)
 
--- what lines give is what others give, but for a chain that reads alike
+-- two results of reading lines are the same except for chains that read alike
 abbrev pub OneGiven : Names → Names → TextLines → TextLines → Type 0
 OneGiven m n t u = (chain : List Item) × AlikeChains m n t.chain chain × (u ≡ text_lines chain t.break t.left)
 
@@ -37,7 +37,7 @@ given_alike : (m n : Names) (t u : TextLines) (c c' : List Item) (a a' : ℕ × 
 given_alike m n t u c c' a a' left e f same h =
     subst (λ z. OneGiven m n z u) (sym e) (c', h, f ∙ ap (λ (z : ℕ × Option Item). text_lines c' z.1 left) (sym same))
 
--- the lines of a text give one thing but for the indices
+-- the lines of a text have one result, apart from indices
 pub one_lines : (d : Document) (n : Names) (path : List Container) (p : Spot) (chain chain' : List Item) (lines : List Place) (t u : TextLines)
     → AlikeChains d.names n chain chain' → AreTextLines d path p chain lines t → AreTextLines (with_names d n) path p chain' lines u
     → OneGiven d.names n t u
@@ -59,7 +59,7 @@ one_lines d n path p chain chain' (line ∷ lines) t u same (k, a, b, i, inr (h,
     (subst (λ (z : ℕ × Option Item). AreTextLines (with_names d n) path (next b) (add_break z.1 (add_tokens chain' k')) lines u) (sym o.1)
     (subst (λ z. AreTextLines (with_names d n) path (next z) (add_break a'.1 (add_tokens chain' k')) lines u) (sym o.2) more'))
 
--- an ATX heading has one chain but for the indices, and one end
+-- an ATX heading has one chain, apart from indices, and one end
 pub one_heading : (d : Document) (n : Names) (start : ℕ) (i i' : Option HeadingIndex) (c c' : List Item) (e e' : ℕ) → IsHeading d start i c e
     → IsHeading (with_names d n) start i' c' e' → AlikeChains d.names n c c' × (e ≡ e')
 one_heading d n start i i' c c' e e' h h' =

@@ -1,4 +1,5 @@
--- The lines of a text, and those that paragraphs, runs of definitions, tables and what else takes lines leave, are places of it.
+-- The lines of a text are places of it, and so are the lines that paragraphs, runs of definitions, tables and other
+-- blocks leave.
 use Rattle.std.proofs.Common.{◌≡◌, inl, inr, ℕ, ◌+◌, nat_lt, Bool, true, false, List, [], ◌∷◌, drop, drop-drop, Option, Some, None, MatchOption, refl, sym, ap}
 use Rattle.std.proofs.Common.{◌∙◌, subst, arith, if◌then◌else◌}
 use Rattle.first_pass_items.specs.declared.item.Item.{Item}
@@ -77,7 +78,7 @@ head_at text true q lines i h = (place_behind_at text (prefix_len is_white q.res
 head_at text false q [] i h = (i, h)
 head_at text false q (line ∷ lines) i h = head_if text (is_blank_rest q.rest) q line lines i h
 
--- what stands after a run of definitions
+-- what follows a run of definitions
 abbrev pub BeyondAt : List ℕ → Beyond → Type 0
 BeyondAt text (Ended p left) = AreAt text left
 BeyondAt text (FlowsOn p lines) = IsAt text p × AreAt text lines
@@ -91,7 +92,7 @@ run_at text around p lines (x ∷ xs) b i h (at, inr (line, left, is, on, more))
     let behind : AreAt text (line ∷ left) = subst (AreAt text) is (beyond_at text x.«end» lines h) in
     run_at text around (unindented (at_rest line (front around.path line.rest))) left xs b (at_front text around.path line behind.0) behind.1 more
 
--- what the lines of a text leave
+-- the lines after the lines of a text
 pub lines_left : (d : Document) (path : List Container) (p : Spot) (chain : List Item) (lines : List Place) (t : TextLines)
     → AreAt d.text lines → AreTextLines d path p chain lines t → AreAt d.text t.left
 unfolding AreTextLines
@@ -100,7 +101,7 @@ lines_left d path p chain (line ∷ lines) t h (k, a, after, i, inl (ends, e)) =
 lines_left d path p chain (line ∷ lines) t h (k, a, after, i, inr (goes, more)) =
     lines_left d path (spot (offset (unindented (at_rest line (front path line.rest)))) after) (add_break a.1 (add_tokens chain k)) lines t h.1 more
 
--- what rows leave
+-- the lines after rows
 pub rows_left : (d : Document) (path : List Container) (table : TableSoFar) (lines : List Place) (t : Taken) → AreAt d.text lines
     → CountedRows d path table lines t → AreAt d.text t.left
 unfolding CountedRows
@@ -114,13 +115,13 @@ first_left : (text : List ℕ) (lines : List Place) → AreAt text lines → Are
 first_left text [] h = tt
 first_left text (line ∷ lines) h = h.1
 
--- what a heading or a paragraph leaves
+-- the lines after a setext heading or a paragraph
 ended_left : (d : Document) (path : List Container) (start : ℕ) (marker : Option Item) (l : TextLines) (t : Taken) (o : Option (ℕ × HeadingLevel))
     → AreAt d.text l.left → MatchOption o (t ≡ plain_text d start marker l) (λ underline. IsUnderlined d start marker l underline.1 t) → AreAt d.text t.left
 ended_left d path start marker l t None h e = subst (λ (z : Taken). AreAt d.text z.left) (sym e) h
 ended_left d path start marker l t (Some underline) h (index, named, e) = subst (λ (z : Taken). AreAt d.text z.left) (sym e) (first_left d.text l.left h)
 
--- what stands for a text leaves
+-- the lines after a paragraph, a setext heading or a table
 text_left_by : (d : Document) (path : List Container) (p : Place) (marker : Option Item) (lines : List Place) (t : Taken) (o : Option (List Alignment))
     → AreAt d.text lines → MatchOption o (IsPlainText d path (offset p) marker lines t) (λ alignments. IsTable d path p alignments lines t)
     → AreAt d.text t.left

@@ -1,4 +1,4 @@
--- What is named stays named while more is named.
+-- Indices keep what they name when names are added.
 use Rattle.std.proofs.Common.{◌≡◌, ℕ, zero, suc, ◌<◌, List, ◌∷◌, ◌++◌, length, slice_get, Option, Some, None, unwrap_or, refl, sym, ap, ◌∙◌, arith, []}
 use Rattle.std.proofs.Common.{append_assoc}
 use Rattle.std.proofs.lemmas.List.{append-nil}
@@ -13,7 +13,7 @@ use Rattle.first_pass_tokens.specs.NamedTexts.{AreMore}
 use Rattle.first_pass_grammar.specs.Names.{Names, NamesAlignments, NamesAttributes, Extends, with_named, with_alignments, with_heading}
 use Rattle.first_pass_grammar.specs.Names.{alignments_named}
 
--- no more is named
+-- names extend themselves
 pub extends_none : (names : Names) → Extends names names
 extends_none names = record {
   more_texts = [];
@@ -24,7 +24,7 @@ extends_none names = record {
   headings = sym (append-nil names.headings);
 }
 
--- more, and then more
+-- names that extend names that extend names
 behind_both : {A : Type 0} (new mid old more others : List A) → new ≡ mid ++ more → mid ≡ old ++ others → new ≡ old ++ (others ++ more)
 behind_both new mid old more others e f = e ∙ ap (λ xs. xs ++ more) f ∙ append_assoc old others more
 
@@ -95,7 +95,7 @@ named_last [] x (suc i) h = absurd (omega arith)
 named_last (y ∷ xs) x zero h = absurd (omega arith)
 named_last (y ∷ xs) x (suc i) h = named_last xs x i (omega arith)
 
--- a place of a list has what it had before more came after
+-- an element of a list keeps its place when more come after it
 still_there : {A : Type 0} (new old more : List A) (i : ℕ) (x : A) → new ≡ old ++ more → slice_get old i ≡ Some x → slice_get new i ≡ Some x
 still_there new old more i x e h = ap (λ xs. slice_get xs i) e ∙ named_front old more i (slice_get_within old i x h) ∙ h
 
@@ -114,14 +114,14 @@ still_given new old None (Some attributes) e h = absurd h
 still_given new old (Some ix) None e h = absurd h
 still_given new old (Some ix) (Some attributes) e h = still_there new.headings old.headings e.more_headings ix.0 attributes e.headings h
 
--- an index of alignments that names an entry names the same
+-- an index of alignments that names an entry still names the same one
 pub alignments_kept : (new old : Names) (ix : AlignmentIndex) → Extends new old → ix.0 < length old.alignments
     → alignments_named new ix ≡ alignments_named old ix
 alignments_kept new old ix e h =
     ap (λ (o : Option (List Alignment)). unwrap_or o [])
     (ap (λ (xs : List (List Alignment)). slice_get xs ix.0) e.alignments ∙ named_front old.alignments e.more_alignments ix.0 h)
 
--- The index of a text, of alignments, or of attributes, that were put after those that are named names them, whatever more is named.
+-- The index of a text, of alignments or of attributes that were added at the end names them in all later names.
 pub text_last : (old new more : Names) (ix : CowIndex) (cow : CowStr) → ix.0 ≡ length old.texts → new ≡ with_named old cow
     → Extends more new → slice_get more.texts ix.0 ≡ Some cow
 text_last old new more ix cow at is e =

@@ -1,4 +1,4 @@
--- Each index that nodes keep names an entry: what keeps that, and chains and blocks of which it holds.
+-- Each index in nodes names an entry: what keeps that, and chains and blocks with that property.
 use Rattle.std.proofs.Common.{◌≡◌, ℕ, zero, suc, ◌-◌, Bool, true, false, nat_lt, List, ◌∷◌, ◌++◌, length, Option, Some, None, refl, sym, ap, subst, ◌∙◌, []}
 use Rattle.std.proofs.Common.{arith, length-append, if◌then◌else◌}
 use Rattle.std.proofs.lemmas.Option.{slice_get_within}
@@ -19,7 +19,7 @@ use Rattle.first_pass_grammar.proofs.TokensNamed.{NamesWithin}
 use Rattle.first_pass_grammar.proofs.EachToken.{AreEach, HoldsOfTokens}
 use Rattle.first_pass_grammar.proofs.NoIndex.{HaveNoIndex}
 
--- an item is read in no node whose index names no entry
+-- the index of an item, if it has one, names an entry
 abbrev pub IsNamed : Names → Item → Type 0
 IsNamed names x = NamesEntry names (index_of x.body)
 
@@ -47,7 +47,7 @@ unfolding AreNamed
 named_deeper names depth [] h = tt
 named_deeper names depth (n ∷ nodes) h = (h.0, named_deeper names depth nodes h.1)
 
--- a node changed
+-- a node that is changed
 pub named_modified : (names : Names) (nodes : List (ℕ × Item)) (i : ℕ) (g : Item → Item)
     → ((x : Item) → IsNamed names x → IsNamed names (g x)) → AreNamed names nodes → AreNamed names (modify nodes i g)
 unfolding AreNamed
@@ -65,7 +65,7 @@ unfolding AreNamed
 free_named names [] h = tt
 free_named names (x ∷ chain) h = (free_entry names (index_of x.body) h.0, free_named names chain h.1)
 
--- a kind whose index, where it has one, names an entry
+-- a body whose index, if it has one, names an entry
 abbrev pub HasEntry : Names → ItemBody → Type 0
 HasEntry names body = NamesEntry names (index_of body)
 
@@ -82,7 +82,7 @@ markup_entered names (MaybeLinkClose b) h k = tt
 markup_entered names MaybeImage h k = tt
 markup_entered names _ h k = absurd (false≢true h)
 
--- so it is with the tokens of lines
+-- the tokens of lines have this property
 pub tokens_entered : (names : Names) → HoldsOfTokens names.texts (HasEntry names)
 tokens_entered names = record { text = λ escaped. tt; soft = tt; hard = λ by_backslash. tt; markup = markup_entered names }
 
@@ -91,7 +91,7 @@ unfolding AreNamed
 each_named names [] h = tt
 each_named names (x ∷ chain) h = (h.0, each_named names chain h.1)
 
--- a token joined to a chain
+-- a token that is joined to a chain
 joined_named : (names : Names) (t : Bool) (x y : Item)
     → IsNamed names x → IsNamed names y → AreNamed names (leaves (if t then record x { «end» = y.«end» } ∷ [] else x ∷ y ∷ []))
 unfolding AreNamed
@@ -115,7 +115,7 @@ unfolding AreNamed
 chains_named names [] b h k = k
 chains_named names (x ∷ a) b h k = (h.0, chains_named names a b h.1 k)
 
--- the text of columns that are owed
+-- the text for columns that are owed
 columns_named : (names : Names) (owed at : ℕ) (items : List Item) → AreColumns names owed at items → AreNamed names (leaves items)
 unfolding AreNamed
 columns_named names zero at items is = subst (λ xs. AreNamed names (leaves xs)) (sym is) tt

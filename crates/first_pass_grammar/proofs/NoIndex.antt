@@ -1,4 +1,4 @@
--- Items that have no index read alike, whatever indices name; the tokens of lines have none but those of texts.
+-- Items without an index read alike under all names; the tokens of lines have no indices except those of texts.
 use Rattle.std.proofs.Common.{◌≡◌, true, List, [], ◌∷◌, map, None, refl}
 use Rattle.std.proofs.lemmas.Bool.{false≢true}
 use Rattle.first_pass_items.specs.declared.cow_str.CowStr.{CowStr}
@@ -21,7 +21,7 @@ HasNoIndex x = IsWithoutIndex x.body
 abbrev pub HaveNoIndex : List Item → Type 0
 HaveNoIndex xs = AreEach IsWithoutIndex xs
 
--- an item without an index reads alike, whatever indices name
+-- an item without an index reads alike under all names
 pub reads_alone : (m n : Names) (x : Item) → HasNoIndex x → read m x ≡ read n x
 reads_alone m n x h = rw h refl
 
@@ -29,12 +29,12 @@ pub read_alone : (m n : Names) (xs : List Item) → HaveNoIndex xs → map (read
 read_alone m n [] h = refl
 read_alone m n (x ∷ xs) h = let a = reads_alone m n x h.0 in let b = read_alone m n xs h.1 in cc
 
--- an item has no index, or that of a text that it stands for
+-- an item has no index, or that of its text
 abbrev pub HasTextIndex : ItemBody → Type 0
 HasTextIndex (SynthesizeText ix) = Unit {0}
 HasTextIndex body = index_of body ≡ None
 
--- so it is with a token of possible markup
+-- a token of possible markup has this property
 markup_textual : (texts : List CowStr) (body : ItemBody) → is_markup body ≡ true → NamesWithin texts body → HasTextIndex body
 markup_textual texts (MaybeEmphasis left opens closes) h k = refl
 markup_textual texts (MaybeMath opens closes context) h k = refl
@@ -48,6 +48,6 @@ markup_textual texts (MaybeLinkClose b) h k = refl
 markup_textual texts MaybeImage h k = refl
 markup_textual texts _ h k = absurd (false≢true h)
 
--- no token of a line has an index but of a text
+-- a token of a line has no index except that of a text
 pub tokens_textual : (texts : List CowStr) → HoldsOfTokens texts HasTextIndex
 tokens_textual texts = record { text = λ escaped. refl; soft = refl; hard = λ by_backslash. refl; markup = markup_textual texts }

@@ -1,4 +1,4 @@
--- What begins a container is the marker of an item, of a definition, or of a block quote.
+-- A container begins with the marker of an item, of a definition or of a block quote.
 use Rattle.std.proofs.Common.{◌≡◌, ℕ, Bool, true, false, Option, Some, None, refl, ap, subst, ◌∙◌, if◌then◌else◌}
 use Rattle.std.specs.Option.{option_map, option_or}
 use Rattle.first_pass_items.specs.declared.option_set.Options.{Options}
@@ -18,7 +18,7 @@ quote_as options p r = quote_begun p (tag_behind options r) r
 some_same : {T : Type 0} (x y : T) → Some x ≡ Some y → x ≡ y
 some_same x y h = cc
 
--- the marker of a definition, where one may begin
+-- the marker of a definition, if one may begin
 abbrev pub marker_where : Bool → Place → Option (ℕ × Rest)
 marker_where may p = if may then definition_marker_at p.rest else None
 
@@ -40,7 +40,7 @@ start_by options p P None (Some marker) q f d g s h = subst P (some_same (defini
 start_by options p P None None (Some r) f d g s h = subst P (some_same (quote_as options p r) s h) (g r refl refl)
 start_by options p P None None None f d g s h = cc
 
--- what holds of an item's, of a definition's and of a block quote's marker holds of whatever begins a container
+-- a property of the marker of an item, a definition or a block quote holds for the start of every container
 pub start_cases : (options : Options) (may : Bool) (p : Place) (P : Start → Type 0)
     → ((item : (ℕ × ℕ × ℕ) × Rest) → item_at p.rest ≡ Some item → P (item_start p item.0 (task_behind options p.line item.1)))
     → ((marker : ℕ × Rest) → item_at p.rest ≡ None → definition_marker_at p.rest ≡ Some marker → P (definition_start p marker))

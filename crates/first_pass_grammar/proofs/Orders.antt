@@ -1,4 +1,4 @@
--- Rows of nodes and where they fit, as nodes are added, opened and closed.
+-- Siblings and their ranges while nodes are added, opened and closed.
 use Rattle.std.proofs.Common.{◌≡◌, inl, inr, ℕ, zero, suc, ◌+◌, ◌-◌, ◌*◌, ◌<◌, ◌≤◌, Bool, true, false, if◌then◌else◌, List, [], ◌∷◌, ◌++◌, length}
 use Rattle.std.proofs.Common.{Some, None, IsCharBoundary, refl, sym, ap, subst, ◌∙◌, arith, append_assoc}
 use Rattle.std.proofs.lemmas.List.{append-nil, map-append, length-map}
@@ -15,7 +15,7 @@ use Rattle.first_pass_grammar.specs.Order.{Elsewhere, InItem, InText, InFirst, b
 use Rattle.first_pass_grammar.specs.OpenOrder.{laid_open, AreAt, open_within, FitsOpen}
 use Rattle.first_pass_grammar.proofs.OwnNodes.{own_at_most}
 
--- a row, and another after it
+-- siblings, and others after them
 abbrev pub beside : Siblings → Siblings → Siblings
 beside Empty more = more
 beside (Node x kids next) more = Node x kids (beside next more)
@@ -32,12 +32,12 @@ extents-append nodes more = map-append (λ n. (n.0, extent_of n.1)) nodes more
 pub length-extents : (nodes : List (ℕ × Item)) → length (extents nodes) ≡ length nodes
 length-extents nodes = length-map nodes (λ n. (n.0, extent_of n.1))
 
--- the extents of a block put at a depth
+-- the extents of a block that is put at a depth
 pub extents-at_depth : (d : ℕ) (items : List (ℕ × Item)) → extents (at_depth d items) ≡ at_depth d (extents items)
 extents-at_depth d [] = refl
 extents-at_depth d (n ∷ items) = ap (λ (z : List (ℕ × Extent)). (d + n.0, extent_of n.1) ∷ z) (extents-at_depth d items)
 
--- rows side by side
+-- siblings and others after them, in reading order
 pub laid-beside : (depth : ℕ) (row more : Siblings) → laid depth (beside row more) ≡ laid depth row ++ laid depth more
 unfolding laid
 laid-beside depth Empty more = refl
@@ -45,7 +45,7 @@ laid-beside depth (Node x kids next) more =
     ap (λ (z : List (ℕ × Extent)). (depth, x) ∷ (laid (suc depth) kids ++ z)) (laid-beside depth next more)
     ∙ ap (λ (z : List (ℕ × Extent)). (depth, x) ∷ z) (sym (append_assoc (laid (suc depth) kids) (laid depth next) (laid depth more)))
 
--- a row at another depth
+-- siblings at another depth
 pub laid-at_depth : (d k : ℕ) (row : Siblings) → at_depth d (laid k row) ≡ laid (d + k) row
 unfolding laid
 laid-at_depth d k Empty = refl
@@ -56,12 +56,12 @@ laid-at_depth d k (Node x kids next) =
     ∙ ap (λ (l : List (ℕ × Extent)). l ++ at_depth d (laid k next)) (laid-at_depth d (suc k) kids ∙ ap (λ (n : ℕ). laid n kids) z)
     ∙ ap (λ (l : List (ℕ × Extent)). laid (suc (d + k)) kids ++ l) (laid-at_depth d k next))
 
--- a row of one node
+-- a single sibling
 pub laid-one : (depth : ℕ) (x : Extent) → laid depth (Node x Empty Empty) ≡ (depth, x) ∷ []
 unfolding laid
 laid-one depth x = refl
 
--- more nodes in the innermost open one
+-- more nodes in the innermost open node
 pub laid_open-beside : (root : Extent) (levels : List (Siblings × Extent)) (row more : Siblings)
     → laid_open root levels (beside row more) ≡ laid_open root levels row ++ laid (suc (length levels)) more
 unfolding laid_open
@@ -71,7 +71,7 @@ laid_open-beside root (level ∷ levels) row more =
     ap (λ (z : List (ℕ × Extent)). laid_open root levels level.0 ++ (suc (length levels), level.1) ∷ z) (laid-beside d row more)
     ∙ sym (append_assoc (laid_open root levels level.0) ((suc (length levels), level.1) ∷ laid d row) (laid d more))
 
--- a node opened
+-- a node that is opened
 pub laid_open-pushed : (root x : Extent) (levels : List (Siblings × Extent)) (row : Siblings)
     → laid_open root ((row, x) ∷ levels) Empty ≡ laid_open root levels row ++ (suc (length levels), x) ∷ []
 unfolding laid_open laid
@@ -83,7 +83,7 @@ pub laid_open-level : (root : Extent) (level : Siblings × Extent) (levels : Lis
 unfolding laid_open
 laid_open-level root level levels row = refl
 
--- the innermost open node closed
+-- the innermost open node, after it is closed
 pub laid_open-popped : (root x : Extent) (levels : List (Siblings × Extent)) (before row : Siblings)
     → laid_open root levels (beside before (Node x row Empty)) ≡ laid_open root levels before ++ (suc (length levels), x) ∷ laid (suc (suc (length levels))) row
 unfolding laid
@@ -91,19 +91,19 @@ laid_open-popped root x levels before row =
     laid_open-beside root levels before (Node x row Empty)
     ∙ ap (λ (z : List (ℕ × Extent)). laid_open root levels before ++ (suc (length levels), x) ∷ z) (append-nil (laid (suc (suc (length levels))) row))
 
--- the root with what is below it, where no other node is open
+-- the root with the nodes below it, if no other node is open
 pub laid_open-root : (root : Extent) (row : Siblings) → laid_open root [] row ≡ laid 0 (Node root row Empty)
 unfolding laid_open laid
 laid_open-root root row = ap (λ (z : List (ℕ × Extent)). (0, root) ∷ z) (sym (append-nil (laid 1 row)))
 
--- there are as many open nodes as places of them
+-- there are as many open nodes as places for them
 pub length-places : (root : Extent) (levels : List (Siblings × Extent)) (spine : List TreeIndex) → AreAt root levels spine → length spine ≡ length levels
 length-places root [] [] h = refl
 length-places root [] (ix ∷ spine) h = absurd h
 length-places root (level ∷ levels) [] h = absurd h
 length-places root (level ∷ levels) (ix ∷ spine) h = ap suc (length-places root levels spine h.1)
 
--- where a row fits, there is room
+-- if siblings fit between two offsets, these are in order
 pub fits-order : (text : List ℕ) (w : Within) (from to : ℕ) (row : Siblings) → Fits text w from to row → from ≤ to
 unfolding Fits
 fits-order text w from to Empty h = h
@@ -119,7 +119,7 @@ between-earlier : (text : List ℕ) (a b to : ℕ) (x : Extent) → a ≤ b → 
 between-earlier text a b to x more h =
     let t : b ≤ x.start = h.behind in record { behind = omega arith; order = h.order; before = h.before; starts = h.starts; ends = h.ends }
 
--- a row fits up to a later offset
+-- siblings fit up to a later offset
 pub fits-later : (text : List ℕ) (w : Within) (from a b : ℕ) (row : Siblings) → a ≤ b → Fits text w from a row → Fits text w from b row
 unfolding Fits
 fits-later text w from a b Empty more h = let t : from ≤ a = h in omega arith
@@ -141,7 +141,7 @@ below_any text InItem before x from to row wider h =
 below_any text (InText at) before x from to row wider h = h
 below_any text (InFirst at) before x from to row wider h = any_by text x.item (if x.text_block then InText at else Elsewhere) from to row (wider _) h
 
--- what fits elsewhere fits anywhere
+-- siblings that fit elsewhere fit anywhere
 pub fits-any : (text : List ℕ) (w : Within) (from to : ℕ) (row : Siblings) → Fits text Elsewhere from to row → Fits text w from to row
 unfolding Fits
 fits-any text w from to Empty h = h
@@ -172,7 +172,7 @@ behind-lead text InItem at from to x row l h = absurd l
 behind-lead text (InText before) at from to x row l h = h
 behind-lead text (InFirst before) at from to x row l h = absurd l
 
--- a lead may stand from an earlier offset on
+-- a task list item marker may start from an earlier offset on
 fits-earlier_lead : (text : List ℕ) (a b from to : ℕ) (row : Siblings) → a ≤ b → Fits text (InText b) from to row → Fits text (InText a) from to row
 unfolding Fits
 fits-earlier_lead text a b from to Empty more h = h
@@ -186,7 +186,7 @@ lead_by text true lead a b from to row more h = h
 lead_by text false true a b from to row more h = fits-earlier_lead text a b from to row more h
 lead_by text false false a b from to row more h = h
 
--- the same in the title that is first in a definition list
+-- the same in the first title of a definition list
 fits-earlier_first : (text : List ℕ) (a b from to : ℕ) (row : Siblings) → a ≤ b → Fits text (InFirst b) from to row → Fits text (InFirst a) from to row
 unfolding Fits
 fits-earlier_first text a b from to Empty more h = h
@@ -217,14 +217,14 @@ earlier_by text w a b to (Node x kids next) none more (inl (h, k, n)) =
     inl (between-earlier text a b to x more h, below_earlier text w a b x x.start x.«end» kids more k, n)
 earlier_by text w a b to (Node x kids next) none more (inr (l, k, n)) = absurd (none x l)
 
--- a row fits from an earlier offset on
+-- siblings fit from an earlier offset on
 fits-earlier : (text : List ℕ) (w : Within) (a b to : ℕ) (row : Siblings) → a ≤ b → Fits text (beyond w) b to row → Fits text (beyond w) a to row
 fits-earlier text Elsewhere a b to row more h = earlier_by text Elsewhere a b to row (λ x l. l) more h
 fits-earlier text InItem a b to row more h = earlier_by text InItem a b to row (λ x l. l) more h
 fits-earlier text (InText before) a b to row more h = earlier_by text Elsewhere a b to row (λ x l. l) more h
 fits-earlier text (InFirst before) a b to row more h = earlier_by text Elsewhere a b to row (λ x l. l) more h
 
--- a row fits after another
+-- siblings fit after others
 pub fits-beside : (text : List ℕ) (w : Within) (from mid to : ℕ) (row more : Siblings)
     → Fits text w from mid row → Fits text (beyond w) mid to more → Fits text w from to (beside row more)
 unfolding Fits
@@ -238,12 +238,12 @@ fits-beside text w from mid to (Node x kids next) more (inl (h, k, n)) behind =
 fits-beside text w from mid to (Node x kids next) more (inr (l, k, n)) behind =
     inr (l, k, fits-beside text Elsewhere from mid to next more n (behind-lead text w from mid to x more l behind))
 
--- a row of one node fits
+-- a single sibling fits
 pub fits-one : (text : List ℕ) (w : Within) (from to : ℕ) (x : Extent) → IsBetween text from to x → Fits text w from to (Node x Empty Empty)
 unfolding Fits
 fits-one text w from to x h = inl (h, h.order, h.before)
 
--- what is open is in order up to a later offset
+-- open nodes are in order up to a later offset
 pub fits_open-later : (text : List ℕ) (a b : ℕ) (levels : List (Siblings × Extent)) (row : Siblings) → a ≤ b → FitsOpen text a levels row
     → FitsOpen text b levels row
 unfolding FitsOpen
@@ -279,7 +279,7 @@ beyond_below text (InText at) before x from to row h = beyond_by text x.item Els
 beyond_below text (InFirst at) before x from to row h =
     beyond_by text x.item (if x.text_block then InText at else Elsewhere) from to row (beyond_text text x.text_block at Elsewhere from to row (λ e. e)) h
 
--- more nodes in the innermost open one fit
+-- more nodes in the innermost open node fit
 pub fits_open-beside : (text : List ℕ) (mid to : ℕ) (levels : List (Siblings × Extent)) (row more : Siblings)
     → FitsOpen text mid levels row → Fits text (open_within levels) mid to more
     → FitsOpen text to levels (beside row more)
@@ -300,14 +300,14 @@ pub fits_open-pushed : (text : List ℕ) (a : ℕ) (x : Extent) (levels : List (
 unfolding FitsOpen Fits
 fits_open-pushed text a x levels row more starts h = let t : x.start ≤ x.start = omega arith in (a, more, t, starts, h)
 
--- another end changes nothing of what may stand below
+-- another end does not change what may be below a node
 pub below_ended : (w : Within) (before : ℕ) (x : Extent) (e : ℕ) → below w before (ended_at x e) ≡ below w before x
 below_ended Elsewhere before x e = refl
 below_ended InItem before x e = refl
 below_ended (InText at) before x e = refl
 below_ended (InFirst at) before x e = refl
 
--- the innermost open node fits once it is closed
+-- the innermost open node fits after it is closed
 pub fits_open-popped : (text : List ℕ) (at e : ℕ) (level : Siblings × Extent) (levels : List (Siblings × Extent)) (row : Siblings)
     → at ≤ e → IsCharBoundary text e → FitsOpen text at (level ∷ levels) row
     → FitsOpen text e levels (beside level.0 (Node (ended_at level.1 e) row Empty))
@@ -325,7 +325,7 @@ fits_open-popped text at e level levels row more ends (before, m, h, starts, res
       last,
     ))
 
--- with another end, the extent of a node has that end
+-- the extent of a node gets another end
 pub extents-ended : (nodes : List (ℕ × Item)) (before : List (ℕ × Extent)) (n : ℕ × Extent) (more : List (ℕ × Extent)) (k e : ℕ)
     → extents nodes ≡ before ++ n ∷ more → k ≡ length before
     → extents (modify nodes k (λ x. record x { «end» = e })) ≡ before ++ (n.0, ended_at n.1 e) ∷ more
@@ -350,7 +350,7 @@ extents-kept [] k g b is same = refl
 extents-kept (n ∷ nodes) zero g b is same = (let e : n.1.body ≡ b = cc in ap (λ (x : Extent). (n.0, x) ∷ extents nodes) (same n.1 e))
 extents-kept (n ∷ nodes) (suc k) g b is same = ap (λ (z : List (ℕ × Extent)). (n.0, extent_of n.1) ∷ z) (extents-kept nodes k g b is same)
 
--- where no node but the root is open, the whole tree is in order
+-- if only the root is open, the whole tree is in order
 pub fits-whole : (text : List ℕ) (root : Extent) (to : ℕ) (row : Siblings)
     → IsBetween text 0 (length text) root → root.start ≡ 0 → root.«end» ≡ length text → to ≤ length text → FitsOpen text to [] row
     → Fits text Elsewhere 0 (length text) (Node root row Empty)
@@ -362,12 +362,12 @@ fits-whole text root to row whole start_is end_is within h =
     subst (λ (n : ℕ). Fits text Elsewhere n root.«end» row) (sym start_is) (fits-later text Elsewhere 0 to root.«end» row later h) in
     inl (whole, fits-any text (below Elsewhere 0 root) root.start root.«end» row inside, last)
 
--- items side by side, nothing below them
+-- items side by side with nothing below them
 unfoldable pub row_of : List Item → Siblings
 row_of [] = Empty
 row_of (x ∷ xs) = Node (extent_of x) Empty (row_of xs)
 
--- a row of leaves in reading order, and that it is in order
+-- leaves side by side in reading order; they are in order
 pub row_of-laid : (k : ℕ) (chain : List Item) → extents (at_depth k (leaves chain)) ≡ laid k (row_of chain)
 unfolding laid row_of
 row_of-laid k [] = refl
@@ -387,16 +387,17 @@ pub between-any : (text : List ℕ) (w : Within) (from to : ℕ) (items : List (
     → FitsBetween text Elsewhere from to items → FitsBetween text w from to items
 between-any text w from to items (row, is, fits, few) = (row, is, fits-any text w from to row fits, few)
 
--- putting items deeper drops none
+-- items keep their number at a greater depth
 pub length-at_depth : (d : ℕ) (items : List (ℕ × Item)) → length (at_depth d items) ≡ length items
 length-at_depth d [] = refl
 length-at_depth d (n ∷ items) = ap suc (length-at_depth d items)
 
--- a block of a chain has one item more than that
+-- a block with a chain has one more item than the chain
 pub length-block : (x : Item) (chain : List Item) → length (block_of x (leaves chain)) ≡ suc (length chain)
 length-block x chain = ap suc (length-at_depth 1 (leaves chain) ∙ length-map chain (λ (y : Item). (0, y)))
 
--- A block of a chain lies between two offsets where its item does, and the chain is in order within that; and it has few items where the chain has.
+-- A block with a chain lies between two offsets if its item does and the chain is in order within that; it has few
+-- items if the chain has few.
 pub block_fits : (text : List ℕ) (w : Within) (from to : ℕ) (x : Item) (chain : List Item)
     → IsBetween text from to (extent_of x) → AreInOrder text x.start x.«end» chain → (from < to → suc (length chain) ≤ 4 * (to - from))
     → FitsBetween text w from to (block_of x (leaves chain))

@@ -1,5 +1,5 @@
--- How many nodes of its own a list of nodes has: no more than there are, as many at another depth or with what closes nodes changed, and no more than its
--- parts have together.
+-- The number of nodes that a list has of its own: no more than there are nodes; the same at another depth, or with
+-- changes that closing makes; and no more than its parts have together.
 use Rattle.std.proofs.Common.{◌≡◌, ℕ, zero, suc, ◌+◌, ◌≤◌, Bool, true, false, if◌then◌else◌, List, [], ◌∷◌, ◌++◌, length, Option, Some, None, refl, sym}
 use Rattle.std.proofs.Common.{ap, ◌∙◌, arith, eq-eqb}
 use Rattle.first_pass_items.specs.declared.item.Item.{Item}
@@ -8,18 +8,18 @@ use Rattle.first_pass_items.specs.declared.item.ItemBody.TheVariants.{TableCell}
 use Rattle.first_pass_tree.specs.Forest.{modify, at_depth, body_at}
 use Rattle.first_pass_grammar.specs.Counting.{is_row, is_cell, last_cell, is_filled_behind, own, own_nodes}
 
--- a node counts once at most
+-- a node counts at most once
 one_at_most : (t : Bool) (m n : ℕ) → m ≤ n → (if t then 0 else 1) + m ≤ 1 + n
 one_at_most true m n h = omega arith
 one_at_most false m n h = omega arith
 
--- no more nodes are a list's own than there are
+-- a list has no more nodes of its own than there are nodes
 pub own_at_most : (cell : Option ℕ) (nodes : List (ℕ × Item)) → own cell nodes ≤ length nodes
 unfolding own
 own_at_most cell [] = omega arith
 own_at_most cell (n ∷ nodes) = (let h = one_at_most (is_filled_behind cell n.1) _ _ (own_at_most (last_cell cell n.1) nodes) in omega arith)
 
--- after a cell no more nodes count than after none
+-- no more nodes count after a cell than after no cell
 fresh_by : (row is : Bool) (start : ℕ) (cell : Option ℕ) (nodes : List (ℕ × Item)) → own cell nodes ≤ own None nodes
     → own (if row then None else (if is then Some start else cell)) nodes ≤ own (if row then None else (if is then Some start else None)) nodes
 fresh_by true is start cell nodes h = omega arith
@@ -32,7 +32,7 @@ own_fresh cell [] = omega arith
 own_fresh cell (n ∷ nodes) =
     one_at_most (is_filled_behind cell n.1) _ _ (fresh_by (is_row n.1.body) (is_cell n.1.body) n.1.start cell nodes (own_fresh cell nodes))
 
--- a list with more after it has no more than both
+-- a list with more after it has no more than both together
 join_one : (t : Bool) (m a b : ℕ) → m ≤ a + b → (if t then 0 else 1) + m ≤ (if t then 0 else 1) + a + b
 join_one true m a b h = omega arith
 join_one false m a b h = omega arith
@@ -42,27 +42,28 @@ unfolding own
 own_join cell [] more = (let h = own_fresh cell more in omega arith)
 own_join cell (n ∷ nodes) more = join_one (is_filled_behind cell n.1) _ _ _ (own_join (last_cell cell n.1) nodes more)
 
--- with one node more
+-- with one more node
 pub own_one : (cell : Option ℕ) (nodes : List (ℕ × Item)) (n : ℕ × Item) → own cell (nodes ++ n ∷ []) ≤ own cell nodes + 1
 own_one cell nodes n = (let join = own_join cell nodes (n ∷ []) in let most = own_at_most None (n ∷ []) in omega arith)
 
--- nodes at another depth are as many
+-- nodes at another depth count the same
 pub own_at_depth : (cell : Option ℕ) (depth : ℕ) (nodes : List (ℕ × Item)) → own cell (at_depth depth nodes) ≡ own cell nodes
 unfolding own
 own_at_depth cell depth [] = refl
 own_at_depth cell depth (n ∷ nodes) = ap (λ k. (if is_filled_behind cell n.1 then 0 else 1) + k) (own_at_depth (last_cell cell n.1) depth nodes)
 
--- a block added after nodes brings its own ones at most
+-- a block after other nodes adds at most its own ones
 pub own_added : (nodes block : List (ℕ × Item)) (depth : ℕ) → own_nodes (nodes ++ at_depth depth block) ≤ own_nodes nodes + own_nodes block
 own_added nodes block depth = (let join = own_join None nodes (at_depth depth block) in let same = own_at_depth None depth block in omega arith)
 
--- two items that count alike: they start at one offset, and both are cells or not, and rows or not
+-- two items that count alike: they start at the same offset, and both are cells or neither is, and both rows or
+-- neither
 pub record CountAlike (x y : Item) : Type 0 where
   pub start : y.start ≡ x.start
   pub cell : is_cell y.body ≡ is_cell x.body
   pub row : is_row y.body ≡ is_row x.body
 
--- each item counts as itself, and with another end
+-- each item counts the same as itself, and the same with another end
 pub alike_ended : (x : Item) (e : ℕ) → CountAlike x (record x { «end» = e })
 alike_ended x e = record { start = refl; cell = refl; row = refl }
 
@@ -73,7 +74,7 @@ filled_alike x y (Some start) h = (let s = h.start in let c = h.cell in cc)
 last_alike : (x y : Item) (cell : Option ℕ) → CountAlike x y → last_cell cell y ≡ last_cell cell x
 last_alike x y cell h = (let s = h.start in let c = h.cell in let r = h.row in cc)
 
--- a node that counts alike before nodes that do
+-- an item that counts the same, before nodes that do
 pub alike_first : (cell : Option ℕ) (d e : ℕ) (x y : Item) (nodes more : List (ℕ × Item)) → CountAlike x y
     → ((after : Option ℕ) → own after more ≡ own after nodes) → own cell ((e, y) ∷ more) ≡ own cell ((d, x) ∷ nodes)
 unfolding own
@@ -87,7 +88,7 @@ pub own_first : (cell : Option ℕ) (n : ℕ × Item) (nodes more : List (ℕ ×
     → ((after : Option ℕ) → own after more ≡ own after nodes) → own cell (n ∷ more) ≡ own cell (n ∷ nodes)
 own_first cell n nodes more same = alike_first cell n.0 n.0 n.1 n.1 nodes more (record { start = refl; cell = refl; row = refl }) same
 
--- a change at a place by which the item there counts alike
+-- a change at a place after which the item there counts the same
 pub own_modified : (cell : Option ℕ) (nodes : List (ℕ × Item)) (i : ℕ) (g : Item → Item)
     → ((x : Item) → body_at nodes i ≡ Some x.body → CountAlike x (g x)) → own cell (modify nodes i g) ≡ own cell nodes
 own_modified cell [] i g alike = refl
@@ -98,14 +99,14 @@ own_modified cell (n ∷ nodes) (suc i) g alike = own_first cell n nodes (modify
 pub own_ended : (nodes : List (ℕ × Item)) (i e : ℕ) → own_nodes (modify nodes i (λ x. record x { «end» = e })) ≡ own_nodes nodes
 own_ended nodes i e = own_modified None nodes i (λ x. record x { «end» = e }) (λ x at. alike_ended x e)
 
--- with another body at a place, where both or neither are those of a cell, and of a row
+-- with another body at a place; both bodies or neither are a cell's, and both or neither a row's
 pub own_changed : (nodes : List (ℕ × Item)) (i : ℕ) (b c : ItemBody) → body_at nodes i ≡ Some b
     → is_cell c ≡ is_cell b → is_row c ≡ is_row b → own_nodes (modify nodes i (λ x. record x { body = c })) ≡ own_nodes nodes
 own_changed nodes i b c is cell row =
     own_modified None nodes i (λ x. record x { body = c })
     (λ x at. (let same : x.body ≡ b = cc in record { start = refl; cell = cell ∙ ap is_cell (sym same); row = row ∙ ap is_row (sym same) }))
 
--- cells that all start at one offset
+-- cells that all start at the same offset
 unfoldable pub AreCellsAt : ℕ → List (ℕ × Item) → Type 0
 AreCellsAt start [] = Unit {0}
 AreCellsAt start (n ∷ nodes) = (is_cell n.1.body ≡ true) × (n.1.start ≡ start) × AreCellsAt start nodes
@@ -120,7 +121,8 @@ cell_next cell start x is at = (let row = cell_no_row x.body is in rw (row, is) 
 cell_again : (start : ℕ) (x : Item) → is_cell x.body ≡ true → x.start ≡ start → is_filled_behind (Some start) x ≡ true
 cell_again start x is at = (let same = eq-eqb x.start start at in rw (is, same) refl)
 
--- cells that all start where the one before them does count nothing, so those that a row is filled with count one at most
+-- cells that all start where the cell before them starts count nothing, so the cells that a row is filled with count
+-- at most one
 own_refilled : (start : ℕ) (nodes : List (ℕ × Item)) → AreCellsAt start nodes → own (Some start) nodes ≡ 0
 unfolding own AreCellsAt
 own_refilled start [] h = refl

@@ -1,5 +1,5 @@
--- What is left at a place is the text from its offset on: this is so of the lines of a text, after columns, markers and the prefixes of containers, and at
--- the places and in the lines that stand after a leaf block.
+-- The rest at a place is the text from its offset on. This holds for the lines of a text; after columns, markers and
+-- container prefixes; and for the places and lines after a leaf block.
 use Rattle.std.proofs.Common.{◌≡◌, ℕ, zero, suc, ◌+◌, ◌-◌, ◌%◌, ◌==◌, nat_lt, Bool, true, false, List, [], ◌∷◌, drop, Option, Some, None, refl, sym, ap, subst}
 use Rattle.std.proofs.Common.{◌∙◌, arith, drop-drop, if◌then◌else◌}
 use Rattle.std.specs.Option.{option_map, option_and_then}
@@ -19,7 +19,7 @@ use Rattle.first_pass_grammar.specs.CodeBlocks.{code_place, code_by, code_lines}
 use Rattle.first_pass_grammar.specs.Extents.{Extent, Verdict, GoesOn, IsLast, Closes, Stops, extent_by, extent}
 use Rattle.first_pass_grammar.specs.Openers.{task_by, task_behind}
 
--- what is left there is the text from its offset on; and so at each of these places
+-- the rest at a place is the text from its offset on; the next definition: at each of these places
 abbrev pub IsAt : List ℕ → Place → Type 0
 IsAt text p = p.rest.left ≡ drop (offset p) text
 
@@ -27,7 +27,7 @@ abbrev pub AreAt : List ℕ → List Place → Type 0
 AreAt text [] = Unit {0}
 AreAt text (p ∷ ps) = IsAt text p × AreAt text ps
 
--- the second stands after the first: without its first bytes, which are taken
+-- the second rest follows the first: it lacks some first bytes, which count as taken
 abbrev pub Follows : Rest → Rest → Type 0
 Follows r s = (n : ℕ) × (s.left ≡ drop n r.left) × (s.taken ≡ r.taken + n)
 
@@ -73,7 +73,7 @@ columns_follow : (k : ℕ) (r : Rest) → Follows r (after_columns k r)
 columns_follow zero r = follows_none r
 columns_follow (suc k) r = columns_step k r (next_column r) refl (columns_follow k)
 
--- after the sign of a block quote
+-- after the marker of a block quote
 quote_by : (t : Bool) (r s : Rest) (b : ℕ) (bs : List ℕ) → r.left ≡ b ∷ bs → (if t then Some (past_byte r bs) else None) ≡ Some s → Follows r s
 quote_by true r s b bs e h = subst (Follows r) (same_Some (past_byte r bs) s h) (1, byte_follows r b bs e, refl)
 quote_by false r s b bs e h = absurd (none-some s h)
@@ -86,7 +86,7 @@ quote_if : (t : Bool) (r s : Rest) → (if t then past_quote_byte r r.left else 
 quote_if true r s h = quote_byte r s r.left refl h
 quote_if false r s h = absurd (none-some s h)
 
--- after the prefix of a container, of a path, and of what a line continues of one
+-- after the prefix of a container, of a path, and of the part of a path that a line continues
 mapped_by : (o : Option Rest) (r s : Rest) → ((q : Rest) → o ≡ Some q → Follows r q) → option_map (after_columns 1) o ≡ Some s → Follows r s
 mapped_by None r s f h = absurd (none-some s h)
 mapped_by (Some q) r s f h = subst (Follows r) (same_Some (after_columns 1 q) s h) (follows_both r q (after_columns 1 q) (f q refl) (columns_follow 1 q))
@@ -122,7 +122,7 @@ unfolding front
 front_follows [] r = follows_none r
 front_follows (c ∷ path) r = front_by (after (c ∷ path) r) r (front path r) (after_follows (c ∷ path) r) (front_follows path r)
 
--- after all columns of a place, and there in a line
+-- after the indentation of a place, and at that place of a line
 pub at_unindented : (text : List ℕ) (p : Place) → IsAt text p → IsAt text (unindented p)
 at_unindented text p i = at_behind text p.line p.rest (all_taken p.rest) (columns_follow (indent p.rest) p.rest) i
 
@@ -192,7 +192,7 @@ at_item text options p item h i =
     let task : Rest = (task_behind options p.line item.1).1 in
     at_behind text p.line p.rest task (follows_both p.rest item.1 task (item_follows p.rest item h) (task_follows options p.line item.1)) i
 
--- the lines that a block leaves
+-- the lines after a block
 extent_by_at : (text : List ℕ) (v : Verdict) (line : Place) (lines : List Place) (e : Extent) → AreAt text (line ∷ lines) → AreAt text e.left
     → AreAt text (extent_by v line lines e).left
 extent_by_at text (GoesOn p) line lines e h k = k

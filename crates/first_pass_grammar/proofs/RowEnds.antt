@@ -1,4 +1,4 @@
--- A row ends where its line does, and each of its cells takes a byte at least.
+-- A row ends where its line does, and each of its cells takes at least one byte.
 use Rattle.std.proofs.Common.{◌≡◌, inl, inr, ℕ, ◌+◌, ◌-◌, ◌<◌, ◌≤◌, ◌==◌, Bool, true, false, true≢false, List, [], ◌∷◌, length, drop, slice_index, refl, sym}
 use Rattle.std.proofs.Common.{ap, subst, ◌∙◌, arith, length-drop, if◌then◌else◌}
 use Rattle.std.specs.List.{prefix_len}
@@ -19,7 +19,7 @@ use Rattle.first_pass_tokens.proofs.LineLemmas.{cell_ends, ended_by}
 use Rattle.first_pass_grammar.specs.Leaves.{Document}
 use Rattle.first_pass_grammar.specs.Tables.{cell_content, cell_start, cell_text, AreCells}
 
--- after content of a line the line ends where it did
+-- after content of a line, the end of the line is the same
 along : (text : List ℕ) (at n : ℕ) → n ≤ prefix_len is_content (drop at text) → at + n + line_len (drop (at + n) text) ≡ at + line_len (drop at text)
 along text at n within =
     let moved = bytes_line_end n (line_place at (drop at text)) within in
@@ -40,7 +40,7 @@ white_content : (bs : List ℕ) → prefix_len is_white bs ≤ prefix_len is_con
 white_content [] = omega arith
 white_content (b ∷ bs) = white_by (is_white b) b bs refl (white_content bs)
 
--- so is a pipe
+-- a pipe is content
 pipe_content : (b : ℕ) (bs : List ℕ) → b ≡ 124 → 1 ≤ prefix_len is_content (b ∷ bs)
 pipe_content b bs h =
     let plain : is_content b ≡ true = ap is_content h in
@@ -65,7 +65,7 @@ start_along text at false here =
     let same = ap (λ (k : ℕ). line_len (drop k text)) begins in
     omega arith
 
--- the content of a cell begins in the line where it is looked for
+-- the content of a cell begins in the line in which it is looked for
 text_along : (text : List ℕ) (at : ℕ) → cell_text text at + line_len (drop (cell_text text at) text) ≡ at + line_len (drop at text)
 text_along text at =
     along text (cell_start text at) (prefix_len is_white (drop (cell_start text at) text)) (white_content (drop (cell_start text at) text))
@@ -83,7 +83,7 @@ text_in_line text at within =
     let rest = length-drop at text in
     (text_behind text at (slice_index text at == pipe) refl, omega arith)
 
--- The row whose cells begin at a place ends after the line end there: its line ends where it does.
+-- The row whose cells begin at a place ends after the line ending there: its line has the same end.
 pub row_ends_its_line : (d : Document) (p : Spot) (cells : List (List (ℕ × Item))) (to : Spot) → p.at ≤ length d.text → AreCells d p cells to
     → to.at ≡ p.at + line_len (drop p.at d.text)
 unfolding AreCells
@@ -110,13 +110,13 @@ pub row_ends_at_place : (d : Document) (p : Place) (before : MathBraces) (cells 
 row_ends_at_place d p before cells to place are =
     row_ends_its_line d (spot (offset p) before) cells to place.within are ∙ ap (λ (bs : List ℕ). offset p + line_len bs) (sym place.left)
 
--- where a line end stands, a line ends
+-- a line ends at a line ending
 end_byte : (t u : Bool) (b : ℕ) (bs : List ℕ) → (b == line_feed) ≡ t → (b == carriage_return) ≡ u → is_line_end b ≡ true → at_line_end (b ∷ bs) ≡ true
 end_byte true u b bs h k is = rw h
 end_byte false true b bs h k is = rw (h, k)
 end_byte false false b bs h k is = absurd (grind (arith, h, k, is))
 
--- no content of a cell ends where no line ends and no pipe stands
+-- the content of a cell ends only at the end of a line or at a pipe
 goes_further : {after : MathBraces} (d : Document) (at : ℕ) (before : MathBraces) (tokens : List Item) → at_line_end (drop at d.text) ≡ false
     → (slice_index d.text at == pipe) ≡ false → IsCell d.names.texts (cell_content d (spot at before)) tokens at after → ⊥
 goes_further d at before tokens on other cell =

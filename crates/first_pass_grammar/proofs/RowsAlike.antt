@@ -1,4 +1,4 @@
--- Rows of skeletons that are alike: they are alike too, and what stands in them reads alike.
+-- The rows of skeletons that are alike are alike too, and their items read alike.
 use Rattle.std.proofs.Common.{◌≡◌, ℕ, suc, ◌||◌, ◌&&◌, not, Bool, true, false, List, [], ◌∷◌, ◌++◌, map, Option, Some, None, refl, sym, ap, ◌∙◌, subst, if◌then◌else◌}
 use Rattle.first_pass_items.specs.declared.item.Item.{Item}
 use Rattle.first_pass_items.specs.declared.item.ItemBody.TheVariants.{BlockQuote as BlockQuoteBody, List as ListBody, ListItem as ListItemBody}
@@ -28,7 +28,7 @@ use Rattle.first_pass_grammar.specs.Derivation.{Tables, definitions_of, footnote
 use Rattle.first_pass_grammar.proofs.Alike.{AlikeNodes, stands, head_alone, label_node, opened_alike, label_alike, Alike, nodes_append, tight_read, read_tight}
 use Rattle.first_pass_grammar.proofs.Alike.{read_at_depth}
 
--- a row without the items of its leaf block or the index of its label, and these
+-- a row without the items of its leaf block and the index of its label; the next definition: only these
 abbrev bare_what : What → What
 bare_what (ALeaf b) = ALeaf (record { kind = b.kind; line = b.line; start = b.start; items = []; gap = b.gap; definitions = [] })
 bare_what (AFootnote index e) = AFootnote (record { 0 = 0 }) e
@@ -214,7 +214,7 @@ leaf_bare b b' gap gap' is own same =
     λ z g. record { kind = z.0; line = z.1; start = z.2; items = []; gap = g; definitions = [] } in
     ap (λ z. row_of_leaf (leaf z b.gap) gap) is ∙ ap (λ g. row_of_leaf (leaf (stands b') g) gap) own ∙ ap (row_of_leaf (leaf (stands b') b'.gap)) same
 
--- Alike blocks are paragraphs alike.
+-- If of two blocks that are alike one is a paragraph, so is the other.
 paragraph_alone : (b : ItemBody) → is_paragraph_body (kind_alone b) ≡ is_paragraph_body b
 paragraph_alone (SynthesizeText ix) = refl
 paragraph_alone (FencedCodeBlock ix) = refl
@@ -234,7 +234,7 @@ begins_is m (x ∷ items) = paragraph_alone x.1.body
 pub begins_alike : (m n : Names) (items items' : List (ℕ × Item)) → AlikeNodes m n items items' → begins_paragraph items ≡ begins_paragraph items'
 begins_alike m n items items' a = sym (begins_is m items) ∙ ap begins_read a ∙ begins_is n items'
 
--- alike blocks stand alike before what is after them
+-- alike blocks precede what follows them in the same way
 pub after_alike : (m n : Names) (before : Before) (b b' : LeafBlock) → stands b ≡ stands b' → AlikeNodes m n b.items b'.items → b.gap ≡ b'.gap
     → after_block before b ≡ after_block before b'
 after_alike m n before b b' is items own =
@@ -246,7 +246,7 @@ after_alike m n before b b' is items own =
     ∙ ap (λ (z : Kind × ℕ × ℕ). after (begins_paragraph b'.items) z.0 b.gap) is
     ∙ ap (after (begins_paragraph b'.items) b'.kind) own
 
--- the definitions that are first of alike rows
+-- the definitions at the start of alike rows
 abbrev AlikeFirst : Names → Names → Option Definitions → Option Definitions → Type 0
 AlikeFirst m n None None = Unit {0}
 AlikeFirst m n None (Some ds') = ⊥
@@ -308,7 +308,7 @@ if_alike : (m n : Names) (t t' : Bool) (o o' : Option Definitions) → t ≡ t'
 if_alike m n t true o o' is f = rw is f
 if_alike m n t false o o' is f = rw is tt
 
--- the row of alike blocks before alike rows
+-- the rows of alike blocks before alike rows
 titled_alike : (m n : Names) (b b' : LeafBlock) (gap gap' : Bool) (o o' : Option Definitions) (next next' : Rows) → stands b ≡ stands b'
     → AlikeNodes m n b.items b'.items → b.gap ≡ b'.gap → gap ≡ gap' → AlikeFirst m n o o' → AlikeRows m n next next'
     → AlikeRows m n (option_map_or (titled b gap) o (OneOf (row_of_leaf b gap) End next))
@@ -338,7 +338,7 @@ leaf_alike m n b b' gap gap' next next' is items own same a =
     titled_alike m n b b' gap gap' _ _ next next' is items own same
     (if_alike m n _ _ (definitions_first next) (definitions_first next') (begins_alike m n b.items b'.items items) (first_alike m n next next' a)) a
 
--- what stands before the end of alike skeletons
+-- what precedes the end of alike skeletons
 pub end_alike : (m n : Names) (quoted : Bool) (before : Before) (s t : Skeleton) → Alike m n s t → before_end quoted before s ≡ before_end quoted before t
 unfolding before_end
 end_alike m n quoted before Nil Nil a = refl
@@ -397,12 +397,12 @@ rows_alike m n quoted before last (Node head e kids next) (Node head' e' kids' n
     (subst (λ (z : Container). AlikeRows m n (rows_of quoted (after_container c inner) last next)
     (rows_of quoted (after_container z (before_end (is_quote z) nothing kids')) last next')) same after))
 
--- a footnote definition read, whose index is
+-- a footnote definition as it is read, given how its index is read
 abbrev footnote_shown : ℕ → ℕ → ℕ → List (ℕ × (Item × Option Named)) → List (ℕ × (Item × Option Named))
 footnote_shown depth start e [] = []
 footnote_shown depth start e (x ∷ more) = (depth, (node_of start e x.1.0.body, x.1.1)) ∷ []
 
--- a title read
+-- a title as it is read
 abbrev title_shown : List (ℕ × (Item × Option Named)) → List (ℕ × (Item × Option Named))
 title_shown [] = []
 title_shown (x ∷ more) = (x.0, (node_of x.1.0.start x.1.0.«end» DefinitionListTitle, None)) ∷ more
@@ -411,7 +411,7 @@ title_read : (m : Names) (items : List (ℕ × Item)) → read_nodes m (as_title
 title_read m [] = refl
 title_read m (x ∷ items) = refl
 
--- a row read
+-- a row as it is read
 abbrev shown : ℕ → Bool → Bool → ℕ → What → List (ℕ × (Item × Option Named)) → List (ℕ × (Item × Option Named))
 shown depth tight loose start (ALeaf b) items = if tight then map (tight_read depth) (at_depth depth items) else at_depth depth items
 shown depth tight loose start (AQuote kind e) items = (depth, (node_of start e (BlockQuoteBody kind), None)) ∷ []
@@ -457,7 +457,7 @@ pub forest_alike : (m n : Names) (quoted : Bool) (before : Before) (depth last :
     → AlikeNodes m n (items_of depth false (rows_of quoted before last s)) (items_of depth false (rows_of quoted before last t))
 forest_alike m n quoted before depth last s t a = rows_read m n depth false _ _ (rows_alike m n quoted before last s t a)
 
--- alike skeletons define the same
+-- alike skeletons have the same definitions
 definitions_alike : (m n : Names) (s t : Skeleton) → Alike m n s t → definitions_of s ≡ definitions_of t
 unfolding definitions_of
 definitions_alike m n Nil Nil a = refl

@@ -1,4 +1,4 @@
--- Rows stand one deeper than their table.
+-- Rows are one deeper than their table.
 use Rattle.std.proofs.Common.{◌≡◌, ℕ, suc, ◌++◌, List, [], ◌∷◌, length, refl, sym, ap, ◌∙◌, arith}
 use Rattle.first_pass_items.specs.declared.item.AlignmentIndex.{AlignmentIndex}
 use Rattle.first_pass_items.specs.declared.item.Item.{Item}
@@ -12,7 +12,7 @@ depth_of (ATable depth columns ∷ ms) = depth
 depth_of (ARow depth «end» ∷ ms) = depth
 depth_of (ACell depth start ∷ ms) = depth
 
--- which kind the first mark has: 0 where there is none
+-- the kind of the first mark, as a number; 0 if there is none
 abbrev kind_of : List Mark → ℕ
 kind_of [] = 0
 kind_of (ATable depth columns ∷ ms) = 1
@@ -23,7 +23,7 @@ abbrev rest_of : List Mark → List Mark
 rest_of [] = []
 rest_of (m ∷ ms) = ms
 
--- a row at this depth does not follow a table at it
+-- a row at this depth does not follow a table at the same depth
 not_beside : (depth at stop : ℕ) (ms : List Mark) (rows : List RowCells) (tables : List TableRows) → depth ≡ at
     → ARow depth stop ∷ ms ≡ row_marks (suc at) rows ++ table_marks tables → ⊥
 unfolding row_marks table_marks
@@ -36,7 +36,7 @@ unfolding table_marks
 not_whole depth columns stop ms [] e = let n = ap kind_of e in omega arith
 not_whole depth columns stop ms (table ∷ tables) e = not_beside depth table.depth stop ms table.rows tables (ap depth_of e) (ap rest_of e)
 
--- a table is not whole with its header row beside it
+-- a table is not whole if its header row is beside it
 pub stand_inside : (names : Names) (depth : ℕ) (table row : Item) (index : AlignmentIndex) (more : List (ℕ × Item)) → table.body ≡ Table index
     → row.body ≡ TableHead → AreWholeTables names ((depth, table) ∷ (depth, row) ∷ more) → ⊥
 unfolding AreWholeTables marks

@@ -13,7 +13,7 @@ use Rattle.first_pass_tokens.proofs.LineLemmas.{cell_ends}
 use Rattle.first_pass_grammar.specs.Leaves.{Document}
 use Rattle.first_pass_grammar.specs.Tables.{cell_start, cell_text, AreCells}
 
--- a line end lies in the text
+-- a line ending is inside the text
 two_bytes : (bs : List ℕ) (t : Bool) (n : ℕ) → begins line_feed bs ≡ t → Some (if t then 2 else 1) ≡ Some n → n ≤ 1 + length bs
 two_bytes [] true n h e = absurd (true≢false (sym h))
 two_bytes (b ∷ bs) true n h e = let same = same_Some 2 n e in omega arith
@@ -48,7 +48,7 @@ text_within text at within =
     let rest = length-drop (cell_start text at) text in
     (omega (arith, start.0), omega (arith, start.1))
 
--- a row ends in the text, and not before its beginning
+-- a row ends in the text, and not before its start
 pub cells_end : (d : Document) (p : Spot) (cells : List (List (ℕ × Item))) (to : Spot) → p.at ≤ length d.text → AreCells d p cells to
     → (p.at ≤ to.at) × (to.at ≤ length d.text)
 unfolding AreCells

@@ -1,4 +1,4 @@
--- What holds of each token, and of rows and cells, holds of each node of a table's rows.
+-- A property of each token, and of rows and cells, holds for each node of a table's rows.
 use Rattle.std.proofs.Common.{inl, inr, ℕ, zero, suc, List, [], ◌∷◌, ◌++◌, take, replicate, sym, subst}
 use Rattle.first_pass_items.specs.declared.item.Item.{Item}
 use Rattle.first_pass_items.specs.declared.item.ItemBody.{ItemBody}
@@ -17,19 +17,19 @@ use Rattle.first_pass_grammar.proofs.EachToken.{AreEach, HoldsOfTokens, cell_eac
 use Rattle.first_pass_grammar.proofs.NamedItems.{HasEntry}
 use Rattle.first_pass_grammar.specs.WholeTables.{AreEachNode}
 
--- this holds of each node of these blocks
+-- each node of these blocks has a property
 abbrev pub AreEachBlock : (ItemBody → Type 0) → List (List (ℕ × Item)) → Type 0
 AreEachBlock P [] = Unit {0}
 AreEachBlock P (block ∷ blocks) = AreEachNode P block × AreEachBlock P blocks
 
--- where each node's index, if it has one, names an entry, all of them do
+-- if the index of each node, if it has one, names an entry, then all of them do
 pub nodes_named : (names : Names) (nodes : List (ℕ × Item)) → AreEachNode (HasEntry names) nodes → AreNamed names nodes
 unfolding AreNamed
 nodes_named names [] h = tt
 nodes_named names (x ∷ nodes) h = (h.0, nodes_named names nodes h.1)
 
 module _ (P : ItemBody → Type 0) where
-  -- more nodes, nodes at another depth, those of a chain, and those of a block
+  -- more nodes; nodes at another depth; the nodes of a chain; and those of a block
   pub both_nodes : (xs ys : List (ℕ × Item)) → AreEachNode P xs → AreEachNode P ys → AreEachNode P (xs ++ ys)
   both_nodes [] ys h k = k
   both_nodes (x ∷ xs) ys h k = (h.0, both_nodes xs ys h.1 k)
@@ -85,7 +85,7 @@ module _ (P : ItemBody → Type 0) (d : Document) (holds : HoldsOfTokens d.names
         cells_nodes stop cells to more,
       )
 
-  -- the rows of a body
+  -- the rows of a table body
   counted_nodes : (path : List Container) (table : TableSoFar) (lines : List Place) (t : Taken) → P TableRow → CountedRows d path table lines t
       → AreEachNode P t.items
   unfolding CountedRows

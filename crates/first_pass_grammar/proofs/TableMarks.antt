@@ -1,4 +1,5 @@
--- What the nodes of a table show: as many cells in each row as columns, and no more of them filled in than may be.
+-- The marks of a table's nodes: each row has as many cells as there are columns, and the number of filled cells is
+-- limited.
 use Rattle.std.proofs.Common.{◌≡◌, inl, inr, ℕ, zero, suc, ◌+◌, ◌-◌, ◌<◌, ◌≤◌, ◌==◌, nat_lt, nat_le, Bool, true, false, List, ◌∷◌, ◌++◌, length, map, take, []}
 use Rattle.std.proofs.Common.{drop, replicate, refl, sym, ap, ◌∙◌, arith, if◌then◌else◌}
 use Rattle.std.proofs.lemmas.Bool.{cases_lt, and_parts, eq-eqb, ne_eqb, leb-true, true≢false}
@@ -41,7 +42,7 @@ marks-append names (n ∷ nodes) more =
     let first = shown names n.0 n.1.start n.1.«end» n.1.body in
     ap (λ (z : List Mark). first ++ z) (marks-append names nodes more) ∙ sym (append_assoc first (marks names nodes) (marks names more))
 
--- a mark so much deeper
+-- a mark, this much deeper
 abbrev pub mark_deeper : ℕ → Mark → Mark
 mark_deeper d (ATable depth columns) = ATable (d + depth) columns
 mark_deeper d (ARow depth «end») = ARow (d + depth) «end»
@@ -64,7 +65,7 @@ marks-at_depth names d (n ∷ nodes) =
     ∙ ap (λ (z : List Mark). map (mark_deeper d) first ++ z) (marks-at_depth names d nodes)
     ∙ sym (map-append (mark_deeper d) first (marks names nodes))
 
--- cells, rows and tables so much deeper
+-- cells, rows and tables, this much deeper
 cells_deeper : (d depth : ℕ) (starts : List ℕ) → map (mark_deeper d) (map (ACell depth) starts) ≡ map (ACell (d + depth)) starts
 cells_deeper d depth [] = refl
 cells_deeper d depth (start ∷ starts) = ap (λ (z : List Mark). ACell (d + depth) start ∷ z) (cells_deeper d depth starts)
@@ -138,7 +139,7 @@ unfolding marks
 leaves_show names [] h = refl
 leaves_show names (x ∷ chain) h = rw (h.0 names 0 x.start x.«end», leaves_show names chain h.1) refl
 
--- a block whose own node shows nothing, with a chain of such nodes
+-- a block whose own node is no part of a table, with a chain of such nodes
 pub block_shows : (names : Names) (x : Item) (chain : List Item) → ShowsNothing x.body → AreEach ShowsNothing chain
     → marks names (block_of x (leaves chain)) ≡ []
 unfolding marks
@@ -146,7 +147,7 @@ block_shows names x chain own h =
     ap (λ (z : List Mark). z ++ marks names (at_depth 1 (leaves chain))) (own names 0 x.start x.«end»)
     ∙ marks-at_depth names 1 (leaves chain) ∙ ap (map (mark_deeper 1)) (leaves_show names chain h)
 
--- These blocks show cells that start at these offsets.
+-- The marks of these blocks are cells that start at these offsets.
 unfoldable pub ShowCells : Names → List (List (ℕ × Item)) → List ℕ → Type 0
 ShowCells names [] [] = Unit {0}
 ShowCells names (block ∷ blocks) (start ∷ starts) = (marks names block ≡ ACell 0 start ∷ []) × ShowCells names blocks starts
@@ -187,7 +188,7 @@ side_shows names (block ∷ blocks) (start ∷ starts) h =
     let both = marks-append names block (side_by_side blocks) in
     (both ∙ ap (λ (z : List Mark). z ++ marks names (side_by_side blocks)) own ∙ ap (λ (z : List Mark). ACell 0 start ∷ z) rest.0, ap suc rest.1)
 
--- these offsets are one after the other, from one on and before another
+-- these offsets are in ascending order, from one offset on and before another
 unfoldable AreBetween : ℕ → ℕ → List ℕ → Type 0
 AreBetween from «end» [] = Unit {0}
 AreBetween from «end» (start ∷ starts) = (from ≤ start) × (start < «end») × AreBetween (suc start) «end» starts
@@ -239,7 +240,7 @@ unfolding how_often
 often_both end [] ys = omega arith
 often_both end (x ∷ xs) ys = (let rest = often_both end xs ys in omega arith)
 
--- a cell that is written starts before its row ends
+-- a written cell starts before the end of its row
 
 written_before : (d : Document) (p : Spot) (tokens : List Item) (stop : Spot) (cells : List (List (ℕ × Item))) (to : Spot)
     → at_line_end (drop (cell_text d.text p.at) d.text) ≡ false
@@ -262,7 +263,7 @@ written_before d p tokens stop cells to on cell more =
       | inr past ↦ absurd (true≢false (sym (at_drop_all (λ (bs : List ℕ). at_line_end bs) d.text (cell_text d.text p.at) past) ∙ on))
     ]
 
--- the cells of a row show where they start
+-- the marks of a row's cells have their starts
 cell_shows : {after : MathBraces} (d : Document) (p : Spot) (start : ℕ) (tokens : List Item) (stop : ℕ)
     → IsCell d.names.texts (cell_content d p) tokens stop after
     → marks d.names (cell_block start stop tokens) ≡ ACell 0 start ∷ []
@@ -290,7 +291,7 @@ filled_shows : (names : Names) («end» : ℕ) → marks names (cell_block «end
 unfolding marks
 filled_shows names end = refl
 
--- what a row shows: where it ends, and as many cells as columns, of which those that are filled in start at its end
+-- the marks of a row: its end, and as many cells as columns, of which the filled ones start at its end
 pub row_shows : (d : Document) (body : ItemBody) (columns : ℕ) (p : Spot) (cells : List (List (ℕ × Item))) (to : Spot)
     → shown d.names 0 p.at to.at body ≡ ARow 0 to.at ∷ [] → AreCells d p cells to
     → (starts : List ℕ) × (marks d.names (row_block body columns p.at cells to.at) ≡ ARow 0 to.at ∷ map (ACell 1) starts)
@@ -318,7 +319,7 @@ row_shows d body columns p cells to own are =
       omega arith,
     )
 
--- what the rows of a body show
+-- the marks of the rows of a table body
 none_over : (d : Document) (columns : ℕ) (items : List (ℕ × Item)) → items ≡ [] → (most : ℕ)
     → (rows : List RowCells) × (marks d.names items ≡ row_marks 0 rows) × HaveCells columns rows × (filled_in rows ≤ most)
 unfolding marks row_marks HaveCells filled_in
@@ -358,7 +359,8 @@ pub rows_show : (d : Document) (path : List Container) (table : TableSoFar) (lin
     → (rows : List RowCells) × (marks d.names t.items ≡ row_marks 0 rows) × HaveCells table.columns rows × (filled_in rows ≤ table.room)
 rows_show d path table lines t h = counted_show d path table lines t (counted d path table lines t h)
 
--- What a table shows is one table, whole where no more cells are filled into its header row than may be.
+-- The marks of a table are those of one table, which is whole if its header row needs no more filled cells than
+-- allowed.
 pub table_shows : (d : Document) (path : List Container) (p : Place) (alignments : List Alignment) (lines : List Place) (t : Taken)
     → (h : IsTable d path p alignments lines t) → filled (length alignments) h.cells ≤ most_filled → AreWholeTables d.names t.items
 unfolding AreWholeTables marks row_marks table_marks HaveCells filled_in AreFull

@@ -3,7 +3,7 @@ use Rattle.std.proofs.Common.{◌≡◌, ℕ, zero, suc, ◌+◌, ◌-◌, List,
 use Rattle.first_pass_items.specs.declared.item.Item.{Item}
 use Rattle.first_pass_grammar.specs.Tables.{cell_block, filled}
 
--- how many there are of the first ones, and of copies
+-- the number of the first elements and of the copies after them
 first_of : {A : Type 0} (n : ℕ) (xs : List A) → length (take n xs) + (n - length xs) ≡ n
 first_of zero xs = omega arith
 first_of (suc n) [] = omega arith
@@ -13,7 +13,7 @@ copies_of : {A : Type 0} (n : ℕ) (x : A) → length (replicate n x) ≡ n
 copies_of zero x = refl
 copies_of (suc n) x = ap suc (copies_of n x)
 
--- A row's own first cells and the empty ones at its end are as many as columns.
+-- The first cells of a row and the empty ones at its end are as many as the columns.
 pub as_many_cells : (columns : ℕ) (cells : List (List (ℕ × Item))) («end» : ℕ)
     → length (take columns cells ++ replicate (filled columns cells) (cell_block «end» «end» [])) ≡ columns
 as_many_cells columns cells end =

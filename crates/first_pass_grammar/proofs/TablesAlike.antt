@@ -1,4 +1,4 @@
--- A row has one list of cells, and what stands for a text reads alike, whatever names its indices have.
+-- A row has one list of cells, and a text reads alike under all names.
 use Rattle.std.proofs.Common.{◌≡◌, ◌⊎◌, inl, inr, ℕ, ◌+◌, ◌-◌, ◌&&◌, nat_lt, nat_le, true, false, List, [], ◌∷◌, ◌++◌, length, drop, Option, Some, None}
 use Rattle.std.proofs.Common.{MatchOption, IfSome, is_some, refl, sym, ap, ◌∙◌, subst}
 use Rattle.std.specs.List.{slice_range}
@@ -34,7 +34,7 @@ use Rattle.first_pass_grammar.proofs.ChainsAlike.{alike_reads, close_alike, mark
 use Rattle.first_pass_grammar.proofs.BlocksAlike.{AlikeBlocks, as_many, own_alike, row_alike}
 use Rattle.first_pass_grammar.proofs.LinesAlike.{one_lines}
 
--- what is taken reads alike, and leaves the same lines
+-- two results of a block read alike, and leave the same lines
 abbrev pub AlikeTaken : Names → Names → Taken → Taken → Type 0
 AlikeTaken m n t u = AlikeNodes m n t.items u.items × (t.left ≡ u.left)
 
@@ -44,7 +44,7 @@ taken_alike m n t u t' u' e f h = (
   ap (λ (z : Taken). z.left) e ∙ h.1 ∙ sym (ap (λ (z : Taken). z.left) f),
 )
 
--- a row has one list of cells, but for the indices, and ends at one place, with the same brace contexts
+-- a row has one list of cells, apart from indices, one end, and the same brace contexts after it
 pub one_cells : (d : Document) (n : Names) (p : Spot) (xs ys : List (List (ℕ × Item))) (e f : Spot) → AreCells d p xs e
     → AreCells (with_names d n) p ys f → AlikeBlocks d.names n xs ys × (e ≡ f)
 unfolding AreCells
@@ -72,7 +72,7 @@ AfterRow d path table line lines t row =
     × (more : Taken) × CountedRows d path (with_row table row) lines more
     × (t ≡ taking (row_block TableRow table.columns row.start row.cells row.row_end ++ more.items) more.left))
 
--- two rows that begin and end at the same places, with the same brace contexts after them, and whose cells are alike
+-- two rows with the same start and end and the same brace contexts after them, whose cells are alike
 abbrev AlikeRows : Names → Names → FoundRow → FoundRow → Type 0
 AlikeRows m n row other =
     AlikeBlocks m n row.cells other.cells × (row.start ≡ other.start) × (row.row_end ≡ other.row_end) × (row.after ≡ other.after)
@@ -85,7 +85,7 @@ one_found d n path line before row other h k =
     (subst (λ z. AreCells (with_names d n) (spot z before) other.cells (spot other.row_end other.after)) (sym begins) k.are_cells) in
     (c.0, begins, ap (λ (z : Spot). z.at) c.1, ap (λ (z : Spot). z.braces) c.1)
 
--- rows with as many cells are both rows, or none, and fill in as much
+-- lists with as many cells are both rows or neither, and need as many filled cells
 same_row : (table : TableSoFar) (m n : Names) (cells cells' : List (List (ℕ × Item))) → AlikeBlocks m n cells cells'
     → is_row table cells ≡ is_row table cells'
 same_row table m n cells cells' are = ap (λ (k : ℕ). nat_lt 0 k && nat_le (table.columns - k) table.room) (as_many m n cells cells' are)
@@ -122,7 +122,7 @@ one_row d n path table line lines t u row other f are (inr (h, a, is, e)) (inr (
     taken_alike d.names n t u (taking (first ++ a.items) a.left) (taking (second ++ b.items) b.left) e g
     (nodes_append d.names n first second a.items b.items (same_block table d.names n row other are) rest.0, rest.1)
 
--- lines have one body of rows, but for the indices
+-- lines have one table body, apart from indices
 one_counted : (d : Document) (n : Names) (path : List Container) (lines : List Place) (table : TableSoFar) (t u : Taken)
     → CountedRows d path table lines t → CountedRows (with_names d n) path table lines u → AlikeTaken d.names n t u
 unfolding CountedRows
@@ -169,7 +169,7 @@ one_table d n path p alignments lines t u h k =
       body.1,
     )
 
--- the children of a heading or a paragraph read alike
+-- the children of a setext heading or a paragraph read alike
 module _ (d : Document) (n : Names) (start : ℕ) (marker : Option Item) (l : TextLines) (chain : List Item) where
   children_alike : IfSome marker HasNoIndex → AlikeChains d.names n l.chain chain
       → AlikeChains d.names n (text_children marker l) (text_children marker (text_lines chain l.break l.left))
@@ -203,7 +203,7 @@ module _ (d : Document) (n : Names) (start : ℕ) (marker : Option Item) (l : Te
       (children_without d start marker (text_lines chain l.break l.left) (heading_braces d.options bs)))
       (bytes_alike free h) (without_alike (heading_braces d.options (heading_bytes d start marker l)) free h)
 
-  -- a heading or a paragraph reads alike
+  -- a setext heading or a paragraph reads alike
   one_ended : (t u : Taken) (o : Option (ℕ × HeadingLevel)) → IfSome marker HasNoIndex → AlikeChains d.names n l.chain chain
       → MatchOption o (t ≡ plain_text d start marker l) (λ underline. IsUnderlined d start marker l underline.1 t)
       → MatchOption o (u ≡ plain_text (with_names d n) start marker (text_lines chain l.break l.left))
@@ -236,7 +236,7 @@ one_plain d n path p marker lines t u free (l, are, is) (l', are', is') =
     one_ended d n (offset p) marker l given.0 t u (underline_first path l.left) free given.1 is
     (subst (λ (z : TextLines). IsEnded (with_names d n) path (offset p) marker z u) given.2 is')
 
--- what stands for a text reads alike, and leaves the same lines
+-- a paragraph, a setext heading or a table reads alike, and leaves the same lines
 text_by : (d : Document) (n : Names) (path : List Container) (p : Place) (marker : Option Item) (lines : List Place) (t u : Taken) (o : Option (List Alignment))
     → IfSome marker HasNoIndex
     → MatchOption o (IsPlainText d path (offset p) marker lines t) (λ alignments. IsTable d path p alignments lines t)

@@ -1,4 +1,4 @@
--- What is read under some names is so under names that continue them.
+-- What is read under some names is read the same under names that extend them.
 use Rattle.std.proofs.Common.{◌≡◌, inl, inr, ℕ, List, ◌∷◌, Option, []}
 use Rattle.first_pass_items.specs.declared.item.Item.{Item}
 use Rattle.first_pass_items.specs.declared.option_set.Options.{Options}
@@ -83,4 +83,4 @@ rows_more text options names later path table lines t e h = record {
   items_are = h.items_are;
 }
 
--- a heading that is underlined, and a text
+-- a setext heading, and a text

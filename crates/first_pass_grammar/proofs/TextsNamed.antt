@@ -1,4 +1,5 @@
--- Each index that the items of a text keep names an entry: of a table its alignments, of a heading its attributes, and of a token a text.
+-- Each index in the items of a text names an entry: for a table alignments, for a heading attributes, and for a token
+-- a text.
 use Rattle.std.proofs.Common.{ℕ, ◌-◌, List, [], ◌++◌, length, drop, Option, Some, None, MatchOption, IfSome, sym, subst, ◌≡◌}
 use Rattle.std.specs.Option.{option_map}
 use Rattle.std.proofs.lemmas.Option.{slice_get_within}
@@ -41,7 +42,7 @@ table_named d path p alignments lines t h =
     (nodes_named d.names _ (block_nodes P (record { start = offset p; «end» = start_of (length d.text) t.left; body = Table h.index }) (head ++ h.body)
     (slice_get_within d.names.alignments h.index.0 alignments h.named) kids))
 
--- the index of a heading, where it has one, names an entry
+-- the index of a heading, if it has one, names an entry
 pub given_entry : (names : Names) (ix : Option HeadingIndex) (attributes : Option Attributes) → NamesAttributes names ix attributes
     → NamesEntry names (option_map AttributesAt ix)
 given_entry names None attributes h = tt
@@ -72,7 +73,7 @@ ended_named d start marker l t (Some underline) free h (index, named, e) =
     (given_entry d.names index (heading_attributes_of d.options (heading_bytes d start marker l)) named)
     (heading_children_each (HasEntry d.names) (λ escaped. tt) d start marker l (marker_entered d.names marker free) h))
 
--- so does each in what stands for a text
+-- each index in a paragraph, a setext heading or a table names an entry
 text_by : (d : Document) (path : List Container) (p : Place) (marker : Option Item) (lines : List Place) (t : Taken) (o : Option (List Alignment))
     → IfSome marker HasNoIndex
     → MatchOption o (IsPlainText d path (offset p) marker lines t) (λ alignments. IsTable d path p alignments lines t) → AreNamed d.names t.items

@@ -1,4 +1,4 @@
--- What closing a list makes of its nodes, against what the grammar says of a tight list.
+-- The nodes after a list is closed are those of a tight list in the grammar.
 use Rattle.std.proofs.Common.{◌≡◌, ℕ, zero, suc, ◌+◌, ◌<◌, ◌≤◌, Bool, true, false, not, eqb, List, [], ◌∷◌, ◌++◌, length, map, Option, refl, ap, ◌∙◌, arith}
 use Rattle.std.proofs.Common.{eq-eqb, if◌then◌else◌, Option, Some, None, option_map}
 use Rattle.std.specs.Option.{option_map_or}
@@ -29,7 +29,7 @@ eqb-same n = eq-eqb n n refl
 eqb-more : (m n : ℕ) → m < n → eqb n m ≡ false
 eqb-more m n h = grind (arith, nat_tests)
 
--- Nothing below a depth changes.
+-- Nodes below this depth do not change.
 deep_node : (d e : ℕ) (x : Item) → d < e → tightened d (e, x) ≡ (e, x)
 deep_node d e x h = let t = eqb-more d e h in rw t refl
 
@@ -63,7 +63,7 @@ deep_items d e tight (OneOf row inner next) h =
     map_parts d _ _ _ _ _ _ (deep_row d e tight (is_loose inner) row.start row.what h)
     (deep_items d (suc e) (tight_in tight (is_loose inner) row.what) inner (omega arith)) (deep_items d e tight next h)
 
--- Directly in a container stands no item of a list, and no title and no definition of a definition list.
+-- No item of a list, and no title or definition of a definition list, is directly in a container.
 abbrev NoItem : What → Type 0
 NoItem (ALeaf b) = Unit {0}
 NoItem (AQuote kind e) = Unit {0}
@@ -133,7 +133,7 @@ are_blocks quoted before last (Then (Block b) next) =
 are_blocks quoted before last (Node head e kids next) =
     blocks_container last head.opener head.line head.start e before.counted _ _ (are_blocks quoted _ last next)
 
--- no quote and no list is a paragraph
+-- no block quote and no list is a paragraph
 same_by : (t : Bool) (x : Item) → (if t then x else x) ≡ x
 same_by true x = refl
 same_by false x = refl
@@ -169,7 +169,7 @@ block_in loose (ADefinitionList t x) h = refl
 block_in loose (ATitle b) h = absurd h
 block_in loose (ADefinition columns x) h = absurd h
 
--- the items of blocks in a tight list are those of blocks that aren't, with their paragraphs made tight
+-- the items of blocks in a tight list are those of the same blocks outside of one, with their paragraphs tightened
 tight_items : (d : ℕ) (r : Rows) → AreBlocks r → map (tightened d) (items_of d false r) ≡ items_of d true r
 unfolding items_of
 tight_items d End h = refl
@@ -200,7 +200,7 @@ length-modify [] k g = refl
 length-modify (n ∷ nodes) zero g = refl
 length-modify (n ∷ nodes) (suc k) g = ap suc (length-modify nodes k g)
 
--- a list closed of which more stands after some nodes
+-- a list that is closed with more nodes after some nodes
 pub list_closed-append : (nodes more : List (ℕ × Item)) (o d : ℕ) (loose : Bool) (e : ℕ) → o < length nodes
     → list_closed (nodes ++ more) o d loose e ≡ list_closed nodes o d loose e ++ (if loose then more else map (tightened d) more)
 unfolding list_closed
@@ -228,7 +228,7 @@ from_mid : (nodes more : List (ℕ × Item)) (a start some_end d byte number : �
 from_mid [] more a start some_end d byte number flags = ap (λ z. z ∷ map (tightened d) more) (same_list d a start some_end byte number flags)
 from_mid (y ∷ nodes) more a start some_end d byte number flags = ap (λ z. y ∷ z) (from_mid nodes more a start some_end d byte number flags)
 
--- a list closed whose node is the first of those that it is closed with
+-- a list that is closed, whose node is the first of those that it is closed with
 pub list_closed-mid : (nodes more : List (ℕ × Item)) (a start some_end d byte number : ℕ) (flags : ListFlags) (loose : Bool) (e : ℕ)
     → list_closed (nodes ++ (a, node_of start some_end (ListBody flags byte number)) ∷ more) (length nodes) d loose e
     ≡ nodes ++ (a, node_of start e (ListBody (list_flags (not loose)) byte number)) ∷ (if loose then more else map (tightened d) more)

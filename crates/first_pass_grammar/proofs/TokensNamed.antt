@@ -1,4 +1,4 @@
--- Each text that the tokens of a line or a cell name is among those that it is read with.
+-- Each text that the tokens of a line or a cell name is among the texts that the line is read with.
 use Rattle.std.proofs.Common.{◌≡◌, ℕ, ◌<◌, false, List, length, sym, subst}
 use Rattle.std.proofs.lemmas.Bool.{true≢false}
 use Rattle.std.proofs.lemmas.Option.{slice_get_within}
@@ -14,7 +14,7 @@ use Rattle.first_pass_tokens.specs.NamedTexts.{Becomes}
 use Rattle.first_pass_tokens.specs.Pieces.{Inline, found_at}
 use Rattle.first_pass_tokens.proofs.AlikeLemmas.{names_text, NamesNone, ReadyNamesNone, found_none}
 
--- a kind that names a text names one of these
+-- a body that names a text names one of these
 abbrev pub NamesWithin : List CowStr → ItemBody → Type 0
 NamesWithin texts (SynthesizeText ix) = ix.0 < length texts
 NamesWithin texts _ = Unit {0}
@@ -44,6 +44,6 @@ becomes_within texts b (Dollar opens closes) p none is = subst (PieceWithin text
 becomes_within texts b OpenBrace p none is = subst (PieceWithin texts) (sym is) tt
 becomes_within texts b CloseBrace p none is = subst (PieceWithin texts) (sym is) tt
 
--- what stands at a place names a text of these, if it names one
+-- the piece at a place names one of these texts, if it names a text
 pub piece_within : (texts : List CowStr) (b : MathBraces) (s : Inline) (at : ℕ) (p : Piece) → Becomes texts b (found_at s at) p → PieceWithin texts p
 piece_within texts b s at p is = becomes_within texts b (found_at s at) p (found_none s at) is

@@ -1,4 +1,4 @@
--- The grammar derives one forest from a text, read through what its indices name, and one pair of tables.
+-- The grammar derives at most one forest from a text, read through its indices, and at most one pair of tables.
 use Rattle.std.proofs.Common.{◌≡◌, inl, inr, ℕ, ◌+◌, Bool, true, false, List, [], ◌∷◌, length, map, drop, Option, Some, None, IfSome, MatchOption, refl, sym}
 use Rattle.std.proofs.Common.{ap, ◌∙◌, subst}
 use Rattle.std.proofs.Common.{if◌then◌else◌}
@@ -55,7 +55,7 @@ use Rattle.first_pass_grammar.specs.Footnotes.{footnote_head_at}
 use Rattle.first_pass_grammar.proofs.OpenerFacts.{start_cases}
 use Rattle.first_pass_items.specs.OptionWords.{tasklists}
 
--- a place is of one kind
+-- a place has one kind
 one_kind_by : (r : Rest) (first : Option Kind) (k k' : Kind) → IsKindBy r first k → IsKindBy r first k' → k ≡ k'
 one_kind_by r (Some first) k k' e f = e ∙ sym f
 one_kind_by r None k k' (inl (n, tag, e)) (inl (n', tag', f)) = e ∙ sym f
@@ -66,11 +66,11 @@ one_kind_by r None k k' (inr (other, e)) (inr (other', f)) = e ∙ sym f
 one_kind : (options : Options) (r : Rest) (k k' : Kind) → IsKind options r k → IsKind options r k' → k ≡ k'
 one_kind options r k k' e f = one_kind_by r (first_kind options r) k k' e f
 
--- what is said to open is alike where what it is said to be is
+-- two openings that equal openings that are alike are alike
 alike_by : (m n : Names) (o o' x y : Opening) → o ≡ x → o' ≡ y → AlikeOpening m n x y → AlikeOpening m n o o'
 alike_by m n o o' x y e f a = subst (λ z. AlikeOpening m n z o') (sym e) (subst (λ z. AlikeOpening m n x z) (sym f) a)
 
--- what stands for a text is alike
+-- the text at a place opens alike
 one_text_opening : (d : Document) (n : Names) (path : List Container) (p : Place) (lines : List Place) (marker : Option Item) (o o' : Opening)
     → IfSome marker HasNoIndex → OpensText d path p lines marker o → OpensText (with_names d n) path p lines marker o' → AlikeOpening d.names n o o'
 unfolding OpensText
@@ -78,7 +78,7 @@ one_text_opening d n path p lines marker o o' free (t, is, e) (u, is', f) =
     let same = one_text d n path (unindented p) marker lines t u free is is' in
     alike_by d.names n o o' _ _ e f ((refl, same.0, refl, refl), refl, tt, same.1)
 
--- a leaf block's items read alike where they are of alike chains
+-- the items of a leaf block read alike if their chains do
 one_code : (d : Document) (n : Names) (p : Place) (further : List Place) (xs ys : List (ℕ × Item))
     → IsIndentedCode d p further xs → IsIndentedCode (with_names d n) p further ys → AlikeNodes d.names n xs ys
 one_code d n p further xs ys h k =
@@ -117,7 +117,7 @@ one_extent : (m n : Names) (kind : Kind) (p : Place) (e : Extent) (A B : List (�
     → ((xs ys : List (ℕ × Item)) → A xs → B ys → AlikeNodes m n xs ys) → OpensExtent kind p e A o → OpensExtent kind p e B o' → AlikeOpening m n o o'
 one_extent m n kind p e A B o o' one (xs, a, f) (ys, b, g) = alike_by m n o o' _ _ f g ((refl, one xs ys a b, refl, refl), refl, tt, refl)
 
--- a place begins one run, with one thing after it
+-- one run begins at a place, with one thing after it
 head_of : (line line' : Place) (left left' : List Place) → line ∷ left ≡ line' ∷ left' → line ≡ line'
 head_of line line' left left' e = cc
 
@@ -148,7 +148,7 @@ one_run around p lines (x ∷ xs) (y ∷ ys) b c (h, inr (line, left, is, on, mo
     (subst (λ z. IsRun around (unindented (at_rest line' (front around.path line'.rest))) z ys c) (tail_of line' line left' left both) more')) in
     (ap (λ z. z ∷ xs) s ∙ ap (λ z. y ∷ z) r.0, r.1)
 
--- what stands after a run reads alike
+-- what follows a run reads alike
 one_beyond : (d : Document) (n : Names) (path : List Container) (xs : List LinkEntry) (b : Beyond) (o o' : Opening)
     → OpensBeyond d path xs b o → OpensBeyond (with_names d n) path xs b o' → AlikeOpening d.names n o o'
 one_beyond d n path xs (Ended p left) o o' e f = alike_by d.names n o o' _ _ e f ((refl, refl, refl, refl), refl, tt, refl)
@@ -164,7 +164,7 @@ one_run_opening d n path p lines o o' (xs, b, run, e) (ys, c, run', f) =
     one_beyond d n path xs b o o' e
     (subst (λ z. OpensBeyond (with_names d n) path z b o') (sym s.0) (subst (λ z. OpensBeyond (with_names d n) path ys z o') (sym s.1) f))
 
--- what begins at a place that is of a kind reads alike
+-- the block of one kind at a place reads alike
 opens_once : (d : Document) (n : Names) (path : List Container) (p : Place) (lines : List Place) (k : Kind) (o o' : Opening)
     → OpensAs d path p lines k o → OpensAs (with_names d n) path p lines k o' → AlikeOpening d.names n o o'
 unfolding OpensAs
@@ -217,7 +217,7 @@ opens_block d n path p lines o o' (k, is, e) (k', is', f) =
     opens_once d n path p lines (kind_in (around d path) p k) o o' e
     (subst (λ z. OpensAs (with_names d n) path p lines (kind_in (around d path) p z) o') (one_kind d.options p.rest k' k is' is) f)
 
--- a container that opens, with no label, in which blocks continue where no item with an index stands
+-- a container that opens without a label; the marker where its blocks continue, if there is one, has no index
 abbrev OpensFree : Opening → Type 0
 OpensFree (OpensLeaf leaf there left) = ⊥
 OpensFree (OpensNode head inside behind) = HoldsNoIndex inside × (label_node head.opener ≡ [])
@@ -251,7 +251,7 @@ tag_free c [] = tt
 tag_free c (line ∷ lines) =
     first_free (ends_tag c line.rest) (Line, line ∷ lines) (At (unindented (at_rest line (front c.path line.rest))) ALeafAlone, lines) tt tt
 
--- after the marker of a container no item with an index stands
+-- the task list item marker after a container's own marker, if there is one, has no index
 abbrev AfterFree : AfterMarker → Type 0
 AfterFree OnLine = Unit {0}
 AfterFree (TaskText marker) = HasNoIndex marker
@@ -308,7 +308,7 @@ opens_by d n path p lines (Some s) o o' free e f =
     alike_by d.names n o o' _ _ e f (node_alike d.names n _ (opening_free d path s.head (at_rest p s.rest) lines s.after begun.0 begun.1))
 opens_by d n path p lines None o o' free e f = opens_block d n path p lines o o' e f
 
--- a footnote definition, or what else begins
+-- a footnote definition, or another block
 by_head : (d : Document) (n : Names) (l : Level) (p : Place) (lines : List Place) (head : Option (ℕ × List ℕ)) (o o' : Opening)
     → MatchOption head (OpensBy d l.path p lines (start_at d.options (may_define d l) p) o) (λ h. OpensFootnote d p lines h o)
     → MatchOption head (OpensBy (with_names d n) l.path p lines (start_at d.options (may_define d l) p) o') (λ h. OpensFootnote (with_names d n) p lines h o')
@@ -319,7 +319,7 @@ by_head d n l p lines None o o' e f =
 by_head d n l p lines (Some (size, label)) o o' (i, named, e) (j, named', f) =
     alike_by d.names n o o' _ _ e f ((refl, label_named d.names n (footnote_columns d.options) i j _ label named named'), refl, tt, refl)
 
--- a place opens one thing, read alike
+-- one thing opens at a place, and it reads alike
 pub one_opening : (d : Document) (n : Names) (l : Level) (p : Place) (lines : List Place) (o o' : Opening)
     → Opens d l p lines o → Opens (with_names d n) l p lines o' → AlikeOpening d.names n o o'
 one_opening d n l p lines o o' e f = by_head d n l p lines (footnote_head_at (around d l.path) p) o o' e f
@@ -339,14 +339,14 @@ opens_at d n l (At q (MarkAlone marker blanks)) p lines o o' h e f =
       refl,
     )
 
--- a block begins at one place, and where a sequence ends none begins
+-- a block begins at one place, and none begins where a sequence ends
 begins_once : (p q : Place) (a b : List Place) (g : Going) → g ≡ Begins p a → g ≡ Begins q b → (p ≡ q) × (a ≡ b)
 begins_once p q a b g e f = let s : Begins p a ≡ Begins q b = sym e ∙ f in (cc, cc)
 
 ends_not_begins : (left : Left) (p : Place) (a : List Place) (g : Going) → g ≡ Ends left → g ≡ Begins p a → ⊥
 ends_not_begins left p a g e f = let s : Ends left ≡ Begins p a = sym e ∙ f in cc
 
--- a first block opens as one thing
+-- a first block opens in one way
 first_once : (d : Document) (n : Names) (l : Level) (from : From) (lines : List Place) (o o' : Opening) → HoldsNoIndex from
     → IsFirst d l from lines o → IsFirst (with_names d n) l from lines o' → AlikeOpening d.names n o o'
 first_once d n l from lines o o' h f g =
@@ -358,7 +358,7 @@ first_ends : (d : Document) (l : Level) (from : From) (lines : List Place) (left
     → IsFirst d l from lines o → ⊥
 first_ends d l from lines left o e f = ends_not_begins left f.place f.behind (going d.options l from lines) e f.begins
 
--- where a sequence ends it has no block
+-- a sequence has no block where it ends
 pub ends_at_once : (d : Document) (s : Skeleton) (l : Level) (from : From) (lines : List Place) (stop left : Left)
     → going d.options l from lines ≡ Ends stop → IsSequence d s l from lines left → (s ≡ Nil) × (left ≡ stop)
 unfolding IsSequence
@@ -379,7 +379,7 @@ onward_free : (left : Left) → HoldsNoIndex (onward left).0
 onward_free (Lines lines) = tt
 onward_free (InLine p lines) = tt
 
--- a sequence at another level that is the same
+-- a sequence at an equal level
 at_level : (d : Document) (s : Skeleton) (l k : Level) (from : From) (lines : List Place) (left : Left) → l ≡ k → IsSequence d s l from lines left
     → IsSequence d s k from lines left
 at_level d s l k from lines left is seq = subst (λ z. IsSequence d s z from lines left) is seq
@@ -394,7 +394,7 @@ container_after : (m n : Names) (l : Level) (head : Head) (kids kids' : Skeleton
 container_after m n l head kids kids' a =
     ap (λ (z : Before). level l.path (after_container (opened head.opener) z)) (end_alike m n (is_quote (opened head.opener)) nothing kids kids' a)
 
--- two sequences from one place on are alike, and leave the same lines
+-- two sequences from the same place on are alike, and leave the same lines
 pub one_sequence : (d : Document) (n : Names) (s t : Skeleton) (l : Level) (from : From) (lines : List Place) (a b : Left) → HoldsNoIndex from
     → IsSequence d s l from lines a → IsSequence (with_names d n) t l from lines b → Alike d.names n s t × (a ≡ b)
 unfolding IsSequence
@@ -450,7 +450,7 @@ one_forest text options m n f g t u x y =
       x.tables_are ∙ told_alike m n no_tables x.skeleton y.skeleton s ∙ sym y.tables_are,
     )
 
--- so it derives nothing else where it derives this
+-- if the grammar derives this, it derives nothing else
 pub only_derived : (text : List ℕ) (options : Options) (names : Names) (forest : List (ℕ × Item)) (tables : Tables)
     → Derives (document text options names) forest tables → IsOnlyDerived text options names forest tables
 only_derived text options names forest tables is = record {

@@ -1,4 +1,4 @@
--- Each block of a derived tree shows whole tables, or nothing.
+-- Each block of a derived tree has whole tables, or no part of a table.
 use Rattle.std.proofs.Common.{◌≡◌, ℕ, ◌≤◌, Bool, true, false, List, [], ◌∷◌, ◌++◌, length, Option, Some, None, MatchOption, IfSome, refl, sym, ap, subst, ◌∙◌}
 use Rattle.std.proofs.Common.{if◌then◌else◌, drop}
 use Rattle.first_pass_items.specs.declared.item.Alignment.{Alignment}
@@ -55,18 +55,18 @@ use Rattle.first_pass_grammar.proofs.OpenerFacts.{start_cases}
 use Rattle.first_pass_grammar.proofs.Goings.{BeginsAt, LeavesAt, begins_at, leaves_at}
 use Rattle.first_pass_grammar.specs.WholeTables.{ShowsNothing}
 
--- nodes that show nothing
+-- nodes that are no part of a table
 pub whole_none : (names : Names) (nodes : List (ℕ × Item)) → marks names nodes ≡ [] → AreWholeTables names nodes
 unfolding AreWholeTables table_marks AreFull
 whole_none names nodes h = ([], h, tt)
 
--- In each of its tables the header row has so many cells that no more are filled in than may be.
+-- In each table the header row needs no more filled cells than allowed.
 abbrev pub HeadsAreFull : Document → Type 0
 HeadsAreFull d =
     (path : List Container) (p : Place) (alignments : List Alignment) (lines : List Place) (t : Taken) → IsAt d.text p
     → headed_table (around d path) p.rest.left ≡ Some alignments → (h : IsTable d path p alignments lines t) → filled (length alignments) h.cells ≤ most_filled
 
--- what stands where blocks continue shows nothing
+-- the marker where blocks continue, if there is one, is no part of a table
 abbrev pub PlainMay : May → Type 0
 PlainMay Anything = Unit {0}
 PlainMay ALeafAlone = Unit {0}
@@ -78,7 +78,7 @@ PlainFrom text Line = Unit {0}
 PlainFrom text (Blanks e) = Unit {0}
 PlainFrom text (At p may) = IsAt text p × PlainMay may
 
--- what a sequence leaves
+-- the lines that a sequence leaves are lines of the text
 abbrev pub LeftAt : List ℕ → Left → Type 0
 LeftAt text left = PlainFrom text (onward left).0 × AreAt text (onward left).1
 
@@ -89,14 +89,14 @@ WholeOpening d (OpensNode head inside behind) = PlainFrom d.text inside × AreAt
 abbrev pub ShownBy : Option Item → Type 0
 ShownBy marker = IfSome marker (λ x. ShowsNothing x.body)
 
--- a block with a chain shows nothing
+-- a block with a chain has no part of a table
 chain_whole : (names : Names) (start stop : ℕ) (body : ItemBody) (chain : List Item) (items : List (ℕ × Item)) → items ≡ block_with start stop body chain
     → ShowsNothing body → AreEach ShowsNothing chain → AreWholeTables names items
 chain_whole names start stop body chain items is own h =
     whole_none names items (ap (marks names) is ∙ block_shows names (record { start = start; «end» = stop; body = body }) chain own h)
 
 module _ (d : Document) (full : HeadsAreFull d) where
-  -- a heading or a paragraph
+  -- a setext heading or a paragraph
   ended_whole : (path : List Container) (start : ℕ) (marker : Option Item) (l : TextLines) (t : Taken) (o : Option (ℕ × HeadingLevel))
       → ShownBy marker → AreEach ShowsNothing l.chain
       → MatchOption o (t ≡ plain_text d start marker l) (λ underline. IsUnderlined d start marker l underline.1 t) → AreWholeTables d.names t.items
@@ -107,7 +107,7 @@ module _ (d : Document) (full : HeadsAreFull d) where
       chain_whole d.names start (start_of (length d.text) (drop 1 l.left)) (HeadingBody underline.1 index) (heading_children d start marker l) t.items
       (ap (λ (z : Taken). z.items) e) (λ names depth start end. refl) (heading_children_each ShowsNothing text_shows d start marker l plain h)
 
-  -- what stands for a text
+  -- a paragraph, a setext heading or a table
   text_by : (path : List Container) (p : Place) (marker : Option Item) (lines : List Place) (t : Taken) (o : Option (List Alignment))
       → headed_table (around d path) p.rest.left ≡ o → IsAt d.text p → ShownBy marker
       → MatchOption o (IsPlainText d path (offset p) marker lines t) (λ alignments. IsTable d path p alignments lines t) → AreWholeTables d.names t.items
@@ -227,7 +227,7 @@ module _ (d : Document) (full : HeadsAreFull d) where
       tag_by (ends_tag c line.rest) (Line, line ∷ lines) (At (unindented (at_rest line (front c.path line.rest))) ALeafAlone, lines) (tt, h)
       ((at_front d.text c.path line h.0, tt), h.1)
 
-  -- after the marker of a container stands nothing that a table shows
+  -- the task list item marker after a container's own marker, if there is one, is no part of a table
   abbrev AfterPlain : AfterMarker → Type 0
   AfterPlain OnLine = Unit {0}
   AfterPlain (TaskText marker) = ShownBy (Some marker)
@@ -339,7 +339,7 @@ module _ (d : Document) (full : HeadsAreFull d) where
   behind_first_plain (At p (TextOf marker)) there k = k
   behind_first_plain (At p (MarkAlone marker blanks)) there k = marker_plain blanks
 
--- each block of a sequence shows whole tables, or nothing
+-- each block of a sequence has whole tables, or no part of a table
 pub sequence_whole : (d : Document) (full : HeadsAreFull d) (s : Skeleton) (l : Level) (from : From) (lines : List Place) (left : Left)
     → PlainFrom d.text from → AreAt d.text lines → IsSequence d s l from lines left → HoldsOfEachLeaf (AreWholeTables d.names) s × LeftAt d.text left
 unfolding IsSequence HoldsOfEachLeaf

@@ -1,4 +1,4 @@
--- A derived tree shows whole tables.
+-- The tables of a derived tree are whole.
 use Rattle.std.proofs.Common.{◌≡◌, ℕ, suc, ◌==◌, Bool, true, false, List, [], ◌∷◌, ◌++◌, length, map, refl, sym, ap, subst, ◌∙◌, if◌then◌else◌}
 use Rattle.std.proofs.lemmas.List.{append_assoc}
 use Rattle.first_pass_items.specs.declared.item.Item.{Item}
@@ -25,7 +25,7 @@ use Rattle.first_pass_grammar.proofs.LinesLeft.{lines_are_at}
 use Rattle.first_pass_grammar.proofs.TableMarks.{marks-append, whole_deeper}
 use Rattle.first_pass_grammar.proofs.WholeBlocks.{whole_none, sequence_whole}
 
--- whole tables after each other
+-- whole tables after other whole tables
 pub table_marks-append : (a b : List TableRows) → table_marks (a ++ b) ≡ table_marks a ++ table_marks b
 unfolding table_marks
 table_marks-append [] b = refl
@@ -45,12 +45,12 @@ whole_both names nodes more (a, e, h) (b, f, k) =
     let second = ap (λ (z : List Mark). table_marks a ++ z) f in
     (a ++ b, marks-append names nodes more ∙ first ∙ second ∙ sym (table_marks-append a b), both_full a b h k)
 
--- nodes that show the same
+-- nodes with the same marks
 pub whole_same : (names : Names) (nodes more : List (ℕ × Item)) → marks names more ≡ marks names nodes → AreWholeTables names nodes → AreWholeTables names more
 unfolding AreWholeTables
 whole_same names nodes more same (a, e, h) = (a, same ∙ e, h)
 
--- a paragraph made tight shows nothing still
+-- tightening a paragraph does not change its marks
 pub tight_shows : (names : Names) (depth start «end» : ℕ) (b : ItemBody) → shown names depth start «end» (tight_body b) ≡ shown names depth start «end» b
 tight_shows names depth start end ParagraphBody = refl
 tight_shows names depth start end b = refl
@@ -68,7 +68,7 @@ marks-tightened names depth (n ∷ nodes) =
     ap (λ (z : List Mark). z ++ marks names (map (tightened depth) nodes)) (tight_by names n.0 (n.0 == depth) n.1)
     ∙ ap (λ (z : List Mark). shown names n.0 n.1.start n.1.«end» n.1.body ++ z) (marks-tightened names depth nodes)
 
--- the leaf blocks of rows show whole tables, or nothing
+-- the leaf blocks of rows have whole tables, or no part of a table
 abbrev pub WholeRows : Names → Rows → Type 0
 WholeRows names rows = HoldsOfEachRow (AreWholeTables names) rows
 
@@ -83,7 +83,7 @@ unfolding marks
 title_marks names [] h = refl
 title_marks names (x ∷ items) h = ap (λ z. z ++ marks names items) (sym (title_body names x.0 x.1.start x.1.«end» x.1.body h))
 
--- so do their items
+-- the items of rows have whole tables too
 row_whole : (names : Names) (depth : ℕ) (tight loose : Bool) (start : ℕ) (w : What) (inner : Rows) → HoldsOfRow (AreWholeTables names) w inner
     → AreWholeTables names (row_items depth tight loose start w)
 unfolding marks
@@ -108,7 +108,7 @@ forest_whole names depth tight (OneOf row inner next) h =
     (whole_both names (items_of (suc depth) (tight_in tight (is_loose inner) row.what) inner) (items_of depth tight next)
     (forest_whole names (suc depth) (tight_in tight (is_loose inner) row.what) inner h.1) (forest_whole names depth tight next h.2))
 
--- What a text derives shows whole tables.
+-- The tables of a tree that a text derives are whole.
 pub derived_whole : (d : Document) (nodes : List (ℕ × Item)) (tables : Tables) → Derives d nodes tables → AreWholeTables d.names nodes
 unfolding marks
 derived_whole d nodes tables h =

@@ -1,4 +1,4 @@
--- What nodes that are not yet a whole tree can still become.
+-- What the nodes of an unfinished tree can still become.
 use Rattle.std.specs.Prelude.{◌≡◌, ℕ, zero, suc, ◌<◌, ◌==◌, ◌||◌, not, Bool, true, false, List, [], ◌∷◌, ◌++◌, length, map, drop, Option, Some, None, if◌then◌else◌}
 use Rattle.first_pass_items.specs.declared.item.Item.{Item}
 use Rattle.first_pass_items.specs.declared.item.ItemBody.{ItemBody}
@@ -17,70 +17,78 @@ use Rattle.first_pass_grammar.specs.Containers.{is_quote}
 use Rattle.first_pass_grammar.specs.Rows.{Joins, ItemsOf, DefinitionsTo, Definitions, definitions_first, Rows, any_gap, is_loose, list_until, items_behind, list_behind, rows_of}
 use Rattle.first_pass_grammar.specs.Derivation.{Tables, Derives, told_by, list_flags, items_of}
 
--- the lines of a text from an offset on, which is a line's start
+-- the lines of a text from an offset that is the start of a line
 abbrev pub lines_from : List ℕ → ℕ → List Place
 lines_from text start = lines_at start (drop start text)
 
--- the nodes once the one at a place has its end
+-- the nodes after the node at a place gets its end
 unfoldable pub ended : List (ℕ × Item) → ℕ → ℕ → List (ℕ × Item)
 ended nodes place e = modify nodes place (λ x. record x { «end» = e })
 
--- a list that is loose or isn't
+-- the body of a list with its flags, loose or tight
 abbrev pub flagged : Bool → ItemBody → ItemBody
 flagged loose (ListBody flags byte number) = ListBody (list_flags (not loose)) byte number
 flagged loose (DefinitionList flags) = DefinitionList (list_flags (not loose))
 flagged loose body = body
 
--- The nodes once the paragraph at a place is the title of a definition list: the list has its place, and what was below the paragraph is below the title.
+-- The nodes after the paragraph at a place becomes the title of a definition list. The list takes its place, and what
+-- was below the paragraph is below the title.
 unfoldable pub with_title : List (ℕ × Item) → ℕ → List (ℕ × Item)
 with_title [] place = []
 with_title (n ∷ nodes) zero =
     (n.0, record n.1 { body = DefinitionList (list_flags true) }) ∷ (suc n.0, record n.1 { body = DefinitionListTitle }) ∷ map deeper nodes
 with_title (n ∷ nodes) (suc place) = n ∷ with_title nodes place
 
--- the nodes once a possible title at a place, which is last in a definition list, is a title (this project)
+-- the nodes after the possible title at a place, the last child of a definition list, becomes a title (this project)
 unfoldable pub title_taken : List (ℕ × Item) → ℕ → List (ℕ × Item)
 title_taken nodes place = modify nodes place (λ x. record x { body = DefinitionListTitle })
 
--- the nodes once that possible title is a paragraph after the list (this project)
+-- the nodes after that possible title becomes a paragraph after the list (this project)
 unfoldable pub title_left : List (ℕ × Item) → ℕ → List (ℕ × Item)
 title_left nodes place = map_from shallower place (modify nodes place (λ x. record x { body = ParagraphBody }))
 
--- The nodes once the list at a place is closed, in whose items blocks have this depth: it has its end, is loose or isn't, and where it isn't its
--- paragraphs are tight.
+-- The nodes after the list at a place is closed; `depth` is that of the blocks in its items. The list gets its end and
+-- is loose or tight. In a tight list the paragraphs are tightened.
 unfoldable pub list_closed : List (ℕ × Item) → ℕ → ℕ → Bool → ℕ → List (ℕ × Item)
 list_closed nodes place depth loose e =
     modify (if loose then nodes else map_from (tightened depth) place nodes) place (λ x. record { start = x.start; «end» = e; body = flagged loose x.body })
 
--- the last child of what is innermost, as far as any rule asks: a paragraph at a place; a definition that ends at an offset, which takes blank lines alone or
--- doesn't; a possible title at a place, after a definition that ends at an offset; another, or none
+-- The part of the innermost node's last child that rules depend on.
+-- Another child, or none.
+-- A paragraph: its place.
+-- A definition: its end, and whether it takes only blank lines.
+-- A possible title: the end of the definition before it, and its own place.
 pub data Closed : Type 0 where
   OtherClosed : Closed
   ParagraphAt : ℕ → Closed
   DefinitionClosed : ℕ → Bool → Closed
   TitleAt : ℕ → ℕ → Closed
 
--- a list that may continue: the place of its node, what it continues with, and whether it is loose so far; a definition list with a possible title after its
--- last definition: its node's place and the title's, where that definition ends, and whether it is loose so far; or none, with what is last
+-- A list that may continue, if there is one.
+-- No list: the last child.
+-- A list: its place, what continues it, and whether it is loose so far.
+-- A definition list with a possible title after its last definition: the list's place, the title's place, the end of
+-- that definition, and whether the list is loose so far.
 pub data Pending : Type 0 where
   NoList : Closed → Pending
   OneList : ℕ → Joins → Bool → Pending
   OneTitle : ℕ → ℕ → ℕ → Bool → Pending
 
--- what stands so far: nodes, a list that may continue, what stands before the next block, and what is defined
+-- the state of an unfinished tree: its nodes, a list that may continue, what precedes the next block, and what is
+-- defined
 pub record Standing : Type 0 where
   pub nodes : List (ℕ × Item)
   pub list : Pending
   pub before : Before
   pub defined : Tables
 
--- what a container takes further: blocks, and where it ends after them
+-- the remaining part of a container: its further blocks, and its end
 pub record Further : Type 0 where
   pub blocks : Skeleton
   pub «end» : ℕ
 
--- What the containers of a path take further from here on, from the innermost on, after what stands before in that, and the text itself at last: each a
--- sequence of the grammar.
+-- The remaining parts of the containers of a path, innermost first, and at last that of the text itself; each is a
+-- sequence of the grammar. `before` is what precedes the first block of the innermost one.
 unfoldable pub AreFurther : Document → List Container → Before → From → List Place → List Further → Type 0
 AreFurther d [] before from lines (f ∷ []) = IsSequence d f.blocks (level [] before) from lines (Lines []) × (f.«end» ≡ length d.text)
 AreFurther d (c ∷ path) before from lines (f ∷ more) =
@@ -88,39 +96,41 @@ AreFurther d (c ∷ path) before from lines (f ∷ more) =
     × AreFurther d path (after_container c (before_end (is_quote c) before f.blocks)) (onward left).0 (onward left).1 more
 AreFurther d _ before from lines _ = ⊥
 
--- the rows of what a container takes further, a block quote or not, after what stands
+-- the rows of the remaining blocks of a container, a block quote or not, in this state
 abbrev pub rows_on : Bool → Standing → Further → Rows
 rows_on quoted w f = rows_of quoted w.before f.«end» f.blocks
 
--- the definitions among rows that what is last takes in as its own: those that are first, after a paragraph
+-- the definitions that the last child takes in as its own: those at the start of the rows, after a paragraph
 abbrev pub taken_in : Closed → Rows → Option Definitions
 taken_in OtherClosed rows = None
 taken_in (ParagraphAt place) rows = definitions_first rows
 taken_in (DefinitionClosed e blanks) rows = None
 taken_in (TitleAt e place) rows = None
 
--- definitions that stand directly after their title, and no link definitions between
+-- definitions directly after their title, with no link reference definitions between
 abbrev pub not_apart : Option Definitions → Option Definitions
 not_apart None = None
 not_apart (Some ds) = if ds.apart then None else Some ds
 
--- the rows beside definitions that are taken in; or all
+-- the rows beside the definitions that are taken in, or all rows if there are none
 abbrev pub beside_or : Option Definitions → Rows → Rows
 beside_or None rows = rows
 beside_or (Some ds) rows = ds.beside
 
--- of such rows those that are not the list's that may continue
+-- the rows that do not belong to the list that may continue
 abbrev pub rows_beyond : Pending → Rows → Rows
 rows_beyond (NoList closed) rows = beside_or (taken_in closed rows) rows
 rows_beyond (OneList place joins loose) rows = list_behind joins rows
 rows_beyond (OneTitle place title e loose) rows = beside_or (definitions_first rows) rows
 
--- the nodes, a list among them at a place closed with these rows as its further children and these beside it, where blocks have this depth
+-- the nodes after the list at a place is closed with these definitions as its further children; the rows beside them
+-- follow it at this depth
 abbrev pub closed_with : ℕ → List (ℕ × Item) → ℕ → Bool → Definitions → List (ℕ × Item)
 closed_with depth nodes place loose ds =
     list_closed nodes place (suc (suc depth)) loose ds.«end» ++ (items_of (suc depth) (not loose) ds.items ++ items_of depth false ds.beside)
 
--- the nodes, and these rows after them, of which the definitions that are first are the paragraph's at a place, if there are any
+-- the nodes, followed by these rows; the paragraph at a place becomes the title of the definitions at the start of the
+-- rows, if there are any
 abbrev pub after_paragraph : ℕ → List (ℕ × Item) → ℕ → Option Definitions → Rows → List (ℕ × Item)
 after_paragraph depth nodes place None rows = nodes ++ items_of depth false rows
 after_paragraph depth nodes place (Some ds) rows = closed_with depth (with_title nodes place) place (is_loose ds.items) ds
@@ -131,15 +141,17 @@ after_closed depth nodes (ParagraphAt place) rows = after_paragraph depth nodes 
 after_closed depth nodes (DefinitionClosed e blanks) rows = nodes ++ items_of depth false rows
 after_closed depth nodes (TitleAt e place) rows = nodes ++ items_of depth false rows
 
--- The same where the node at a second place is a possible title of the definition list at the first: it is the title of the definitions that are first,
--- unless link definitions stand between; or a paragraph after that list, which ends with its last definition (this project).
+-- The same if the second place has a possible title of the definition list at the first. It becomes the title of the
+-- definitions at the start of the rows, unless link reference definitions come between. Otherwise it becomes a
+-- paragraph after that list, which ends with its last definition (this project).
 abbrev pub after_title : ℕ → List (ℕ × Item) → ℕ × ℕ × ℕ → Bool → Option Definitions → Rows → List (ℕ × Item)
 after_title depth nodes (place, title, e) loose (Some ds) rows = closed_with depth (title_taken nodes title) place (loose || is_loose ds.items) ds
 after_title depth nodes (place, title, e) loose None rows =
     after_paragraph depth (title_left (list_closed nodes place (suc (suc depth)) loose e) title) title (definitions_first rows) rows
 
--- The nodes, and after them these rows, whose blocks have this depth, in a container that ends at an offset. A list that may continue takes those among
--- them that continue it, and is loose where it was or where they make it so; what is after it stands beside it (CommonMark 5.3, and this project).
+-- The nodes, followed by these rows at this depth, in a container that ends at an offset. A list that may continue
+-- takes the rows that continue it, and is loose if it was loose or if they make it loose. The other rows follow it
+-- (CommonMark 5.3, and this project).
 unfoldable pub rendered : ℕ → ℕ → List (ℕ × Item) → Pending → Rows → List (ℕ × Item)
 rendered depth last nodes (NoList closed) rows = after_closed depth nodes closed rows
 rendered depth last nodes (OneList place joins loose) rows =
@@ -149,34 +161,35 @@ rendered depth last nodes (OneList place joins loose) rows =
 rendered depth last nodes (OneTitle place title e loose) rows =
     after_title depth nodes (place, title, e) loose (not_apart (definitions_first rows)) rows
 
--- an open node: a container; a list with its byte and whether it is loose so far; or a definition list that is loose so far or isn't
+-- an open node: a container; a list, with its byte and whether it is loose so far; or a definition list, with whether
+-- it is loose so far
 pub data Frame : Type 0 where
   InContainer : Container → Frame
   InList : ℕ → Bool → Frame
   InDefinitions : Bool → Frame
 
--- the containers alone, of open nodes from the innermost on
+-- only the containers among open nodes, innermost first
 abbrev pub containers_of : List Frame → List Container
 containers_of [] = []
 containers_of (InContainer c ∷ frames) = c ∷ containers_of frames
 containers_of (InList byte loose ∷ frames) = containers_of frames
 containers_of (InDefinitions loose ∷ frames) = containers_of frames
 
--- A block with a blank line before it makes the list loose in whose item it stands.
+-- A blank line before a block directly in an item makes the item's list loose.
 abbrev pub loosened : Bool → List Frame → List Frame
 loosened gap [] = []
 loosened gap (InContainer c ∷ frames) = InContainer c ∷ frames
 loosened gap (InList byte loose ∷ frames) = InList byte (loose || gap) ∷ frames
 loosened gap (InDefinitions loose ∷ frames) = InDefinitions (loose || gap) ∷ frames
 
--- what is last once a container is closed that ends at an offset
+-- the last child after a container that ends at an offset is closed
 abbrev pub closed_as : Container → ℕ → Closed
 closed_as (BlockQuote kind) e = OtherClosed
 closed_as (ListItem columns) e = OtherClosed
 closed_as (FootnoteDefinition columns) e = OtherClosed
 closed_as (Definition columns) e = DefinitionClosed e (columns == 0)
 
--- a definition list, open at a place, with what is last in it
+-- a definition list that is open at a place, given its last child
 abbrev pub definitions_open : ℕ → Bool → Pending → Pending
 definitions_open place loose (NoList OtherClosed) = NoList OtherClosed
 definitions_open place loose (NoList (ParagraphAt at)) = NoList OtherClosed
@@ -185,7 +198,7 @@ definitions_open place loose (NoList (TitleAt e at)) = OneTitle place at e loose
 definitions_open place loose (OneList at joins l) = NoList OtherClosed
 definitions_open place loose (OneTitle at title e l) = NoList OtherClosed
 
--- what stands once a container, whose node is at a place, is closed after these rows: those of what it took further
+-- the state after a container, whose node is at a place, is closed, given the rows of its remaining blocks
 abbrev pub container_closed : Container → ℕ → ℕ → Standing → Further → Rows → Standing
 container_closed c depth place w f rows = record {
   nodes = ended (rendered depth f.«end» w.nodes w.list rows) place f.«end»;
@@ -194,8 +207,9 @@ container_closed c depth place w f rows = record {
   defined = told_by w.defined f.blocks;
 }
 
--- What stands becomes this forest, and these tables are told then, where the nodes at these places are not closed and are what the frames say, both listed
--- from the innermost on: each container ends after what it takes further, and so on outwards; a list ends with what continues it.
+-- The state becomes this forest and these tables after all open nodes are closed. The frames and places list the open
+-- nodes, innermost first. Each container ends after its remaining blocks, from the innermost on; a list ends with what
+-- continues it.
 unfoldable pub Becomes : List Frame → List ℕ → Standing → List Further → List (ℕ × Item) → Tables → Type 0
 Becomes [] [] w (f ∷ []) forest tables = (forest ≡ rendered 1 f.«end» w.nodes w.list (rows_on false w f)) × (tables ≡ told_by w.defined f.blocks)
 Becomes (InList byte loose ∷ frames) (place ∷ places) w further forest tables =
@@ -208,12 +222,12 @@ Becomes (InContainer c ∷ frames) (place ∷ places) w (f ∷ further) forest t
     (container_closed c (suc (length (place ∷ places))) place w f rows) further forest tables
 Becomes _ _ w further forest tables = ⊥
 
--- each place is before the one inside it, and the innermost before an end
+-- each place is before the one inside it, and the innermost is before `n`
 abbrev pub AreBelow : ℕ → List ℕ → Type 0
 AreBelow n [] = Unit {0}
 AreBelow n (place ∷ places) = (place < n) × AreBelow place places
 
--- what is innermost is no list
+-- the innermost open node is not a list
 abbrev pub IsPlain : List Frame → Type 0
 IsPlain [] = Unit {0}
 IsPlain (InContainer c ∷ frames) = Unit {0}
@@ -232,7 +246,8 @@ last_defined (ParagraphAt place) = LastOther
 last_defined (DefinitionClosed e blanks) = LastDefinition blanks
 last_defined (TitleAt e place) = LastParagraph true
 
--- the kind of list that a container stands in, which is the innermost of these
+-- the innermost of these open nodes may have this container as its child: a list an item, a definition list a
+-- definition, any other node another container
 abbrev pub StandsIn : Container → List Frame → Type 0
 StandsIn (ListItem columns) (InList byte loose ∷ frames) = Unit {0}
 StandsIn (ListItem columns) _ = ⊥
@@ -240,35 +255,38 @@ StandsIn (Definition columns) (InDefinitions loose ∷ frames) = Unit {0}
 StandsIn (Definition columns) _ = ⊥
 StandsIn c frames = IsPlain frames
 
--- What is last in the innermost of open nodes, as far as the list that is open there and its last child say: in a list an item, in a definition list a
--- definition or a possible title, elsewhere a paragraph or another block.
+-- The last child of the innermost open node: an item in a list; a definition or a possible title in a definition list;
+-- otherwise a paragraph or another block.
 abbrev pub last_of : List Frame → Closed → Last
 last_of [] closed = last_plain closed
 last_of (InContainer c ∷ frames) closed = last_plain closed
 last_of (InList byte loose ∷ frames) closed = LastItem
 last_of (InDefinitions loose ∷ frames) closed = last_defined closed
 
--- a list stands in a container or at the top, and an item in a list, and a definition in a definition list, and nothing else does
+-- lists are directly in containers or at the top, items in lists, definitions in definition lists, and other
+-- containers in neither kind of list
 abbrev pub IsShaped : List Frame → Type 0
 IsShaped [] = Unit {0}
 IsShaped (InContainer c ∷ frames) = StandsIn c frames × IsShaped frames
 IsShaped (InList byte loose ∷ frames) = IsPlain frames × IsShaped frames
 IsShaped (InDefinitions loose ∷ frames) = IsPlain frames × IsShaped frames
 
--- Of what stands the nodes at these places are not closed, and are what the frames say: whatever completes them from here on, the text derives.
+-- The open nodes are at these places, as the frames list them, and every completion of the state from here on is
+-- derived by the text.
 pub record Completes (d : Document) (frames : List Frame) (places : List ℕ) (w : Standing) (from : From) (lines : List Place) : Type 0 where
   pub below : AreBelow (length w.nodes) places
   pub shape : IsShaped frames
   pub whole : (further : List Further) (forest : List (ℕ × Item)) (tables : Tables)
       → AreFurther d (containers_of frames) w.before from lines further → Becomes frames places w further forest tables → Derives d forest tables
 
--- Where blocks continue inside these containers: blank lines are taken alone in one of them, in an item (CommonMark 5.2, and this project).
+-- Blocks can continue in these containers: only in a container, an item, may the next line have to be blank
+-- (CommonMark 5.2, and this project).
 abbrev pub CanGoOn : List Container → From → Type 0
 CanGoOn [] from = blanks_alone from ≡ None
 CanGoOn (c ∷ path) from = Unit {0}
 
--- What completes open nodes from here on, with names that continue the present ones: what the containers take further, and the forest and the tables
--- that come of it.
+-- A completion of the open nodes from here on: names that extend the present ones, the remaining parts of the
+-- containers, and the resulting forest and tables.
 pub record Completion (d : Document) (frames : List Frame) (places : List ℕ) (w : Standing) (from : From) (lines : List Place) : Type 0 where
   pub names : Names
   pub extends : Extends names d.names

@@ -1,4 +1,4 @@
--- How many nodes there are, and how many of them are cells that a row of a table is filled with.
+-- The number of nodes, and of the cells that rows of tables are filled with.
 use Rattle.std.specs.Prelude.{ℕ, ◌+◌, ◌==◌, ◌&&◌, Bool, true, false, List, [], ◌∷◌, Option, Some, None, if◌then◌else◌}
 use Rattle.first_pass_items.specs.declared.item.Item.{Item}
 use Rattle.first_pass_items.specs.declared.item.ItemBody.{ItemBody}
@@ -15,39 +15,43 @@ abbrev pub is_cell : ItemBody → Bool
 is_cell TableCell = true
 is_cell _ = false
 
--- where the last cell of a row starts, if it has one yet, after a node: a row begins with none (GFM 4.10)
+-- the start of the row's last cell after a node, if the row has a cell by then; a row begins without one (GFM 4.10)
 abbrev pub last_cell : Option ℕ → Item → Option ℕ
 last_cell cell x = if is_row x.body then None else (if is_cell x.body then Some x.start else cell)
 
--- A filled cell after another: a row with too few cells is filled with empty ones, which all start at the row's end, and no two cells that are written
--- start at one offset. So such a cell starts where the cell before it in its row does (GFM 4.10, and this project).
+-- A filled cell after another cell. A row with too few cells is filled with empty ones, which all start at the row's
+-- end, and no two written cells start at the same offset. So a filled cell starts where the cell before it in its row
+-- does (GFM 4.10, and this project).
 abbrev pub is_filled_behind : Option ℕ → Item → Bool
 is_filled_behind None x = false
 is_filled_behind (Some start) x = is_cell x.body && (x.start == start)
 
--- how many of these nodes are no filled cells after others, where a row's last cell so far starts at an offset, if it has one (this project)
+-- the number of these nodes that are not filled cells after other cells; `cell` is the start of the row's last cell so
+-- far, if it has one (this project)
 unfoldable pub own : Option ℕ → List (ℕ × Item) → ℕ
 own cell [] = 0
 own cell (n ∷ nodes) = (if is_filled_behind cell n.1 then 0 else 1) + own (last_cell cell n.1) nodes
 
--- how many nodes a tree or a block has of its own: of the cells that a row is filled with, the first counts alone (this project)
+-- the number of nodes that a tree or a block has of its own: of the cells that a row is filled with, only the first
+-- counts (this project)
 abbrev pub own_nodes : List (ℕ × Item) → ℕ
 own_nodes nodes = own None nodes
 
--- where the row ends that what follows a node belongs to, if a row begins at or before it (GFM 4.10)
+-- the end of the row that the next nodes belong to, if this node or an earlier one begins a row (GFM 4.10)
 abbrev pub row_end : Option ℕ → Item → Option ℕ
 row_end «end» x = if is_row x.body then Some x.«end» else «end»
 
--- A filled cell is a cell that starts at its row's end (GFM 4.10, and this project).
+-- A filled cell is a cell that starts at the end of its row (GFM 4.10, and this project).
 abbrev pub is_filled : Option ℕ → Item → Bool
 is_filled None x = false
 is_filled (Some «end») x = is_cell x.body && (x.start == «end»)
 
--- how many of these nodes are filled cells, in a row that ends at an offset, or before any row (this project)
+-- the number of filled cells among these nodes; `end` is the end of the row before them, if there is one (this
+-- project)
 unfoldable pub filled_in_row : Option ℕ → List (ℕ × Item) → ℕ
 filled_in_row «end» [] = 0
 filled_in_row «end» (n ∷ nodes) = (if is_filled «end» n.1 then 1 else 0) + filled_in_row (row_end «end» n.1) nodes
 
--- how many filled cells a tree has (GFM 4.10, and this project)
+-- the number of filled cells in a tree (GFM 4.10, and this project)
 abbrev pub filled_cells : List (ℕ × Item) → ℕ
 filled_cells nodes = filled_in_row None nodes

@@ -1,4 +1,4 @@
--- Link reference definitions (CommonMark 4.7), of the bytes from a place in the text on.
+-- Link reference definitions (CommonMark 4.7), read from a place in the text.
 use Rattle.std.specs.Prelude.{ℕ, ◌+◌, ◌==◌, ◌&&◌, ◌||◌, not, Bool, true, false, nat_lt, List, [], ◌∷◌, take, drop, slice_index, Option, Some, None, is_some}
 use Rattle.std.specs.Prelude.{if◌then◌else◌}
 use Rattle.std.specs.List.{prefix_len}
@@ -13,25 +13,28 @@ use Rattle.first_pass_links.specs.Labels.{joined, bytes_of, offsets_of, label_at
 use Rattle.first_pass_grammar.specs.Containers.{Context, after, front}
 use Rattle.first_pass_grammar.specs.Kinds.{all_taken, is_blank_rest, ends_paragraph}
 
--- the underline of a setext heading begins here, at under four columns (CommonMark 4.3)
+-- a setext heading underline begins here, at fewer than four columns (CommonMark 4.3)
 abbrev pub is_underline : Rest → Bool
 is_underline r = nat_lt (indent r) 4 && is_some (setext_underline (all_taken r).left)
 
--- Where a definition that began before continues in the line of which this is left: after the prefixes of the containers that the line continues, and four
--- columns or fewer. It doesn't in a line that would end a paragraph, or that is an underline; to a label a line is one only where it continues the whole
--- path (CommonMark 4.7, and 4.3, 4.8 for what a definition can't hold).
+-- The rest of a line from the place where a definition that began before continues: after the prefixes of the
+-- containers that the line continues, and at most four columns. There is no such place if the line would end a
+-- paragraph or is an underline. In a label, a line is an underline only if it continues the whole path (CommonMark
+-- 4.7, and 4.3, 4.8 for what a definition cannot contain).
 unfoldable pub crossed : Bool → Context → Rest → Option Rest
 crossed in_label around line =
     if ends_paragraph around line || (is_underline (front around.path line) && (not in_label || is_some (after around.path line)))
     then None
     else Some (after_columns 4 (front around.path line))
 
--- how many bytes the line has before the place where a definition continues in it, where it does; the line begins with these bytes
+-- the number of bytes in the line before the place where a definition continues in it, if it does; the line begins
+-- with these bytes
 abbrev pub prefix_crossed : Bool → Context → List ℕ → Option ℕ
 prefix_crossed in_label around bs = option_map (λ (r : Rest). r.taken) (crossed in_label around (line_rest bs))
 
--- White space with at most one line end: how many bytes it has, what stands before the place where the next line continues too, and how many line ends. There
--- is none where a second line end follows, or where no line follows in which the definition continues (CommonMark 4.7).
+-- White space with at most one line ending: its length in bytes, including what precedes the place where the next line
+-- continues, and the number of line endings. There is none if a second line ending follows, or if the definition does
+-- not continue on the next line (CommonMark 4.7).
 abbrev pub space_beyond : ℕ → List ℕ → ℕ → Option (ℕ × ℕ)
 space_beyond n bs k = let m = k + prefix_len is_white (drop k bs) in if at_line_end (drop m bs) then None else Some (n + m, 1)
 
@@ -42,22 +45,24 @@ space_behind around bs n (Some e) = option_and_then (space_beyond (n + e) (drop 
 unfoldable pub space_at : Context → List ℕ → Option (ℕ × ℕ)
 space_at around bs = let n = prefix_len is_white bs in space_behind around bs n (eol_len (drop n bs))
 
--- what ends a title that this byte begins: `'`, `"`, or for `(` its `)` (CommonMark 6.3, link title)
+-- the end of a title that begins with this byte: `'`, `"`, or `)` for `(` (CommonMark 6.3, link title)
 abbrev pub title_end : ℕ → Option ℕ
 title_end b = if b == apostrophe || b == quotation_mark then Some b else (if b == left_parenthesis then Some right_parenthesis else None)
 
--- what can't stand in a title with this end unless it is escaped: that end, and in parentheses the one that opens them (CommonMark 6.3, link title)
+-- bytes that a title with this end may contain only if they are escaped: the end, and for `)` also `(` (CommonMark
+-- 6.3, link title)
 abbrev pub ends_title : ℕ → ℕ → Bool
 ends_title close b = b == close || (close == right_parenthesis && b == left_parenthesis)
 
--- how many bytes the line has before its text by which a title continues in it: all its spaces and tabs are dropped, and a blank line is none (CommonMark 4.7)
+-- the number of bytes in the line before the text with which a title continues: all spaces and tabs are dropped; in a
+-- blank line no title continues (CommonMark 4.7)
 abbrev pub text_crossed : Rest → Option ℕ
 text_crossed r = if is_blank_rest (all_taken r) then None else Some (all_taken r).taken
 
 abbrev pub title_prefix : Context → List ℕ → Option ℕ
 title_prefix around bs = option_and_then text_crossed (crossed false around (line_rest bs))
 
--- bytes after their offsets, with a line feed for each line end (this project)
+-- bytes with their offsets, with a line feed for each line ending (this project)
 unfoldable pub with_line_feeds : List (ℕ × ℕ) → List (ℕ × ℕ)
 with_line_feeds [] = []
 with_line_feeds (c ∷ cs) =
@@ -65,20 +70,20 @@ with_line_feeds (c ∷ cs) =
     then (if begins line_feed (bytes_of cs) then with_line_feeds cs else (c.0, line_feed) ∷ with_line_feeds cs)
     else c ∷ with_line_feeds cs
 
--- The title after what begins it, with this end, of lines whose prefixes these are: how many bytes it has, its end too, and its text with the lines joined
--- (CommonMark 4.7, 6.3).
+-- The title after its opening byte, with this end, in lines with these prefixes: its length in bytes, including its
+-- end, and its text with the lines joined (CommonMark 4.7, 6.3).
 unfoldable pub title_text : (List ℕ → Option ℕ) → ℕ → List ℕ → Option (ℕ × List ℕ)
 title_text prefix close bs =
     let whole = with_line_feeds (joined prefix 0 0 bs) in
     let n = unescaped_upto (ends_title close) 0 (bytes_of whole) in
     if begins close (drop n (bytes_of whole)) then Some (slice_index (offsets_of whole) n + 1, take n (bytes_of whole)) else None
 
--- the title that begins here: how many bytes it has, and its text (CommonMark 4.7, 6.3)
+-- the title that begins here: its length in bytes, and its text (CommonMark 4.7, 6.3)
 unfoldable pub title_at : Context → List ℕ → Option (ℕ × List ℕ)
 title_at around [] = None
 title_at around (b ∷ bs) = option_and_then (λ close. option_map (λ (t : ℕ × List ℕ). (t.0 + 1, t.1)) (title_text (title_prefix around) close bs)) (title_end b)
 
--- The title after a destination: white space parts them, and after the title the rest of its line is blank (CommonMark 4.7).
+-- The title after a destination: white space separates them, and the line is blank after the title (CommonMark 4.7).
 abbrev pub alone_behind : ℕ → List ℕ → ℕ × List ℕ → Option (ℕ × List ℕ)
 alone_behind n bs t = if is_some (blank_len (drop (n + t.0) bs)) then Some (n + t.0, t.1) else None
 
@@ -88,7 +93,8 @@ title_beyond around bs space = if space.0 == 0 then None else option_and_then (a
 abbrev pub title_behind : Context → List ℕ → Option (ℕ × List ℕ)
 title_behind around bs = option_and_then (title_beyond around bs) (space_at around bs)
 
--- What ends a definition after its destination: a title, or nothing where the rest of the destination's line is blank (CommonMark 4.7).
+-- What ends a definition after its destination: a title, or nothing if the rest of the destination's line is blank
+-- (CommonMark 4.7).
 unfoldable pub behind_destination : Context → List ℕ → Option (ℕ × Option (List ℕ))
 behind_destination around bs =
     option_map_or (λ (t : ℕ × List ℕ). Some (t.0, Some t.1)) (title_behind around bs) (if is_some (blank_len bs) then Some (0, None) else None)

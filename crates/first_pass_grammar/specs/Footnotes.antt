@@ -16,44 +16,48 @@ use Rattle.first_pass_grammar.specs.Kinds.{unindented, is_blank_rest}
 use Rattle.first_pass_grammar.specs.Names.{Names}
 use Rattle.first_pass_grammar.specs.Definitions.{prefix_crossed}
 
--- Where the label of a footnote continues in a line: as GitHub has footnotes, nowhere; in their old form where that of a link reference definition does
--- (this project).
+-- Where the label of a footnote continues on the next line: nowhere in GitHub's form; in the old form where the label
+-- of a link reference definition does (this project).
 abbrev pub footnote_prefix : Context → List ℕ → Option ℕ
 footnote_prefix around bs = if gfm_footnotes around.options then None else prefix_crossed true around bs
 
--- the head of the footnote definition that begins here: how many bytes it has, and its label as it is read (this project)
+-- the head of the footnote definition that begins here: its length in bytes, and its label as it is read (this
+-- project)
 abbrev pub footnote_at : Bool → Context → List ℕ → Option (ℕ × List ℕ)
 footnote_at in_table around bs = footnote_head (footnote_prefix around) in_table bs
 
--- the head of the footnote definition that begins at a place at under four columns: how many bytes it has, and its label as it is read (this project)
+-- the head of the footnote definition that begins at a place, at fewer than four columns: its length in bytes, and its
+-- label as it is read (this project)
 unfoldable pub footnote_head_at : Context → Place → Option (ℕ × List ℕ)
 footnote_head_at around p =
     if has around.options footnotes && nat_lt (indent p.rest) 4 then footnote_at false around (unindented p).rest.left else None
 
--- what stands between the `[^` and the `]` of the head that begins here and has so many bytes (this project)
+-- the bytes between the `[^` and the `]` of a head with this length, which begins here (this project)
 abbrev pub label_bytes : ℕ → List ℕ → List ℕ
 label_bytes size bs = take (size - 4) (drop 2 bs)
 
--- The index names the label of a footnote definition's head. A label that is as it is written between `[^` and `]` is borrowed from the text there (this
--- project).
+-- The index names the label of a footnote definition's head. A label that is read as it is written is borrowed from
+-- the text (this project).
 pub record NamesLabel (names : Names) (ix : CowIndex) (written label : List ℕ) : Type 0 where
   pub named : CowStr
   pub at : slice_get names.texts ix.0 ≡ Some named
   pub text : text_of named ≡ label
   pub borrowed : label ≡ written → Borrows written named
 
--- Where reading continues so many bytes after a place, as at the start of a line: tab stops count anew there, and no column is owed (this project).
+-- The place n bytes after another, as at the start of a line: tab stops count anew there, and no column is owed (this
+-- project).
 abbrev pub place_behind : ℕ → Place → Place
 place_behind n p = line_place (offset p + n) (drop n p.rest.left)
 
--- Where blocks continue after the colon of a footnote definition's head, and the lines then. As GitHub has footnotes, after the white space there. In their
--- old form there; but where the rest of the line is blank and another line follows, at the start of that one, whatever containers it continues, as if it
--- followed the colon (this project).
+-- Where blocks continue after the colon of a footnote definition's head, and the lines after that. In GitHub's form:
+-- after the white space there. In the old form: after the colon; but if the rest of the line is blank and another line
+-- follows, at the start of that line. It is then read as if it followed the colon, whichever containers it continues
+-- (this project).
 abbrev pub behind_head : Bool → Place → List Place → Place × List Place
 behind_head true q lines = (place_behind (prefix_len is_white q.rest.left) q, lines)
 behind_head false q [] = (q, [])
 behind_head false q (line ∷ lines) = if is_blank_rest q.rest then (line, lines) else (q, line ∷ lines)
 
--- A footnote definition that is innermost ends where another begins (this project).
+-- An innermost footnote definition ends where another one begins (this project).
 abbrev pub ends_footnote : Context → Place → Bool
 ends_footnote around p = in_footnote around.path && is_some (footnote_head_at around p)

@@ -1,4 +1,4 @@
--- Runs of link reference definitions, and what stands after them (CommonMark 4.7).
+-- Runs of link reference definitions, and what follows them (CommonMark 4.7).
 use Rattle.std.specs.Prelude.{◌≡◌, ◌⊎◌, ℕ, ◌+◌, ◌||◌, Bool, true, false, nat_lt, List, [], ◌∷◌, Option, Some, None, is_some, if◌then◌else◌}
 use Rattle.std.specs.Option.{option_map}
 use Rattle.first_pass_lines.specs.Places.{Place, offset}
@@ -17,29 +17,30 @@ entry_of at x =
 abbrev pub definition_at : Context → Place → Option LinkEntry
 definition_at around p = option_map (entry_of (offset p)) (reference_at false around p.rest.left)
 
--- Where a text would begin, link reference definitions begin if one stands there (CommonMark 4.7).
+-- Link reference definitions begin where a text would, if there is one there (CommonMark 4.7).
 abbrev pub kind_in : Context → Place → Kind → Kind
 kind_in around p Paragraph = if is_some (definition_at around (unindented p)) then LinkDefinitions else Paragraph
 kind_in around p kind = kind
 
--- of these lines those that begin at an offset or after it
+-- those of these lines that begin at or after an offset
 unfoldable pub lines_beyond : ℕ → List Place → List Place
 lines_beyond e [] = []
 lines_beyond e (line ∷ lines) = if nat_lt line.line e then lines_beyond e lines else line ∷ lines
 
--- A run of definitions ends before a line that would end a paragraph at under four columns, or that is blank, whatever containers it continues
--- (CommonMark 4.7, 5.1).
+-- A run of definitions ends before a line that is blank, or that has fewer than four columns and would end a
+-- paragraph, whichever containers it continues (CommonMark 4.7, 5.1).
 abbrev pub ends_run : Context → List Place → Bool
 ends_run around [] = true
 ends_run around (line ∷ lines) = ends_tag around line.rest || is_blank_rest (all_taken (front around.path line.rest))
 
--- what stands after a run: nothing of it, where its last definition begins at a place and these lines are left; or a text, from a place on
+-- what follows a run: no text, with the place of its last definition and the lines after it; or a text, with its place
+-- and the lines after that
 pub data Beyond : Type 0 where
   Ended : Place → List Place → Beyond
   FlowsOn : Place → List Place → Beyond
 
--- These are the definitions of a run from a place on, before these lines: one after the other, each at its line's text, up to the text or the line that is
--- none (CommonMark 4.7).
+-- These are the definitions of a run from a place on, before these lines. They follow one another, each at the start
+-- of a line's text, up to a text or a line that ends the run (CommonMark 4.7).
 unfoldable pub IsRun : Context → Place → List Place → List LinkEntry → Beyond → Type 0
 IsRun around p lines [] beyond = (definition_at around p ≡ None) × (beyond ≡ FlowsOn p lines)
 IsRun around p lines (x ∷ more) beyond =

@@ -1,4 +1,5 @@
--- What link reference definitions say, and the tables of the first definition of each label, of links (CommonMark 4.7) and of footnotes (this project).
+-- Link reference definitions (CommonMark 4.7), and the tables with the first one of each label: of links, and of
+-- footnotes (this project).
 use Rattle.std.specs.Prelude.{ℕ, List, [], ◌∷◌, map, Option, None, Some, cond, nat_eq}
 use Rattle.std.specs.declared.cmp.Ordering.{Ordering}
 use Rattle.std.specs.Ordering.{nat_cmp, match_ordering}
@@ -18,13 +19,13 @@ pub record LinkEntry : Type 0 where
 abbrev pub folded_cmp : List ℕ → List ℕ → Ordering
 folded_cmp x y = slice_cmp nat_cmp (folded x) (folded y)
 
--- The table with a definition more, at its place in the order of the foldings: where one of its label stands there already, that one stays, since the first of
--- several matching definitions takes precedence (CommonMark 4.7).
+-- The table with one more definition, at its place in the order of the foldings. If the table has a definition with
+-- the same label already, that one stays: the first of several matching definitions takes precedence (CommonMark 4.7).
 unfoldable pub with_link : LinkEntry → List LinkEntry → List LinkEntry
 with_link x [] = x ∷ []
 with_link x (y ∷ links) = match_ordering (folded_cmp x.label y.label) (x ∷ y ∷ links) (y ∷ links) (y ∷ with_link x links)
 
--- the table with these definitions too, in the order of the text
+-- the table with these definitions added, in the order of the text
 unfoldable pub with_links : List LinkEntry → List LinkEntry → List LinkEntry
 with_links links [] = links
 with_links links (x ∷ definitions) = with_links (with_link x links) definitions
@@ -34,13 +35,13 @@ unfoldable pub link_under : List ℕ → List LinkEntry → Option LinkEntry
 link_under folding [] = None
 link_under folding (x ∷ links) = cond (pointwise nat_eq folding (folded x.label)) (Some x) (link_under folding links)
 
--- The table of footnotes with a label more, at its place in the order of the foldings: where the label stands there already, as its first definition
--- spells it, that stays (this project).
+-- The table of footnotes with one more label, at its place in the order of the foldings. If the table has the label
+-- already, as its first definition spells it, that one stays (this project).
 unfoldable pub with_label : List ℕ → List (List ℕ) → List (List ℕ)
 with_label x [] = x ∷ []
 with_label x (y ∷ labels) = match_ordering (folded_cmp x y) (x ∷ y ∷ labels) (y ∷ labels) (y ∷ with_label x labels)
 
--- the table with these labels too, in the order of the text
+-- the table with these labels added, in the order of the text
 unfoldable pub with_labels : List (List ℕ) → List (List ℕ) → List (List ℕ)
 with_labels labels [] = labels
 with_labels labels (x ∷ more) = with_labels (with_label x labels) more
@@ -50,6 +51,6 @@ unfoldable pub label_under : List ℕ → List (List ℕ) → Option (List ℕ)
 label_under folding [] = None
 label_under folding (x ∷ labels) = cond (pointwise nat_eq folding (folded x)) (Some x) (label_under folding labels)
 
--- the labels are in the byte order of their foldings, each folding once (this project)
+-- the labels are in the byte order of their foldings, and no folding occurs twice (this project)
 abbrev pub IsInFoldedOrder : List LinkEntry → Type 0
 IsInFoldedOrder links = IsStrictlySortedBy folded_cmp (map (λ x. x.label) links)

@@ -1,4 +1,4 @@
--- What the indices of items name.
+-- The texts, alignments and attributes that items name by their indices.
 use Rattle.std.specs.Prelude.{◌≡◌, ℕ, ◌<◌, List, ◌∷◌, ◌++◌, length, map, slice_get, Option, Some, None, unwrap_or, []}
 use Rattle.std.specs.Option.{option_map, option_and_then}
 use Rattle.first_pass_items.specs.declared.cow_str.CowStr.{CowStr}
@@ -13,7 +13,8 @@ use Rattle.first_pass_items.specs.declared.item.ItemBody.TheVariants.{Heading, S
 use Rattle.first_pass_attributes.specs.Attributes.{Attributes}
 use Rattle.first_pass_tokens.specs.NamedTexts.{NamesAmong}
 
--- the texts, the alignments of tables' columns, and the attributes of headings, that items name by their indices (this project)
+-- the texts, the column alignments of tables, and the attributes of headings, which items name by their indices (this
+-- project)
 pub record Names : Type 0 where
   pub texts : List CowStr
   pub alignments : List (List Alignment)
@@ -34,7 +35,8 @@ NamesAttributes names None (Some attributes) = ⊥
 NamesAttributes names (Some ix) None = ⊥
 NamesAttributes names (Some ix) (Some attributes) = slice_get names.headings ix.0 ≡ Some attributes
 
--- more texts, alignments and attributes stand after the old ones, so that each index names what it named (this project)
+-- The new names extend the old: more texts, alignments and attributes follow the old ones, so each index names what it
+-- named before (this project).
 pub record Extends (new old : Names) : Type 0 where
   pub more_texts : List CowStr
   pub texts : new.texts ≡ old.texts ++ more_texts
@@ -43,31 +45,33 @@ pub record Extends (new old : Names) : Type 0 where
   pub more_headings : List Attributes
   pub headings : new.headings ≡ old.headings ++ more_headings
 
--- with one more text (this project)
+-- the names with one more text (this project)
 abbrev pub with_named : Names → CowStr → Names
 with_named names cow = record { texts = names.texts ++ cow ∷ []; alignments = names.alignments; headings = names.headings }
 
--- with the alignments of one more table (this project)
+-- the names with the alignments of one more table (this project)
 abbrev pub with_alignments : Names → List Alignment → Names
 with_alignments names alignments = record { texts = names.texts; alignments = names.alignments ++ alignments ∷ []; headings = names.headings }
 
--- with the attributes of one more heading (this project)
+-- the names with the attributes of one more heading (this project)
 abbrev pub with_heading : Names → Attributes → Names
 with_heading names attributes = record { texts = names.texts; alignments = names.alignments; headings = names.headings ++ attributes ∷ [] }
 
--- an index that an item has: of a text, of the alignments of a table's columns, or of a heading's attributes (this project)
+-- an index in an item: of a text, of the column alignments of a table, or of the attributes of a heading (this
+-- project)
 pub data Index : Type 0 where
   TextAt : CowIndex → Index
   AlignmentsAt : AlignmentIndex → Index
   AttributesAt : HeadingIndex → Index
 
--- what an index names: a text, the alignments of a table's columns, or a heading's attributes (this project)
+-- the value that an index names: a text, the column alignments of a table, or the attributes of a heading (this
+-- project)
 pub data Named : Type 0 where
   AText : List ℕ → Named
   Alignments : List Alignment → Named
   OfHeading : Attributes → Named
 
--- the index that an item has, if it has one (this project)
+-- the index in the body of an item, if it has one (this project)
 abbrev pub index_of : ItemBody → Option Index
 index_of (SynthesizeText ix) = Some (TextAt ix)
 index_of (FencedCodeBlock ix) = Some (TextAt ix)
@@ -76,7 +80,7 @@ index_of (Table ix) = Some (AlignmentsAt ix)
 index_of (Heading level ix) = option_map AttributesAt ix
 index_of _ = None
 
--- what an item is, whatever its index is (this project)
+-- the body of an item with any index in it replaced by 0 (this project)
 abbrev pub kind_alone : ItemBody → ItemBody
 kind_alone (SynthesizeText ix) = SynthesizeText (record { 0 = 0 })
 kind_alone (FencedCodeBlock ix) = FencedCodeBlock (record { 0 = 0 })
@@ -85,36 +89,37 @@ kind_alone (Table ix) = Table (record { 0 = 0 })
 kind_alone (Heading level ix) = Heading level (option_map (λ at. record { 0 = 0 }) ix)
 kind_alone body = body
 
--- what an index names, if it names something (this project)
+-- the value that an index names, if it names one (this project)
 abbrev pub named : Names → Index → Option Named
 named names (TextAt ix) = option_map (λ cow. AText (text_of cow)) (slice_get names.texts ix.0)
 named names (AlignmentsAt ix) = option_map Alignments (slice_get names.alignments ix.0)
 named names (AttributesAt ix) = option_map OfHeading (slice_get names.headings ix.0)
 
--- an item read through its index: its range and what it is, and what its index names, if it has one (this project)
+-- an item read through its index: its range, its body without the index, and the value that the index names, if it has
+-- one (this project)
 abbrev pub read : Names → Item → Item × Option Named
 read names x = (record { start = x.start; «end» = x.«end»; body = kind_alone x.body }, option_and_then (named names) (index_of x.body))
 
--- nodes read so, each with its depth (this project)
+-- nodes read through their indices, each with its depth (this project)
 abbrev pub read_nodes : Names → List (ℕ × Item) → List (ℕ × (Item × Option Named))
 read_nodes names nodes = map (λ n. (n.0, read names n.1)) nodes
 
--- the text that an index names, or nothing where it names none (this project)
+-- the text that an index names, or the empty text if it names none (this project)
 abbrev pub text_named : Names → CowIndex → List ℕ
 text_named names ix = unwrap_or (option_map text_of (slice_get names.texts ix.0)) []
 
--- the alignments that an index names, or nothing where it names none (this project)
+-- the alignments that an index names, or no alignments if it names none (this project)
 abbrev pub alignments_named : Names → AlignmentIndex → List Alignment
 alignments_named names ix = unwrap_or (slice_get names.alignments ix.0) []
 
--- an index, where there is one, names an entry (this project)
+-- an index, if there is one, names an entry (this project)
 abbrev pub NamesEntry : Names → Option Index → Type 0
 NamesEntry names None = Unit {0}
 NamesEntry names (Some (TextAt ix)) = ix.0 < length names.texts
 NamesEntry names (Some (AlignmentsAt ix)) = ix.0 < length names.alignments
 NamesEntry names (Some (AttributesAt ix)) = ix.0 < length names.headings
 
--- each index that nodes keep names an entry (this project)
+-- each index in these nodes names an entry (this project)
 unfoldable pub AreNamed : Names → List (ℕ × Item) → Type 0
 AreNamed names [] = Unit {0}
 AreNamed names (n ∷ nodes) = NamesEntry names (index_of n.1.body) × AreNamed names nodes

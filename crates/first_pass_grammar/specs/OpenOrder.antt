@@ -1,4 +1,4 @@
--- Order in a tree some of whose nodes are open (this project).
+-- Order in a tree with open nodes (this project).
 use Rattle.std.specs.Prelude.{◌≡◌, ℕ, suc, ◌≤◌, Bool, false, List, [], ◌∷◌, ◌++◌, length, slice_get, Option, Some, None, IsCharBoundary, if◌then◌else◌}
 use Rattle.std.specs.Option.{option_and_then}
 use Rattle.first_pass_items.specs.declared.item.Item.{Item}
@@ -7,33 +7,33 @@ use Rattle.first_pass_tree.specs.declared.tree_index.TreeIndex.{TreeIndex}
 use Rattle.first_pass_tree.specs.Forest.{Forest, body_at}
 use Rattle.first_pass_grammar.specs.Order.{Extent, extents, is_list_item, Siblings, laid, IsBetween, Within, Elsewhere, InItem, below, Fits}
 
--- The nodes in reading order of which some are open, each in the one around it after a row: these are listed from the innermost on, and below that is
--- another row.
+-- The nodes, in reading order, of a tree with open nodes. Each level has the siblings before an open node, and that
+-- node; the innermost level is first. `row` is what the innermost open node has below it so far.
 unfoldable pub laid_open : Extent → List (Siblings × Extent) → Siblings → List (ℕ × Extent)
 laid_open root [] row = (0, root) ∷ laid 1 row
 laid_open root (level ∷ levels) row = laid_open root levels level.0 ++ (suc (length levels), level.1) ∷ laid (suc (suc (length levels))) row
 
--- the open nodes stand at these places
+-- the open nodes are at these places
 abbrev pub AreAt : Extent → List (Siblings × Extent) → List TreeIndex → Type 0
 AreAt root [] [] = Unit {0}
 AreAt root [] (ix ∷ spine) = ⊥
 AreAt root (level ∷ levels) [] = ⊥
 AreAt root (level ∷ levels) (ix ∷ spine) = (ix.0 ≡ length (laid_open root levels level.0)) × AreAt root levels spine
 
--- where what is added to the innermost open node stands: in a list item, or elsewhere
+-- where the next child of the innermost open node is: directly in a list item, or elsewhere
 abbrev pub open_within : List (Siblings × Extent) → Within
 open_within [] = Elsewhere
 open_within (level ∷ levels) = if level.1.item then InItem else Elsewhere
 
--- in each open node what is below it lies after its start and in order, up to the next open one or to an offset; before an open node stands what is up to
--- its start
+-- In each open node, the nodes below it are in order after its start, up to the next open node or an offset. The nodes
+-- before an open node end at or before its start.
 unfoldable pub FitsOpen : List ℕ → ℕ → List (Siblings × Extent) → Siblings → Type 0
 FitsOpen text to [] row = Fits text Elsewhere 0 to row
 FitsOpen text to (level ∷ levels) row =
     (before : ℕ) × (before ≤ level.1.start) × Fits text (below (open_within levels) before level.1) level.1.start to row × IsCharBoundary text level.1.start
     × FitsOpen text before levels level.0
 
--- where what is added to a tree stands: in a list item, or elsewhere
+-- the next node of a tree is directly in a list item
 abbrev pub item_on_top : Option ItemBody → Bool
 item_on_top None = false
 item_on_top (Some body) = is_list_item body
@@ -44,7 +44,7 @@ is_in_item f = item_on_top (option_and_then (λ ix. body_at f.nodes ix.0) (slice
 abbrev pub within_top : Forest Item → Within
 within_top f = if is_in_item f then InItem else Elsewhere
 
--- The nodes of a tree are in order up to an offset, those that are open reaching further.
+-- The nodes of a tree are in order up to an offset; open nodes reach further.
 pub record IsOrderedTo (text : List ℕ) (f : Forest Item) (to : ℕ) : Type 0 where
   pub root : Extent
   pub levels : List (Siblings × Extent)

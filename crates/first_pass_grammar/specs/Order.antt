@@ -1,4 +1,4 @@
--- Order: which ranges lie in one another, and which after one another (this project).
+-- Order: which ranges are inside one another, and which follow one another (this project).
 use Rattle.std.specs.Prelude.{◌≡◌, ◌⊎◌, ℕ, suc, ◌+◌, ◌-◌, ◌*◌, ◌<◌, ◌≤◌, Bool, true, false, List, [], ◌∷◌, ◌++◌, length, map, IsCharBoundary}
 use Rattle.std.specs.Prelude.{if◌then◌else◌}
 use Rattle.first_pass_items.specs.declared.item.Item.{Item}
@@ -7,7 +7,8 @@ use Rattle.first_pass_items.specs.declared.item.ItemBody.TheVariants.{Paragraph,
 use Rattle.first_pass_items.specs.declared.item.ItemBody.TheVariants.{MaybeDefinitionListTitle}
 use Rattle.first_pass_grammar.specs.Counting.{own_nodes}
 
--- the range of a node, and whether it is a paragraph, a heading or a title, the marker of a task list item, a list item, or a definition list
+-- the range of a node, and whether it is a text block (a paragraph, heading or title), a task list item marker, a list
+-- item, or a definition list
 pub record Extent : Type 0 where
   pub start : ℕ
   pub «end» : ℕ
@@ -50,17 +51,17 @@ extent_of x = record {
 abbrev pub extents : List (ℕ × Item) → List (ℕ × Extent)
 extents nodes = map (λ n. (n.0, extent_of n.1)) nodes
 
--- nodes side by side: the first with those below it, and those after it
+-- sibling nodes: the first one, the nodes below it, and the siblings after it
 pub data Siblings : Type 0 where
   Empty : Siblings
   Node : Extent → Siblings → Siblings → Siblings
 
--- a row in reading order, each node with its depth, of which the row's own have this one
+-- siblings in reading order, each node with its depth, which is this one for the siblings themselves
 unfoldable pub laid : ℕ → Siblings → List (ℕ × Extent)
 laid depth Empty = []
 laid depth (Node x kids next) = (depth, x) ∷ (laid (suc depth) kids ++ laid depth next)
 
--- a range between two offsets, which begins and ends between two characters
+-- a range between two offsets that begins and ends at character boundaries
 pub record IsBetween (text : List ℕ) (from to : ℕ) (x : Extent) : Type 0 where
   pub behind : from ≤ x.start
   pub order : x.start ≤ x.«end»
@@ -68,54 +69,58 @@ pub record IsBetween (text : List ℕ) (from to : ℕ) (x : Extent) : Type 0 whe
   pub starts : IsCharBoundary text x.start
   pub ends : IsCharBoundary text x.«end»
 
--- where a row stands: directly in a list item; directly in a paragraph or a heading of one, or in the first title of a definition list directly in one,
--- before whose start the marker of a task may stand, from an offset on; directly in such a list; or elsewhere (GFM 5.3, and this project)
+-- Where siblings are (GFM 5.3, and this project).
+-- Elsewhere.
+-- Directly in a list item.
+-- Directly in a text block of an item, or in the first title of a definition list directly in an item: the offset from
+-- which on a task list item marker may start before that block.
+-- Directly in such a definition list: the same offset.
 pub data Within : Type 0 where
   Elsewhere : Within
   InItem : Within
   InText : ℕ → Within
   InFirst : ℕ → Within
 
--- what is directly in a node that stands so, after an offset
+-- where the children of a node are, given where the node is and the offset after which it starts
 abbrev pub below : Within → ℕ → Extent → Within
 below Elsewhere from x = if x.item then InItem else Elsewhere
 below InItem from x = if x.item then InItem else (if x.text_block then InText from else (if x.definitions then InFirst from else Elsewhere))
 below (InText before) from x = if x.item then InItem else Elsewhere
 below (InFirst before) from x = if x.item then InItem else (if x.text_block then InText before else Elsewhere)
 
--- what stands in the same node after another
+-- where the next sibling of a node is
 abbrev pub beyond : Within → Within
 beyond Elsewhere = Elsewhere
 beyond InItem = InItem
 beyond (InText before) = Elsewhere
 beyond (InFirst before) = Elsewhere
 
--- the marker of a task, first in its paragraph or heading
+-- the task list item marker that is first in its paragraph or heading
 abbrev pub IsLead : List ℕ → Within → ℕ → Extent → Type 0
 IsLead text Elsewhere from x = ⊥
 IsLead text InItem from x = ⊥
 IsLead text (InFirst before) from x = ⊥
 IsLead text (InText before) from x = (x.marker ≡ true) × IsBetween text before from x
 
--- The nodes of a row, which stands so, lie between two offsets, one after the other, and what is below each lies within it. Only the marker of a task that
--- is first in a paragraph or a heading may stand before its start, within the list item around it, where the paragraph itself might (GFM 5.3, and this
--- project).
+-- The siblings lie between two offsets in order, and the nodes below each sibling lie within it. Only a task list item
+-- marker that is first in a paragraph or heading may start before the start of that block: in the list item around it,
+-- where the block itself might start (GFM 5.3, and this project).
 unfoldable pub Fits : List ℕ → Within → ℕ → ℕ → Siblings → Type 0
 Fits text within from to Empty = from ≤ to
 Fits text within from to (Node x kids next) =
     (IsBetween text from to x × Fits text (below within from x) x.start x.«end» kids × Fits text (beyond within) x.«end» to next)
     ⊎ (IsLead text within from x × Fits text Elsewhere x.start x.«end» kids × Fits text Elsewhere from to next)
 
--- The items of a block, which stands so, each with its depth below it, lie between two offsets in order. Where these are apart, there are at most four
--- items of the block's own for each byte between them.
+-- The items of a block, with depths relative to it, lie between two offsets in order. If the offsets differ, the block
+-- has at most four items of its own for each byte between them.
 abbrev pub FitsBetween : List ℕ → Within → ℕ → ℕ → List (ℕ × Item) → Type 0
 FitsBetween text within from to items =
     (row : Siblings) × (extents items ≡ laid 0 row) × Fits text within from to row × (from < to → own_nodes items ≤ 4 * (to - from))
 
--- Nodes became others, at most four more of their own for each byte between two offsets.
+-- The new nodes have at most four more of their own than the old ones for each byte between two offsets.
 abbrev pub GrowsBy : ℕ → ℕ → List (ℕ × Item) → List (ℕ × Item) → Type 0
 GrowsBy from to old new = own_nodes new ≤ own_nodes old + 4 * (to - from)
 
--- The nodes of a finished tree, the root among them, lie in order between 0 and the text's length.
+-- The nodes of a finished tree, including the root, lie in order between 0 and the length of the text.
 abbrev pub IsOrdered : List ℕ → List (ℕ × Item) → Type 0
 IsOrdered text nodes = (row : Siblings) × (extents nodes ≡ laid 0 row) × Fits text Elsewhere 0 (length text) row

@@ -1,4 +1,4 @@
--- Rows: what stands side by side in a container once items that follow each other are lists (CommonMark 5.2, 5.3).
+-- Rows: what is side by side in a container after consecutive items become lists (CommonMark 5.2, 5.3).
 use Rattle.std.specs.Prelude.{ℕ, ◌==◌, ◌&&◌, ◌||◌, not, Bool, true, false, Option, Some, None, if◌then◌else◌}
 use Rattle.std.specs.Option.{option_map, option_map_or}
 use Rattle.first_pass_items.specs.declared.item.CowIndex.{CowIndex}
@@ -9,15 +9,18 @@ use Rattle.first_pass_grammar.specs.Blocks.{Skeleton, Nil, Then, Node}
 use Rattle.first_pass_grammar.specs.Before.{Before, nothing, is_after_definition, begins_paragraph, is_run, after_blank, after_block, after_container, before_end}
 use Rattle.first_pass_grammar.specs.Containers.{is_quote}
 
--- A definition list that is read without its title so far; with it; or with it, where link definitions stand between the title and the first definition:
--- such a list begins anew, whatever is before its title (this project).
+-- A definition list so far: without a title; with one; or with one that link reference definitions separate from the
+-- first definition. The last one begins a new list, whatever precedes its title (this project).
 pub data Titled : Type 0 where
   Untitled : Titled
   WithTitle : Titled
   Apart : Titled
 
--- what a row is: a leaf block; a block quote of a kind or none, a list with its byte and number, an item of one with its indent, or a footnote definition
--- with the index of its label, each with its end; or a definition list with its end, a title in it, or a definition in it, with its indent and its end
+-- What a row is.
+-- A leaf block.
+-- A block quote with its kind, a list with its byte and number, an item with its indent, or a footnote definition with
+-- the index of its label; each with its end.
+-- A definition list with its end; a title in one; or a definition in one, with its indent and its end (this project).
 pub data What : Type 0 where
   ALeaf : LeafBlock → What
   AQuote : Option BlockQuoteKind → ℕ → What
@@ -28,8 +31,8 @@ pub data What : Type 0 where
   ATitle : LeafBlock → What
   ADefinition : ℕ → ℕ → What
 
--- A row: what it is, where its line starts and where it starts itself, and whether it has a gap before it: the run of blank lines directly before it
--- holds one that counts (CommonMark 5.3).
+-- A row: what it is, the start of its line, its own start, and whether it has a gap before it: the blank lines
+-- directly before it include a counting one (CommonMark 5.3).
 pub record Row : Type 0 where
   pub what : What
   pub line : ℕ
@@ -41,18 +44,18 @@ pub data Rows : Type 0 where
   End : Rows
   OneOf : Row → Rows → Rows → Rows
 
--- the same rows, the first of them with a gap before it or without one
+-- the same rows, the first one with or without a gap before it
 abbrev pub gapped : Bool → Rows → Rows
 gapped gap End = End
 gapped gap (OneOf row inner next) = OneOf (record row { gap = gap }) inner next
 
--- one of them has a gap before it
+-- one of these rows has a gap before it
 unfoldable pub any_gap : Rows → Bool
 any_gap End = false
 any_gap (OneOf row inner next) = row.gap || any_gap next
 
--- A list with these items is loose: an item after its first has a gap before it, or a block directly in an item has (CommonMark 5.3). What stands before
--- the first item stands before the list.
+-- A list with these items is loose if an item after its first has a gap before it, or a block directly in an item does
+-- (CommonMark 5.3). A gap before the first item is a gap before the list.
 unfoldable pub is_loose : Rows → Bool
 is_loose End = false
 is_loose (OneOf item blocks next) = item.gap || (any_gap blocks || is_loose next)
@@ -61,8 +64,9 @@ abbrev pub is_paragraph : Kind → Bool
 is_paragraph Paragraph = true
 is_paragraph _ = false
 
--- Where a list ends that stands before what starts at an offset, in a line that starts at another: at the first byte of a text, or at the start of an
--- item of another list, of a footnote definition or of a definition list, else at the start of the line (this project).
+-- The end of a list before a row, which starts at one offset in a line that starts at another: the start of the row if
+-- it is a text, an item of another list, a footnote definition or a definition list, otherwise the start of the line
+-- (this project).
 abbrev pub closing_place : What → ℕ → ℕ → ℕ
 closing_place (ALeaf block) line start = if is_paragraph block.kind then start else line
 closing_place (AQuote kind e) line start = line
@@ -73,7 +77,8 @@ closing_place (ADefinitionList t e) line start = start
 closing_place (ATitle block) line start = start
 closing_place (ADefinition columns e) line start = start
 
--- what a list continues with: items with a byte (CommonMark 5.3), or definitions, after one that ends at an offset (this project)
+-- what continues a list: items with a byte (CommonMark 5.3), or definitions, after one that ends at an offset (this
+-- project)
 pub data Joins : Type 0 where
   ItemsOf : ℕ → Joins
   DefinitionsTo : ℕ → Joins
@@ -83,7 +88,7 @@ is_apart Untitled = false
 is_apart WithTitle = false
 is_apart Apart = true
 
--- a list that continues with these; a definition list whose title stands apart continues none
+-- a row is a list that continues the one before it; a definition list with a separated title continues none
 abbrev pub is_list_of : Joins → What → Bool
 is_list_of (ItemsOf byte) (ALeaf block) = false
 is_list_of (ItemsOf byte) (AQuote kind e) = false
@@ -102,8 +107,8 @@ is_list_of (DefinitionsTo until) (ADefinitionList t e) = not (is_apart t)
 is_list_of (DefinitionsTo until) (ATitle block) = false
 is_list_of (DefinitionsTo until) (ADefinition columns e) = false
 
--- What might have been the next title of a definition list before it, since it was read as a paragraph: that list ends with its last definition (this
--- project).
+-- A row that was read as a paragraph might have been the next title of the definition list before it; that list ends
+-- with its last definition (this project).
 abbrev pub was_possible_title : What → Bool
 was_possible_title (ALeaf block) = is_paragraph block.kind
 was_possible_title (AQuote kind e) = false
@@ -114,12 +119,12 @@ was_possible_title (ADefinitionList t e) = true
 was_possible_title (ATitle block) = false
 was_possible_title (ADefinition columns e) = false
 
--- where a list ends before a row that is not its own (this project)
+-- the end of a list before a row that is not its own (this project)
 abbrev pub ends_at : Joins → Row → ℕ
 ends_at (ItemsOf byte) row = closing_place row.what row.line row.start
 ends_at (DefinitionsTo until) row = if was_possible_title row.what then until else closing_place row.what row.line row.start
 
--- where what has rows in it ends
+-- the end of a row that has rows in it
 abbrev pub end_of : What → ℕ → ℕ
 end_of (ALeaf block) last = last
 end_of (AQuote kind e) last = e
@@ -130,7 +135,8 @@ end_of (ADefinitionList t e) last = e
 end_of (ATitle block) last = last
 end_of (ADefinition columns e) last = e
 
--- After a list that continues with these: where it ends, in a container that ends at an offset; what else is in it; and the rows after it.
+-- For a list that these continue: its end, in a container that ends at an offset; its further items; and the rows
+-- after it.
 abbrev pub list_until : Joins → ℕ → Rows → ℕ
 list_until joins last End = last
 list_until joins last (OneOf row inner next) = if is_list_of joins row.what then end_of row.what last else ends_at joins row
@@ -143,26 +149,27 @@ abbrev pub list_behind : Joins → Rows → Rows
 list_behind joins End = End
 list_behind joins (OneOf row inner next) = if is_list_of joins row.what then next else OneOf row inner next
 
--- A container, with these blocks, before rows: the first of its list, which is the first of these rows if that continues with what this does, or else has
--- no other. What stands before the first stands before the list (CommonMark 5.3).
+-- A container with these blocks, before rows: the first item of its list. The other items are those of the first row
+-- if that is a list that continues this one; otherwise there are none. What precedes the first item precedes the list
+-- (CommonMark 5.3).
 abbrev pub in_list : ℕ → (ℕ → What) → Row → Rows → Rows → Joins → Rows
 in_list last listed row blocks next joins =
     OneOf (record { what = listed (list_until joins last next); line = row.line; start = row.start; gap = row.gap })
     (OneOf (record row { gap = false }) blocks (items_behind joins next)) (list_behind joins next)
 
--- a container that ends at an offset
+-- what a container that ends at an offset is as a row
 abbrev pub what_of : Opener → ℕ → What
 what_of (QuoteMarker kind) e = AQuote kind e
 what_of (ItemMarker byte number columns) e = AnItem columns e
 what_of (FootnoteMarker columns index label) e = AFootnote index e
 what_of (DefinitionMarker columns) e = ADefinition columns e
 
--- the row of a container that ends at an offset, with a gap before it or without one
+-- the row of a container that ends at an offset, with or without a gap before it
 abbrev pub row_of : Head → ℕ → Bool → Row
 row_of head e gap = record { what = what_of head.opener e; line = head.line; start = head.start; gap = gap }
 
--- A container, which this opens, before rows. A definition begins a definition list without a title, as an item begins a list; a title takes that in (this
--- project).
+-- A container with this opener, before rows. A definition begins a definition list without a title, as an item begins
+-- a list; a title may take that list in (this project).
 abbrev pub container_row : ℕ → Opener → Row → Rows → Rows → Rows
 container_row last (QuoteMarker kind) row inner next = OneOf row inner next
 container_row last (ItemMarker byte number columns) row inner next = in_list last (AList byte number) row inner next (ItemsOf byte)
@@ -170,27 +177,27 @@ container_row last (FootnoteMarker columns index label) row inner next = OneOf r
 container_row last (DefinitionMarker columns) row inner next =
     in_list last (ADefinitionList Untitled) row inner next (DefinitionsTo (end_of row.what last))
 
--- the row of a leaf block, with a gap before it or without one
+-- the row of a leaf block, with or without a gap before it
 abbrev pub row_of_leaf : LeafBlock → Bool → Row
 row_of_leaf block gap = record { what = ALeaf block; line = block.line; start = block.start; gap = gap }
 
--- the definitions without a title that are first of rows, link definitions aside: the end of their list, they themselves, the rows beside them, and whether
--- link definitions stand before them (this project)
+-- the definitions without a title at the start of rows, perhaps after link reference definitions: the end of their
+-- list, the definitions, the rows beside them, and whether link reference definitions precede them (this project)
 pub record Definitions : Type 0 where
   pub «end» : ℕ
   pub items : Rows
   pub beside : Rows
   pub apart : Bool
 
--- the definitions that a row begins, which is a definition list without a title
+-- the definitions in a row that is a definition list without a title
 abbrev pub definitions_of_row : Row → Rows → Rows → Option Definitions
 definitions_of_row row inner next = Some (record { «end» = end_of row.what 0; items = gapped row.gap inner; beside = next; apart = false })
 
--- the same where link definitions stand before them, which are beside them then
+-- the same after link reference definitions, which are then beside them
 abbrev pub apart_after : Row → Rows → Definitions → Definitions
 apart_after row inner ds = record { «end» = ds.«end»; items = ds.items; beside = OneOf row inner ds.beside; apart = true }
 
--- a row is a definition list without a title, or link definitions alone
+-- a row is a definition list without a title; the next definition: it is only link reference definitions
 abbrev pub is_untitled : What → Bool
 is_untitled (ADefinitionList Untitled e) = true
 is_untitled _ = false
@@ -207,24 +214,24 @@ unfoldable pub definitions_first : Rows → Option Definitions
 definitions_first End = None
 definitions_first (OneOf row inner next) = definitions_at row inner next (definitions_first next)
 
--- a paragraph that is the title of definitions, in the list of both
+-- the definition list of these definitions, with a paragraph as its title
 abbrev pub titled : LeafBlock → Bool → Definitions → Rows
 titled block gap ds =
     OneOf (record { what = ADefinitionList (if ds.apart then Apart else WithTitle) ds.«end»; line = block.line; start = block.start; gap = gap })
     (OneOf (record { what = ATitle block; line = block.line; start = block.start; gap = false }) End ds.items) ds.beside
 
--- Before rows a paragraph is the title of the definitions that are first of them; the link definitions between stand after the list then. Any other leaf is
--- a row itself (this project).
+-- A paragraph before rows is the title of the definitions at their start; link reference definitions between them then
+-- follow the list. Any other leaf is a row itself (this project).
 abbrev pub leaf_row : LeafBlock → Bool → Rows → Rows
 leaf_row block gap next =
     option_map_or (titled block gap) (if begins_paragraph block.items then definitions_first next else None) (OneOf (row_of_leaf block gap) End next)
 
--- A block has a gap before it where a blank line that counts is directly before it (CommonMark 5.3); a paragraph directly after a definition has none (this
--- project).
+-- A block has a gap before it if a counting blank line is directly before it (CommonMark 5.3); a paragraph directly
+-- after a definition has none (this project).
 abbrev pub gap_before : Before → LeafBlock → Bool
 gap_before before block = before.counted && not (begins_paragraph block.items && is_after_definition before.last)
 
--- The rows of blocks, which stand in a block quote or not, after this, in a container that ends at an offset.
+-- The rows of blocks, in a block quote or not, given what precedes them, in a container that ends at an offset.
 unfoldable pub rows_of : Bool → Before → ℕ → Skeleton → Rows
 rows_of quoted before last Nil = End
 rows_of quoted before last (Then BlankLine next) = rows_of quoted (after_blank quoted before) last next

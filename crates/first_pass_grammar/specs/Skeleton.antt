@@ -30,17 +30,23 @@ use Rattle.first_pass_grammar.specs.Leaves.{Document, around, IsHeading, heading
 use Rattle.first_pass_grammar.specs.Tables.{Taken}
 use Rattle.first_pass_grammar.specs.Texts.{IsText}
 
--- What may begin at a place inside a line: any block; a leaf block alone, after a block quote's tag; the text of a task, after its marker; or such a
--- marker alone, with nothing after it on its line, in an item that takes blank lines alone, with the offset after that line, or in one that doesn't
--- (GFM 5.3, and this project).
+-- What may begin at a place inside a line.
+-- Any block.
+-- Only a leaf block, after a block quote's tag (this project).
+-- The text of a task, after its task list item marker (GFM 5.3).
+-- Only that marker, with nothing after it on its line; in an item that takes only blank lines, with the offset after
+-- that line (GFM 5.3, and this project).
 pub data May : Type 0 where
   Anything : May
   ALeafAlone : May
   TextOf : Item → May
   MarkAlone : Item → Option ℕ → May
 
--- Where blocks continue: at the next line; in an item that takes blank lines alone, at the next line as long as it is blank, with the offset after the line
--- of the item's marker; or at a place inside a line, with what may begin there.
+-- Where blocks continue.
+-- At the next line.
+-- At the next line if it is blank, in an item that takes only blank lines: the offset after the line of the item's
+-- marker.
+-- At a place inside a line: the place, and what may begin there.
 pub data From : Type 0 where
   Line : From
   Blanks : ℕ → From
@@ -49,27 +55,30 @@ pub data From : Type 0 where
 abbrev pub Inside : Place → From
 Inside p = At p Anything
 
--- at the line after an item's marker, in an item that takes blank lines alone or doesn't
+-- at the line after an item's marker; with an offset, in an item that takes only blank lines
 abbrev pub behind_marker : Option ℕ → From
 behind_marker None = Line
 behind_marker (Some e) = Blanks e
 
--- What begins at a place: a leaf, with where the blocks after it continue and the lines that it leaves; or a container, with where the blocks in
--- it continue and the lines after.
+-- What begins at a place.
+-- A leaf: where the blocks after it continue, and the lines after that.
+-- A container: its head, where the blocks in it continue, and the lines after that.
 pub data Opening : Type 0 where
   OpensLeaf : Leaf → From → List Place → Opening
   OpensNode : Head → From → List Place → Opening
 
--- What stands for the text that begins at a place, after a task list item marker or not: a paragraph, or a table (CommonMark 4.8, GFM 4.10, 5.3).
+-- The text that begins at a place, with or without a task list item marker before it: a paragraph, a setext heading or
+-- a table (CommonMark 4.8, 4.3, GFM 4.10, 5.3).
 unfoldable pub OpensText : Document → List Container → Place → List Place → Option Item → Opening → Type 0
 OpensText d path p lines marker opening =
     (t : Taken) × IsText d path (unindented p) marker lines t × (opening ≡ OpensLeaf (leaf_block Paragraph p t.items false) Line t.left)
 
--- what a leaf block of a kind with these lines opens, of which this holds for its items
+-- the leaf block of a kind with these raw lines and with items that satisfy `Are`
 abbrev pub OpensExtent : Kind → Place → Extent → (List (ℕ × Item) → Type 0) → Opening → Type 0
 OpensExtent kind p e Are opening = (items : List (ℕ × Item)) × Are items × (opening ≡ OpensLeaf (leaf_block kind p items false) Line e.left)
 
--- What link reference definitions open: a block with no items; or what stands for the text that flows on after them (CommonMark 4.7, 4.8, GFM 4.10).
+-- Link reference definitions are a block with no items, or they are followed by a text, which is the block (CommonMark
+-- 4.7, 4.8, GFM 4.10).
 abbrev pub OpensBeyond : Document → List Container → List LinkEntry → Beyond → Opening → Type 0
 OpensBeyond d path definitions (Ended p left) opening = opening ≡ OpensLeaf (Block (run_block p definitions)) Line left
 OpensBeyond d path definitions (FlowsOn p lines) opening =
@@ -80,8 +89,8 @@ OpensRun d path p lines opening =
     (definitions : List LinkEntry) × (beyond : Beyond) × IsRun (around d path) (unindented p) lines definitions beyond
     × OpensBeyond d path definitions beyond opening
 
--- What a kind opens at a place that has these lines after it, inside the containers of the path. The blank lines at the end of indented code count
--- (CommonMark 4.4, and this project).
+-- What a kind opens at a place, given the lines after it and the path of containers around it. The blank lines at the
+-- end of indented code count (CommonMark 4.4, and this project).
 unfoldable pub OpensAs : Document → List Container → Place → List Place → Kind → Opening → Type 0
 OpensAs d path p lines Blank opening = opening ≡ OpensLeaf BlankLine Line lines
 OpensAs d path p lines IndentedCode opening =
@@ -110,11 +119,11 @@ OpensAs d path p lines (FencedCode count byte) opening =
 OpensAs d path p lines LinkDefinitions opening = OpensRun d path p lines opening
 OpensAs d path p lines Paragraph opening = OpensText d path p lines None opening
 
--- What a leaf opens at a place: what its kind says there.
+-- the leaf that begins at a place, by the kind of the place
 abbrev pub OpensBlockAt : Document → List Container → Place → List Place → Opening → Type 0
 OpensBlockAt d path p lines opening = (kind : Kind) × IsKind d.options p.rest kind × OpensAs d path p lines (kind_in (around d path) p kind) opening
 
--- the next line continues the path, and is blank after what the path takes of it
+-- the next line continues the path, and is blank after the prefixes of the path
 abbrev pub is_blank_behind : Option Rest → Bool
 is_blank_behind None = false
 is_blank_behind (Some r) = is_blank_rest r
@@ -123,34 +132,35 @@ abbrev pub next_is_blank : List Container → List Place → Bool
 next_is_blank path [] = false
 next_is_blank path (line ∷ lines) = is_blank_behind (after path line.rest)
 
--- where blocks continue where nothing is left of a container's line after its marker, but perhaps that of a task: at the next line, or, with an offset, in an
--- item that takes blank lines alone
+-- where blocks continue if a container's marker is the last of its line, except perhaps for a task list item marker:
+-- at the next line; with an offset, in an item that takes only blank lines
 abbrev pub task_alone : Option Item → Place → Option ℕ → From
 task_alone None p blanks = behind_marker blanks
 task_alone (Some marker) p blanks = At p (MarkAlone marker blanks)
 
--- what opens a container that takes blank lines alone: the indent of an item or a definition is 0
+-- the opener of a container that takes only blank lines: the indent of an item or a definition is 0
 abbrev pub without_indent : Opener → Opener
 without_indent (QuoteMarker kind) = QuoteMarker kind
 without_indent (ItemMarker byte number columns) = ItemMarker byte number 0
 without_indent (FootnoteMarker columns index label) = FootnoteMarker columns index label
 without_indent (DefinitionMarker columns) = DefinitionMarker 0
 
--- An item or a definition may begin with one blank line, that of its marker; where the next is blank too, it takes blank lines alone (CommonMark 5.2, and
--- this project).
+-- An item or a definition may begin with one blank line, that of its marker. If the next line is blank too, the
+-- container takes only blank lines (CommonMark 5.2, and this project).
 abbrev pub empty_opening : Document → List Container → Head → Place → List Place → Option Item → Opening
 empty_opening d path head inside lines marker =
     if next_is_blank (opened head.opener ∷ path) lines
     then OpensNode (record head { opener = without_indent head.opener }) (task_alone marker inside (Some (start_of (length d.text) lines))) lines
     else OpensNode head (task_alone marker inside None) lines
 
--- Where blocks continue after the line of a block quote's tag, of which this is the path, and the lines then: the next line is read as any other, or
--- belongs to the quote, and a leaf begins after its columns (this project).
+-- Where blocks continue in a block quote after the line of its tag, and the lines after that; `c.path` begins with the
+-- quote. The next line is read like any other, or it belongs to the quote and a leaf begins after its indentation
+-- (this project).
 abbrev pub behind_tag : Context → List Place → From × List Place
 behind_tag c [] = (Line, [])
 behind_tag c (line ∷ lines) = if ends_tag c line.rest then (Line, line ∷ lines) else (At (unindented (at_rest line (front c.path line.rest))) ALeafAlone, lines)
 
--- what a container opens inside which a place is, by what stands after its marker
+-- the container with this head, by what follows its marker; `inside` is the place after the marker
 abbrev pub opening_by : Document → List Container → Head → Place → List Place → AfterMarker → Opening
 opening_by d path head inside lines OnLine = OpensNode head (Inside inside) lines
 opening_by d path head inside lines (TaskText marker) = OpensNode head (At inside (TextOf marker)) lines
@@ -158,30 +168,32 @@ opening_by d path head inside lines (LineEnds marker) = empty_opening d path hea
 opening_by d path head inside lines TagAlone =
     let from : From × List Place = behind_tag (around d (opened head.opener ∷ path)) lines in OpensNode head from.0 from.1
 
--- what the container opens that begins at a place
+-- the container that begins at a place
 abbrev pub opening_of : Document → List Container → Place → List Place → Start → Opening
 opening_of d path p lines s = opening_by d path s.head (at_rest p s.rest) lines s.after
 
--- What a footnote definition opens whose head at a place has so many bytes: it starts at its `[`. Its label may take further lines (this project).
+-- The footnote definition whose head, at a place, has this length. It starts at its `[`; its label may continue on
+-- further lines (this project).
 abbrev pub footnote_opening : Document → Place → List Place → ℕ → Opener → Opening
 footnote_opening d p lines size opener =
     let q : Place = place_behind size (unindented p) in
     let there : Place × List Place = behind_head (gfm_footnotes d.options) q (lines_beyond (offset q) lines) in
     OpensNode (record { opener = opener; line = p.line; start = offset (unindented p) }) (Inside there.0) there.1
 
--- A footnote definition opens whose head has so many bytes and this label, which its index names, borrowed from the text if it is written so there (this
--- project).
+-- The footnote definition whose head has this length and this label, which its index names. The label is borrowed from
+-- the text if it is written the same there (this project).
 unfoldable pub OpensFootnote : Document → Place → List Place → ℕ × List ℕ → Opening → Type 0
 OpensFootnote d p lines (size, label) opening =
     (index : CowIndex) × NamesLabel d.names index (label_bytes size (unindented p).rest.left) label
     × (opening ≡ footnote_opening d p lines size (FootnoteMarker (footnote_columns d.options) index label))
 
--- What begins at a place where no footnote definition does: a container where one does, else what the kind of the place says.
+-- What begins at a place where no footnote definition does: a container if there is one, otherwise the leaf of the
+-- place's kind.
 unfoldable pub OpensBy : Document → List Container → Place → List Place → Option Start → Opening → Type 0
 OpensBy d path p lines (Some s) opening = opening ≡ opening_of d path p lines s
 OpensBy d path p lines None opening = OpensBlockAt d path p lines opening
 
--- the containers around a place, the innermost first, and what stands before it in the innermost (this project)
+-- the containers around a place, innermost first, and what precedes the place in the innermost one (this project)
 pub record Level : Type 0 where
   pub path : List Container
   pub before : Before
@@ -189,11 +201,11 @@ pub record Level : Type 0 where
 abbrev pub level : List Container → Before → Level
 level path before = record { path = path; before = before }
 
--- inside a container that begins at a level (this project)
+-- the level inside a container that begins at a level (this project)
 abbrev pub level_in : Container → Level → Level
 level_in c l = level (c ∷ l.path) nothing
 
--- after a leaf, and after a container with these blocks in it (this project)
+-- the level after a leaf; the next definition is for a container with these blocks (this project)
 abbrev pub level_after_leaf : Level → Leaf → Level
 level_after_leaf l leaf = level l.path (after_leaf (in_quote l.path) l.before leaf)
 
@@ -204,14 +216,14 @@ level_after l head kids = level l.path (after_container (opened head.opener) (be
 abbrev pub may_define : Document → Level → Bool
 may_define d l = has d.options definition_list && takes_definition l.before.last
 
--- What begins at a place: a footnote definition where one does (this project), else another container or a leaf.
+-- What begins at a place: a footnote definition if there is one (this project), otherwise another container or a leaf.
 abbrev pub Opens : Document → Level → Place → List Place → Opening → Type 0
 Opens d l p lines opening =
     MatchOption (footnote_head_at (around d l.path) p) (OpensBy d l.path p lines (start_at d.options (may_define d l) p) opening)
     (λ head. OpensFootnote d p lines head opening)
 
--- What begins where blocks continue: where no container may, what the kind of the place says; after a task list item marker a text; or the marker
--- alone, in the place of a text.
+-- What begins where blocks continue: any block; only a leaf, by the kind of the place; the text after a task list item
+-- marker; or only the marker, in place of a text.
 abbrev pub OpensIf : Document → Level → May → Place → List Place → Opening → Type 0
 OpensIf d l Anything p lines opening = Opens d l p lines opening
 OpensIf d l ALeafAlone p lines opening = OpensBlockAt d l.path p lines opening
@@ -223,39 +235,43 @@ OpensAt d l Line p lines opening = Opens d l p lines opening
 OpensAt d l (Blanks e) p lines opening = Opens d l p lines opening
 OpensAt d l (At q may) p lines opening = OpensIf d l may p lines opening
 
--- What a sequence of blocks leaves: these lines; or, where another footnote definition ends it, what is after a place in a line, and the lines after that
--- (this project).
+-- What a sequence of blocks leaves: the lines after it; or, if another footnote definition ends it, the place of that
+-- one in its line, and the lines after that (this project).
 pub data Left : Type 0 where
   Lines : List Place → Left
   InLine : Place → List Place → Left
 
--- Where the next block of a sequence begins, and the lines after that place; or that the sequence ends, and what it leaves (this project).
+-- The next block of a sequence begins at a place, with the lines after it; or the sequence ends, with what it leaves
+-- (this project).
 pub data Going : Type 0 where
   Begins : Place → List Place → Going
   Ends : Left → Going
 
--- A footnote definition in the old form ends at the first line after a blank line that counts where it is innermost: where no list is open in it
--- (this project).
+-- A footnote definition in the old form ends at the first line after a counting blank line if no list is open in it,
+-- so that it is innermost (this project).
 abbrev pub ends_old_footnote : Level → Bool
 ends_old_footnote l = in_old_footnote l.path && (l.before.counted && not (list_is_open l.before.last))
 
--- at a place in a line, after what the path takes of it: a footnote definition ends there, or a block begins (this project)
+-- at a place in a line, after the prefixes of the path: a footnote definition ends there, or a block begins (this
+-- project)
 abbrev pub going_at : Context → Place → List Place → Going
 going_at around p lines = if ends_footnote around p then Ends (InLine p lines) else Begins p lines
 
--- the same where the next of these lines continues the path, and this is the place after what that takes; or where it doesn't (CommonMark 5)
+-- the same at the next line: the place after the prefixes of the path, or `None` if the line does not continue the
+-- path (CommonMark 5)
 abbrev pub going_in : Options → Level → Option Place → List Place → Going
 going_in options l None lines = Ends (Lines lines)
 going_in options l (Some q) lines = if ends_old_footnote l then Ends (Lines lines) else going_at (context options l.path) q (drop 1 lines)
 
--- the same in an item that takes blank lines alone (CommonMark 5.2)
+-- the same in an item that takes only blank lines (CommonMark 5.2)
 abbrev pub going_blank : Option Place → List Place → Going
 going_blank None lines = Ends (Lines lines)
 going_blank (Some q) lines = if is_blank_rest q.rest then Begins q (drop 1 lines) else Ends (Lines lines)
 
--- Whether a sequence of blocks continues, and where: at a place inside a line, or after what the path takes of the next line. It ends where the next line
--- doesn't continue its path, or with the text; in an item that takes blank lines alone also where the next line isn't blank; in a footnote definition also
--- where that ends (CommonMark 5, and this project).
+-- Whether a sequence of blocks continues, and where: at a place inside a line, or at the next line after the prefixes
+-- of the path. It ends with the text, or before a line that does not continue its path. In an item that takes only
+-- blank lines it also ends before a line that is not blank; in a footnote definition it also ends where that
+-- definition does (CommonMark 5, and this project).
 unfoldable pub going : Options → Level → From → List Place → Going
 going options l (At p Anything) lines = going_at (context options l.path) p lines
 going options l (At p ALeafAlone) lines = Begins p lines
@@ -266,12 +282,12 @@ going options l Line (line ∷ lines) = going_in options l (taken l.path line) (
 going options l (Blanks e) [] = Ends (Lines [])
 going options l (Blanks e) (line ∷ lines) = going_blank (taken l.path line) (line ∷ lines)
 
--- where blocks continue around a container that leaves this, and the lines then (this project)
+-- where blocks continue around a container that leaves this, and the lines after that (this project)
 abbrev pub onward : Left → From × List Place
 onward (Lines lines) = (Line, lines)
 onward (InLine p lines) = (Inside p, lines)
 
--- where blocks continue after the first of a sequence
+-- where blocks continue after the first block of a sequence
 abbrev pub behind_first : From → From → From
 behind_first (Blanks e) there = Blanks e
 behind_first Line there = there
@@ -280,7 +296,7 @@ behind_first (At p ALeafAlone) there = there
 behind_first (At p (TextOf marker)) there = there
 behind_first (At p (MarkAlone marker blanks)) there = behind_marker blanks
 
--- the offset after the line of an item's marker, where the item takes blank lines alone
+-- the offset after the line of an item's marker, if the item takes only blank lines
 abbrev pub blanks_alone : From → Option ℕ
 blanks_alone Line = None
 blanks_alone (Blanks e) = Some e
@@ -289,13 +305,14 @@ blanks_alone (At p ALeafAlone) = None
 blanks_alone (At p (TextOf marker)) = None
 blanks_alone (At p (MarkAlone marker blanks)) = blanks
 
--- Where a container ends before these lines, with a path around it: at the start of the next line; an item that takes blank lines alone ends after the
--- line of its marker, where the next line continues that path (this project).
+-- The end of a container before these lines, given the path around it: the start of the next line. An item that takes
+-- only blank lines ends after the line of its marker if the next line continues that path (this project).
 abbrev pub end_after : ℕ → List Container → Option ℕ → List Place → ℕ
 end_after n path None lines = start_of n lines
 end_after n path (Some e) lines = if next_goes_on path lines then e else start_of n lines
 
--- the same before what it leaves: a footnote definition that another ends, ends at the `[` of that one (this project)
+-- the same, given what the container leaves: a footnote definition that another one ends stops at the `[` of that one
+-- (this project)
 abbrev pub end_of_left : ℕ → List Container → Option ℕ → Left → ℕ
 end_of_left n path blanks (Lines lines) = end_after n path blanks lines
 end_of_left n path blanks (InLine p lines) = offset (unindented p)
@@ -303,14 +320,14 @@ end_of_left n path blanks (InLine p lines) = offset (unindented p)
 abbrev pub end_before : ℕ → List Container → From → Left → ℕ
 end_before n path from left = end_of_left n path (blanks_alone from) left
 
--- the first block of a sequence, and what it opens
+-- the first block of a sequence: its place, the lines after that, and what it opens
 pub record IsFirst (d : Document) (l : Level) (from : From) (lines : List Place) (opening : Opening) : Type 0 where
   pub place : Place
   pub behind : List Place
   pub begins : going d.options l from lines ≡ Begins place behind
   pub opens : OpensAt d l from place behind opening
 
--- The blocks of a container, at this level, take what is from here on up to what they leave.
+-- These blocks are a sequence at this level, from here up to what they leave.
 unfoldable pub IsSequence : Document → Skeleton → Level → From → List Place → Left → Type 0
 IsSequence d Nil l from lines left = going d.options l from lines ≡ Ends left
 IsSequence d (Then leaf next) l from lines left =

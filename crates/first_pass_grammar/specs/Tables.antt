@@ -22,15 +22,15 @@ use Rattle.first_pass_grammar.specs.Containers.{Context, taken}
 use Rattle.first_pass_grammar.specs.Kinds.{unindented, interrupts_with, footnote_interrupts}
 use Rattle.first_pass_grammar.specs.Leaves.{Document, around, block_with}
 
--- the content of a cell that begins at a place, with the brace contexts before it (GFM 4.10)
+-- the inline content of a cell that begins at a place, with the brace contexts before it (GFM 4.10)
 abbrev pub cell_content : Document → Spot → Inline
 cell_content d p = record { options = d.options; whole = d.text; text = d.text; start = p.at; row = true; braces = p.braces }
 
--- where a cell begins: after the pipe that stands at an offset, or there where none does (GFM 4.10)
+-- the start of a cell: after the pipe at an offset, or at the offset if there is no pipe (GFM 4.10)
 abbrev pub cell_start : List ℕ → ℕ → ℕ
 cell_start text at = if slice_index text at == pipe then at + 1 else at
 
--- where its content begins: after the white space there (GFM 4.10)
+-- the start of the cell's content: after the white space there (GFM 4.10)
 abbrev pub cell_text : List ℕ → ℕ → ℕ
 cell_text text at = cell_start text at + prefix_len is_white (drop (cell_start text at) text)
 
@@ -38,9 +38,10 @@ cell_text text at = cell_start text at + prefix_len is_white (drop (cell_start t
 abbrev pub cell_block : ℕ → ℕ → List Item → List (ℕ × Item)
 cell_block start «end» tokens = block_with start «end» TableCell tokens
 
--- These are the cells of a row from a place on, and the row ends after its line end there: a cell goes from after its pipe up to the next one or to the
--- line's end, and the texts of its tokens are among those that are named; white space after the last pipe is no cell. Each cell has the brace contexts that
--- the one before it leaves, be it dropped or not (GFM 4.10, and this project).
+-- The cells of a row from a place on; the row ends after its line ending. A cell reaches from after its pipe to the
+-- next pipe or the end of the line, and the texts of its tokens are named. White space after the last pipe is no cell.
+-- Each cell begins with the brace contexts that the one before it leaves, even if that one is dropped (GFM 4.10, and
+-- this project).
 unfoldable pub AreCells : Document → Spot → List (List (ℕ × Item)) → Spot → Type 0
 AreCells d p [] to = (n : ℕ) × (eol_len (drop (cell_text d.text p.at) d.text) ≡ Some n) × (to ≡ spot (cell_text d.text p.at + n) p.braces)
 AreCells d p (cell ∷ cells) to =
@@ -48,34 +49,35 @@ AreCells d p (cell ∷ cells) to =
     × (tokens : List Item) × (stop : Spot) × IsCell d.names.texts (cell_content d (spot (cell_text d.text p.at) p.braces)) tokens stop.at stop.braces
     × (cell ≡ cell_block (cell_start d.text p.at) stop.at tokens) × AreCells d stop cells to
 
--- how many empty cells are filled into a row that has too few for so many columns (GFM 4.10)
+-- the number of empty cells that a row is filled with, given its columns and its own cells (GFM 4.10)
 abbrev pub filled : ℕ → List (List (ℕ × Item)) → ℕ
 filled columns cells = columns - length cells
 
--- the items of blocks that stand side by side (this project)
+-- the items of blocks side by side (this project)
 abbrev pub side_by_side : List (List (ℕ × Item)) → List (ℕ × Item)
 side_by_side [] = []
 side_by_side (block ∷ blocks) = block ++ side_by_side blocks
 
--- as many cells as columns: the row's own first ones, and then empty ones at its end (GFM 4.10)
+-- as many cells as columns: the first cells of the row, then empty cells at its end (GFM 4.10)
 abbrev pub row_cells : ℕ → List (List (ℕ × Item)) → ℕ → List (ℕ × Item)
 row_cells columns cells «end» = side_by_side (take columns cells ++ replicate (filled columns cells) (cell_block «end» «end» []))
 
--- a row, or the header row, of so many columns that begins at an offset, has these cells and ends at another offset (GFM 4.10)
+-- the row or header row with this many columns and these cells, between two offsets (GFM 4.10)
 abbrev pub row_block : ItemBody → ℕ → ℕ → List (List (ℕ × Item)) → ℕ → List (ℕ × Item)
 row_block body columns start cells «end» = block_of (record { start = start; «end» = «end»; body = body }) (row_cells columns cells «end»)
 
--- what ends a table, as it interrupts a paragraph: any list item does here, and a table doesn't (GFM 4.10, and this project)
+-- what ends a table: what interrupts a paragraph, except that any list item does and a table does not (GFM 4.10, and
+-- this project)
 abbrev pub interrupts_row : Options → List ℕ → Bool
 interrupts_row options bs = interrupts_with false bs || footnote_interrupts options true bs
 
--- Where the text of a row begins in a line: after what the path takes of it and after all columns. A line that doesn't continue the whole path is no row,
--- nor one whose text interrupts rows (GFM 4.10, and this project).
+-- The start of a row's text in a line: after the prefixes of the path and the indentation. A line that does not
+-- continue the whole path is no row, and neither is a line whose text ends a table (GFM 4.10, and this project).
 abbrev pub row_text : Context → Place → Option ℕ
 row_text around line =
     option_and_then (λ p. if interrupts_row around.options (unindented p).rest.left then None else Some (offset (unindented p))) (taken around.path line)
 
--- what is taken of a text by a block: its items, and the lines that it leaves
+-- what a block takes of a text: its items, and the lines after it
 pub record Taken : Type 0 where
   pub items : List (ℕ × Item)
   pub left : List Place
@@ -83,37 +85,37 @@ pub record Taken : Type 0 where
 abbrev pub taking : List (ℕ × Item) → List Place → Taken
 taking items left = record { items = items; left = left }
 
--- a row as it is found in a text: where its text begins, its cells, where it ends, and the brace contexts there (GFM 4.10)
+-- a row that was found in a text: the start of its text, its cells, its end, and the brace contexts there (GFM 4.10)
 pub record FoundRow : Type 0 where
   pub start : ℕ
   pub cells : List (List (ℕ × Item))
   pub row_end : ℕ
   pub after : MathBraces
 
--- the text of a line, with these brace contexts before it, has the cells of this row, if any (GFM 4.10)
+-- a line is this row, which may have no cells; the brace contexts are those before the row (GFM 4.10)
 pub record HasCells (d : Document) (path : List Container) (line : Place) (before : MathBraces) (row : FoundRow) : Type 0 where
   pub begins : row_text (around d path) line ≡ Some row.start
   pub are_cells : AreCells d (spot row.start before) row.cells (spot row.row_end row.after)
 
--- the brace contexts after rows, before the first of which these are (this project)
+-- the brace contexts after rows, given those before the first row (this project)
 abbrev pub braces_after_rows : MathBraces → List FoundRow → MathBraces
 braces_after_rows before [] = before
 braces_after_rows before (row ∷ rows) = braces_after_rows row.after rows
 
--- The first of these lines are these rows, one after the other and each with a cell, and the other lines are left (GFM 4.10).
+-- The first of these lines are these rows in order, each with a cell; the other lines come after them (GFM 4.10).
 unfoldable pub TakesRows : Document → List Container → MathBraces → List FoundRow → List Place → List Place → Type 0
 TakesRows d path before [] lines left = left ≡ lines
 TakesRows d path before (row ∷ rows) [] left = ⊥
 TakesRows d path before (row ∷ rows) (line ∷ lines) left =
     HasCells d path line before row × (0 < length row.cells) × TakesRows d path row.after rows lines left
 
--- how many cells are filled into rows of so many columns, all together (GFM 4.10)
+-- the number of cells that all these rows are filled with, for this many columns (GFM 4.10)
 abbrev pub all_filled : ℕ → List FoundRow → ℕ
 all_filled columns [] = 0
 all_filled columns (row ∷ rows) = filled columns row.cells + all_filled columns rows
 
--- a table up to a line: how many columns it has, how many cells more may be filled into its rows, and the brace contexts before that line
--- (GFM 4.10, and this project)
+-- a table up to a line: its number of columns, how many more cells its rows may be filled with, and the brace contexts
+-- before the line (GFM 4.10, and this project)
 pub record TableSoFar : Type 0 where
   pub columns : ℕ
   pub room : ℕ
@@ -122,15 +124,15 @@ pub record TableSoFar : Type 0 where
 abbrev pub table_so_far : ℕ → ℕ → MathBraces → TableSoFar
 table_so_far columns room braces = record { columns = columns; room = room; braces = braces }
 
--- The rows of a table end before these lines: there is no line, or the first is no row, or has no cell, or is a row into which more cells would be filled than
--- may be (GFM 4.10, and this project).
+-- The rows of a table end before these lines: there is no line, or the first one is no row, has no cell, or is a row
+-- that would be filled with more cells than allowed (GFM 4.10, and this project).
 unfoldable pub EndRows : Document → List Container → TableSoFar → List Place → Type 0
 EndRows d path table [] = Unit {0}
 EndRows d path table (line ∷ lines) =
     (row_text (around d path) line ≡ None)
     ⊎ ((row : FoundRow) × HasCells d path line table.braces row × ((row.cells ≡ []) ⊎ (table.room < filled table.columns row.cells)))
 
--- the items of rows of so many columns, one after the other (GFM 4.10)
+-- the items of rows with this many columns, in order (GFM 4.10)
 abbrev pub row_blocks : ℕ → List FoundRow → List (ℕ × Item)
 row_blocks columns rows = side_by_side (map (λ (row : FoundRow). row_block TableRow columns row.start row.cells row.row_end) rows)
 
@@ -138,8 +140,8 @@ row_blocks columns rows = side_by_side (map (λ (row : FoundRow). row_block Tabl
 abbrev pub with_rows : TableSoFar → List FoundRow → TableSoFar
 with_rows table rows = table_so_far table.columns (table.room - all_filled table.columns rows) (braces_after_rows table.braces rows)
 
--- The longest run of rows of a table among these lines, from the first on, into which all together no more cells are filled than may be
--- (GFM 4.10, and this project).
+-- The longest run of rows of a table at the start of these lines that are filled, in total, with no more cells than
+-- allowed (GFM 4.10, and this project).
 pub record AreRows (d : Document) (path : List Container) (table : TableSoFar) (lines : List Place) (t : Taken) : Type 0 where
   pub rows : List FoundRow
   pub takes : TakesRows d path table.braces rows lines t.left
@@ -147,11 +149,12 @@ pub record AreRows (d : Document) (path : List Container) (table : TableSoFar) (
   pub ends : EndRows d path (with_rows table rows) t.left
   pub items_are : t.items ≡ row_blocks table.columns rows
 
--- how many cells are filled into one table at the most (this project)
+-- the greatest number of cells that one table may be filled with (this project)
 abbrev pub most_filled : ℕ
 most_filled = 262144
 
--- a table whose header row begins at a place, with these alignments, before the lines from its delimiter row on (GFM 4.10)
+-- the table whose header row begins at a place, with these alignments; the lines begin with its delimiter row (GFM
+-- 4.10)
 pub record IsTable (d : Document) (path : List Container) (p : Place) (alignments : List Alignment) (lines : List Place) (t : Taken) : Type 0 where
   pub index : AlignmentIndex
   pub named : NamesAlignments d.names index alignments

@@ -1,5 +1,5 @@
-//! The block grammar: which tree of blocks a text has. What it says stands in `specs/`, apart from
-//! any code that reads a text; here are the words that code and grammar share, and the laws.
+//! The block grammar: it defines which tree of blocks a text has. The grammar is in `specs/`, apart from any code that
+//! reads a text. This source has the types that code and grammar share, and the laws.
 #![tactic(auto)]
 
 mod kind;
