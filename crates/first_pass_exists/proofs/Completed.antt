@@ -1,4 +1,4 @@
--- Whatever is open can be completed, and each text has a derivation.
+-- Open nodes can always be completed, and each text has a derivation.
 use Rattle.std.proofs.Common.{◌≡◌, ℕ, suc, Bool, false, List, [], ◌∷◌, length, refl, sym, subst, arith}
 use Rattle.first_pass_items.specs.declared.item.Item.{Item}
 use Rattle.first_pass_items.specs.declared.option_set.Options.{Options}
@@ -27,7 +27,7 @@ onward_goes_on [] (Lines lines) = refl
 onward_goes_on [] (InLine p lines) = refl
 onward_goes_on (c ∷ path) left = tt
 
--- what the containers of a path take further
+-- the remaining parts of the containers of a path
 further_found : (text : List ℕ) (options : Options) (names : Names) (path : List Container) (before : Before) (from : From) (lines : List Place)
     → CanGoOn path from → Found names (List Further) (λ later further. AreFurther (document text options later) path before from lines further)
 unfolding AreFurther
@@ -51,7 +51,7 @@ further_found text options names (c ∷ path) before from lines can =
       holds = λ later x. (s.left, s.is later (extends_both _ _ _ x outer.extends), refl, outer.holds later x);
     }
 
--- what stands becomes something with what is taken further
+-- the state becomes a forest with these remaining parts
 length-loosened : (gap : Bool) (frames : List Frame) → length (loosened gap frames) ≡ length frames
 length-loosened gap [] = refl
 length-loosened gap (InContainer c ∷ frames) = refl
@@ -106,7 +106,7 @@ completion_derives d frames places w from lines size can ready =
     let c = completion_found d frames places w from lines size can in
     (c, (ready c.names c.extends).whole c.further c.forest c.tables c.taken c.becomes)
 
--- the whole text
+-- a whole text has a derivation
 pub text_derives : (text : List ℕ) (options : Options) (names : Names)
     → (more : Names) × (forest : List (ℕ × Item)) × (tables : Tables) × Extends more names × Derives (document text options more) forest tables
 text_derives text options names =

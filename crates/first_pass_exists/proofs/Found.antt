@@ -1,4 +1,4 @@
--- Names that continue others are found, with what they name: texts, info strings, and raw lines.
+-- Names that extend others are found for texts, info strings, raw lines and other named values.
 use Rattle.std.proofs.Common.{◌≡◌, ℕ, zero, suc, false, List, [], ◌∷◌, ◌++◌, length, slice_get, Option, Some, None, refl}
 use Rattle.first_pass_items.specs.declared.cow_str.CowStr.{CowStr}
 use Rattle.first_pass_items.specs.declared.cow_str.CowStr.TheVariants.{Borrowed}
@@ -21,14 +21,14 @@ use Rattle.first_pass_grammar.proofs.MoreNames.{extends_none, extends_both, exte
 use Rattle.first_pass_grammar.proofs.MoreNames.{heading_last}
 use Rattle.first_pass_grammar.specs.RawLines.{spaces, AreColumns, Ranges, raw_items, AreRawLines}
 
--- A value, and names that continue these, so that this holds of it for all names that continue those.
+-- A value, with names that extend these; the value has a property under all names that extend those.
 pub record Found (names : Names) (A : Type 0) (Holds : Names → A → Type 0) : Type 0 where
   pub value : A
   pub more : Names
   pub extends : Extends more names
   pub holds : (later : Names) → Extends later more → Holds later value
 
--- a text that is borrowed, and names with it
+-- a borrowed text, with names that include it
 borrowed : List ℕ → CowStr
 borrowed text = Borrowed (record { ref_ptr = (0, 0); now = text })
 

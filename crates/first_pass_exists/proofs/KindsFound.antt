@@ -1,4 +1,4 @@
--- What begins at a place is of some kind, and each kind opens something.
+-- Each place has a kind, and each kind opens something.
 use Rattle.std.proofs.Common.{◌≡◌, ◌⊎◌, inl, inr, ℕ, suc, ◌+◌, ◌<◌, ◌≤◌, Bool, true, false, true≢false, List, [], ◌∷◌, length, drop, Option, Some, None, refl}
 use Rattle.std.proofs.Common.{sym, subst, arith, nat_lt, if◌then◌else◌}
 use Rattle.std.specs.Option.{is_some}
@@ -39,7 +39,7 @@ use Rattle.first_pass_grammar.proofs.MoreNames.{extends_none, extends_both}
 use Rattle.first_pass_exists.proofs.LinesFound.{heading_found}
 use Rattle.first_pass_exists.proofs.TablesFound.{text_found}
 
--- what is of the kinds 1 to 5 of HTML has an end
+-- an HTML block of kinds 1 to 5 has an end condition
 abbrev HasEnd : List ℕ → Kind → Type 0
 HasEnd bs HtmlToEnd = (until : BlockEnd) × (html_end (drop 1 bs) ≡ Some until)
 HasEnd bs _ = Unit {0}
@@ -99,7 +99,7 @@ kind_by r None ends = last_found r (tag_line_decided (all_taken r).left)
 kind_found : (options : Options) (r : Rest) → (k : Kind) × IsKind options r k × HasEnd (all_taken r).left k
 kind_found options r = kind_by r (first_kind options r) (first_ends options r)
 
--- a block's lines are among those after it
+-- a block leaves no more lines than there were
 extent_left_by : (v : Verdict) (line : Place) (lines : List Place) (e : Extent) → length e.left ≤ length lines
     → length (extent_by v line lines e).left ≤ length (line ∷ lines)
 extent_left_by (GoesOn p) line lines e h = omega arith
@@ -127,17 +127,17 @@ unfolding code_lines
 code_left path [] = omega arith
 code_left path (line ∷ lines) = code_left_by (code_place path line) line lines (code_lines path lines) (code_left path lines)
 
--- how much further a place inside a line reaches
+-- the length of the remaining line at a place inside a line, plus one; 0 at the start of a line
 abbrev pub reach : From → ℕ
 reach Line = 0
 reach (Blanks e) = 0
 reach (At p may) = suc (length p.rest.left)
 
--- Where blocks continue less of the line is left, or fewer lines.
+-- Where blocks continue, less of the line or fewer lines are left.
 abbrev pub IsShorter : ℕ → List Place → From → List Place → Type 0
 IsShorter most lines there left = (length left ≤ length lines) × ((reach there ≤ most) ⊎ (length left < length lines))
 
--- After a leaf and inside a container less of the text is left; after a leaf not only blank lines are taken.
+-- After a leaf, and inside a container, less of the text is left. After a leaf, more than blank lines may follow.
 abbrev pub Shrinks : ℕ → List Place → Opening → Type 0
 Shrinks most lines (OpensLeaf leaf there left) = IsShorter most lines there left × (blanks_alone there ≡ None)
 Shrinks most lines (OpensNode head inside behind) = IsShorter most lines inside behind
@@ -145,7 +145,7 @@ Shrinks most lines (OpensNode head inside behind) = IsShorter most lines inside 
 at_next_line : (most : ℕ) (lines : List Place) (leaf : Leaf) (left : List Place) → length left ≤ length lines → Shrinks most lines (OpensLeaf leaf Line left)
 at_next_line most lines leaf left less = ((less, inl (omega arith)), refl)
 
--- Something opens, with names that continue these and whatever is named besides.
+-- Something opens under names that extend these, and under all names that extend those.
 pub record Leads (names : Names) (most : ℕ) (lines : List Place) (Are : Names → Opening → Type 0) : Type 0 where
   pub opening : Opening
   pub more : Names
@@ -153,7 +153,7 @@ pub record Leads (names : Names) (most : ℕ) (lines : List Place) (Are : Names 
   pub opens : (later : Names) → Extends later more → Are later opening
   pub shrinks : Shrinks most lines opening
 
--- what opens with no more names, and what opens by another word
+-- an opening that needs no more names; the same for a leaf; and an opening that also has another property
 pub leads_alone : {names : Names} {most : ℕ} {lines : List Place} {Are : Names → Opening → Type 0} (o : Opening) → ((later : Names) → Are later o)
     → Shrinks most lines o → Leads names most lines Are
 leads_alone {names} o opens shrinks = record { opening = o; more = names; extends = extends_none names; opens = λ later x. opens later; shrinks = shrinks }
@@ -345,7 +345,7 @@ leads_kind text options names most path p lines (FencedCode count byte) ends =
 leads_kind text options names most path p lines LinkDefinitions ends = leads_run text options names most path p lines
 leads_kind text options names most path p lines Paragraph ends = leads_text text options names most path p lines None
 
--- what ends an HTML block is known, whatever begins where a text would
+-- no HTML block begins where a text would, so no end condition is needed
 ends_text : (bs : List ℕ) (t : Bool) → HasEnd bs (if t then LinkDefinitions else Paragraph)
 ends_text bs true = tt
 ends_text bs false = tt
@@ -354,7 +354,7 @@ ends_in : (c : Context) (p : Place) (bs : List ℕ) (kind : Kind) → HasEnd bs 
 ends_in c p bs Paragraph ends = ends_text bs (is_some (definition_at c (unindented p)))
 ends_in c p bs kind ends = ends
 
--- where no container may begin
+-- what opens where no container may begin
 pub leads_block : (text : List ℕ) (options : Options) (names : Names) (most : ℕ) (path : List Container) (p : Place) (lines : List Place)
     → Leads names most lines (λ later o. OpensBlockAt (document text options later) path p lines o)
 leads_block text options names most path p lines =

@@ -1,4 +1,4 @@
--- Each line has tokens, each paragraph and each heading a chain.
+-- Each line has tokens; each paragraph and each heading has a chain.
 use Rattle.std.proofs.Common.{◌≡◌, inl, inr, ℕ, ◌+◌, ◌≤◌, Bool, true, false, List, [], ◌∷◌, length, drop, Option, refl, arith}
 use Rattle.first_pass_items.specs.declared.item.HeadingIndex.{HeadingIndex}
 use Rattle.first_pass_items.specs.declared.item.Item.{Item}
@@ -21,7 +21,7 @@ use Rattle.first_pass_exists.proofs.Found.{Found, named_attributes}
 use Rattle.first_pass_grammar.proofs.MoreNames.{extends_both, with_texts, extends_texts}
 use Rattle.first_pass_grammar.proofs.TextsMore.{line_later}
 
--- what the lines of a text give, and names that continue these, with the texts that it names
+-- the result of reading the lines of a text, with names that extend these and include the texts of the tokens
 pub record LinesFrom (names : Names) (text : List ℕ) (options : Options) (path : List Container) (p : Spot) (chain : List Item) (lines : List Place)
     : Type 0 where
   pub given : TextLines

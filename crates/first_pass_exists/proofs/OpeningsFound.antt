@@ -1,4 +1,4 @@
--- At each place where blocks continue something opens, and inside a container less of the text is left.
+-- Something opens at each place where blocks continue; inside a container less of the text is left.
 use Rattle.std.proofs.Common.{◌≡◌, inl, inr, ℕ, suc, ◌-◌, ◌<◌, ◌≤◌, Bool, true, false, List, [], ◌∷◌, length, Option, Some, None, refl, sym, ap, arith, nat_lt}
 use Rattle.std.proofs.Common.{if◌then◌else◌, ◌+◌, ◌&&◌, drop, MatchOption}
 use Rattle.std.proofs.lemmas.Bool.{false≢true, and_parts}
@@ -43,7 +43,7 @@ use Rattle.first_pass_grammar.proofs.OpenerFacts.{start_cases}
 use Rattle.first_pass_exists.proofs.RunsFound.{beyond_shorter}
 use Rattle.first_pass_grammar.specs.Leaves.{around}
 
--- after a marker less is left
+-- after a marker, less of the line is left
 mapped_to : {A B : Type 0} (f : A → B) (o : Option A) (y : B) → option_map f o ≡ Some y → (x : A) × (o ≡ Some x) × (f x ≡ y)
 mapped_to f None y h = absurd (none-some y h)
 mapped_to f (Some x) y h = (x, refl, same_Some (f x) y h)
@@ -108,7 +108,7 @@ quote_shorter_by r inside h =
     let same : length inside.left ≡ length (after_columns 1 marker.0).left = ap (λ (q : Rest). length q.left) (sym marker.2) in
     omega arith
 
--- what is left after a container's marker is shorter
+-- the rest of the line after a container's marker is shorter
 start_shorter : (options : Options) (may : Bool) (p : Place) (s : Start) → start_at options may p ≡ Some s → length s.rest.left < length p.rest.left
 start_shorter options may p =
     start_cases options may p (λ s. length s.rest.left < length p.rest.left)
@@ -171,7 +171,7 @@ leads_by text options names path p lines (Some s) less =
     leads_alone (opening_of d path p lines s) (λ later. refl)
     (start_shrinks d (length p.rest.left) path s.head (at_rest p s.rest) lines s.after (omega arith))
 
--- a footnote definition, after whose head less is left
+-- a footnote definition: less of the text is left after its head
 begun_head : (bs : List ℕ) (t : Bool) (o : Option (ℕ × List ℕ)) (head : ℕ × List ℕ) → (if t then o else None) ≡ Some head
     → (t ≡ true) × (o ≡ Some head)
 begun_head bs true o head h = (refl, h)

@@ -1,4 +1,4 @@
--- From each place on there is a run of link definitions, of none or more.
+-- From each place on there is a run of link reference definitions, which may be empty.
 use Rattle.std.proofs.Common.{◌≡◌, inl, inr, ℕ, zero, suc, ◌≤◌, Bool, true, false, nat_lt, List, [], ◌∷◌, length, Option, Some, None, refl, ap, ◌∙◌, arith}
 use Rattle.std.proofs.Common.{if◌then◌else◌}
 use Rattle.std.proofs.lemmas.Bool.{true≢false}
@@ -18,7 +18,7 @@ unfolding lines_beyond
 beyond_shorter e [] = omega arith
 beyond_shorter e (line ∷ lines) = shorter_by e line lines (nat_lt line.line e) (beyond_shorter e lines)
 
--- how many lines are left after a run
+-- the lines after a run
 abbrev pub left_beyond : Beyond → List Place
 left_beyond (Ended q left) = left
 left_beyond (FlowsOn q lines) = lines

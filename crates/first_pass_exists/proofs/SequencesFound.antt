@@ -1,4 +1,4 @@
--- From each place on there is a sequence of blocks, so that what is open can be completed, and each text has a derivation.
+-- From each place on there is a sequence of blocks, so open nodes can be completed and each text has a derivation.
 use Rattle.std.proofs.Common.{◌≡◌, inl, inr, ℕ, zero, suc, ◌<◌, ◌≤◌, List, [], ◌∷◌, length, Some, None, refl, ap, subst, arith}
 use Rattle.first_pass_items.specs.declared.option_set.Options.{Options}
 use Rattle.first_pass_lines.specs.Places.{Place}
@@ -14,11 +14,12 @@ use Rattle.first_pass_grammar.proofs.MoreNames.{extends_none, extends_both}
 use Rattle.first_pass_exists.proofs.KindsFound.{reach, IsShorter, Shrinks, Leads, leads_also}
 use Rattle.first_pass_exists.proofs.OpeningsFound.{leads_any, leads_if}
 
--- Less is left, or as much, where blocks continue around a container that leaves this.
+-- Where blocks continue around a container that leaves this, no more of the text is left than before.
 abbrev IsNoMore : From → List Place → Left → Type 0
 IsNoMore from lines left = IsShorter (reach from) lines (onward left).0 (onward left).1
 
--- Blocks from a place on, with names that continue these, whatever is named besides. At the top, unless blank lines alone are taken, they take all lines.
+-- Blocks from a place on, under names that extend these and under all names that extend those. At the top they take
+-- all lines, unless only blank lines are taken.
 pub record SequenceFrom (text : List ℕ) (options : Options) (names : Names) (l : Level) (from : From) (lines : List Place) : Type 0 where
   pub blocks : Skeleton
   pub left : Left
@@ -28,7 +29,7 @@ pub record SequenceFrom (text : List ℕ) (options : Options) (names : Names) (l
   pub shorter : IsNoMore from lines left
   pub ends : l.path ≡ [] → blanks_alone from ≡ None → left ≡ Lines []
 
--- where blocks continue after a first one
+-- where blocks continue after a first block
 reach_behind : (from there : From) → reach (behind_first from there) ≤ reach there
 reach_behind Line there = omega arith
 reach_behind (Blanks e) there = omega arith
@@ -62,7 +63,7 @@ shorter_both most lines left further there then (less, inl near) (less', inl nea
 shorter_both most lines left further there then (less, inl near) (less', inr fewer) = (omega arith, inr (omega arith))
 shorter_both most lines left further there then (less, inr fewer) (less', near) = (omega arith, inr (omega arith))
 
--- what is less than is left where a block begins is less than is left where it is sought
+-- if less is left than where a block begins, then less is left than where the block was looked for
 shorter_from : (path : List Container) (from there : From) (lines behind left : List Place) (p : Place) → BeginsAt path from lines p behind
     → IsShorter (length p.rest.left) behind there left → IsShorter (reach from) lines there left
 shorter_from path Line there [] behind left p begins s = absurd begins
@@ -73,7 +74,7 @@ shorter_from path (At q may) there lines behind left p (is, same) (less, inl nea
     let n = ap length same in let m = ap (λ (z : Place). length z.rest.left) is in (omega arith, inl (omega arith))
 shorter_from path (At q may) there lines behind left p (is, same) (less, inr fewer) = let n = ap length same in (omega arith, inr (omega arith))
 
--- a sequence that has no block
+-- a sequence without blocks
 no_more_at : (path : List Container) (from : From) (lines behind : List Place) (p : Place) → BeginsAt path from lines p behind
     → IsNoMore from lines (InLine p behind)
 no_more_at path Line [] behind p begins = absurd begins
@@ -87,9 +88,10 @@ no_more : (path : List Container) (from : From) (lines : List Place) (left : Lef
 no_more path from lines (Lines left) same = let n = ap length same in (omega arith, inl (omega arith))
 no_more path from lines (InLine p behind) at = no_more_at path from lines behind p at.0
 
--- a first block, and those in it and after it
+-- a first block, with the blocks in it and after it
 module _ (text : List ℕ) (options : Options) where
-  -- blocks from each place on, of lines that are fewer than so many, or as many at most with a place that reaches less far
+  -- blocks from each place on if fewer lines than this are left; the next definition: or as many, at a place inside a
+  -- line that reaches less far
   abbrev Fewer : ℕ → Type 0
   Fewer n = (names : Names) (l : Level) (from : From) (lines : List Place) → length lines < n → SequenceFrom text options names l from lines
 
@@ -97,12 +99,12 @@ module _ (text : List ℕ) (options : Options) where
   Nearer n k =
       (names : Names) (l : Level) (from : From) (lines : List Place) → length lines ≤ n → reach from < k → SequenceFrom text options names l from lines
 
-  -- the blocks where less is left than these lines after a place
+  -- the blocks from each place on where less is left than these lines and this much of a line before them
   abbrev Others : ℕ → List Place → Type 0
   Others most lines =
       (names : Names) (l : Level) (from : From) (left : List Place) → IsShorter most lines from left → SequenceFrom text options names l from left
 
-  -- what is first from here on, whatever more is named later
+  -- the first block from here on, under all names that extend these
   abbrev AreFirst : Names → Level → From → List Place → Opening → Type 0
   AreFirst names l from lines o = (later : Names) → Extends later names → IsFirst (document text options later) l from lines o
 
@@ -174,7 +176,7 @@ module _ (text : List ℕ) (options : Options) where
       opening_first names leads.more l from lines behind p leads.opening leads.extends (begins_at options l from lines p behind is) leads.opens leads.shrinks
       others
 
-  -- no block
+  -- a sequence without blocks
   no_block : (names : Names) (l : Level) (from : From) (lines : List Place) (left : Left) → going options l from lines ≡ Ends left
       → SequenceFrom text options names l from lines
   unfolding IsSequence
@@ -188,7 +190,7 @@ module _ (text : List ℕ) (options : Options) where
     ends = λ top h. all_taken_at options l.before from lines left (subst (λ p. going options (level p l.before) from lines ≡ Ends left) top is) h;
   }
 
-  -- by what is left of the text
+  -- blocks, by how much of the text is left
   others_at : (n k : ℕ) (path : List Container) (from : From) (lines behind : List Place) (p : Place) → BeginsAt path from lines p behind
       → length lines ≤ n → reach from ≤ k → Fewer n → Nearer n k → Others (length p.rest.left) behind
   others_at n k path Line [] behind p begins within near fewer nearer names l there left less = absurd begins

@@ -1,4 +1,4 @@
--- Each row has cells, each body of a table rows, and each text is a paragraph or a table.
+-- Each row has cells, each table body has rows, and each text is a paragraph, a setext heading or a table.
 use Rattle.std.proofs.Common.{◌≡◌, inl, inr, ℕ, zero, suc, ◌+◌, ◌-◌, ◌<◌, ◌≤◌, ◌==◌, ◌&&◌, ◌||◌, nat_le, Bool, true, false, true≢false, List, [], ◌∷◌, ◌++◌}
 use Rattle.std.proofs.Common.{length, drop, slice_index, Option, Some, None, MatchOption, is_some, refl, sym, ap, ◌∙◌, arith, length-drop, if◌then◌else◌}
 use Rattle.std.proofs.lemmas.Bool.{cases_lt, lt-leb}
@@ -35,7 +35,7 @@ use Rattle.first_pass_grammar.proofs.TextsMore.{cell_later, text_lines_more, cel
 use Rattle.first_pass_exists.proofs.LinesFound.{lines_found}
 use Rattle.first_pass_items.specs.declared.item.HeadingLevel.{HeadingLevel}
 
--- a byte where no line ends
+-- a byte at which no line ends
 no_end_byte : (t u : Bool) (n : ℕ) → (if t then Some 1 else (if u then Some n else None)) ≡ None → (t || u) ≡ false
 no_end_byte true u n h = absurd (none-some 1 (sym h))
 no_end_byte false true n h = absurd (none-some n (sym h))
@@ -53,7 +53,7 @@ no_line_end text at h =
       | inr past ↦ absurd (none-some 0 (sym h ∙ at_drop_all (λ bs. eol_len bs) text at past))
     ]
 
--- the content of a cell that begins there
+-- the inline content of a cell that begins at a spot
 cell_source : List ℕ → Options → Spot → Inline
 cell_source text options p = record { options = options; whole = text; text = text; start = p.at; row = true; braces = p.braces }
 
@@ -71,7 +71,7 @@ goes_on_at text options p within line other =
     none_of (nat_le (length text) p.at) (is_line_end (slice_index text p.at)) (has options tables) (slice_index text p.at == pipe)
     (lt-leb (length text) p.at within) line other
 
--- A cell ends after the place where it is looked for.
+-- A cell ends after the place where its content is looked for.
 later_by : (texts : List CowStr) (text : List ℕ) (options : Options) (at : ℕ) (braces : MathBraces) (tokens : List Item) (stop : ℕ)
     (after : MathBraces) (t : Bool)
     → (slice_index text at == pipe) ≡ t → eol_len (drop (cell_text text at) text) ≡ None
@@ -97,7 +97,7 @@ later_by texts text options at braces tokens stop after false here h cell =
           omega arith
     ]
 
--- the cells of a row, and names that continue these, with the texts that they name
+-- the cells of a row, with names that extend these and include the texts of the tokens
 pub record CellsFrom (names : Names) (text : List ℕ) (options : Options) (p : Spot) : Type 0 where
   pub cells : List (List (ℕ × Item))
   pub to : Spot
@@ -147,7 +147,7 @@ cells_at names text options (suc most) p h =
 pub cells_found : (names : Names) (text : List ℕ) (options : Options) (p : Spot) → CellsFrom names text options p
 cells_found names text options p = cells_at names text options (length text) p (omega arith)
 
--- the rows of a body, and names that continue these, with the texts that they name
+-- the rows of a table body, with names that extend these and include the texts of the tokens
 pub record RowsFrom (names : Names) (text : List ℕ) (options : Options) (path : List Container) (table : TableSoFar) (lines : List Place) : Type 0 where
   pub rows : Taken
   pub more : Names
@@ -155,7 +155,7 @@ pub record RowsFrom (names : Names) (text : List ℕ) (options : Options) (path 
   pub are : CountedRows (document text options more) path table lines rows
   pub shorter : length rows.left ≤ length lines
 
--- the row with the cells that are found
+-- the row with the cells that were found
 abbrev row_with : (names : Names) (text : List ℕ) (options : Options) (start : ℕ) (braces : MathBraces)
     → CellsFrom names text options (spot start braces) → FoundRow
 row_with names text options start braces found = record { start = start; cells = found.cells; row_end = found.to.at; after = found.to.braces }
@@ -196,7 +196,7 @@ rows_found names text options path [] table =
 rows_found names text options path (line ∷ lines) table =
     rows_by names text options path table line lines (row_text (context options path) line) refl (λ mid further. rows_found mid text options path lines further)
 
--- What is taken of a text, and names that continue these, so that this holds of it for all names that continue those.
+-- What a block takes of a text, with names that extend these; it has a property under all names that extend those.
 pub record TakenFrom (names : Names) (lines : List Place) (Holds : Names → Taken → Type 0) : Type 0 where
   pub value : Taken
   pub more : Names
@@ -236,7 +236,7 @@ table_found names text options path p alignments lines =
       shorter = let less = body.shorter in let behind = length-drop 1 lines in omega arith;
     }
 
--- a heading or a paragraph
+-- a setext heading or a paragraph
 ended_found : (names : Names) (text : List ℕ) (options : Options) (start : ℕ) (marker : Option Item) (l : TextLines) (lines : List Place)
     (o : Option (ℕ × HeadingLevel))
     → length l.left ≤ length lines
@@ -280,7 +280,7 @@ plain_found names text options path p marker lines =
       shorter = ended.shorter;
     }
 
--- what stands for a text
+-- a paragraph, a setext heading or a table
 text_by : (names : Names) (text : List ℕ) (options : Options) (path : List Container) (p : Place) (marker : Option Item) (lines : List Place)
     (o : Option (List Alignment))
     → TakenFrom names lines (λ later t. MatchOption o (IsPlainText (document text options later) path (offset p) marker lines t)

@@ -1,4 +1,4 @@
-//! Laws: what exists for each text.
+//! Laws: what exists for every text.
 
 ghost use Rattle.std.specs.Prelude.{◌≡◌, ℕ, List, length};
 ghost use Rattle.first_pass_items.specs.declared.item.Item.{Item};
@@ -10,27 +10,26 @@ ghost use Rattle.first_pass_grammar.specs.Skeleton.{From};
 ghost use Rattle.first_pass_grammar.specs.Derivation.{Derives, Tables};
 ghost use Rattle.first_pass_grammar.specs.Completion.{Standing, Frame, containers_of, Completes, CanGoOn, Completion};
 
-/// Every text has a derived tree under each set of options, since any sequence of characters is a
-/// document (CommonMark 2.1): with names, of what the tree's indices name, that continue any given ones.
+/// Every text has a derived tree under each set of options, since any sequence of characters is a document (CommonMark
+/// 2.1). The tree's indices have names that extend any given names.
 pub fn every_text_derives()
     ensures { (text : List ℕ) (options : Options) (names : Names)
         → (more : Names) × (forest : List (ℕ × Item)) × (tables : Tables) × Extends more names
         × Derives (document text options more) forest tables }
 {}
 
-/// Whatever is open can be completed: whichever lines are left, and wherever in the text blocks continue,
-/// each open container takes a sequence of blocks further, up to a line that doesn't continue it
-/// (CommonMark 5) or, in a footnote definition, to where that ends, and what stands becomes a forest with
-/// them. `frames` are the open containers and lists, and `places` those of their nodes, both from the
-/// innermost on; that blank lines are taken alone is asked to be so in a container only.
+/// Open nodes can always be completed, whichever lines are left, and wherever in the text blocks continue. Each open
+/// container takes further blocks, up to a line that does not continue it (CommonMark 5). A footnote definition takes
+/// blocks up to its end. With these blocks the state becomes a forest. `frames` are the open containers and lists, and
+/// `places` those of their nodes, both innermost first. Only in a container may `from` require blank lines.
 pub fn always_a_completion()
     ensures { (d : Document) (frames : List Frame) (places : List ℕ) (w : Standing) (from : From)
         (lines : List Place) → length frames ≡ length places → CanGoOn (containers_of frames) from
         → Completion d frames places w from lines }
 {}
 
-/// Where whatever completes open nodes makes a forest that the text derives, under the present names and
-/// under all that continue them, there is such a completion, and the text derives its forest.
+/// If the text derives the forest of every completion of the open nodes, then there is a completion whose forest the
+/// text derives. The condition is for the present names and all that extend them.
 pub fn some_completion_derives()
     ensures { (d : Document) (frames : List Frame) (places : List ℕ) (w : Standing) (from : From)
         (lines : List Place) → length frames ≡ length places → CanGoOn (containers_of frames) from

@@ -1,4 +1,4 @@
-//! Existence: every text has a derived tree, and whatever is open can be completed.
+//! Existence: every text has a derived tree, and open nodes can always be completed.
 #![tactic(auto)]
 
 mod laws;
