@@ -34,14 +34,14 @@ use Rattle.first_pass_completion.proofs.PoppedLists.{last_in, closed_below, titl
 use Rattle.first_pass_grammar.proofs.RowsAlike.{begins_alike}
 use Rattle.first_pass_completion.proofs.Titles.{BeginsOther, title_stays}
 
--- where a list of items ends before a leaf block or a container (this project)
+-- where a list of items ends before a leaf block; the next definition: before a container (this project)
 abbrev pub leaf_closes : LeafBlock → ℕ
 leaf_closes b = closing_place (ALeaf b) b.line b.start
 
 abbrev pub head_closes : Head → ℕ
 head_closes head = closing_place (what_of head.opener 0) head.line head.start
 
--- a container is the next item of the list that continues with these, or its next definition
+-- a container is the next item of the list that these continue, or its next definition
 abbrev pub joins : Joins → Opener → Bool
 joins (ItemsOf list) (QuoteMarker kind) = false
 joins (ItemsOf list) (ItemMarker byte number columns) = list == byte
@@ -52,19 +52,19 @@ joins (DefinitionsTo e) (ItemMarker byte number columns) = false
 joins (DefinitionsTo e) (FootnoteMarker columns index label) = false
 joins (DefinitionsTo e) (DefinitionMarker columns) = true
 
--- A leaf block ends a list at an offset: a definition list only where the block begins with no paragraph, which might be its next title; where it was read as
--- one, that list ends with its last definition.
+-- A leaf block ends a list at an offset. It ends a definition list only if the block does not begin with a paragraph,
+-- which might be the next title. If it was read as a paragraph, that list ends with its last definition.
 abbrev pub LeafAway : Joins → ℕ → LeafBlock → Type 0
 LeafAway (ItemsOf byte) at b = leaf_closes b ≡ at
 LeafAway (DefinitionsTo e) at b = (begins_paragraph b.items ≡ false) × ((if is_paragraph b.kind then e else leaf_closes b) ≡ at)
 
--- what opens ends a list that continues with these, at an offset
+-- the opening ends a list that these continue, at an offset
 abbrev pub OpensAway : Joins → ℕ → Opening → Type 0
 OpensAway list at (OpensLeaf BlankLine there left) = ⊥
 OpensAway list at (OpensLeaf (Block b) there left) = LeafAway list at b
 OpensAway list at (OpensNode head inside behind) = (head_closes head ≡ at) × (joins list head.opener ≡ false)
 
--- what opens away from a definition list is no definition
+-- an opening that ends a definition list is no definition
 other_joins : (e : ℕ) (o : Opener) → joins (DefinitionsTo e) o ≡ false → is_definition o ≡ false
 other_joins e (QuoteMarker kind) h = refl
 other_joins e (ItemMarker byte number columns) h = refl
@@ -76,7 +76,7 @@ away_other e at (OpensLeaf BlankLine there left) away = absurd away
 away_other e at (OpensLeaf (Block b) there left) away = refl
 away_other e at (OpensNode head inside behind) away = other_joins e head.opener away.1
 
--- the same of a sequence's first block, which is flat
+-- the first block of a sequence ends the list; it is also flat
 abbrev EndsList : Joins → ℕ → Skeleton → Type 0
 EndsList list at Nil = ⊥
 EndsList list at (Then BlankLine next) = ⊥
@@ -122,7 +122,7 @@ ends_list d list at (OpensNode head inside behind) (Node head' e' kids' next') a
   sym (sym (joins_alone list head.opener) ∙ ap (λ (h : Head). joins list h.opener) alike.0.0 ∙ joins_alone list head'.opener) ∙ away.1,
 )
 
--- The rows of what ends a list have none that continues it.
+-- The rows of what ends a list include none that continues it.
 pub record AreAway (list : Joins) (at last : ℕ) (rows : Rows) : Type 0 where
   pub none : items_behind list rows ≡ End
   pub until : list_until list last rows ≡ at
@@ -145,7 +145,7 @@ container_away (DefinitionsTo x) at last (FootnoteMarker columns index label) li
     record { none = refl; until = closes; past = refl }
 container_away (DefinitionsTo x) at last (DefinitionMarker columns) line start e gap inner next closes other = absurd (true≢false other)
 
--- a paragraph, with definitions or without them, starts where it closes a list of items
+-- a paragraph, with or without definitions, starts where it closes a list of items
 start_by : (t : Bool) (line start : ℕ) → t ≡ true → start ≡ (if t then start else line)
 start_by true line start is = refl
 start_by false line start is = absurd (true≢false (sym is))
@@ -174,14 +174,14 @@ rows_away quoted list at last before (Then (Block b) next) u =
 rows_away quoted list at last before (Node head e kids next) u =
     container_away list at last head.opener head.line head.start e before.counted _ _ u.0 u.1
 
--- to a leaf block that begins with no paragraph it is the same whether a definition is before it or another block
+-- a leaf block that does not begin with a paragraph is the same after a definition as after another block
 other_by : (b : LeafBlock) (run blanks t : Bool) → begins_paragraph b.items ≡ t → t ≡ false
     → (gap_before (stands_after (LastDefinition blanks) run) b ≡ gap_before (stands_after LastOther run) b)
     × (after_block (stands_after (LastDefinition blanks) run) b ≡ after_block (stands_after LastOther run) b)
 other_by b run blanks true is other = absurd (true≢false other)
 other_by b run blanks false is other = (rw is refl, rw is refl)
 
--- To what ends a list it is the same whether the list is still open before it, or is closed.
+-- What ends a list is the same whether the list before it is still open or closed.
 same_away : (list : Joins) (at : ℕ) (run blanks : Bool) (s : Skeleton) → EndsList list at s
     → SameFirst (stands_after (last_in list blanks) run) (stands_after LastOther run) s
 same_away list at run blanks Nil u = u
@@ -190,14 +190,14 @@ same_away (ItemsOf byte) at run blanks (Then (Block b) next) u = (refl, refl)
 same_away (DefinitionsTo e) at run blanks (Then (Block b) next) u = other_by b run blanks _ refl u.0.0
 same_away list at run blanks (Node head e kids next) u = refl
 
--- what opens away from a list opens alike whether it is open or closed
+-- what opens and ends a list opens alike whether the list is open or closed
 alike_away : (d : Document) (path : List Container) (list : Joins) (at : ℕ) (run blanks : Bool) (p : Place) (lines : List Place) (o : Opening)
     → OpensAway list at o → Opens d (level path (stands_after (last_in list blanks) run)) p lines o
     → OpensAlike d path (stands_after (last_in list blanks) run) (stands_after LastOther run) p
 alike_away d path (ItemsOf byte) at run blanks p lines o away opens = takes_alike d path _ _ p refl
 alike_away d path (DefinitionsTo e) at run blanks p lines o away opens = other_alike d path _ _ p lines o (away_other e at o away) refl opens
 
--- a list closed before a block that ends it
+-- a list that is closed before a block that ends it
 close_step : (d : Document) (defined : Tables) (frames : List Frame) (list : Joins) (run blanks loose : Bool) (nodes : List (ℕ × Item)) (o : ℕ) (os : List ℕ)
     (p : Place) (lines : List Place) (at : ℕ) (opening : Opening) (forest : List (ℕ × Item)) (tables : Tables)
     → IsPlain frames → StaysAt d (containers_of frames) p
@@ -236,7 +236,7 @@ close_step d defined frames list run blanks loose nodes o os p lines at opening 
     (finish_moved d _ _ _ _ _ _ _ _ _ os (Inside p) lines forest tables refl (plain_before (tail OtherClosed run) frames plain)
     (sym (loosened_in-false frames)) refl fin)
 
--- a list closed before a block that ends it
+-- a list that is closed before a block that ends it
 pub completes-close : (d : Document) (defined : Tables) (t : Tail) (byte : ℕ) (loose : Bool) (frames : List Frame) (nodes : List (ℕ × Item)) (o : ℕ)
     (os : List ℕ) (p : Place) (lines : List Place) (at : ℕ) (opening : Opening)
     → StaysAt d (containers_of frames) p → Opens d (lvl (InList byte loose ∷ frames) t) p lines opening → OpensAway (ItemsOf byte) at opening
@@ -275,7 +275,7 @@ container_other last (ItemMarker byte number columns) line start e gap inner nex
 container_other last (FootnoteMarker columns index label) line start e gap inner next other = refl
 container_other last (DefinitionMarker columns) line start e gap inner next other = absurd (true≢false other)
 
--- what begins with a leaf block, or with a container that is no definition, begins with no definition of its own
+-- the rows of a leaf block, or of a container that is no definition, do not begin with definitions
 leaf_other : (b : LeafBlock) (gap : Bool) (r : Rows) (o : Option Definitions) → BeginsOther (option_map_or (titled b gap) o (OneOf (row_of_leaf b gap) End r))
 leaf_other b gap r None = refl
 leaf_other b gap r (Some ds) = titled_other ds.apart ds.«end»
@@ -293,7 +293,7 @@ title_same run (Then BlankLine next) other = other
 title_same run (Then (Block b) next) other = (refl, refl)
 title_same run (Node head e kids next) other = refl
 
--- a definition list closed before a block, with a possible title last in it
+-- a definition list that is closed before a block, with a possible title as its last child
 close_title_step : (d : Document) (defined : Tables) (frames : List Frame) (run loose : Bool) (nodes : List (ℕ × Item)) (o at e : ℕ) (os : List ℕ)
     (p : Place) (lines : List Place) (opening : Opening) (forest : List (ℕ × Item)) (tables : Tables)
     → IsPlain frames → StaysAt d (containers_of frames) p
@@ -327,7 +327,8 @@ close_title_step d defined frames run loose nodes o at e os p lines opening fore
     (finish_moved d _ _ _ _ _ _ _ _ _ os (Inside p) lines forest tables refl (plain_before (tail (ParagraphAt at) run) frames plain)
     (sym (loosened_in-false frames)) refl fin)
 
--- a definition list closed before a block that is no definition, with a possible title last in it, which is a paragraph then
+-- a definition list that is closed before a block other than a definition; its last child, a possible title, becomes a
+-- paragraph
 pub completes-close_title : (d : Document) (defined : Tables) (e at : ℕ) (run loose : Bool) (frames : List Frame) (nodes : List (ℕ × Item)) (o : ℕ)
     (os : List ℕ) (p : Place) (lines : List Place) (opening : Opening)
     → StaysAt d (containers_of frames) p → Opens d (lvl (InDefinitions loose ∷ frames) (tail (TitleAt e at) run)) p lines opening

@@ -1,4 +1,4 @@
--- Each step of reading a text, over what the nodes so far can still become.
+-- Each step of reading a text, in terms of what the nodes so far can still become.
 use Rattle.std.proofs.Common.{◌≡◌, ℕ, suc, ◌+◌, ◌<◌, Bool, true, false, not, ◌||◌, List, [], ◌∷◌, ◌++◌, length, Option, Some, None, refl}
 use Rattle.std.proofs.Common.{sym, ap, ◌∙◌, subst, arith, length-append, if◌then◌else◌}
 use Rattle.std.proofs.lemmas.List.{append-nil}
@@ -34,7 +34,7 @@ use Rattle.first_pass_completion.proofs.Titles.{closed_after, leaf_nodes, leaf_g
 use Rattle.first_pass_completion.proofs.Extending.{tail, lvl, finish_moved, AreBelow-more, length-ended, loosened-false, loosened_in-false, plain_last}
 use Rattle.first_pass_completion.proofs.Extending.{stands_after, EndsAlike, told_leaf, extend, enter_step, opens_stays, first_here}
 
--- nothing is last, and no run of blank lines
+-- no last child, and no blank lines
 abbrev pub fresh : Tail
 fresh = tail OtherClosed false
 
@@ -64,7 +64,7 @@ leaf_last place closed frames b plain =
     ∙ sym (plain_block closed b)
     ∙ ap (last_block b) (sym (plain_last closed frames plain))
 
--- a block with no blocks in it, before which no gap is to be noted
+-- a leaf block before which no gap is noted
 block_step : (d : Document) (defined : Tables) (closed : Closed) (frames : List Frame) (nodes : List (ℕ × Item)) (os : List ℕ) (from : From)
     (lines left : List Place) (b : LeafBlock) (forest : List (ℕ × Item)) (tables : Tables)
     → IsPlain frames → EndsAlike (length d.text) from (behind_first from Line) → FlatBlock b × OwnParagraph b
@@ -91,7 +91,7 @@ block_step d defined closed frames nodes os from lines left b forest tables plai
     (finish_moved d _ (NoList now) _ _ _ _ _ _ _ os (behind_first from Line) left forest tables refl
     (ap (λ z. stands_after z b.gap) (leaf_last (length nodes) closed frames b plain)) (sym (loosened_in-false frames)) refl fin)
 
--- a blank line, where a list may continue
+-- a blank line in a state with a list that may continue
 blank_step : (d : Document) (defined : Tables) (frames : List Frame) (list : Pending) (before : Before) (nodes : List (ℕ × Item)) (os : List ℕ) (from : From)
     (lines left : List Place) (forest : List (ℕ × Item)) (tables : Tables)
     → IsPlain frames → EndsAlike (length d.text) from (behind_first from Line)
@@ -105,7 +105,7 @@ blank_step d defined frames list before nodes os from lines left forest tables p
     plain alike (λ s mid seq. record { seq = (Line, left, first, seq); items = λ last is. refl; counts = refl; gaps = λ last. refl }) (λ s. refl)
     (subst (λ z. Finish d defined list now z nodes os (behind_first from Line) left forest tables) (sym (loosened_in-false frames)) fin)
 
--- Rows that begin with no definition stand beside what is last.
+-- Rows that do not begin with definitions follow the last child.
 pub beside_all : (k last : ℕ) (nodes : List (ℕ × Item)) (closed : Closed) (rows : Rows) → definitions_first rows ≡ None
     → (rendered k last nodes (NoList closed) rows ≡ nodes ++ items_of k false rows) × (rows_beyond (NoList closed) rows ≡ rows)
 unfolding rendered
@@ -128,7 +128,7 @@ completes-first d = record {
   });
 }
 
--- inside a line that the whole path continues
+-- inside a line that continues the whole path
 pub completes-enter : (d : Document) (defined : Tables) (t : Tail) (frames : List Frame) (nodes : List (ℕ × Item)) (os : List ℕ) (line q : Place)
     (lines : List Place)
     → taken (containers_of frames) line ≡ Some q → ends_old_footnote (lvl frames t) ≡ false
@@ -141,7 +141,7 @@ completes-enter d defined t frames nodes os line q lines is old c = record {
       (enter_step d defined frames (NoList t.closed) (before_of frames t) nodes os line q lines forest tables is old fin));
 }
 
--- after a block with no blocks in it, wherever it begins
+-- after a leaf block, wherever it begins
 pub completes-leaf : (d : Document) (defined : Tables) (closed : Closed) (frames : List Frame) (nodes : List (ℕ × Item)) (os : List ℕ) (from : From)
     (lines left : List Place) (b : LeafBlock)
     → IsPlain frames → EndsAlike (length d.text) from (behind_first from Line) → OwnFrom from
@@ -157,7 +157,7 @@ completes-leaf d defined closed frames nodes os from lines left b plain alike fl
       (opened_own d (lvl frames (tail closed false)) from lines b Line left flat first) first fin));
 }
 
--- after a block with no blocks in it, which begins inside a line
+-- after a leaf block that begins inside a line
 pub completes-block : (d : Document) (defined : Tables) (closed : Closed) (frames : List Frame) (nodes : List (ℕ × Item)) (os : List ℕ) (p : Place)
     (lines left : List Place) (b : LeafBlock)
     → IsPlain frames → Opens d (lvl frames (tail closed false)) p lines (OpensLeaf (Block b) Line left)
@@ -203,7 +203,7 @@ completes-mark d defined closed frames nodes os marker p blanks lines plain othe
     (completes-leaf d defined closed frames nodes os (At p (MarkAlone marker blanks)) lines lines b plain (mark_alike (length d.text) blanks) other
     (record { place = p; behind = lines; begins = refl; opens = refl }) c))
 
--- whether a run of blank lines counts with one more, after what is open
+-- whether the blank lines after open nodes include a counting one, after one more blank line
 abbrev pub counted_after : List Frame → Tail → Bool
 counted_after frames t = t.run || (not (in_quote (containers_of frames)) || list_is_open (last_of frames t.closed))
 
@@ -254,7 +254,7 @@ completes-blank_line d defined t frames nodes os p lines left opens c =
     completes-blank d defined t frames nodes os (Inside p) lines left (λ path mid. refl)
     (first_here d (lvl frames t) p lines leaf (opens_stays d (lvl frames t) p lines leaf refl opens) opens) c
 
--- after a blank line in a container that takes blank lines alone, which is no block quote
+-- after a blank line in a container that takes only blank lines, and is no block quote
 pub completes-only_blank : (d : Document) (defined : Tables) (t : Tail) (c : Container) (frames : List Frame) (nodes : List (ℕ × Item)) (os : List ℕ) (e : ℕ)
     (line p : Place) (lines : List Place)
     → is_quote c ≡ false → taken (c ∷ containers_of frames) line ≡ Some p → is_blank_rest p.rest ≡ true
@@ -269,7 +269,7 @@ completes-only_blank d defined t c frames nodes os e line p lines other is blank
     (completes-blank d defined t here nodes os (Blanks e) (line ∷ lines) lines (λ path mid. refl)
     (record { place = p; behind = lines; begins = begins_blank d.options (lvl here t) e line p lines is blank; opens = opens }) k)
 
--- At the text's end, with nothing open, the nodes are the forest.
+-- At the end of the text, if nothing is open, the nodes are the forest.
 pub completes-end : (d : Document) (defined : Tables) (t : Tail) (nodes : List (ℕ × Item))
     → CompletesAt d defined t [] nodes [] Line [] → Derives d nodes defined
 unfolding Finish IsSequence going rows_of items_of definitions_first definitions_of footnotes_of with_links with_labels
@@ -277,7 +277,7 @@ completes-end d defined t nodes c =
     finish_derives _ _ _ _ _ _ _ _ c nodes defined
     (Nil, refl, sym ((beside_all 1 (length d.text) nodes t.closed End refl).0 ∙ append-nil nodes), refl)
 
--- what is last after a container
+-- the last block after a container
 closed_last : (c : Container) (frames : List Frame) (e : ℕ) → StandsIn c frames → last_of frames (closed_as c e) ≡ last_container c
 closed_last (BlockQuote kind) frames e stands = plain_last OtherClosed frames stands
 closed_last (FootnoteDefinition columns) frames e stands = plain_last OtherClosed frames stands
@@ -290,7 +290,7 @@ closed_last (Definition columns) (InContainer c ∷ frames) e stands = absurd st
 closed_last (Definition columns) (InList byte loose ∷ frames) e stands = absurd stands
 closed_last (Definition columns) (InDefinitions loose ∷ frames) e stands = refl
 
--- the innermost container closed
+-- the innermost container, after it is closed
 pop_step : (d : Document) (defined : Tables) (c : Container) (frames : List Frame) (t : Tail) (nodes : List (ℕ × Item)) (o : ℕ) (os : List ℕ) (from : From)
     (lines : List Place) (left : Left) (forest : List (ℕ × Item)) (tables : Tables)
     → StandsIn c frames → going d.options (lvl (InContainer c ∷ frames) t) from lines ≡ Ends left
@@ -310,7 +310,7 @@ pop_step d defined c frames t nodes o os from lines left forest tables stands en
           (ap (λ z. ended z o e) (sym (none.0 ∙ append-nil nodes))) fin,
     )
 
--- the innermost container closed
+-- the innermost container is closed
 pub completes-pop : (d : Document) (defined : Tables) (t : Tail) (c : Container) (frames : List Frame) (nodes : List (ℕ × Item)) (o : ℕ) (os : List ℕ)
     (from : From) (lines : List Place) (left : Left)
     → going d.options (lvl (InContainer c ∷ frames) t) from lines ≡ Ends left
@@ -326,7 +326,7 @@ completes-pop d defined t c frames nodes o os from lines left ends k = record {
       finish_derives _ _ _ _ _ _ _ _ k forest tables (pop_step d defined c frames t nodes o os from lines left forest tables k.shape.0 ends fin));
 }
 
--- a footnote definition closed, which is innermost, where another begins
+-- an innermost footnote definition is closed where another one begins
 pub completes-pop_in_line : (d : Document) (defined : Tables) (t : Tail) (columns : ℕ) (frames : List Frame) (nodes : List (ℕ × Item)) (o : ℕ)
     (os : List ℕ) (p : Place) (lines : List Place) (head : ℕ × List ℕ)
     → footnote_head_at (around d (FootnoteDefinition columns ∷ containers_of frames)) p ≡ Some head

@@ -39,7 +39,7 @@ pub ended-mid : (nodes more : List (ℕ × Item)) (k e : ℕ) (x : Item)
 unfolding ended
 ended-mid nodes more k e x = modify-at nodes more (k, x) (length nodes) (λ y. record { start = y.start; «end» = e; body = y.body }) refl
 
--- a block quote opened, before which no gap is to be noted
+-- a block quote that is opened, before which no gap is noted
 quote_step : (d : Document) (defined : Tables) (closed : Closed) (frames : List Frame) (nodes : List (ℕ × Item)) (os : List ℕ) (p : Place)
     (lines behind : List Place) (kind : Option BlockQuoteKind) (start line some_end : ℕ) (inside : From)
     (forest : List (ℕ × Item)) (tables : Tables)
@@ -111,7 +111,7 @@ list_items quoted d last e start some_end byte number columns line flags before 
     ∙ append_assoc nodes (list ∷ entry ∷ a) (b ++ c)
     ∙ ap (λ z. nodes ++ list ∷ entry ∷ z) (sym (append_assoc a b c)))
 
--- a list opened with its first item, before which no gap is to be noted
+-- a list that is opened with its first item, before which no gap is noted
 list_step : (d : Document) (defined : Tables) (closed : Closed) (frames : List Frame) (nodes : List (ℕ × Item)) (os : List ℕ) (p : Place)
     (lines behind : List Place) (byte number columns start line some_end other_end : ℕ) (flags : ListFlags) (inside : From)
     (forest : List (ℕ × Item)) (tables : Tables)
@@ -181,7 +181,7 @@ joined_item quoted k last e start byte number columns line o before loose nodes 
       ap any_gap (list_first byte number (list_until (ItemsOf byte) last next) line start before.counted _ _),
     )
 
--- an item opened in a list that continues
+-- an item that is opened in a list that continues
 item_step : (d : Document) (defined : Tables) (closed : Closed) (frames : List Frame) (run loose : Bool) (nodes : List (ℕ × Item)) (o : ℕ) (os : List ℕ)
     (p : Place) (lines behind : List Place) (byte number columns start line some_end : ℕ) (inside : From) (forest : List (ℕ × Item)) (tables : Tables)
     → IsPlain frames → o < length nodes → StaysAt d (containers_of frames) p
@@ -220,7 +220,7 @@ item_step d defined closed frames run loose nodes o os p lines behind byte numbe
     (subst (λ z. Finish d (told_by defined kids) list now z later os (onward mid).0 (onward mid).1 forest tables) (sym (loosened_in-false frames))
     (subst (λ z. Finish d (told_by defined kids) list now frames z os (onward mid).0 (onward mid).1 forest tables) same fin))
 
--- a block quote opened
+-- a block quote is opened
 pub completes-quote : (d : Document) (defined : Tables) (closed : Closed) (frames : List Frame) (nodes : List (ℕ × Item)) (os : List ℕ) (p : Place)
     (lines behind : List Place) (kind : Option BlockQuoteKind) (start line some_end : ℕ) (inside : From)
     → IsPlain frames
@@ -240,7 +240,7 @@ completes-quote d defined closed frames nodes os p lines behind kind start line 
           (opens_stays d (lvl frames (tail closed false)) p lines _ refl opens) opens fin));
     }
 
--- a list opened, with its first item
+-- a list is opened, with its first item
 pub completes-list : (d : Document) (defined : Tables) (closed : Closed) (frames : List Frame) (nodes : List (ℕ × Item)) (os : List ℕ) (p : Place)
     (lines behind : List Place) (byte number columns start line some_end other_end : ℕ) (flags : ListFlags) (inside : From)
     → IsPlain frames
@@ -262,7 +262,7 @@ completes-list d defined closed frames nodes os p lines behind byte number colum
           (opens_stays d (lvl frames (tail closed false)) p lines _ refl opens) opens fin));
     }
 
--- an item opened in a list that continues
+-- an item is opened in a list that continues
 pub completes-item : (d : Document) (defined : Tables) (closed : Closed) (run loose : Bool) (frames : List Frame) (nodes : List (ℕ × Item)) (o : ℕ)
     (os : List ℕ) (p : Place) (lines behind : List Place) (byte number columns start line some_end : ℕ) (inside : From)
     → Opens d (lvl (InList byte loose ∷ frames) (tail closed run)) p lines
@@ -281,7 +281,7 @@ completes-item d defined closed run loose frames nodes o os p lines behind byte 
           k.shape.0 k.below.0 (opens_stays d (lvl (InList byte loose ∷ frames) (tail closed run)) p lines _ refl opens) opens fin));
     }
 
--- a footnote definition opened, before which no gap is to be noted
+-- a footnote definition that is opened, before which no gap is noted
 footnote_step : (d : Document) (defined : Tables) (closed : Closed) (frames : List Frame) (nodes : List (ℕ × Item)) (os : List ℕ) (p : Place)
     (lines behind : List Place) (columns : ℕ) (index : CowIndex) (label : List ℕ) (start line some_end : ℕ) (inside : From)
     (forest : List (ℕ × Item)) (tables : Tables)
@@ -322,7 +322,7 @@ footnote_step d defined closed frames nodes os p lines behind columns index labe
     (finish_moved d _ _ _ _ now _ _ _ later os (onward mid).0 (onward mid).1 forest tables refl refl
     (plain_loosened (any_gap rows) frames plain ∙ sym (loosened_in-false frames)) same fin)
 
--- a footnote definition opened, where no other ends
+-- a footnote definition is opened where no other one ends
 pub completes-footnote : (d : Document) (defined : Tables) (closed : Closed) (frames : List Frame) (nodes : List (ℕ × Item)) (os : List ℕ) (p : Place)
     (lines behind : List Place) (columns : ℕ) (index : CowIndex) (label : List ℕ) (start line some_end : ℕ) (inside : From)
     → IsPlain frames → StaysAt d (containers_of frames) p

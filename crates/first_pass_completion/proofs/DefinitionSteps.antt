@@ -1,4 +1,4 @@
--- The steps of reading a definition list, over what the nodes so far can still become.
+-- The steps of reading a definition list, in terms of what the nodes so far can still become.
 use Rattle.std.proofs.Common.{◌≡◌, ℕ, suc, ◌+◌, ◌<◌, Bool, true, false, ◌||◌, List, [], ◌∷◌, ◌++◌, length, refl}
 use Rattle.std.proofs.Common.{sym, ap, ◌∙◌, subst, arith, append_assoc, length-append}
 use Rattle.first_pass_items.specs.declared.item.Item.{Item}
@@ -27,7 +27,7 @@ use Rattle.first_pass_completion.proofs.TitleNodes.{as_possible, length-with_tit
 use Rattle.first_pass_completion.proofs.JoinedNodes.{first_definition, title_definition, joined_definition}
 use Rattle.first_pass_completion.proofs.Titles.{possible_title, possible_gaps}
 
--- how a definition begins
+-- the head of a definition
 abbrev pub definition_head_at : ℕ → ℕ → ℕ → Head
 definition_head_at columns start line = record { opener = DefinitionMarker columns; start = start; line = line }
 
@@ -38,7 +38,8 @@ definition_node start e columns = node_of start e (DefinitionListDefinition colu
 abbrev after_definition : ℕ → Skeleton → Before
 after_definition columns kids = after_container (Definition columns) (before_end false nothing kids)
 
--- A definition before rows belongs to the list at a place, which is loose so far or isn't: these nodes become those others with the definition more.
+-- A definition before rows belongs to the list at a place, so these nodes become those with one more definition;
+-- `loose`: the list is loose so far.
 abbrev Joined : Bool → ℕ → Pending → Before → List (ℕ × Item) → List (ℕ × Item) → ℕ → Bool → ℕ → ℕ → ℕ → Type 0
 Joined quoted k list before nodes later o loose columns start line = (e last : ℕ) (kids s : Skeleton)
     → (let inner : Rows = rows_of false nothing e kids in
@@ -49,7 +50,7 @@ Joined quoted k list before nodes later o loose columns start line = (e last : �
     (OneList o (DefinitionsTo e) (loose || any_gap inner)) next)
     × (any_gap (rows_beyond list rows) ≡ any_gap (list_behind (DefinitionsTo e) next)))
 
--- a definition opened
+-- a definition that is opened
 definition_step : (d : Document) (defined : Tables) (frames : List Frame) (list : Pending) (before : Before) (loose : Bool) (nodes later : List (ℕ × Item))
     (o : ℕ) (os : List ℕ) (p : Place) (lines behind : List Place) (columns start line some_end : ℕ) (inside : From) (forest : List (ℕ × Item))
     (tables : Tables)
@@ -101,7 +102,8 @@ first_step d defined run frames nodes at os p lines behind columns start line so
     forest tables plain stays opens
     (λ e last kids s. first_definition (in_quote (containers_of frames)) (suc (length os)) last e start columns line at before nodes kids s inside_of) fin
 
--- The first definition after a paragraph opened: that becomes a title, and both stand in a definition list, which has the paragraph's place.
+-- The first definition after a paragraph is opened. The paragraph becomes a title, and both are in a definition list
+-- at the paragraph's place.
 pub completes-first_definition : (d : Document) (defined : Tables) (run : Bool) (frames : List Frame) (nodes : List (ℕ × Item)) (at : ℕ) (os : List ℕ)
     (p : Place) (lines behind : List Place) (columns start line some_end : ℕ) (inside : From)
     → IsPlain frames → at < length nodes → AreBelow at os
@@ -121,7 +123,7 @@ completes-first_definition d defined run frames nodes at os p lines behind colum
           (opens_stays d (lvl frames (tail (ParagraphAt at) run)) p lines _ refl opens) opens fin));
     }
 
--- a definition opened after a possible title, which is one then
+-- a definition is opened after a possible title, which becomes a title
 pub completes-title_definition : (d : Document) (defined : Tables) (e at : ℕ) (run loose : Bool) (frames : List Frame) (nodes : List (ℕ × Item)) (o : ℕ)
     (os : List ℕ) (p : Place) (lines behind : List Place) (columns start line some_end : ℕ) (inside : From)
     → Opens d (lvl (InDefinitions loose ∷ frames) (tail (TitleAt e at) run)) p lines (OpensNode (definition_head_at columns start line) inside behind)
@@ -145,7 +147,7 @@ completes-title_definition d defined e at run loose frames nodes o os p lines be
           fin));
     }
 
--- a definition opened after a definition
+-- a definition is opened after a definition
 pub completes-definition : (d : Document) (defined : Tables) (e : ℕ) (blanks run loose : Bool) (frames : List Frame) (nodes : List (ℕ × Item)) (o : ℕ)
     (os : List ℕ) (p : Place) (lines behind : List Place) (columns start line some_end : ℕ) (inside : From)
     → Opens d (lvl (InDefinitions loose ∷ frames) (tail (DefinitionClosed e blanks) run)) p lines
@@ -176,7 +178,7 @@ title_gap b blanks true true is begins = (rw is refl, rw is refl)
 title_gap b blanks false true is begins = (refl, rw is refl)
 title_gap b blanks run false is begins = cc
 
--- a paragraph after a definition, before which no gap is to be noted
+-- a paragraph after a definition, before which no gap is noted
 possible_step : (d : Document) (defined : Tables) (e : ℕ) (blanks run loose : Bool) (frames : List Frame) (nodes : List (ℕ × Item)) (o : ℕ) (os : List ℕ)
     (p : Place) (lines left : List Place) (b : LeafBlock) (forest : List (ℕ × Item)) (tables : Tables)
     → IsPlain frames → o < length nodes → begins_paragraph b.items ≡ true → StaysAt d (containers_of frames) p

@@ -1,4 +1,4 @@
--- A node that stands before what is last may be changed before or after the rows that follow are rendered.
+-- A node before the last child may be changed before or after the following rows are rendered.
 use Rattle.std.proofs.Common.{◌≡◌, ℕ, zero, suc, ◌<◌, ◌≤◌, Bool, true, false, not, List, [], ◌∷◌, ◌++◌, length, Option, Some, None, refl, sym, ap, ◌∙◌, arith}
 use Rattle.first_pass_items.specs.declared.item.Item.{Item}
 use Rattle.first_pass_tree.specs.Forest.{modify, map_from}
@@ -10,7 +10,7 @@ use Rattle.first_pass_grammar.specs.Completion.{after_paragraph, rendered}
 use Rattle.first_pass_grammar.proofs.Tightening.{modify-append, length-closed}
 use Rattle.first_pass_completion.proofs.TitleNodes.{reflagged, length-with_title}
 
--- a place before that of a paragraph that is last
+-- a place before that of a paragraph that is the last child
 abbrev pub IsBefore : ℕ → Closed → Type 0
 IsBefore o OtherClosed = Unit {0}
 IsBefore o (ParagraphAt at) = o < at

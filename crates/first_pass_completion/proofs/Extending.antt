@@ -1,4 +1,4 @@
--- What adds blocks in front of a sequence leads to the same trees.
+-- Blocks added before a sequence lead to the same trees.
 use Rattle.std.proofs.Common.{◌≡◌, ℕ, suc, ◌<◌, ◌≤◌, Bool, true, false, ◌||◌, ◌&&◌, List, [], ◌∷◌, ◌++◌, length, Option, Some, None}
 use Rattle.std.proofs.Common.{MatchOption, refl, sym, ap, ◌∙◌, subst, arith}
 use Rattle.std.specs.Option.{is_some}
@@ -23,15 +23,15 @@ use Rattle.first_pass_grammar.proofs.Tightening.{length-modify}
 use Rattle.first_pass_grammar.proofs.Finishes.{Finish, containers-loosened, Tail, before_of}
 use Rattle.first_pass_grammar.proofs.Goings.{begins_inside, enters}
 
--- a run of blank lines that holds one that counts or doesn't, after what is last
+-- blank lines that include a counting one or not, after the last child
 abbrev pub tail : Closed → Bool → Tail
 tail closed run = record { closed = closed; run = run }
 
--- the containers of open nodes, and what stands before the next block in them
+-- the containers of open nodes, and what precedes the next block in them
 abbrev pub lvl : List Frame → Tail → Level
 lvl frames t = level (containers_of frames) (before_of frames t)
 
--- what is equal comes about alike
+-- completions of equal states are the same
 pub finish_moved : (d : Document) (defined : Tables) (list list' : Pending) (before before' : Before) (frames frames' : List Frame)
     (nodes nodes' : List (ℕ × Item)) (os : List ℕ) (from : From) (lines : List Place) (forest : List (ℕ × Item)) (tables : Tables)
     → list ≡ list' → before ≡ before' → frames ≡ frames' → nodes ≡ nodes'
@@ -42,7 +42,7 @@ finish_moved d defined list list' before before' frames frames' nodes nodes' os 
     (subst (λ z. Finish d defined list' z frames nodes os from lines forest tables) stand
     (subst (λ z. Finish d defined z before frames nodes os from lines forest tables) opened fin)))
 
--- A block in what is innermost, with a blank line before it, makes the list loose around that.
+-- A blank line before a block in the innermost container makes the list around that container loose.
 abbrev pub loosened_in : Bool → List Frame → List Frame
 loosened_in gap [] = []
 loosened_in gap (frame ∷ frames) = frame ∷ loosened gap frames
@@ -81,21 +81,21 @@ plain_loosened gap (InContainer c ∷ frames) h = refl
 plain_loosened gap (InList byte loose ∷ frames) h = absurd h
 plain_loosened gap (InDefinitions loose ∷ frames) h = absurd h
 
--- what is last where no list is innermost
+-- the last block if no list is innermost
 pub plain_last : (closed : Closed) (frames : List Frame) → IsPlain frames → last_of frames closed ≡ last_plain closed
 plain_last closed [] h = refl
 plain_last closed (InContainer c ∷ frames) h = refl
 plain_last closed (InList byte loose ∷ frames) h = absurd h
 plain_last closed (InDefinitions loose ∷ frames) h = absurd h
 
--- before the next block, after what is last and a run of blank lines
+-- what precedes the next block, after the last block and blank lines
 abbrev pub stands_after : Last → Bool → Before
 stands_after last run = record { last = last; counted = run }
 
 pub plain_before : (t : Tail) (frames : List Frame) → IsPlain frames → before_of frames t ≡ stands_after (last_plain t.closed) t.run
 plain_before t frames plain = ap (λ z. stands_after z t.run) (plain_last t.closed frames plain)
 
--- where not blank lines alone are taken, what blocks stand in ends where they leave the lines
+-- if more than blank lines may follow, the container of these blocks ends where they leave the lines
 abbrev pub EndsAt : ℕ → From → Left → ℕ → Type 0
 EndsAt n from mid last = blanks_alone from ≡ None → last ≡ end_of_left n [] None mid
 
@@ -103,7 +103,8 @@ end_anywhere : (n : ℕ) (path : List Container) (left : Left) → end_of_left n
 end_anywhere n path (Lines lines) = refl
 end_anywhere n path (InLine p lines) = refl
 
--- What a block adds, or a list's end: the same items come of it, blank lines at the end count alike, and the same gaps with one that is noted.
+-- What a block, or the end of a list, adds: the same items, the same count for blank lines at the end, and the same
+-- gaps together with one that is noted.
 pub record Adds (d : Document) (depth : ℕ) (path : List Container) (list list' : Pending) (before before' : Before) (gap : Bool)
     (nodes nodes' : List (ℕ × Item)) (from : From) (lines : List Place) (s t : Skeleton) (mid : Left) : Type 0 where
   pub seq : IsSequence d t (level path before) from lines mid
@@ -113,11 +114,11 @@ pub record Adds (d : Document) (depth : ℕ) (path : List Container) (list list'
   pub gaps : (last : ℕ) → any_gap (rows_beyond list (rows_of (in_quote path) before last t))
       ≡ (gap || any_gap (rows_beyond list' (rows_of (in_quote path) before' last s)))
 
--- a container ends alike, wherever the blocks in it continue
+-- a container ends at the same place, wherever the blocks in it continue
 abbrev pub EndsAlike : ℕ → From → From → Type 0
 EndsAlike n from there = (path : List Container) (mid : Left) → end_before n path from mid ≡ end_before n path there mid
 
--- what is told with more definitions, one list after the other
+-- tables with more definitions added, one list after the other
 told_links : (links a b : List LinkEntry) → with_links links (a ++ b) ≡ with_links (with_links links a) b
 unfolding with_links
 told_links links [] b = refl
@@ -134,7 +135,7 @@ tables_with footnotes links = record { links = links; footnotes = footnotes }
 pub told-append : (defined : Tables) (a b : List LinkEntry) → told (told defined a) b ≡ told defined (a ++ b)
 told-append defined a b = ap (tables_with defined.footnotes) (sym (told_links defined.links a b))
 
--- what a leaf block defines before a sequence, and what a container's blocks do
+-- what a leaf block before a sequence defines; the next lemma: what the blocks of a container define
 pub told_leaf : (defined : Tables) (b : LeafBlock) (s : Skeleton) → told_by (told defined b.definitions) s ≡ told_by defined (Then (Block b) s)
 unfolding definitions_of footnotes_of
 told_leaf defined b s =
@@ -203,7 +204,7 @@ extend d defined defined' (InContainer c ∷ frames) list list' before before' g
           (ended (rendered depth z nodes' list' (rows z)) o z) os (onward mid).0 (onward mid).1 forest tables) same fin)),
     )
 
--- What begins inside a line begins at the line.
+-- A block that begins inside a line also begins at the line.
 enter_first : (d : Document) (l : Level) (line q : Place) (lines : List Place) (opening : Opening) → taken l.path line ≡ Some q
     → ends_old_footnote l ≡ false → IsFirst d l (Inside q) lines opening → IsFirst d l Line (line ∷ lines) opening
 enter_first d l line q lines opening is old first =
@@ -236,11 +237,11 @@ enter_step d defined (InDefinitions loose ∷ frames) list before nodes (o ∷ o
 enter_step d defined (InContainer c ∷ frames) list before nodes (o ∷ os) line q lines forest tables is old (s, mid, seq, fin) =
     (s, mid, enter_seq d s (level (c ∷ containers_of frames) before) line q lines mid is old seq, fin)
 
--- no footnote definition that is innermost ends at a place
+-- no innermost footnote definition ends at a place
 abbrev pub StaysAt : Document → List Container → Place → Type 0
 StaysAt d path p = ends_footnote (around d path) p ≡ false
 
--- so it is where no other begins, and outside of footnote definitions
+-- the same if no other one begins there, and outside of footnote definitions
 and_no : (b : Bool) → (b && false) ≡ false
 and_no true = refl
 and_no false = refl
@@ -262,7 +263,7 @@ unfolding OpensFootnote
 no_head d l p lines None o none opens = refl
 no_head d l p lines (Some (size, label)) o none (index, named, is) = let both : [] ≡ label ∷ [] = sym none ∙ ap label_opened is in cc
 
--- and where something else begins
+-- the same if something else begins
 pub opens_stays : (d : Document) (l : Level) (p : Place) (lines : List Place) (o : Opening) → label_opened o ≡ [] → Opens d l p lines o → StaysAt d l.path p
 opens_stays d l p lines o none opens = stays_without d l.path p (no_head d l p lines (footnote_head_at (around d l.path) p) o none opens)
 

@@ -1,4 +1,4 @@
--- The flags that a list has in its node, and the end that a definition list has there, don't matter before it is closed.
+-- The flags of a list's node, and the end of a definition list's node, do not matter before the list is closed.
 use Rattle.std.proofs.Common.{◌≡◌, ℕ, suc, ◌<◌, Bool, false, ◌||◌, List, ◌∷◌, length, refl}
 use Rattle.std.proofs.Common.{sym, ap, ◌∙◌, subst, arith}
 use Rattle.first_pass_items.specs.declared.item.Item.{Item}
@@ -25,7 +25,7 @@ pub length-reflagged : (nodes : List (ℕ × Item)) (o : ℕ) (l : Bool) → len
 unfolding reflagged
 length-reflagged nodes o l = length-modify nodes o _
 
--- nodes that render alike before whatever rows
+-- nodes that render alike, whatever rows follow
 renode_step : (d : Document) (defined : Tables) (frames : List Frame) (list : Pending) (before : Before) (nodes nodes' : List (ℕ × Item)) (os : List ℕ)
     (from : From) (lines : List Place) (forest : List (ℕ × Item)) (tables : Tables)
     → IsPlain frames → ((k last : ℕ) (r : Rows) → rendered k last nodes' list r ≡ rendered k last nodes list r)
@@ -37,7 +37,7 @@ renode_step d defined frames list before nodes nodes' os from lines forest table
     (λ s. refl)
     (subst (λ z. Finish d defined list before z nodes' os from lines forest tables) (sym (loosened_in-false frames)) fin)
 
--- a definition list is open, with a definition last in it or a possible title
+-- a definition list is open, and its last child is a definition or a possible title
 abbrev pub IsDefined : Closed → Type 0
 IsDefined OtherClosed = ⊥
 IsDefined (ParagraphAt at) = ⊥
@@ -65,7 +65,7 @@ completes-reflag_list d defined t byte loose l frames nodes o os from lines k = 
       forest tables k.shape.0 (λ k last r. list-reflagged k last nodes o l (ItemsOf byte) loose r) fin));
 }
 
--- the end that a definition list has in its node while it may continue
+-- the end in a definition list's node while the list may continue
 pub completes-reended : (d : Document) (defined : Tables) (t : Tail) (loose : Bool) (frames : List Frame) (nodes : List (ℕ × Item)) (o x : ℕ)
     (os : List ℕ) (from : From) (lines : List Place)
     → IsDefined t.closed → CompletesAt d defined t (InDefinitions loose ∷ frames) nodes (o ∷ os) from lines
@@ -83,7 +83,7 @@ ended-reflagged : (nodes : List (ℕ × Item)) (o x e : ℕ) (l : Bool) → ende
 unfolding ended reflagged
 ended-reflagged nodes o x e l = swapped nodes o x _ _ (λ y. refl)
 
--- the flags of the list in whose item blocks continue
+-- the flags of the list whose item blocks continue in
 reflag_outer : (d : Document) (defined : Tables) (c : Container) (frames : List Frame) (byte : ℕ) (loose : Bool) (closed : Closed) (before : Before) (l : Bool)
     (nodes : List (ℕ × Item)) (x o : ℕ) (os : List ℕ) (from : From) (lines : List Place) (forest : List (ℕ × Item)) (tables : Tables)
     → IsPlain frames → o < length nodes → IsBefore o closed
@@ -119,7 +119,7 @@ completes-reflag d defined t c byte loose l frames nodes x o os from lines befor
       k.shape.1.0 (let a : x < length nodes = k.below.0 in let b : o < x = k.below.1.0 in omega arith) before_it fin));
 }
 
--- the flags of the definition list in whose definition blocks continue
+-- the flags of the definition list whose definition blocks continue in
 reflag_around : (d : Document) (defined : Tables) (columns : ℕ) (frames : List Frame) (loose : Bool) (closed : Closed) (before : Before) (l : Bool)
     (nodes : List (ℕ × Item)) (x o : ℕ) (os : List ℕ) (from : From) (lines : List Place) (forest : List (ℕ × Item)) (tables : Tables)
     → IsPlain frames → o < length nodes → IsBefore o closed

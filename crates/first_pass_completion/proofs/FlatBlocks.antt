@@ -1,4 +1,4 @@
--- No item of a leaf block is a paragraph but its first, and link definitions alone have no items.
+-- Only the first item of a leaf block may be a paragraph, and link reference definitions have no items.
 use Rattle.std.proofs.Common.{◌≡◌, ℕ, Bool, true, false, List, ◌∷◌, drop, Option, Some, None, MatchOption, IfSome, refl, sym, ap, subst, ◌∙◌, []}
 use Rattle.std.proofs.Common.{if◌then◌else◌}
 use Rattle.std.proofs.lemmas.Bool.{true≢false}
@@ -45,12 +45,12 @@ IsNoParagraph body = is_paragraph_body body ≡ false
 abbrev pub NoParagraph : List (ℕ × Item) → Type 0
 NoParagraph items = AreEachNode IsNoParagraph items
 
--- the first of these items stands at the block's own depth, and starts at an offset
+-- the first of these items is at the block's own depth, and starts at an offset
 abbrev pub BeginsAt : ℕ → List (ℕ × Item) → Type 0
 BeginsAt start [] = ⊥
 BeginsAt start (x ∷ items) = (x.0 ≡ 0) × (x.1.start ≡ start)
 
--- this holds of each item after the first of a paragraph; and link definitions alone have no items
+-- each item after the first of a paragraph has a property; link reference definitions have no items
 pub record HoldsInBlock (P : ItemBody → Type 0) (b : LeafBlock) : Type 0 where
   pub tokens : begins_paragraph b.items ≡ true → AreEachNode P (drop 1 b.items)
   pub none : is_run b.kind ≡ true → b.items ≡ []
@@ -59,12 +59,13 @@ pub record HoldsInBlock (P : ItemBody → Type 0) (b : LeafBlock) : Type 0 where
 abbrev pub FlatBlock : LeafBlock → Type 0
 FlatBlock b = HoldsInBlock IsNoParagraph b
 
--- what is a paragraph was read as one, and starts where its block does
+-- a block that is a paragraph was read as one, and its node starts where the block does
 pub record OwnParagraph (b : LeafBlock) : Type 0 where
   pub kind : begins_paragraph b.items ≡ true → is_paragraph b.kind ≡ true
   pub first : begins_paragraph b.items ≡ true → BeginsAt b.start b.items
 
--- where blocks continue, this holds of the marker of a task before a text, and such a marker alone is no paragraph
+-- where blocks continue, the task list item marker before a text has a property; a marker without a text is no
+-- paragraph
 abbrev pub HoldsOfMarker : (ItemBody → Type 0) → From → Type 0
 HoldsOfMarker P Line = Unit {0}
 HoldsOfMarker P (Blanks e) = Unit {0}
@@ -98,14 +99,15 @@ begins_other : (x : ℕ × Item) (more items : List (ℕ × Item)) → items ≡
 begins_other x more items is other begins = true≢false (sym begins ∙ ap begins_paragraph is ∙ other)
 
 module _ (P : ItemBody → Type 0) where
-  -- items of a block that starts at an offset: where they are a paragraph, that starts there, and this holds of the others
+  -- items of a block that starts at an offset: if they are a paragraph, it starts there, and the other items have a
+  -- property
   abbrev HoldsInText : ℕ → List (ℕ × Item) → Type 0
   HoldsInText start items = begins_paragraph items ≡ true → BeginsAt start items × AreEachNode P (drop 1 items)
 
   other_text : (start : ℕ) (x : ℕ × Item) (more items : List (ℕ × Item)) → items ≡ x ∷ more → IsNoParagraph x.1.body → HoldsInText start items
   other_text start x more items is other begins = absurd (begins_other x more items is other begins)
 
-  -- so of what is opened
+  -- what opens has this property
   abbrev pub HoldsInOpening : Opening → Type 0
   HoldsInOpening (OpensLeaf BlankLine there left) = Unit {0}
   HoldsInOpening (OpensLeaf (Block b) there left) = HoldsInBlock P b × OwnParagraph b
@@ -184,7 +186,7 @@ module _ (P : ItemBody → Type 0) (d : Document) (holds : HoldsOfTokens d.names
   opens_block : (path : List Container) (p : Place) (lines : List Place) (o : Opening) → OpensBlockAt d path p lines o → HoldsInOpening P o
   opens_block path p lines o (k, is, opens) = kind_holds path p lines (kind_in (around d path) p k) o opens
 
-  -- what a container opens is no leaf block
+  -- a container that opens is no leaf block
   unless_opens : (t : Bool) (o o' : Opening) → HoldsInOpening P o → HoldsInOpening P o' → HoldsInOpening P (if t then o else o')
   unless_opens true o o' h k = h
   unless_opens false o o' h k = k
@@ -220,12 +222,12 @@ module _ (P : ItemBody → Type 0) (d : Document) (holds : HoldsOfTokens d.names
   opens_at l (At q (TextOf marker)) p lines o mark opens = opens_text l.path p lines (Some marker) o mark opens
   opens_at l (At q (MarkAlone marker blanks)) p lines o mark e = subst (HoldsInOpening P) (sym e) (other_block P _ _ _ refl refl mark)
 
-  -- what holds of each token of a text holds of each item after the first of a paragraph that is opened
+  -- a property of each token of a text holds for each item after the first of a paragraph that opens
   pub opened_holds : (l : Level) (from : From) (lines : List Place) (b : LeafBlock) (there : From) (left : List Place) → HoldsOfMarker P from
       → IsFirst d l from lines (OpensLeaf (Block b) there left) → HoldsInBlock P b × OwnParagraph b
   opened_holds l from lines b there left mark first = opens_at l from first.place first.behind (OpensLeaf (Block b) there left) mark first.opens
 
--- A first block is flat, and its paragraph its own.
+-- The first block of a sequence is flat, and its paragraph starts where it does.
 pub opened_own : (d : Document) (l : Level) (from : From) (lines : List Place) (b : LeafBlock) (there : From) (left : List Place) → OwnFrom from
     → IsFirst d l from lines (OpensLeaf (Block b) there left) → FlatBlock b × OwnParagraph b
 opened_own d l from lines b there left mark first = opened_holds IsNoParagraph d (tokens_flat d.names.texts) l from lines b there left mark first

@@ -1,4 +1,4 @@
--- What nodes become with a definition more, and nodes of a list that is open.
+-- Nodes with one more definition, and nodes of an open list.
 use Rattle.std.proofs.Common.{◌≡◌, ℕ, suc, ◌<◌, Bool, true, false, not, ◌||◌, List, ◌∷◌, ◌++◌, length, Option, Some, None}
 use Rattle.std.proofs.Common.{refl, sym, ap, ◌∙◌, arith, append_assoc}
 use Rattle.first_pass_items.specs.declared.item.Item.{Item}
@@ -112,7 +112,7 @@ joined_definition quoted k last e start columns line place e0 before loose nodes
     let x : Item = node_of start e (DefinitionListDefinition columns) in
     (joined k last place e (DefinitionsTo e) loose (marked columns line start e before.counted) x nodes kids next h (λ tight. refl), refl)
 
--- The end and the flags that a list has in its node don't matter once it is closed.
+-- The end and the flags in a list's node do not matter after the list is closed.
 title_same : (k : ℕ) (nodes nodes' : List (ℕ × Item)) (o at e : ℕ) (loose : Bool) (r : Rows) (ds : Option Definitions)
     → ((d : ℕ) (now : Bool) (until : ℕ) → list_closed nodes o d now until ≡ list_closed nodes' o d now until)
     → ((d : ℕ) (now : Bool) (until : ℕ) → list_closed (title_taken nodes at) o d now until ≡ list_closed (title_taken nodes' at) o d now until)

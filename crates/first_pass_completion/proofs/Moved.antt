@@ -1,4 +1,4 @@
--- What opens at a place, whatever stands before it.
+-- What opens at a place, whatever precedes it.
 use Rattle.std.proofs.Common.{◌≡◌, ℕ, ◌&&◌, Bool, true, false, List, ◌∷◌, Option, Some, None, MatchOption, refl, sym, ap, ◌∙◌, subst, if◌then◌else◌}
 use Rattle.std.specs.Option.{option_map, option_or}
 use Rattle.std.proofs.lemmas.Bool.{true≢false}
@@ -39,12 +39,12 @@ abbrev pub opens_definition : Opening → Bool
 opens_definition (OpensLeaf leaf there left) = false
 opens_definition (OpensNode head inside behind) = is_definition head.opener
 
--- What opens at a place is the same whichever of the two stands before it.
+-- What opens at a place is the same, whichever of two states precedes it.
 pub record OpensAlike (d : Document) (path : List Container) (before before' : Before) (p : Place) : Type 0 where
   pub to : (lines : List Place) (o : Opening) → Opens d (level path before) p lines o → Opens d (level path before') p lines o
   pub back : (lines : List Place) (o : Opening) → Opens d (level path before') p lines o → Opens d (level path before) p lines o
 
--- what opens, by the head of a footnote definition there or none, and by what begins another container or none
+-- what opens, given the head of a footnote definition there, if any, and the start of another container, if any
 abbrev OpensWith : Document → List Container → Place → List Place → Opening → Option (ℕ × List ℕ) → Option Start → Type 0
 OpensWith d path p lines o head start = MatchOption head (OpensBy d path p lines start o) (λ h. OpensFootnote d p lines h o)
 
@@ -55,7 +55,7 @@ start_alike d path before before' p is = record {
   back = λ lines o opens. subst (OpensWith d path p lines o (footnote_head_at (around d path) p)) (sym is) opens;
 }
 
--- where both take a definition, or neither does
+-- a definition may begin after both states, or after neither
 pub takes_alike : (d : Document) (path : List Container) (before before' : Before) (p : Place)
     → takes_definition before.last ≡ takes_definition before'.last → OpensAlike d path before before' p
 takes_alike d path before before' p is =
@@ -115,7 +115,7 @@ other_by d path before before' p lines o None is other none opens =
     (without d path p lines o _ other opens
     ∙ ap (λ (t : Bool). start_at d.options t p) (sym (and_not (has d.options definition_list) (takes_definition before'.last) none)))
 
--- where what opens is no definition, and the other takes none
+-- what opens is no definition, and none may begin after the other state
 pub other_alike : (d : Document) (path : List Container) (before before' : Before) (p : Place) (lines : List Place) (o : Opening)
     → opens_definition o ≡ false → takes_definition before'.last ≡ false → Opens d (level path before) p lines o → OpensAlike d path before before' p
 other_alike d path before before' p lines o other none opens =
@@ -142,14 +142,14 @@ first_moved d path before before' p lines o alike first =
       opens = here.to first.behind o first.opens;
     }
 
--- after the first block of a sequence the same stands, whichever of the two stands before it
+-- after the first block of a sequence the state is the same, whichever of two states precedes that block
 abbrev pub SameAfter : Before → Before → Skeleton → Type 0
 SameAfter before before' Nil = ⊥
 SameAfter before before' (Then BlankLine next) = ⊥
 SameAfter before before' (Then (Block b) next) = after_block before b ≡ after_block before' b
 SameAfter before before' (Node head e kids next) = Unit {0}
 
--- to such a sequence inside a line it is the same which of the two stands before
+-- such a sequence inside a line is the same, whichever of two states precedes it
 pub seq_moved : (d : Document) (s : Skeleton) (path : List Container) (before before' : Before) (p : Place) (lines : List Place) (mid : Left)
     → OpensAlike d path before before' p → SameAfter before before' s
     → IsSequence d s (level path before) (Inside p) lines mid → IsSequence d s (level path before') (Inside p) lines mid
@@ -205,17 +205,17 @@ counts_moved quoted before before' (Then BlankLine next) same = absurd same
 counts_moved quoted before before' (Then (Block b) next) same = ap (λ z. (before_end quoted z next).counted) same
 counts_moved quoted before before' (Node head e kids next) same = refl
 
--- a leaf block that opens is flat, and its paragraph its own
+-- a leaf block that opens is flat, and its paragraph has its start
 abbrev pub FlatOpened : Opening → Type 0
 FlatOpened (OpensLeaf BlankLine there left) = Unit {0}
 FlatOpened (OpensLeaf (Block b) there left) = FlatBlock b × OwnParagraph b
 FlatOpened (OpensNode head inside behind) = Unit {0}
 
--- what opens first is alike to this, and is flat
+-- the first block opens alike to this, and is flat
 abbrev pub Known : Document → Opening → Opening → Type 0
 Known d o o' = AlikeOpening d.names d.names o o' × FlatOpened o'
 
--- a sequence has a first block, of which this holds as it opens
+-- a sequence has a first block, whose opening has a property
 abbrev pub FirstHas : (Opening → Type 0) → Skeleton → Type 0
 FirstHas P Nil = ⊥
 FirstHas P (Then leaf next) = (there : From) × (left : List Place) × P (OpensLeaf leaf there left)
@@ -235,7 +235,7 @@ alike_first : (d : Document) (path : List Container) (before : Before) (p : Plac
 alike_first d path before p lines o o' opens first =
     one_opening d d.names (level path before) p lines o o' opens (opens_first d path before p lines o' first)
 
--- the first block of a sequence is what opens at its place
+-- the first block of a sequence is the one that opens at its place
 pub known_first : (d : Document) (path : List Container) (before : Before) (p : Place) (lines : List Place) (mid : Left) (o : Opening) (s : Skeleton)
     → StaysAt d path p → Opens d (level path before) p lines o → IsSequence d s (level path before) (Inside p) lines mid → FirstHas (Known d o) s
 unfolding IsSequence

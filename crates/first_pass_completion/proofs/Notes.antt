@@ -1,4 +1,4 @@
--- A gap that is noted before a block: the list around is loose then.
+-- A gap that is noted before a block makes the list around it loose.
 use Rattle.std.proofs.Common.{◌≡◌, ℕ, suc, Bool, true, false, not, ◌||◌, ◌&&◌, List, [], ◌∷◌, ◌++◌, length, None, refl, sym, ap, ◌∙◌, subst}
 use Rattle.std.proofs.lemmas.Bool.{true≢false}
 use Rattle.first_pass_items.specs.declared.item.Item.{Item}
@@ -24,7 +24,7 @@ use Rattle.first_pass_completion.proofs.Moved.{is_definition, opens_definition, 
 use Rattle.first_pass_completion.proofs.Moved.{OpensBlock, FirstIsOther, first_is_other}
 use Rattle.first_pass_completion.proofs.Titles.{leaf_nodes, leaf_gaps}
 
--- what is last where no list is innermost is no definition
+-- if no list is innermost, the last block is no definition
 no_definition : (closed : Closed) → is_after_definition (last_plain closed) ≡ false
 no_definition OtherClosed = refl
 no_definition (ParagraphAt at) = refl
@@ -36,7 +36,7 @@ run_by false t u h = refl
 run_by true false u h = refl
 run_by true true u h = ap not h
 
--- where a block is first, the run of blank lines before it is its own
+-- for a sequence that begins with a block, blank lines before it matter only as the gap of that block
 record IsNoted (quoted run : Bool) (closed : Closed) (s : Skeleton) : Type 0 where
   pub items : (k e : ℕ) (nodes : List (ℕ × Item))
       → rendered k e nodes (NoList closed) (rows_of quoted (stands_after (last_plain closed) run) e s)
@@ -175,7 +175,7 @@ note_whole d defined frames t nodes os p lines opening forest tables plain stays
     (subst (λ z. Finish d defined (NoList t.closed) z (loosened_in t.run frames) nodes os (Inside p) lines forest tables)
     (plain_before (tail t.closed false) (loosened_in t.run frames) (plain_in t.run frames plain)) fin))
 
--- a gap noted before a block that is no definition
+-- a gap is noted before a block that is no definition
 pub completes-note : (d : Document) (defined : Tables) (t : Tail) (frames : List Frame) (nodes : List (ℕ × Item)) (os : List ℕ) (p : Place)
     (lines : List Place) (opening : Opening)
     → IsPlain frames → StaysAt d (containers_of frames) p → Opens d (lvl frames t) p lines opening → OpensBlock opening → opens_definition opening ≡ false

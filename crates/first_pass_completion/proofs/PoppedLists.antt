@@ -1,4 +1,4 @@
--- Lists that are closed with what is around them.
+-- Lists that are closed together with the container around them.
 use Rattle.std.proofs.Common.{◌≡◌, ℕ, suc, ◌<◌, Bool, true, false, List, [], ◌∷◌, ◌++◌, length, None, refl}
 use Rattle.std.proofs.Common.{sym, ap, ◌∙◌, subst, arith}
 use Rattle.std.proofs.Math.Bool.{or-false}
@@ -27,12 +27,12 @@ use Rattle.first_pass_grammar.proofs.Tightening.{length-closed}
 use Rattle.first_pass_completion.proofs.TitleNodes.{length-left}
 use Rattle.first_pass_grammar.proofs.Unique.{ends_at_once}
 
--- what is last where a list may continue
+-- the last block in a list that may continue
 abbrev pub last_in : Joins → Bool → Last
 last_in (ItemsOf byte) blanks = LastItem
 last_in (DefinitionsTo e) blanks = LastDefinition blanks
 
--- What may continue, before the end of what it stands in, becomes no list.
+-- A list that may continue is closed before the end of the container around it.
 shut_step : (d : Document) (defined : Tables) (frames : List Frame) (list : Pending) (t : Tail) (last : Last) (run : Bool) (nodes nodes' : List (ℕ × Item))
     (os : List ℕ) (from : From) (lines : List Place) (left : Left) (forest : List (ℕ × Item)) (tables : Tables)
     → IsPlain frames → t.run ≡ run → ((before : Before) → going d.options (level (containers_of frames) before) from lines ≡ Ends left)
@@ -95,7 +95,7 @@ title_below nodes o os depth loose e at below =
     AreBelow-more (length (list_closed nodes o depth loose e)) _ os
     (let l = length-left (list_closed nodes o depth loose e) at in omega arith) (closed_below nodes o os depth loose e below)
 
--- a list closed with what is around it, wherever that ends
+-- a list is closed with the container around it, wherever that ends
 completes-pop_any : (d : Document) (defined : Tables) (t : Tail) (byte : ℕ) (loose : Bool) (frames : List Frame) (nodes : List (ℕ × Item)) (o : ℕ)
     (os : List ℕ) (from : From) (lines : List Place) (left : Left)
     → blanks_alone from ≡ None → ((before : Before) → going d.options (level (containers_of frames) before) from lines ≡ Ends left)
@@ -137,7 +137,7 @@ completes-pop_title_any d defined e at run loose frames nodes o os from lines le
       (pop_title_step d defined frames loose run nodes o at e os from lines left forest tables k.shape.0 ends fin));
 }
 
--- a list closed with what is around it, before a line that doesn't continue that
+-- a list is closed with the container around it, before a line that does not continue that container
 pub completes-pop_list : (d : Document) (defined : Tables) (t : Tail) (byte : ℕ) (loose : Bool) (frames : List Frame) (nodes : List (ℕ × Item)) (o : ℕ)
     (os : List ℕ) (lines : List Place)
     → next_goes_on (containers_of frames) lines ≡ false → CompletesAt d defined t (InList byte loose ∷ frames) nodes (o ∷ os) Line lines
@@ -157,7 +157,7 @@ completes-pop_definitions d defined e blanks run loose frames nodes o os lines e
     completes-pop_definitions_any d defined e blanks run loose frames nodes o os Line lines (Lines lines) refl
     (λ before. stops d.options (level (containers_of frames) before) lines ends) k
 
--- a definition list so closed, with a possible title last in it, which is a paragraph then
+-- a definition list is closed in this way; its last child, a possible title, becomes a paragraph
 pub completes-pop_title : (d : Document) (defined : Tables) (e at : ℕ) (run loose : Bool) (frames : List Frame) (nodes : List (ℕ × Item)) (o : ℕ)
     (os : List ℕ) (lines : List Place)
     → next_goes_on (containers_of frames) lines ≡ false
@@ -167,7 +167,7 @@ completes-pop_title d defined e at run loose frames nodes o os lines ends k =
     completes-pop_title_any d defined e at run loose frames nodes o os Line lines (Lines lines)
     (λ before. stops d.options (level (containers_of frames) before) lines ends) k
 
--- a list closed with the footnote definition around it, where another begins
+-- a list is closed with the footnote definition around it, where another one begins
 pub completes-pop_list_in_line : (d : Document) (defined : Tables) (t : Tail) (byte : ℕ) (loose : Bool) (frames : List Frame) (nodes : List (ℕ × Item))
     (o : ℕ) (os : List ℕ) (p : Place) (lines : List Place)
     → ends_footnote (around d (containers_of frames)) p ≡ true → CompletesAt d defined t (InList byte loose ∷ frames) nodes (o ∷ os) (Inside p) lines

@@ -1,4 +1,4 @@
--- Nodes that show nothing of tables: they show nothing still where more stands after them, and where lists and containers are closed.
+-- Nodes that are no part of a table stay so when more nodes follow, and when lists and containers are closed.
 use Rattle.std.proofs.Common.{◌≡◌, ℕ, zero, suc, ◌==◌, ◌||◌, not, Bool, true, false, List, [], ◌∷◌, ◌++◌, map, Option, Some, None, refl, sym, ap, ◌∙◌}
 use Rattle.std.proofs.Common.{if◌then◌else◌}
 use Rattle.std.proofs.lemmas.List.{append_assoc}
@@ -21,28 +21,28 @@ use Rattle.first_pass_grammar.proofs.TableMarks.{marks-append}
 use Rattle.first_pass_grammar.proofs.WholeForests.{table_marks-append, whole_both, tight_shows, marks-tightened, WholeRows, forest_whole}
 use Rattle.first_pass_grammar.specs.WholeTables.{AreEachNode, ShowsNothing, SilentClosed, SilentFrom}
 
--- a node stands at a place, and shows nothing
+-- there is a node at a place, and it is no part of a table
 abbrev pub IsSilent : List (ℕ × Item) → ℕ → Type 0
 IsSilent [] i = ⊥
 IsSilent (n ∷ nodes) zero = ShowsNothing n.1.body
 IsSilent (n ∷ nodes) (suc i) = IsSilent nodes i
 
--- so at each of these places
+-- the same at each of these places
 abbrev pub AreSilent : List (ℕ × Item) → List ℕ → Type 0
 AreSilent nodes [] = Unit {0}
 AreSilent nodes (place ∷ places) = IsSilent nodes place × AreSilent nodes places
 
--- so of a list that may continue, and of what is last where there is none
+-- the same for a list that may continue, and for the last child if there is no such list
 abbrev pub SilentList : List (ℕ × Item) → Pending → Type 0
 SilentList nodes (NoList closed) = SilentClosed nodes closed
 SilentList nodes (OneList place joins loose) = IsSilent nodes place
 SilentList nodes (OneTitle place title e loose) = IsSilent nodes place × SilentFrom nodes title
 
--- a change after which an item that showed nothing shows nothing still
+-- a change after which an item that is no part of a table is still none
 abbrev pub StaysSilent : (Item → Item) → Type 0
 StaysSilent g = (x : Item) → ShowsNothing x.body → ShowsNothing (g x).body
 
--- more nodes after them, and an item changed
+-- more nodes after them; the next lemma: an item that is changed
 pub silent_front : (nodes more : List (ℕ × Item)) (i : ℕ) → IsSilent nodes i → IsSilent (nodes ++ more) i
 silent_front [] more i h = absurd h
 silent_front (n ∷ nodes) more zero h = h
@@ -65,7 +65,7 @@ marks_modified names (n ∷ nodes) zero g stays h =
 marks_modified names (n ∷ nodes) (suc place) g stays h =
     ap (λ (z : List Mark). shown names n.0 n.1.start n.1.«end» n.1.body ++ z) (marks_modified names nodes place g stays h)
 
--- nodes that all show nothing
+-- nodes none of which is part of a table
 pub none_shown : (names : Names) (nodes : List (ℕ × Item)) → AreEachNode ShowsNothing nodes → marks names nodes ≡ []
 unfolding marks
 none_shown names [] h = refl
@@ -89,7 +89,7 @@ from_modified (n ∷ nodes) (suc place) zero g stays h = (h.0, each_modified nod
 from_modified (n ∷ nodes) zero (suc i) g stays h = h
 from_modified (n ∷ nodes) (suc place) (suc i) g stays h = from_modified nodes place i g stays h
 
--- nodes at other depths, and paragraphs made tight
+-- nodes at other depths, and paragraphs that are tightened
 module _ (g : ℕ × Item → ℕ × Item) (stays : (n : ℕ × Item) → ShowsNothing n.1.body → ShowsNothing (g n).1.body) where
   silent_all : (nodes : List (ℕ × Item)) (i : ℕ) → IsSilent nodes i → IsSilent (map g nodes) i
   silent_all [] i h = absurd h
@@ -145,7 +145,7 @@ marks_from names depth (suc place) [] = refl
 marks_from names depth (suc place) (n ∷ nodes) =
     ap (λ (z : List Mark). shown names n.0 n.1.start n.1.«end» n.1.body ++ z) (marks_from names depth place nodes)
 
--- a list closed
+-- a list that is closed
 silent_flagged : (loose : Bool) (b : ItemBody) → ShowsNothing b → ShowsNothing (flagged loose b)
 silent_flagged loose (ListBody flags byte number) h = λ names depth start end. refl
 silent_flagged loose (DefinitionList flags) h = λ names depth start end. refl
@@ -175,7 +175,7 @@ marks_closed names nodes place depth false e h =
     (silent_from (tightened depth) (stays_tight depth) place nodes place h)
     ∙ marks_from names depth place nodes
 
--- a container closed
+-- a container that is closed
 silent_ended : (nodes : List (ℕ × Item)) (place e i : ℕ) → IsSilent nodes i → IsSilent (ended nodes place e) i
 unfolding ended
 silent_ended nodes place e i h = silent_modified nodes place i _ (λ x k. k) h
@@ -207,7 +207,7 @@ marks_titled names (n ∷ nodes) zero h =
 marks_titled names (n ∷ nodes) (suc place) h =
     ap (λ (z : List Mark). shown names n.0 n.1.start n.1.«end» n.1.body ++ z) (marks_titled names nodes place h)
 
--- a possible title that is one, or a paragraph after its list
+-- a possible title that becomes a title, or a paragraph after its list
 silent_taken : (nodes : List (ℕ × Item)) (place i : ℕ) → IsSilent nodes i → IsSilent (title_taken nodes place) i
 unfolding title_taken
 silent_taken nodes place i h = silent_modified nodes place i _ (λ x k names depth start end. refl) h
@@ -235,7 +235,7 @@ marks_left names nodes place h =
     marks_moved shallower (λ n k. k) names place now (from_modified nodes place place _ (λ x k names depth start end. refl) h)
     ∙ marks_modified names nodes place _ (λ x k names depth start end. refl) (from_at nodes place h)
 
--- what is rendered shows what the nodes show, and then tables
+-- the rendered nodes have the marks of these nodes, followed by whole tables
 abbrev pub ShowsMore : Names → List (ℕ × Item) → List (ℕ × Item) → Type 0
 ShowsMore names nodes after = (more : List TableRows) × (marks names after ≡ marks names nodes ++ table_marks more)
 
@@ -283,7 +283,7 @@ after_shows names depth nodes (DefinitionClosed e blanks) rows silent h =
 after_shows names depth nodes (TitleAt e place) rows silent h =
     more_behind names nodes nodes (items_of depth false rows) refl (forest_whole names depth false rows h)
 
--- a possible title's list, with the title or without it
+-- the list of a possible title, with or without the title
 apart_by : (names : Names) (t : Bool) (ds : Definitions) → HoldsOfFirst (AreWholeTables names) (Some ds)
     → HoldsOfFirst (AreWholeTables names) (if◌then◌else◌ {A = Option Definitions} t None (Some ds))
 apart_by names true ds h = tt
@@ -321,7 +321,7 @@ rendered_shows names depth last nodes (OneTitle place title e loose) rows silent
     title_shows names depth nodes place title e loose (not_apart (definitions_first rows)) rows silent.0 silent.1
     (unless_apart names (definitions_first rows) (first_rows (AreWholeTables names) rows h)) h
 
--- the nodes still open show nothing then
+-- the nodes that are still open are no part of a table afterwards
 silent_with : (depth : ℕ) (nodes : List (ℕ × Item)) (place : ℕ) (loose : Bool) (ds : Definitions) (i : ℕ) → IsSilent nodes i
     → IsSilent (closed_with depth nodes place loose ds) i
 silent_with depth nodes place loose ds i h = silent_front _ _ i (silent_closed nodes place (suc (suc depth)) loose ds.«end» i h)
@@ -363,7 +363,7 @@ pub silent_place : (depth last place e : ℕ) (nodes : List (ℕ × Item)) (list
 silent_place depth last place e nodes list rows i silent h =
     silent_ended (rendered depth last nodes list rows) place e i (silent_rendered depth last nodes list rows i silent h)
 
--- once a container is closed, no title comes of it; and what an open definition list may continue with shows nothing
+-- a closed container becomes no title; a node that may continue an open definition list is no part of a table
 pub silent_as : (nodes : List (ℕ × Item)) (c : Container) (e : ℕ) → SilentClosed nodes (closed_as c e)
 silent_as nodes (BlockQuote kind) e = tt
 silent_as nodes (ListItem columns) e = tt

@@ -1,4 +1,4 @@
--- A paragraph that is opened shows nothing of tables, and neither does what is below it: a definition list may take it in.
+-- A paragraph that opens, with what is below it, has no part of a table; a definition list may take it in.
 use Rattle.std.proofs.Common.{◌≡◌, ℕ, ◌+◌, true, List, [], ◌∷◌, ◌++◌, length, drop, refl}
 use Rattle.first_pass_items.specs.declared.item.Item.{Item}
 use Rattle.first_pass_items.specs.declared.item.ItemBody.{ItemBody}
@@ -18,7 +18,7 @@ paragraph_silent : (b : ItemBody) → is_paragraph_body b ≡ true → ShowsNoth
 paragraph_silent ParagraphBody h = λ names depth start end. refl
 paragraph_silent b h = cc
 
--- where the items after the first show nothing, all do
+-- if the items after the first are no part of a table, none is
 pub text_silent : (items : List (ℕ × Item)) → begins_paragraph items ≡ true → (begins_paragraph items ≡ true → AreEachNode ShowsNothing (drop 1 items))
     → AreEachNode ShowsNothing items
 text_silent [] begins h = cc
@@ -31,7 +31,7 @@ pub opened_silent : (d : Document) (l : Level) (from : From) (lines : List Place
 opened_silent d l from lines b there left mark first begins =
     text_silent b.items begins (opened_holds ShowsNothing d (tokens_show d.names.texts) l from lines b there left mark first).0.tokens
 
--- nodes that show nothing, after others
+-- nodes that are no part of a table, after others
 pub silent_behind : (nodes : List (ℕ × Item)) (n : ℕ × Item) (more : List (ℕ × Item)) → AreEachNode ShowsNothing (n ∷ more)
     → SilentFrom (nodes ++ n ∷ more) (length nodes)
 silent_behind [] n more h = h

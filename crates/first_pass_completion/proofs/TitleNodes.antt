@@ -1,4 +1,4 @@
--- Nodes of which a paragraph becomes the title of a definition list, and nodes of lists that are closed.
+-- Nodes in which a paragraph becomes the title of a definition list, and nodes of lists that are closed.
 use Rattle.std.proofs.Common.{◌≡◌, ℕ, zero, suc, ◌+◌, ◌-◌, ◌<◌, ◌==◌, Bool, true, false, not, List, ◌∷◌, ◌++◌, length, map, drop, refl, sym, ap, ◌∙◌, []}
 use Rattle.std.proofs.Common.{arith, if◌then◌else◌}
 use Rattle.std.proofs.lemmas.List.{length-map}
@@ -20,11 +20,11 @@ abbrev pub as_possible : List (ℕ × Item) → List (ℕ × Item)
 as_possible [] = []
 as_possible (x ∷ items) = (x.0, record x.1 { body = MaybeDefinitionListTitle }) ∷ items
 
--- the nodes once the list at a place is said to be loose or not
+-- the nodes after the list at a place is marked as loose or tight
 unfoldable pub reflagged : List (ℕ × Item) → ℕ → Bool → List (ℕ × Item)
 reflagged nodes place loose = modify nodes place (λ x. record x { body = flagged loose x.body })
 
--- No item but a paragraph is changed where a list is tight.
+-- In a tight list only paragraphs change.
 not_tight : (b : ItemBody) → is_paragraph_body b ≡ false → tight_body b ≡ b
 not_tight ParagraphBody h = cc
 not_tight b h = refl
@@ -58,7 +58,7 @@ map_from-mid : (g : ℕ × Item → ℕ × Item) (nodes more : List (ℕ × Item
 map_from-mid g [] more = refl
 map_from-mid g (n ∷ nodes) more = ap (λ z. n ∷ z) (map_from-mid g nodes more)
 
--- a list that is closed, whose node is the first of these, none of which is a paragraph
+-- a list that is closed, whose node is the first of these; none of these is a paragraph
 closed-mid : (nodes more : List (ℕ × Item)) (x : ℕ × Item) (d : ℕ) (loose : Bool) (e : ℕ) → NoParagraph (x ∷ more)
     → list_closed (nodes ++ x ∷ more) (length nodes) d loose e ≡ nodes ++ (x.0, node_of x.1.start e (flagged loose x.1.body)) ∷ more
 unfolding list_closed
@@ -104,7 +104,7 @@ pub length-left : (nodes : List (ℕ × Item)) (place : ℕ) → length (title_l
 unfolding title_left
 length-left nodes place = length-from shallower (modify nodes place _) place ∙ length-modify nodes place _
 
--- a paragraph that becomes a title, in a definition list that is closed then
+-- a paragraph that becomes the title of a definition list, which is then closed
 pub titled_closed : (k : ℕ) (nodes items : List (ℕ × Item)) (start d : ℕ) (loose : Bool) (e : ℕ)
     → begins_paragraph items ≡ true → NoParagraph (drop 1 items) → BeginsAt start items
     → list_closed (with_title (nodes ++ at_depth k items) (length nodes)) (length nodes) d loose e
@@ -124,7 +124,7 @@ titled_closed k nodes (x ∷ items) start d loose e is flat own =
     ∙ ap (λ z. nodes ++ (k, node_of z e (DefinitionList (list_flags (not loose)))) ∷ (suc (k + x.0), title) ∷ at_depth (suc k) items) first
     ∙ ap (λ z. nodes ++ (k, node_of start e (DefinitionList (list_flags (not loose)))) ∷ (z, title) ∷ at_depth (suc k) items) below
 
--- a possible title that is a title, or is a paragraph after the list
+-- a possible title that becomes a title, or a paragraph after the list
 pub possible-flat : (k : ℕ) (items : List (ℕ × Item)) → NoParagraph (drop 1 items) → NoParagraph (at_depth k (as_possible items))
 possible-flat k [] h = tt
 possible-flat k (x ∷ items) h = (refl, at_depth-flat k items h)
@@ -158,7 +158,7 @@ left-mid k nodes (x ∷ items) is =
     ∙ ap (λ z. nodes ++ (z, p) ∷ at_depth k items) here
     ∙ ap (λ z. nodes ++ (k + x.0, node_of x.1.start x.1.«end» z) ∷ at_depth k items) body
 
--- the same once the list before it is closed
+-- the same after the list before it is closed
 pub left-closed : (k : ℕ) (nodes items : List (ℕ × Item)) (place d : ℕ) (loose : Bool) (e : ℕ)
     → begins_paragraph items ≡ true → NoParagraph (drop 1 items) → place < length nodes
     → title_left (list_closed (nodes ++ at_depth (suc k) (as_possible items)) place d loose e) (length nodes)
@@ -168,7 +168,7 @@ left-closed k nodes items place d loose e is flat h =
     ∙ ap (λ z. title_left (list_closed nodes place d loose e ++ at_depth (suc k) (as_possible items)) z) (sym (length-closed nodes place d loose e))
     ∙ left-mid k (list_closed nodes place d loose e) items is
 
--- The end and the flags that a list has in its node don't matter once it is closed.
+-- The end and the flags in a list's node do not matter after the list is closed.
 absorbed : (nodes : List (ℕ × Item)) (o : ℕ) (g f : Item → Item) → ((x : Item) → f (g x) ≡ f x) → modify (modify nodes o g) o f ≡ modify nodes o f
 absorbed [] o g f h = refl
 absorbed (n ∷ nodes) zero g f h = ap (λ z. (n.0, z) ∷ nodes) (h n.1)

@@ -1,4 +1,4 @@
--- What nodes become with a leaf block more.
+-- Nodes with one more leaf block.
 use Rattle.std.proofs.Common.{◌≡◌, ℕ, suc, ◌<◌, Bool, true, false, not, ◌||◌, List, [], ◌∷◌, ◌++◌, length, Option, Some, None}
 use Rattle.std.proofs.Common.{refl, sym, ap, ◌∙◌, append_assoc, if◌then◌else◌, option_map}
 use Rattle.std.specs.Option.{option_map_or}
@@ -21,11 +21,12 @@ use Rattle.first_pass_completion.proofs.FlatBlocks.{FlatBlock, OwnParagraph}
 use Rattle.first_pass_grammar.proofs.Tightening.{length-closed}
 use Rattle.first_pass_completion.proofs.TitleNodes.{as_possible, titled_closed, closed-kept, title-flat, taken-mid, left-closed}
 
--- what is last after a leaf block whose node is at a place
+-- the last child after a leaf block whose node is at a place
 abbrev pub closed_after : ℕ → LeafBlock → Closed → Closed
 closed_after place b closed = if begins_paragraph b.items then ParagraphAt place else (if is_run b.kind then closed else OtherClosed)
 
--- No rows begin with definitions that take a paragraph before them as their title, but those of link definitions and of a definition list without a title.
+-- Definitions take a paragraph before them as their title only if the rows begin with link reference definitions or
+-- with a definition list without a title.
 first_none : (row : Row) (inner next : Rows) → is_untitled row.what ≡ false → is_run_row row.what ≡ false → definitions_first (OneOf row inner next) ≡ None
 unfolding definitions_first
 first_none row inner next u r = rw (u, r) refl
@@ -91,7 +92,7 @@ paragraph_by k last nodes closed b gap r None is flat own =
 paragraph_by k last nodes closed b gap r (Some ds) is flat own =
     other_row k last nodes closed _ _ ds.beside (titled_by ds.apart ds.«end») refl ∙ titled_nodes k nodes b gap ds is flat own
 
--- a paragraph more
+-- one more paragraph
 pub paragraph_nodes : (k last : ℕ) (nodes : List (ℕ × Item)) (closed : Closed) (b : LeafBlock) (gap : Bool) (r : Rows)
     → begins_paragraph b.items ≡ true → FlatBlock b → OwnParagraph b
     → rendered k last nodes (NoList closed) (leaf_row b gap r)
@@ -113,7 +114,7 @@ pub paragraph_gaps : (place : ℕ) (closed : Closed) (b : LeafBlock) (gap : Bool
 paragraph_gaps place closed b gap r is flat =
     ap (λ z. any_gap (rows_beyond (NoList closed) z)) (paragraph_row b gap r is) ∙ paragraph_beyond closed b gap r (definitions_first r) is flat
 
--- link definitions alone
+-- only link reference definitions
 run_first : (b : LeafBlock) (gap : Bool) (r : Rows) → is_run b.kind ≡ true
     → definitions_first (OneOf (row_of_leaf b gap) End r) ≡ option_map (apart_after (row_of_leaf b gap) End) (definitions_first r)
 unfolding definitions_first
@@ -166,7 +167,7 @@ pub run_gaps : (closed : Closed) (b : LeafBlock) (gap : Bool) (r : Rows) → is_
 run_gaps closed b gap r is none =
     ap (λ z. any_gap (rows_beyond (NoList closed) z)) (other_leaf b gap r (ap begins_paragraph none)) ∙ run_beyond closed b gap r is
 
--- any other leaf block more
+-- one more leaf block of another kind
 pub other_nodes : (k last : ℕ) (nodes : List (ℕ × Item)) (closed : Closed) (b : LeafBlock) (gap : Bool) (r : Rows)
     → begins_paragraph b.items ≡ false → is_run b.kind ≡ false
     → rendered k last nodes (NoList closed) (leaf_row b gap r) ≡ rendered k last (nodes ++ block_items k false b) (NoList OtherClosed) r
@@ -183,7 +184,7 @@ other_gaps closed b gap r is run =
     ap (λ z. any_gap (rows_beyond (NoList closed) z)) (other_leaf b gap r is)
     ∙ ap any_gap (other_beyond closed (row_of_leaf b gap) End r refl run)
 
--- a leaf block more
+-- one more leaf block
 leaf_nodes_by : (k last : ℕ) (nodes : List (ℕ × Item)) (closed : Closed) (b : LeafBlock) (gap : Bool) (r : Rows) (p t : Bool)
     → begins_paragraph b.items ≡ p → is_run b.kind ≡ t → FlatBlock b → OwnParagraph b
     → rendered k last nodes (NoList closed) (leaf_row b gap r)
@@ -211,7 +212,7 @@ pub leaf_gaps : (place : ℕ) (closed : Closed) (b : LeafBlock) (gap : Bool) (r 
     → any_gap (rows_beyond (NoList closed) (leaf_row b gap r)) ≡ (gap || any_gap (rows_beyond (NoList (closed_after place b closed)) r))
 leaf_gaps place closed b gap r flat = leaf_gaps_by place closed b gap r _ _ refl refl flat
 
--- the row of a definition list with its title, and what is in it
+-- the row of a definition list with its title; the next definition: the rows in it
 abbrev titled_row : LeafBlock → Definitions → Row
 titled_row b ds = record { what = ADefinitionList (if ds.apart then Apart else WithTitle) ds.«end»; line = b.line; start = b.start; gap = false }
 
@@ -322,7 +323,8 @@ pub possible_gaps : (place at e : ℕ) (loose : Bool) (b : LeafBlock) (r : Rows)
 possible_gaps place at e loose b r is =
     ap (λ z. any_gap (list_behind (DefinitionsTo e) z)) (paragraph_row b false r is) ∙ behind_any e b r (definitions_first r)
 
--- A possible title is a paragraph after its list where what follows begins with no definition: link definitions stand between, or another block.
+-- A possible title becomes a paragraph after its list if no definitions follow it directly: link reference definitions
+-- or another block come between.
 abbrev pub BeginsOther : Rows → Type 0
 BeginsOther End = Unit {0}
 BeginsOther (OneOf row inner next) = is_untitled row.what ≡ false

@@ -1,2 +1,2 @@
-//! Completion: blocks that complete what is open once more is read also complete what was open before.
+//! Completion: blocks that complete the open nodes after more is read also complete those that were open before.
 #![tactic(auto)]
