@@ -1,4 +1,4 @@
--- What a reference is made of: it has no backslash, ends with `;` and has more bytes than its character.
+-- The bytes of a reference: none is a backslash, the last is `;`, and they are more than those of its character.
 use Rattle.std.proofs.Common.{◌≡◌, ◌⊎◌, inl, inr, ℕ, suc, ◌+◌, ◌-◌, ◌<◌, ◌≤◌, ◌==◌, ◌&&◌, nat_le, not, Bool, true, false, List, [], ◌∷◌, length, take, drop}
 use Rattle.std.proofs.Common.{get_or, Option, Some, None, refl, sym, ap, subst, ◌∙◌, arith, codes, if◌then◌else◌}
 use Rattle.std.specs.Option.{option_map, option_or}
@@ -15,26 +15,26 @@ use Rattle.std.proofs.lemmas.List.Folds.{length-prefix_len}
 use Rattle.first_pass_lines.specs.Lines.{begins}
 use Rattle.first_pass_entities.specs.Entities.{referred, behind, number_at, numeric_at, named_in_xml, named_sign, named_punctuation, named, name_at, entity_at}
 
--- no backslash
+-- a byte other than a backslash
 abbrev pub is_plain : ℕ → Bool
 is_plain b = not (b == 92)
 
--- the bytes that a reference ends with: none of them is a backslash, and the last is `;`
+-- the n bytes of a reference: none of them is a backslash, and the last is `;`
 pub record EndsReference (bs : List ℕ) (n : ℕ) : Type 0 where
   pub some : 0 < n
   pub plain : n ≤ prefix_len is_plain bs
   pub last : get_or bs (n - 1) 0 ≡ 59
 
--- the reference of n bytes that the bytes begin with, and its character
+-- the reference of n bytes at the start of these bytes, and its character
 pub record IsReference (bs : List ℕ) (n c : ℕ) : Type 0 where
   pub ends : EndsReference bs n
   pub shorter : len_utf8 c < n
 
--- so many bytes, and a character
+-- a pair of a length and a character
 abbrev both : ℕ → ℕ → ℕ × ℕ
 both n c = (n, c)
 
--- bytes that pass a test that a backslash fails are plain
+-- a byte that passes a test is not a backslash, if a backslash fails the test
 plain_from : (p : ℕ → Bool) → p 92 ≡ false → (b : ℕ) → p b ≡ true → (t : Bool) → (b == 92) ≡ t → is_plain b ≡ true
 plain_from p q b h true e = absurd (false≢true (sym q ∙ ap p (sym (eqb-true b 92 e)) ∙ h))
 plain_from p q b h false e = rw e
@@ -60,7 +60,7 @@ semicolon (b ∷ bs) h =
     let f : is_plain b ≡ true = rw e in
     (rw f (omega arith), e)
 
--- a run and then `;`
+-- digits or letters, then `;`
 run_ends : (p : ℕ → Bool) → p 92 ≡ false → (bs : List ℕ) → begins 59 (drop (prefix_len p bs) bs) ≡ true → EndsReference bs (prefix_len p bs + 1)
 run_ends p q bs h =
     let k : ℕ = prefix_len p bs in
@@ -69,7 +69,7 @@ run_ends p q bs h =
     let i : k + 1 - 1 ≡ k + 0 = omega arith in
     record { some = omega arith; plain = omega arith; last = ap (λ j. get_or bs j 0) i ∙ sym (get_or-drop k bs 0 0) ∙ s.1 }
 
--- one byte more in front
+-- one more byte before them
 one_more : (b k n : ℕ) (bs : List ℕ) → begins k bs ≡ true → (k == 92) ≡ false → EndsReference (drop 1 bs) n → EndsReference bs (1 + n)
 one_more b k n [] h q e = cc
 one_more b k n (x ∷ xs) h q e =
@@ -80,7 +80,8 @@ one_more b k n (x ∷ xs) h q e =
     let i : 1 + n - 1 ≡ suc (n - 1) = omega arith in
     record { some = omega arith; plain = omega arith; last = ap (λ j. get_or (x ∷ xs) j 0) i ∙ e.last }
 
--- a number has two bytes or more, and one digit stands for a character of at most three bytes
+-- a number with its `;` has at least two bytes, and a number of one digit refers to a character of at most three
+-- bytes
 pub record IsNumber (bs : List ℕ) (n c : ℕ) : Type 0 where
   pub ends : EndsReference bs n
   pub some : 2 ≤ n
@@ -120,7 +121,7 @@ number_facts : (p : ℕ → Bool) → p 92 ≡ false → (radix most : ℕ) (bs 
 unfolding number_at
 number_facts p q radix most bs n c e = number_by p q _ radix most bs n c refl e
 
--- names
+-- a name has at least two bytes, and its character at most three
 pub record IsShortName (name : List ℕ) (c : ℕ) : Type 0 where
   pub some : 2 ≤ length name
   pub short : len_utf8 c ≤ 3
@@ -190,7 +191,7 @@ name_facts : (bs : List ℕ) (n c : ℕ) → name_at bs ≡ Some (n, c) → Ends
 unfolding name_at
 name_facts bs n c e = name_by _ bs n c _ (named_facts _ c) refl e
 
--- what stands after k bytes
+-- a reference after k bytes: its own length is k less
 behind_some : (k n c : ℕ) (o : Option (ℕ × ℕ)) → behind k o ≡ Some (n, c) → (m : ℕ) × (o ≡ Some (m, c)) × (n ≡ k + m)
 behind_some k n c None e = cc
 behind_some k n c (Some r) e = let parts = some_pair_parts (k + r.0) n r.1 c e in (r.0, ap (λ x. Some (both r.0 x)) parts.1, sym parts.0)

@@ -1,4 +1,4 @@
--- Bounds on the number that digits write.
+-- Bounds on the value of digits.
 use Rattle.std.proofs.Common.{◌≡◌, ℕ, ◌+◌, ◌*◌, ◌<◌, ◌≤◌, ◌^◌, arith}
 use Rattle.std.proofs.lemmas.Nat.{pow-add}
 

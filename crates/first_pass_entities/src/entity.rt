@@ -11,9 +11,9 @@ ghost use Rattle.first_pass_entities.specs.Texts.{TakesNoMemory};
 use first_pass_items::cow_str::{CowStr, InlineStr};
 use first_pass_lines::lines::begins;
 
-/// The entity or numeric character reference that `bytes` begins with: how many bytes it has, its `&`
-/// and `;` too, and the text that it stands for, which takes no memory. `(0, None)` where there is none.
-/// Twelve names are known: `amp lt gt quot apos nbsp copy reg hellip mdash ndash AElig`. CommonMark 2.5.
+/// Returns the length of the entity or numeric character reference at the start of `bytes`, and its text. The length
+/// is in bytes, from its `&` to its `;`; the text takes no memory. Returns `(0, None)` if no reference is there. The
+/// twelve names are `amp lt gt quot apos nbsp copy reg hellip mdash ndash AElig`. CommonMark 2.5.
 pub fn scan_entity(bytes: &[u8]) -> (usize, Option<CowStr<'static>>)
     ensures value { MatchOption (entity_at bytes.now)
         (result ≡ (0, None))
@@ -27,8 +27,8 @@ pub fn scan_entity(bytes: &[u8]) -> (usize, Option<CowStr<'static>>)
     }
 }
 
-/// The reference that `bytes` begins with: how many bytes it has, and the character that it stands for.
-/// CommonMark 2.5.
+/// Returns the length in bytes of the reference at the start of `bytes`, and its character; `None` if there is no
+/// reference. CommonMark 2.5.
 #[tactic(auto, unfolding(crate::specs::Entities::entity_at))]
 pub fn scan_reference(bytes: &[u8]) -> Option<(usize, char)>
     ensures value { result ≡ entity_at bytes.now }
@@ -51,7 +51,7 @@ pub fn scan_reference(bytes: &[u8]) -> Option<(usize, char)>
     }
 }
 
-// What stands after `&#`.
+// A numeric reference after its `&#`.
 #[tactic(auto, unfolding(crate::specs::Entities::numeric_at, crate::specs::Entities::number_at))]
 fn scan_numeric(bytes: &[u8]) -> Option<(usize, char)>
     ensures value { result ≡ numeric_at bytes.now }
@@ -129,7 +129,7 @@ fn hexadecimal_value(digits: &[u8]) -> u64
     value
 }
 
-// The value of a digit or letter, and 36 for any other byte.
+// The value of a digit or letter; 36 for any other byte.
 fn digit_value(byte: u8) -> u64
     ensures value { result ≡ digit_value byte }
     ensures small { result ≤ 36 }
@@ -155,7 +155,7 @@ fn referred(number: u64) -> char
     }
 }
 
-// A name and `;`.
+// An entity reference after its `&`: a name and then `;`.
 #[tactic(auto, unfolding(crate::specs::Entities::name_at))]
 fn scan_name(bytes: &[u8]) -> Option<(usize, char)>
     ensures value { result ≡ name_at bytes.now }

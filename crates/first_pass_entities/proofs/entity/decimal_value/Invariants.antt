@@ -2,7 +2,7 @@ use Rattle.std.proofs.Common.{◌≡◌, ◌*◌, ◌<◌, ◌^◌, drop}
 use Rattle.std.specs.Str.Parse.{digits_value, digits_value_after}
 use Rattle.first_pass_entities.proofs.entity.decimal_value.Given as goal
 
--- the digits to come, after the value so far, write the whole number; each adds at most six bits
+-- the remaining digits, after the value so far, give the whole number; each adds at most six bits
 abbrev pub invariant-loop-digit : goal.invariant-loop-digit
 invariant-loop-digit l = record {
   value : digits_value_after 10 l.value (drop l.digit-index l.digits) ≡ digits_value 10 l.digits;
