@@ -1,4 +1,4 @@
--- Texts in brackets and runs, byte by byte.
+-- Texts in brackets, and runs, byte by byte.
 use Rattle.std.proofs.Common.{◌≡◌, ℕ, ◌+◌, ◌<◌, ◌≤◌, ◌==◌, nat_lt, Bool, true, false, List, [], ◌∷◌, length, drop, get_or, Option, Some, None, refl, sym, ap}
 use Rattle.std.proofs.Common.{subst, ◌∙◌, arith, length-drop, if◌then◌else◌}
 use Rattle.std.proofs.lemmas.Bool.{eqb-true, and_parts, le-ltb, lt-ltb}
@@ -35,7 +35,7 @@ pub upto-escape : (stops : ℕ → Bool) (b p : ℕ) (bs : List ℕ)
 unfolding unescaped_upto
 upto-escape stops b p bs h = rw h (omega arith)
 
--- one unit on: an escape, or a byte that does not stop
+-- one unit further: an escape, or a byte that does not stop
 upto_unit_by : (t : Bool) (stops : ℕ → Bool) (bs : List ℕ) → begins_escape bs ≡ t → 0 < length bs → stops (get_or bs 0 0) ≡ false
     → unescaped_upto stops 0 bs ≡ (if t then 2 else 1) + unescaped_upto stops 0 (drop (if t then 2 else 1) bs)
 upto_unit_by t stops [] h l s = absurd (omega arith)
@@ -98,7 +98,7 @@ run-byte deepest nesting b bs h i j k = rw (h, i, j, k)
 backslash_nests : (b nesting : ℕ) (bs : List ℕ) → begins_escape (b ∷ bs) ≡ true → nesting_behind b nesting ≡ nesting
 backslash_nests b nesting bs h = rw (eqb-true b 92 (and_parts _ _ h).0)
 
--- one unit on: an escape, or a byte
+-- one unit further: an escape, or a byte
 run_unit_by : (t : Bool) (deepest nesting b : ℕ) (bs : List ℕ)
     → begins_escape (b ∷ bs) ≡ t → ends_run b ≡ false → closes_none b nesting ≡ false → nat_lt deepest (nesting_behind b nesting) ≡ false
     → run_len deepest nesting 0 (b ∷ bs) ≡ longer (if t then 2 else 1) (run_len deepest (nesting_behind b nesting) 0 (drop (if t then 2 else 1) (b ∷ bs)))
@@ -128,7 +128,7 @@ run_unit deepest nesting bs at n l e s u i =
     sym (ap (longer at) w ∙ longer-longer at n (run_len deepest behind 0 (drop n (drop at bs)))
     ∙ ap (λ xs. longer (at + n) (run_len deepest behind 0 xs)) (drop-drop n at bs))
 
--- what stops a run
+-- the bytes that stop a run
 deep_by : (t : Bool) (deepest nesting b : ℕ) (bs : List ℕ) → begins_escape (b ∷ bs) ≡ t → ends_run b ≡ false → closes_none b nesting ≡ false → nesting ≤ deepest
     → deepest < nesting_behind b nesting → run_len deepest nesting 0 (b ∷ bs) ≡ None
 deep_by true deepest nesting b bs h e u i s = let z = backslash_nests b nesting bs h in absurd (omega arith)

@@ -19,13 +19,13 @@ use Rattle.first_pass_links.specs.Plain.{is_unmarked}
 use Rattle.first_pass_entities.proofs.EntityFacts.{is_plain, entity_is_reference}
 use Rattle.first_pass_links.proofs.PipeEscapes.{cell-nil, cell-other, cell-kept, cell-dropped, pipe_behind, drop-without_pipe_escapes, entity_at-cell}
 
--- the text from one offset on keeps its bytes up to another
+-- the bytes of a text from one offset up to another are kept
 pub record IsKept (in_table : Bool) (text : List ℕ) (from at : ℕ) : Type 0 where
   pub order : from ≤ at
   pub within : at ≤ length text
   pub kept : unescaped in_table (drop from text) ≡ take (at - from) (drop from text) ++ unescaped in_table (drop at text)
 
--- the text up to an offset is unescaped to these bytes; they are fewer, or none where it is empty
+-- the text up to an offset is unescaped to these bytes; they are fewer, unless both are empty
 pub record IsWritten (in_table : Bool) (text : List ℕ) (from : ℕ) (written : List ℕ) : Type 0 where
   pub within : from ≤ length text
   pub boundary : IsCharBoundary text from
@@ -60,7 +60,7 @@ changed_at n c [] l s h = absurd (omega arith)
 changed_at zero c (b ∷ bs) l s h = absurd (omega arith)
 changed_at (suc n) c (b ∷ bs) l s h = behind_changed b n c bs h
 
--- what stands at a byte that is neither backslash nor `&`, and at a pipe
+-- a byte that is neither a backslash nor `&`, and a pipe
 no_entity : (b : ℕ) (bs : List ℕ) → (b == 38) ≡ false → entity_at (b ∷ bs) ≡ None
 unfolding entity_at
 no_entity b bs h = rw h
@@ -121,7 +121,7 @@ pub record IsShorter (bs : List ℕ) (n c : ℕ) : Type 0 where
   pub first : get_or bs 0 0 < 128
   pub last : get_or bs (n - 1) 0 < 128
 
--- a change of bytes, and what is left after it
+-- a change of bytes, and the bytes after it
 pub record Changes (t : Bool) (bs : List ℕ) (n c : ℕ) : Type 0 where
   pub shorter : IsShorter bs n c
   pub changed : unescaped t bs ≡ encode_utf8 c ++ unescaped t (drop n bs)
@@ -167,7 +167,7 @@ pipe_escape_parts (b ∷ []) h i j = cc
 pipe_escape_parts (b ∷ c ∷ []) h i j = cc
 pipe_escape_parts (b ∷ c ∷ d ∷ bs) h i j = rw (eqb-true b 92 h, eqb-true c 92 i, eqb-true d 124 j)
 
--- three bytes: a backslash that escapes a pipe, whose own is dropped
+-- three bytes: a backslash that escapes a pipe, and the pipe's own backslash, which is dropped
 pipe_escape : (bs : List ℕ) (n c : ℕ) → begins_pipe_escape bs ≡ true → 3 ≡ n → 124 ≡ c → Changes true bs n c
 pipe_escape bs n c h e f =
     let p = and_parts _ _ h in
@@ -381,7 +381,7 @@ kept_all t text from at i e =
     i.kept ∙ ap (λ xs. take (at - from) (drop from text) ++ unescaped t xs) none ∙ ap (λ xs. take (at - from) (drop from text) ++ xs) (unescaped-nil t)
     ∙ append-nil (take (at - from) (drop from text)) ∙ take_all (at - from) (drop from text) (omega arith)
 
--- what is written
+-- bytes that are written
 pub written_none : (t : Bool) (text : List ℕ) → IsCharBoundary text 0 → IsWritten t text 0 []
 written_none t text b = record { within = omega arith; boundary = b; so_far = refl; fewer = inl (refl, refl) }
 
@@ -413,7 +413,7 @@ written_more t text from at n c written u i x =
       fewer = inr (omega arith);
     }
 
--- a text with a change is not itself
+-- a text with a change differs from its source
 pub change_differs : (t : Bool) (text : List ℕ) (from at n c : ℕ) (written : List ℕ)
     → IsWritten t text from written → IsChange t text from (at, n, c) → unescaped t text ≡ text → ⊥
 change_differs t text from at n c written i x e =

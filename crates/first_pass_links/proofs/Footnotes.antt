@@ -17,19 +17,19 @@ second_by : (t u : Bool) → (t && u) ≡ true → u ≡ true
 second_by true u h = h
 second_by false u h = cc
 
--- a place stands after `[^`
+-- a character begins after `[^`
 pub behind_mark : (text : List ℕ) → IsUtf8 text → begins_footnote text ≡ true → IsCharBoundary text 2
 behind_mark text u h =
     let there = first_byte 94 text 1 (second_by (begins 91 text) (begins 94 (drop 1 text)) h) in
     IsCharBoundary-after_ascii text 1 u there.0 (omega (arith, there.1))
 
--- a place after that
+-- so does one at a place further on
 pub further : (text behind xs : List ℕ) (at : ℕ) → IsCharBoundary text 2 → xs ≡ drop 2 text → IsCharBoundary xs at → behind ≡ drop at xs
     → IsCharBoundary text (2 + at) × (behind ≡ drop (2 + at) text)
 further text behind xs at m is b e =
     (place_behind text 2 at m.0 (subst (λ ys. IsCharBoundary ys at) is b), e ∙ ap (drop at) is ∙ drop-drop at 2 text)
 
--- an answer for a label or a head, with how many bytes it has
+-- the result for a label or a head, with its length in bytes
 abbrev pub IsAnswer : Option (ℕ × List ℕ) → Option (ℕ × CowStr) → Type 0
 IsAnswer o answer = MatchOption o (answer ≡ None) (λ label. IsSomeAnd answer (λ found. (found.0 ≡ label.0) × (text_of found.1 ≡ label.1)))
 
@@ -61,7 +61,7 @@ colon_by true bs (Some l) n label k h =
     rw e (ap (λ m. m + 3) k.0, k.1)
 colon_by false bs (Some l) n label k h = let e : begins 58 (drop l.0 bs) ≡ false = ap (λ m. begins 58 (drop m bs)) (sym k.0) ∙ h in rw e refl
 
--- the head where a label is read, by whether a colon stands after it
+-- the head after a label, by whether a colon follows it
 pub head_by : (u : Bool) (prefix : List ℕ → Option ℕ) (t : Bool) (text : List ℕ) (n : ℕ) (label : CowStr) → begins_footnote text ≡ true
     → IsAnswer (label_at prefix t (drop 2 text)) (Some (n, label)) → begins 58 (drop (n + 2) text) ≡ u
     → IsAnswer (footnote_head prefix t text) (if u then Some (n + 3, label) else None)
@@ -71,7 +71,7 @@ head_by u prefix t text n label h k c =
     subst (λ o. IsAnswer o (if u then Some (n + 3, label) else None)) (sym (head_of prefix t text h))
     (colon_by u (drop 2 text) (label_at prefix t (drop 2 text)) n label k e)
 
--- a place after the colon
+-- a character begins after the colon
 pub behind_colon : (text : List ℕ) (n : ℕ) → IsUtf8 text → begins 58 (drop (n + 2) text) ≡ true → IsCharBoundary text (n + 3)
 behind_colon text n u h =
     let there = first_byte 58 text (n + 2) h in

@@ -21,7 +21,7 @@ use Rattle.first_pass_links.proofs.PipeEscapes.{cell-nil, cell-other, cell-kept,
 use Rattle.first_pass_links.proofs.Destinations.{upto-nil, upto-stop, upto-byte, upto-escape, first_byte}
 use Rattle.first_pass_links.proofs.Parts.{part-none, part-one, part-two, weight-length, weight-nil, weight-space, weight-other}
 
--- what is left of a label, byte by byte
+-- the joined text of a label, byte by byte
 joined_behind : (h : List ℕ → Option ℕ) (at n : ℕ) (bs : List ℕ) → joined h at n bs ≡ joined h (at + n) 0 (drop n bs)
 unfolding joined
 joined_behind h at zero bs = let e : at + zero ≡ at = omega arith in rw e
@@ -62,7 +62,7 @@ pub left-stop : (h : List ℕ → Option ℕ) (text : List ℕ) (at : ℕ)
     → at < length text → ends_line (get_or text at 0) (drop (at + 1) text) ≡ true → h (drop (at + 1) text) ≡ None → left_at h text at ≡ []
 left-stop h text at l e f = ap (joined h at 0) (drop_more text at 0 l) ∙ joined-stop h at (get_or text at 0) (drop (at + 1) text) e f
 
--- its first byte, if it has one, is the text's
+-- its first byte, if there is one, is that of the text
 first_by : (t : Bool) (h : List ℕ → Option ℕ) (at b : ℕ) (bs : List ℕ) (o : Option ℕ)
     → ends_line b bs ≡ t → h bs ≡ o → (slice_index (bytes_of (joined h at 0 (b ∷ bs))) 0 ≡ b) ⊎ (slice_index (bytes_of (joined h at 0 (b ∷ bs))) 0 ≡ 0)
 first_by false h at b bs o e f = inl (ap (λ cs. slice_index (bytes_of cs) 0) (joined-byte h at b bs e))
@@ -74,7 +74,7 @@ pub first_of : (h : List ℕ → Option ℕ) (at : ℕ) (bs : List ℕ)
 first_of h at [] = inr (ap (λ cs. slice_index (bytes_of cs) 0) (joined-nil h at))
 first_of h at (b ∷ bs) = first_by _ h at b bs _ refl refl
 
--- the first of some bytes that begin it
+-- the first of some bytes at its start
 first_joined : (us cs : List (ℕ × ℕ)) (b : ℕ) → 0 < length us → (slice_index (bytes_of (us ++ cs)) 0 ≡ b) ⊎ (slice_index (bytes_of (us ++ cs)) 0 ≡ 0)
     → (slice_index (bytes_of us) 0 ≡ b) ⊎ (slice_index (bytes_of us) 0 ≡ 0)
 first_joined [] cs b l f = absurd (omega arith)
@@ -85,7 +85,7 @@ first_taken zero bs = inr refl
 first_taken (suc n) [] = inr refl
 first_taken (suc n) (b ∷ bs) = inl refl
 
--- a test that 0 fails, and the text's byte too, is failed by the first byte
+-- a test that 0 and the byte of the text fail is also failed by the first joined byte
 pub first_fails : (p : ℕ → Bool) → p 0 ≡ false → (h : List ℕ → Option ℕ) (text : List ℕ) (at : ℕ) → p (slice_index (drop at text) 0) ≡ false
     → p (slice_index (bytes_of (left_at h text at)) 0) ≡ false
 first_fails p z h text at e = elim (first_of h at (drop at text)) [ inl f ↦ ap p f ∙ e | inr f ↦ ap p f ∙ z ]
@@ -124,7 +124,8 @@ index_past (x ∷ xs) ys n m e = let f : n ≡ suc (length xs + m) = omega arith
 abbrev is_solid : ℕ → Bool
 is_solid b = not (is_ascii_white b)
 
--- what is known of a label before the bytes that are left: how many characters it has, whether one is not white space, and what is read of it
+-- the state of a label before the remaining bytes: its number of characters, whether one is not white space, and the
+-- text read so far
 pub record Known : Type 0 where
   pub characters : ℕ
   pub solid : Bool
@@ -133,11 +134,11 @@ pub record Known : Type 0 where
 abbrev pub known_as : ℕ → Bool → List ℕ → Known
 known_as characters solid bytes = record { characters = characters; solid = solid; bytes = bytes }
 
--- with what is known, these bytes are a label
+-- in this state, the label with these further bytes is a label
 abbrev is_label_behind : Known → List ℕ → Bool
 is_label_behind known bs = nat_le (known.characters + count_by begins_character bs) 999 && (known.solid || list_any is_solid bs)
 
--- the label that these bytes, each after its offset, end
+-- the label that these bytes, each with its offset, end
 pub label_behind : Bool → Known → List (ℕ × ℕ) → Option (ℕ × List ℕ)
 label_behind in_table known cs =
     let bs = bytes_of cs in
@@ -146,7 +147,7 @@ label_behind in_table known cs =
     then Some (slice_index (offsets_of cs) n + 1, known.bytes ++ shown in_table (take n bs))
     else None
 
--- before anything is read it is the label of the text
+-- before anything is read, it is the label of the text
 pub nothing_known : (t : Bool) (h : List ℕ → Option ℕ) (text : List ℕ) → label_behind t (known_as 0 false []) (left_at h text 0) ≡ label_at h t text
 unfolding label_behind label_at
 nothing_known t h text =
@@ -299,7 +300,7 @@ run_counts (b ∷ u) h =
     let e = i.0 in
     (omega arith, rw w.4 i.1)
 
--- what is read of a unit
+-- the text that is read from a unit
 pub unit_reads : (h : List ℕ → Option ℕ) (t : Bool) (text : List ℕ) (at : ℕ) (unit : Unit) (us : List (ℕ × ℕ))
     → left_at h text at ≡ us ++ left_at h text unit.next
     → count_by begins_character (bytes_of us) ≡ unit.characters
@@ -312,7 +313,7 @@ pub unit_reads : (h : List ℕ → Option ℕ) (t : Bool) (text : List ℕ) (at 
 unit_reads h t text at unit us joins count something passed changes reads =
     record { run = us; joins = joins; count = count; something = something; passed = passed; changes = changes; reads = reads }
 
--- what is known after a unit
+-- the state after a unit
 abbrev pub known_behind : List ℕ → ℕ → Unit → Known → Known
 known_behind text at unit known =
     record { characters = known.characters + unit.characters; solid = known.solid || unit.solid; bytes = known.bytes ++ read_of text at unit }
@@ -375,7 +376,7 @@ space_fields text at next characters false h = rw h (refl, refl, refl)
 eqb-same : (n : ℕ) → (n == n) ≡ true
 eqb-same n = grind (arith, nat_tests)
 
--- a run that is no single space is heavier than one
+-- a run that is not a single space is heavier than a space
 lone_weight : (text : List ℕ) (at next b : ℕ) → (b ≡ get_or text at 0) ⊎ (b ≡ 0) → is_ascii_white b ≡ true
     → (next == at + 1 && slice_index text at == 32) ≡ false → (slice_index text at ≡ 32 → next ≡ at + 1) → (b == 32) ≡ false
 lone_weight text at next b (inr z) s k f = absurd (false≢true (rw z at s))
@@ -446,7 +447,7 @@ run_reads_by x h t text at next characters kind l r some lone e =
     ∙ ap (λ xs. xs ++ shown t (take n X)) (sym (read-space text at next characters x kind l))
     ∙ ap (λ k. read_of text at (space_unit text at next characters) ++ shown t (take n (bytes_of (left_at h text k)))) (sym f.0))
 
--- a backslash that stands alone
+-- a backslash that escapes nothing
 lone_reads : (h : List ℕ → Option ℕ) (t : Bool) (text : List ℕ) (at : ℕ) → at < length text → get_or text at 0 ≡ 92
     → is_ascii_punctuation (slice_index (drop (at + 1) text) 0) ≡ false → Reads h t text at (kept_unit (at + 1) 1 true)
 lone_reads h t text at l e p =
@@ -519,7 +520,7 @@ pipe_reads h text at l e p =
     (inr (let less = pipe_lighter in let e = ap weight w in omega arith))
     (λ n. shown-pipe (take n X) ∙ ap (λ xs. xs ++ shown true (take n X)) (sym w))
 
--- and one after a backslash that escapes the pipe
+-- and one after a backslash, which escapes the pipe
 pipe_escape_reads : (h : List ℕ → Option ℕ) (text : List ℕ) (at : ℕ) → at + 2 < length text → get_or text at 0 ≡ 92 → get_or text (at + 1) 0 ≡ 92
     → get_or text (at + 2) 0 ≡ 124 → Reads h true text at (dropped_unit (at + 3) 3 (at + 1))
 pipe_escape_reads h text at l e p q =
@@ -721,7 +722,7 @@ pub backslash_is_unit : (t : Bool) (text : List ℕ) (at : ℕ)
     → at < length text → get_or text at 0 ≡ 92 → IsUtf8 text → IsBackslash text at t (backslash_unit t at (drop at text))
 backslash_is_unit t text at l e u = backslash_by t _ _ _ text at l e u refl refl refl
 
--- where no label continues
+-- places where no label continues
 abbrev Stops : (List ℕ → Option ℕ) → Bool → List ℕ → ℕ → Type 0
 Stops h t text at = (known : Known) → label_behind t known (left_at h text at) ≡ None
 

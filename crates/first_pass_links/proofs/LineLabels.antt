@@ -1,4 +1,4 @@
--- Labels that hold no line end, and heads of footnote definitions with them.
+-- Labels without a line ending, and heads of footnote definitions with them.
 use Rattle.std.proofs.Common.{◌≡◌, ℕ, suc, ◌+◌, ◌==◌, ◌&&◌, Bool, true, false, List, [], ◌∷◌, take, drop, slice_index, Option, Some, None}
 use Rattle.std.proofs.Common.{inl, inr, is_some, refl, sym, ap, ◌∙◌, arith, if◌then◌else◌}
 use Rattle.std.specs.Option.{option_and_then}
@@ -14,11 +14,12 @@ use Rattle.first_pass_links.proofs.Destinations.{second, upto-nil, upto-stop, up
 use Rattle.first_pass_links.proofs.Labels.{joined-nil, joined-byte, joined-stop, first_of}
 use Rattle.first_pass_links.proofs.Footnotes.{head_of, no_mark}
 
--- no line goes on
+-- the label continues on no further line
 abbrev pub alone : List ℕ → Option ℕ
 alone bs = None
 
--- A label of n bytes in the joined text, from an offset on, is the one of k bytes that holds no line end, or there is none in both.
+-- A label of n bytes in the joined text, from an offset on, is that of k bytes without a line ending; or there is
+-- none in either.
 record IsSameLabel (cs : List (ℕ × ℕ)) (xs : List ℕ) (at n k : ℕ) : Type 0 where
   pub ends : begins 93 (drop n (bytes_of cs)) ≡ begins 93 (drop k xs)
   pub len : begins 93 (drop k xs) ≡ true → n ≡ k
@@ -46,7 +47,7 @@ two_more cs xs at b c n k s =
     let f : 2 + k ≡ suc (suc k) = omega arith in
     rw (e, f) (one_further ((at + 1, c) ∷ cs) (c ∷ xs) at b (suc n) (suc k) (one_further cs xs (at + 1) c n k s))
 
--- nothing is joined where a line feed is first
+-- nothing is joined if a line feed is first
 nothing_behind : (at : ℕ) (bs : List ℕ) → begins 10 bs ≡ true → joined alone at 0 bs ≡ []
 nothing_behind at [] h = joined-nil alone at
 nothing_behind at (b ∷ bs) h = let e : ends_line b bs ≡ true = rw h refl in joined-stop alone at b bs e refl
@@ -54,7 +55,7 @@ nothing_behind at (b ∷ bs) h = let e : ends_line b bs ≡ true = rw h refl in 
 no_line_end : (c : ℕ) (bs : List ℕ) → is_ascii_punctuation c ≡ true → ends_line c bs ≡ false
 no_line_end c bs h = grind (arith, nat_tests, h)
 
--- there is none in both
+-- there is none in either
 none_in : (cs : List (ℕ × ℕ)) (xs : List ℕ) (at n k : ℕ) → begins 93 (drop n (bytes_of cs)) ≡ false → begins 93 (drop k xs) ≡ false → IsSameLabel cs xs at n k
 none_in cs xs at n k e f = record {
   ends = e ∙ sym f;
@@ -63,7 +64,7 @@ none_in cs xs at n k e f = record {
   place = λ t. absurd (false≢true (sym f ∙ t));
 }
 
--- what is read on from an offset
+-- the rest from an offset on
 abbrev SameFrom : ℕ → List ℕ → Type 0
 SameFrom at xs = IsSameLabel (joined alone at 0 xs) xs at (label_len (bytes_of (joined alone at 0 xs))) (unescaped_upto ends_line_label 0 xs)
 
@@ -72,7 +73,7 @@ same_nil at =
     rw (joined-nil alone at, upto-nil ends_line_label)
     (none_in [] [] at (label_len []) 0 (ap (λ n. begins 93 (drop n [])) (upto-nil is_bracket)) refl)
 
--- where the line ends
+-- at the end of the line
 at_end : (at b : ℕ) (bs : List ℕ) → ends_line b bs ≡ true → SameFrom at (b ∷ bs)
 at_end at b bs e =
     let f : (b == 92) ≡ false = grind (arith, nat_tests, e) in
@@ -82,7 +83,7 @@ at_end at b bs e =
     let j : joined alone at 0 (b ∷ bs) ≡ [] = joined-stop alone at b bs e refl in
     rw (upto-stop ends_line_label b bs g s, j) (none_in [] (b ∷ bs) at (label_len []) 0 (ap (λ n. begins 93 (drop n [])) (upto-nil is_bracket)) d)
 
--- no escape begins in the joined text where none does in the text
+-- no escape begins in the joined text if none begins in the text
 escape_joined : (at b : ℕ) (bs : List ℕ) → begins_escape (b ∷ bs) ≡ false → begins_escape (b ∷ bytes_of (joined alone at 0 bs)) ≡ false
 escape_joined at b bs e =
     elim (first_of alone at bs) [
@@ -113,7 +114,7 @@ at_return at b bs e s l =
     let n : label_len (b ∷ []) ≡ 1 = upto-byte is_bracket b [] g' s ∙ ap (λ m. 1 + m) (upto-nil is_bracket) in
     rw (upto-stop ends_line_label b bs g l, j) (none_in ((at, b) ∷ []) (b ∷ bs) at (label_len (b ∷ [])) 0 (ap (λ m. begins 93 (drop m (b ∷ []))) n) d)
 
--- one byte on
+-- one byte further
 byte_on : (at b : ℕ) (bs : List ℕ)
     → ends_line b bs ≡ false → begins_escape (b ∷ bs) ≡ false → ends_line_label b ≡ false → SameFrom (at + 1) bs → SameFrom at (b ∷ bs)
 byte_on at b bs e g l on =
@@ -122,7 +123,7 @@ byte_on at b bs e g l on =
     rw (upto-byte ends_line_label b bs g l, joined-byte alone at b bs e, upto-byte is_bracket b (bytes_of cs) (escape_joined (at + 1) b bs g) s)
     (one_more cs bs at b (label_len (bytes_of cs)) (unescaped_upto ends_line_label 0 bs) on)
 
--- one escape on
+-- one escape further
 escape_on : (at b c : ℕ) (bs : List ℕ) → begins_escape (b ∷ c ∷ bs) ≡ true → SameFrom (at + 1 + 1) bs → SameFrom at (b ∷ c ∷ bs)
 escape_on at b c bs g on =
     let cs = joined alone (at + 1 + 1) 0 bs in
@@ -147,7 +148,7 @@ same_label at [] = same_nil at
 same_label at (b ∷ []) = same_by _ _ _ _ at b [] refl refl refl refl (same_nil (at + 1)) (same_nil (at + 1 + 1))
 same_label at (b ∷ c ∷ cs) = same_by _ _ _ _ at b (c ∷ cs) refl refl refl refl (same_label (at + 1) (c ∷ cs)) (same_label (at + 1 + 1) cs)
 
--- the label after a `[` that holds no line end: k bytes, before a `]`
+-- the length of a label without a line ending, after its `[` and before a `]`
 abbrev pub line_len : List ℕ → ℕ
 line_len xs = unescaped_upto ends_line_label 0 xs
 
@@ -179,12 +180,12 @@ head_form true false xs label m h = rw h refl
 head_form false true xs label m h = refl
 head_form false false xs label m h = refl
 
--- no head where no `]` ends the label in its line
+-- no head if no `]` ends the label in its line
 pub head_none : (text : List ℕ) → begins_footnote text ≡ true → begins 93 (drop (line_len (drop 2 text)) (drop 2 text)) ≡ false → (t : Bool)
     → is_some (footnote_head alone t text) ≡ false
 head_none text h e t = ap is_some (head_of alone t text h ∙ ap (option_and_then (head_behind (drop 2 text))) (label_none t (drop 2 text) e))
 
--- the head where one does, by what stands after it and before it
+-- the head if one does, by the bytes before and after it
 pub head_some : (text : List ℕ) → begins_footnote text ≡ true → begins 93 (drop (line_len (drop 2 text)) (drop 2 text)) ≡ true → (t : Bool)
     → is_some (footnote_head alone t text)
     ≡ (begins 58 (drop (line_len (drop 2 text) + 1) (drop 2 text)) && is_label (take (line_len (drop 2 text)) (drop 2 text)))

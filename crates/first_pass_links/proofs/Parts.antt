@@ -1,4 +1,4 @@
--- Parts of a text, and how heavy they are.
+-- Parts of a text, and their weights.
 use Rattle.std.proofs.Common.{◌≡◌, ◌⊎◌, inl, inr, ℕ, zero, suc, ◌+◌, ◌-◌, ◌<◌, ◌≤◌, ◌==◌, ◌&&◌, not, Bool, true, false, List, ◌∷◌, ◌++◌, length, take, drop, []}
 use Rattle.std.proofs.Common.{get_or, refl, sym, ap, ◌∙◌, arith, append_assoc, if◌then◌else◌}
 use Rattle.std.specs.Str.{IsCharBoundary}
@@ -129,7 +129,7 @@ unit_read text written from at unit r u n = elim u.change [
 pub read_none : (text : List ℕ) → IsCharBoundary text 0 → IsRead text [] 0 0
 read_none text b = record { order = omega arith; within = omega arith; boundary = b; lighter = inl (refl, refl) }
 
--- what is read of all of it
+-- the text that is read from all of it
 pub whole_kept : (text written : List ℕ) (from at : ℕ) → IsRead text written from at → from ≡ 0 → take at text ≡ written ++ part text from at
 whole_kept text written from at r e = elim r.lighter [
   | inl h ↦ (sym (ap (λ xs. xs ++ part text from at) h.1 ∙ ap (λ n. part text n at) e ∙ part-start text at))

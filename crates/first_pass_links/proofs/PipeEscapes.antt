@@ -1,4 +1,4 @@
--- References in the text of a cell: they are those of the text, as none has a backslash or a pipe.
+-- References in the text of a cell: they are those of the text, since they have no backslash and no pipe.
 use Rattle.std.proofs.Common.{◌≡◌, ℕ, zero, suc, ◌+◌, ◌≤◌, ◌==◌, Bool, true, false, List, [], ◌∷◌, take, drop, refl, sym, ap, ◌∙◌, arith}
 use Rattle.std.specs.List.{prefix_len}
 use Rattle.std.specs.Char.{is_ascii_digit, is_ascii_hexdigit, is_ascii_alphabetic}
@@ -24,7 +24,7 @@ pub cell-dropped : (b : ℕ) (bs : List ℕ) → (b == 92) ≡ true → begins 1
 unfolding without_pipe_escapes
 cell-dropped b bs h h' = rw (h, h')
 
--- a backslash, and what is kept of it
+-- a backslash, and the bytes that are kept of it
 pub pipe_behind : (bs : List ℕ) → begins 124 bs ≡ true → without_pipe_escapes bs ≡ 124 ∷ without_pipe_escapes (drop 1 bs)
 pipe_behind [] h = cc
 pipe_behind (b ∷ bs) h =
@@ -57,7 +57,7 @@ take-without_pipe_escapes zero bs h = refl
 take-without_pipe_escapes (suc n) [] h = absurd (omega arith)
 take-without_pipe_escapes (suc n) (b ∷ bs) h = plain_take (b == 92) n b bs refl h (take-without_pipe_escapes n bs)
 
--- and so does a first byte that is neither backslash nor pipe
+-- and so does a first byte that is neither a backslash nor a pipe
 begins_by : (t u : Bool) (k b : ℕ) (bs : List ℕ)
     → (b == 92) ≡ t → begins 124 bs ≡ u → (92 == k) ≡ false → (124 == k) ≡ false → begins k (without_pipe_escapes (b ∷ bs)) ≡ (b == k)
 begins_by false u k b bs h h' q r = ap (begins k) (cell-other b bs h)
@@ -86,7 +86,7 @@ pub prefix_len-cell : (p : ℕ → Bool) → p 92 ≡ false → p 124 ≡ false 
 prefix_len-cell p q r [] = ap (prefix_len p) cell-nil
 prefix_len-cell p q r (b ∷ bs) = prefix_by p (b == 92) (begins 124 bs) b bs refl refl q r (prefix_len-cell p q r bs)
 
--- what stands in front of and after such a run
+-- the bytes before and after such a run
 behind_run : (p : ℕ → Bool) → p 92 ≡ false → p 124 ≡ false → (bs : List ℕ)
     → begins 59 (drop (prefix_len p (without_pipe_escapes bs)) (without_pipe_escapes bs)) ≡ begins 59 (drop (prefix_len p bs) bs)
 behind_run p q r bs =
@@ -109,7 +109,7 @@ name_at-cell : (bs : List ℕ) → name_at (without_pipe_escapes bs) ≡ name_at
 unfolding name_at
 name_at-cell bs = rw (behind_run is_ascii_alphabetic refl refl bs, run is_ascii_alphabetic refl refl bs, prefix_len-cell is_ascii_alphabetic refl refl bs)
 
--- after a first byte that is no backslash
+-- after a first byte that is not a backslash
 behind_byte : (k : ℕ) (bs : List ℕ) → begins k bs ≡ true → (k == 92) ≡ false → drop 1 (without_pipe_escapes bs) ≡ without_pipe_escapes (drop 1 bs)
 behind_byte k [] h q = cc
 behind_byte k (b ∷ bs) h q = ap (drop 1) (cell-other b bs (rw (eqb-true b k h) q))

@@ -45,7 +45,7 @@ plain_begins b h = grind (arith, nat_tests, h)
 no_escape : (bs : List ℕ) (at : ℕ) → at < length bs → (get_or bs at 0 == 92) ≡ false → begins_escape (drop at bs) ≡ false
 no_escape bs at l h = ap begins_escape (drop_more bs at 0 l) ∙ rw h refl
 
--- a run goes past plain bytes
+-- a run continues after plain bytes
 run_plain_byte : (deepest nesting : ℕ) (bs : List ℕ) (at : ℕ) → at < length bs → is_plain (get_or bs at 0) ≡ true → nesting ≤ deepest
     → longer (at + 1) (run_len deepest nesting 0 (drop (at + 1) bs)) ≡ longer at (run_len deepest nesting 0 (drop at bs))
 run_plain_byte deepest nesting bs at l plain few =
@@ -66,7 +66,7 @@ run_plain deepest nesting bs at (suc r) within plain few =
     ∙ run_plain_byte deepest nesting bs (at + r) (omega arith) (plain r (omega arith)) few
     ∙ run_plain deepest nesting bs at r (omega arith) (λ k below. plain k (omega arith)) few
 
--- two units that are kept, one after the other, are one
+-- two kept units, one after the other, are one
 module _ (h : List ℕ → Option ℕ) (t : Bool) (text : List ℕ) (at m n c d : ℕ) where
   kept_both : at ≤ m → m ≤ n → Reads h t text at (kept_unit m c true) → Reads h t text m (kept_unit n d true) → Reads h t text at (kept_unit n (c + d) true)
   kept_both first second one two =
@@ -108,7 +108,7 @@ plain_byte_reads h t text at within plain =
     let b = get_or text at 0 in
     byte_reads h t text at 1 within (plain_white b plain) (plain_bracket b plain) (plain_backslash b plain) (plain_begins b plain)
 
--- a run of plain bytes is a unit that is kept
+-- a run of plain bytes is a kept unit
 plain_reads : (h : List ℕ → Option ℕ) (t : Bool) (text : List ℕ) (at r : ℕ) → at + suc r ≤ length text → ArePlain text at (suc r)
     → Reads h t text at (kept_unit (at + suc r) (suc r) true)
 plain_reads h t text at zero within plain =

@@ -1,4 +1,4 @@
--- What is written of a label weighs less than what it is read from; so it is read otherwise than it stands.
+-- The text written of a label is lighter than its source; so the label as it is read differs from its source.
 use Rattle.std.proofs.Common.{◌≡◌, ◌≢◌, ◌⊎◌, inl, inr, ℕ, suc, ◌+◌, ◌<◌, ◌≤◌, ◌==◌, Bool, true, false, List, [], ◌∷◌, ◌++◌, length, take, drop, get_or}
 use Rattle.std.proofs.Common.{slice_index, Option, Some, None, Ok, Err, Result, OnErr, refl, sym, ap, subst, ◌∙◌, arith, append_assoc, length-append}
 use Rattle.std.specs.Borrow.{Bor}
@@ -27,7 +27,7 @@ weight-solid b h = rw h
 line_end_facts : (b : ℕ) (bs : List ℕ) → ends_line b bs ≡ true → (is_ascii_white b ≡ true) × ((b == 32) ≡ false) × ((b == 92) ≡ false) × (is_bracket b ≡ false)
 line_end_facts b bs h = (grind (arith, nat_tests, h), grind (arith, nat_tests, h), grind (arith, nat_tests, h), grind (arith, nat_tests, h))
 
--- a byte more
+-- one more byte
 weight-more : (b : ℕ) (bs : List ℕ) → weight (b ∷ bs) ≡ weight (b ∷ []) + weight bs
 weight-more b bs = weight-append (b ∷ []) bs
 
@@ -43,7 +43,7 @@ lightens_more : (b : ℕ) (xs ys : List ℕ) → Lightens xs ys → Lightens (b 
 lightens_more b xs ys (inl l) = let u = weight-more b xs in let v = weight-more b ys in inl (omega arith)
 lightens_more b xs ys (inr e) = inr (ap (λ zs. b ∷ zs) e)
 
--- a byte fewer
+-- one byte fewer
 lightens_without : (b : ℕ) (xs ys : List ℕ) → Lightens xs ys → Lightens xs (b ∷ ys)
 lightens_without b xs ys l =
     let w = lightens_weight xs ys l in
@@ -115,7 +115,7 @@ shown_weighs : (t : Bool) (bs : List ℕ) → weight (shown t bs) ≡ length (sh
 shown_weighs false bs = single_weighs bs
 shown_weighs true bs = single_weighs (without_pipe_escapes bs)
 
--- bytes with a line end are read otherwise
+-- bytes with white space other than a space are read differently
 heavy_differs : (t : Bool) (xs ys : List ℕ) (b : ℕ) → is_ascii_white b ≡ true → (b == 32) ≡ false → shown t (xs ++ b ∷ ys) ≢ xs ++ b ∷ ys
 heavy_differs t xs ys b h k = λ e.
     let w = shown_weighs t (xs ++ b ∷ ys) in
@@ -129,14 +129,15 @@ heavy_differs t xs ys b h k = λ e.
     let n = length-append xs (b ∷ ys) in
     omega arith
 
--- what the label has from an offset on: all bytes, and those before the first bracket
+-- the joined text from an offset on: all bytes, and those before the first bracket
 abbrev all_from : (List ℕ → Option ℕ) → List ℕ → ℕ → List ℕ
 all_from h text at = bytes_of (left_at h text at)
 
 abbrev before_from : (List ℕ → Option ℕ) → List ℕ → ℕ → List ℕ
 before_from h text at = take (label_len (all_from h text at)) (all_from h text at)
 
--- the label is read up to an offset: the bytes that it is read from up to there, and what is read of them, which weighs less where something is written
+-- the label is read up to an offset: its source up to there, and the text read from it, which is lighter if something
+-- is written
 pub record IsTracked (h : List ℕ → Option ℕ) (t : Bool) (text : List ℕ) (at : ℕ) (same : Type 0) : Type 0 where
   pub done : List ℕ
   pub read : List ℕ
@@ -197,7 +198,7 @@ tracked_before h t text at same k =
     ap (λ n. take n (all_from h text 0)) k.passed ∙ ap (take (length k.done + label_len (all_from h text at))) k.whole
     ∙ take_past k.done (all_from h text at) (length k.done + label_len (all_from h text at)) (label_len (all_from h text at)) refl
 
--- where something is written, the label is read otherwise than it stands
+-- if something is written, the label as it is read differs from its source
 pub track_written : (h : List ℕ → Option ℕ) (t : Bool) (text : List ℕ) (at : ℕ) (same : Type 0) → IsTracked h t text at same → (same → ⊥) → IsRewritten h t text
 track_written h t text at same k n = λ e.
     let B = before_from h text at in
@@ -209,7 +210,7 @@ track_written h t text at same k n = λ e.
     let z : weight (k.read ++ shown t B) ≡ weight (k.done ++ B) = ap weight (sym r) ∙ ap (λ xs. weight (shown t xs)) (sym is) ∙ ap weight e ∙ ap weight is in
     elim k.lighter [ inl s ↦ n s | inr less ↦ omega arith ]
 
--- where the function errs: no bracket stands before, or the line end is part of the label
+-- the handler fails: no bracket comes before, or the line ending is part of the label
 stop_by : (o : Option ℕ) (h : List ℕ → Option ℕ) (t : Bool) (text : List ℕ) (at next n : ℕ) (same : Type 0) (k : IsTracked h t text at same)
     (r : IsWhiteRun h text at next n)
     → next < length text → ends_line (slice_index text next) (drop (next + 1) text) ≡ true → h (drop (next + 1) text) ≡ o

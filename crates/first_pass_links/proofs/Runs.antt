@@ -1,4 +1,4 @@
--- Runs by the grammar, and their length as it is counted.
+-- Runs by the grammar, and their computed length.
 use Rattle.std.proofs.Common.{◌≡◌, inl, inr, ℕ, zero, suc, ◌+◌, ◌-◌, ◌<◌, ◌≤◌, ◌==◌, Bool, true, false, List, [], ◌∷◌, ◌++◌, length, take, drop, Option, Some}
 use Rattle.std.proofs.Common.{None, refl, sym, ap, subst, ◌∙◌, arith, append_assoc, length-append, length-drop}
 use Rattle.std.specs.Char.{is_ascii_punctuation}
@@ -9,7 +9,7 @@ use Rattle.first_pass_links.specs.Destinations.{ends_run, closes_none, nesting_b
 use Rattle.first_pass_links.specs.Runs.{is_plain, IsBare, nothing, escape, plain, nested, ends_before, BeginsRun}
 use Rattle.first_pass_links.proofs.Destinations.{longer-longer, second, run-nil, run-end, run-escape, run-unopened, run-deep, run-byte}
 
--- a run stands there: its length is counted
+-- if there is a run, its length is computed
 longer-none : (o : Option ℕ) → longer 0 o ≡ o
 longer-none None = refl
 longer-none (Some k) = let e : 0 + k ≡ k = omega arith in ap (λ n. Some n) e
@@ -77,7 +77,7 @@ run_found deepest n bs h =
     ap (run_len deepest 0 0) (sym parts.0) ∙ counts deepest deepest (take n bs) (drop n bs) h.run 0 (omega arith)
     ∙ ap (longer (length (take n bs))) (ended deepest (drop n bs) h.ends) ∙ ap (λ k. longer k (Some 0)) parts.1 ∙ ap (λ k. Some k) z
 
--- a run with so many parentheses open before it, which it closes: a run before each `)`, and one after the last
+-- a run that closes this many parentheses opened before it: a run before each `)`, and one after the last
 abbrev Closes : ℕ → ℕ → List ℕ → List ℕ → Type 0
 Closes zero d run behind = IsBare d run behind
 Closes (suc k) d run behind =
@@ -111,7 +111,7 @@ closes_open (suc k) d run behind c =
       r.4,
     )
 
--- the first n bytes close so many parentheses, and end there
+-- the first n bytes close this many parentheses, and end there
 record Ends (k d : ℕ) (bs : List ℕ) (n : ℕ) : Type 0 where
   run : List ℕ
   behind : List ℕ
@@ -182,7 +182,7 @@ ends_open k d n bs e =
       ends = e.ends;
     }
 
--- what is counted after each byte
+-- the length that is computed after each byte
 abbrev Counted : ℕ → List ℕ → Type 0
 Counted deepest bs = (k d n : ℕ) → d + k ≡ deepest → run_len deepest k 0 bs ≡ Some n → Ends k d bs n
 

@@ -1,18 +1,21 @@
--- The places at which a text is changed as it is unescaped. Contracts of private functions alone cite this.
+-- The places at which unescaping changes a text. Only contracts of private functions cite this.
 use Rattle.std.specs.Prelude.{◌≡◌, ℕ, ◌+◌, ◌-◌, ◌<◌, ◌≤◌, ◌&&◌, Bool, List, ◌++◌, length, take, drop, slice_index, encode_utf8, Option, Some, if◌then◌else◌}
 use Rattle.first_pass_items.specs.Bytes.{backslash, pipe, ascii_end}
 use Rattle.first_pass_lines.specs.Lines.{begins}
 use Rattle.first_pass_links.specs.Escapes.{replaced_at, unescaped}
 
--- in a table, a backslash before one that is dropped: it escapes the pipe after that one (CommonMark 2.4, GFM 4.10)
+-- in a table, a backslash before one that is dropped: together they escape the pipe that follows (CommonMark 2.4, GFM
+-- 4.10)
 abbrev pub begins_pipe_escape : List ℕ → Bool
 begins_pipe_escape bs = begins backslash bs && begins backslash (drop 1 bs) && begins pipe (drop 2 bs)
 
--- the bytes here that are replaced by one character: how many, and that character (CommonMark 2.4, 2.5, GFM 4.10)
+-- the bytes at the start that one character replaces: their number, and that character (CommonMark 2.4, 2.5, GFM
+-- 4.10)
 unfoldable pub change_at : Bool → List ℕ → Option (ℕ × ℕ)
 change_at in_table bs = if in_table && begins_pipe_escape bs then Some (3, pipe) else replaced_at bs
 
--- the text from one offset on: its bytes up to another are kept, and from there on so many are replaced by a character (this project)
+-- the next change from an offset on: the offset up to which bytes are kept, the number of bytes replaced there, and
+-- their character (this project)
 pub record IsChange (in_table : Bool) (text : List ℕ) (from : ℕ) (change : ℕ × ℕ × ℕ) : Type 0 where
   pub order : from ≤ change.0
   pub within : change.0 + change.1 ≤ length text

@@ -1,4 +1,4 @@
--- Link destinations (CommonMark 6.3), of the bytes from a place in the text on.
+-- Link destinations (CommonMark 6.3). Each definition takes the bytes from a place in the text on.
 use Rattle.std.specs.Prelude.{ℕ, zero, suc, ◌+◌, ◌-◌, ◌==◌, ◌&&◌, ◌||◌, Bool, List, [], ◌∷◌, take, drop, Option, Some, None, nat_lt, if◌then◌else◌}
 use Rattle.std.specs.Option.{option_map, option_and_then}
 use Rattle.std.specs.Char.{is_ascii_control}
@@ -6,7 +6,8 @@ use Rattle.first_pass_items.specs.Bytes.{space, left_parenthesis, right_parenthe
 use Rattle.first_pass_lines.specs.Lines.{begins, is_line_end}
 use Rattle.first_pass_links.specs.Escapes.{begins_escape}
 
--- how many bytes stand before the first one that passes a test and is not escaped, the first n aside (CommonMark 2.4)
+-- the number of bytes before the first one that passes a test and is not escaped; the first n bytes are not tested
+-- (CommonMark 2.4)
 unfoldable pub unescaped_upto : (ℕ → Bool) → ℕ → List ℕ → ℕ
 unescaped_upto stops n [] = 0
 unescaped_upto stops (suc n) (b ∷ bs) = 1 + unescaped_upto stops n bs
@@ -15,38 +16,40 @@ unescaped_upto stops zero (b ∷ bs) =
     then 1 + unescaped_upto stops 1 bs
     else (if stops b then 0 else 1 + unescaped_upto stops 0 bs)
 
--- what cannot stand in a destination in pointy brackets unless it is escaped: a line end, `<` and `>` (CommonMark 6.3)
+-- a byte that a destination in pointy brackets has only if it is escaped: a line ending, `<` or `>` (CommonMark 6.3)
 abbrev pub ends_brackets : ℕ → Bool
 ends_brackets b = is_line_end b || b == less_than || b == greater_than
 
--- a destination in pointy brackets, after its `<`: its bytes with both brackets, and the text between (CommonMark 6.3)
+-- a destination in pointy brackets, after its `<`: its length with both brackets, and the text between them
+-- (CommonMark 6.3)
 unfoldable pub bracketed_at : List ℕ → Option (ℕ × List ℕ)
 bracketed_at bs =
     let n = unescaped_upto ends_brackets 0 bs in
     if begins greater_than (drop n bs) then Some (n + 2, take n bs) else None
 
--- what cannot stand in a destination without brackets: an ASCII control character or a space (CommonMark 6.3)
+-- a byte that no destination without brackets has: an ASCII control character or a space (CommonMark 6.3)
 abbrev pub ends_run : ℕ → Bool
 ends_run b = is_ascii_control b || b == space
 
--- so many bytes more, where there is a length (this project)
+-- a length that is n bytes longer, if there is one (this project)
 abbrev pub longer : ℕ → Option ℕ → Option ℕ
 longer n len = option_map (λ k. n + k) len
 
--- no parenthesis is left open (CommonMark 6.3)
+-- the length 0 if no parenthesis is open, otherwise none (CommonMark 6.3)
 abbrev pub if_closed : ℕ → Option ℕ
 if_closed nesting = if nesting == 0 then Some 0 else None
 
--- a `)` that closes none of the parentheses (CommonMark 6.3)
+-- a `)` that closes no parenthesis of the destination (CommonMark 6.3)
 abbrev pub closes_none : ℕ → ℕ → Bool
 closes_none b nesting = b == right_parenthesis && nesting == 0
 
--- how many parentheses are open after a byte (CommonMark 6.3)
+-- the number of open parentheses after a byte (CommonMark 6.3)
 abbrev pub nesting_behind : ℕ → ℕ → ℕ
 nesting_behind b nesting = if b == left_parenthesis then nesting + 1 else (if b == right_parenthesis then nesting - 1 else nesting)
 
--- the length of a run in so many open parentheses, the first n of its bytes aside: it ends before a control character or space, or an unescaped `)` that
--- closes none; unescaped parentheses are balanced, and nested at most so deep (CommonMark 6.3)
+-- The length of a run inside `nesting` open parentheses; its first n bytes are not tested. The run ends before a
+-- control character or a space, or before an unescaped `)` that closes none. Unescaped parentheses are balanced, and
+-- nested at most `deepest` deep (CommonMark 6.3).
 unfoldable pub run_len : ℕ → ℕ → ℕ → List ℕ → Option ℕ
 run_len deepest nesting n [] = if_closed nesting
 run_len deepest nesting (suc n) (b ∷ bs) = longer 1 (run_len deepest nesting n bs)
@@ -61,7 +64,7 @@ run_len deepest nesting zero (b ∷ bs) =
 abbrev pub unbracketed : List ℕ → ℕ → Option (ℕ × List ℕ)
 unbracketed bs n = if n == 0 then None else Some (n, take n bs)
 
--- the destination here: how many bytes it has, and its text (CommonMark 6.3)
+-- the destination at the start of these bytes: its length, and its text (CommonMark 6.3)
 unfoldable pub destination_at : ℕ → List ℕ → Option (ℕ × List ℕ)
 destination_at deepest bs =
     if begins less_than bs then bracketed_at (drop 1 bs) else option_and_then (unbracketed bs) (run_len deepest 0 0 bs)

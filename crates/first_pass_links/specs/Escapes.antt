@@ -1,4 +1,4 @@
--- Texts with their backslash escapes and references replaced by what they stand for.
+-- Texts in which characters replace the backslash escapes and references.
 use Rattle.std.specs.Prelude.{ℕ, zero, suc, ◌-◌, ◌==◌, ◌&&◌, Bool, List, [], ◌∷◌, ◌++◌, slice_index, encode_utf8, Option, Some, if◌then◌else◌}
 use Rattle.std.specs.Option.{option_map_or}
 use Rattle.std.specs.Char.{is_ascii_punctuation}
@@ -6,11 +6,11 @@ use Rattle.first_pass_items.specs.Bytes.{backslash, pipe}
 use Rattle.first_pass_lines.specs.Lines.{begins}
 use Rattle.first_pass_entities.specs.Entities.{entity_at}
 
--- the bytes begin with a backslash escape: a backslash, and then ASCII punctuation (CommonMark 2.4)
+-- the bytes begin with a backslash escape: a backslash and then ASCII punctuation (CommonMark 2.4)
 abbrev pub begins_escape : List ℕ → Bool
 begins_escape bs = begins backslash bs && is_ascii_punctuation (slice_index bs 1)
 
--- the backslash escape or the reference that the bytes begin with: how many bytes it has, and the character that it stands for (CommonMark 2.4, 2.5)
+-- the backslash escape or reference at the start of these bytes: its length, and its character (CommonMark 2.4, 2.5)
 unfoldable pub replaced_at : List ℕ → Option (ℕ × ℕ)
 replaced_at bs = if begins_escape bs then Some (2, slice_index bs 1) else entity_at bs
 
@@ -26,10 +26,11 @@ unfoldable pub without_pipe_escapes : List ℕ → List ℕ
 without_pipe_escapes [] = []
 without_pipe_escapes (b ∷ bs) = if b == backslash && begins pipe bs then without_pipe_escapes bs else b ∷ without_pipe_escapes bs
 
--- the text as it is read, in a table that of a cell (GFM 4.10)
+-- the text as it is read: in a table, that of a cell (GFM 4.10)
 abbrev pub read_in : Bool → List ℕ → List ℕ
 read_in in_table text = if in_table then without_pipe_escapes text else text
 
--- a text without its escapes and references: in a table those before pipes are dropped first (CommonMark 2.4, 2.5, GFM 4.10)
+-- a text without its escapes and references; in a table, backslashes before pipes are dropped first (CommonMark 2.4,
+-- 2.5, GFM 4.10)
 abbrev pub unescaped : Bool → List ℕ → List ℕ
 unescaped in_table text = unescaped_behind 0 (read_in in_table text)

@@ -5,16 +5,17 @@ use Rattle.first_pass_items.specs.Bytes.{colon, left_bracket, circumflex}
 use Rattle.first_pass_lines.specs.Lines.{begins}
 use Rattle.first_pass_links.specs.Labels.{label_at}
 
--- `[^` stands here (this project)
+-- the bytes begin with `[^` (this project)
 abbrev pub begins_footnote : List ℕ → Bool
 begins_footnote bs = begins left_bracket bs && begins circumflex (drop 1 bs)
 
--- the head with a label that is read after its `[^`: a colon is directly after the label (this project)
+-- a head of a footnote definition, given the label after its `[^`: a colon follows the label directly (this project)
 abbrev pub head_behind : List ℕ → ℕ × List ℕ → Option (ℕ × List ℕ)
 head_behind bs label = if begins colon (drop label.0 bs) then Some (label.0 + 3, label.1) else None
 
--- The head of the footnote definition that begins here: `[^`, a label as a link has it, and a colon; how many bytes it has, and the label as it is read.
--- The label continues over the line ends after which these prefixes stand (this project).
+-- The head of the footnote definition at the start of these bytes: `[^`, a label as a link has it, and a colon; with
+-- its length in bytes, and the label as it is read. The label continues after a line ending if `prefix` gives a
+-- prefix for the next line (this project).
 unfoldable pub footnote_head : (List ℕ → Option ℕ) → Bool → List ℕ → Option (ℕ × List ℕ)
 footnote_head prefix in_table bs =
     if begins_footnote bs then option_and_then (head_behind (drop 2 bs)) (label_at prefix in_table (drop 2 bs)) else None

@@ -1,4 +1,4 @@
--- Link labels (CommonMark 6.3), of the bytes after a `[`.
+-- Link labels (CommonMark 6.3). Each definition takes the bytes after a `[`.
 use Rattle.std.specs.Prelude.{◌≡◌, ◌≢◌, ◌⊎◌, ℕ, zero, suc, ◌+◌, ◌==◌, ◌&&◌, ◌||◌, not, Bool, List, [], ◌∷◌, map, take, drop, slice_index, Option, Some, None}
 use Rattle.std.specs.Prelude.{Ok, Err, Result, length, true, ◌<◌, IsUtf8, nat_lt, nat_le, if◌then◌else◌}
 use Rattle.std.specs.Option.{option_map_or}
@@ -11,14 +11,14 @@ use Rattle.first_pass_lines.specs.Lines.{begins, is_ascii_white, is_line_end, en
 use Rattle.first_pass_links.specs.Escapes.{read_in}
 use Rattle.first_pass_links.specs.Destinations.{unescaped_upto}
 
--- what may be returned at a line end is what the function says of the bytes after it, those of the text from between two of its characters on: how many
--- bytes of prefix the next line has, or none where the label may not continue there (this project)
+-- given the rest of the text from any character on, the handler of line endings returns only what `prefix` has for
+-- it: the length of the prefix of the next line, or none if the label may not continue there (this project)
 abbrev pub AnswersWith : List ℕ → (List ℕ → Option ℕ) → (Bor (List ℕ) → Result (Option ℕ) AllocError → Type 0) → Type 0
 AnswersWith text prefix post =
     (behind : Bor (List ℕ)) (answer : Option ℕ) (at : ℕ) → IsCharBoundary text at → behind.now ≡ drop at text → post behind (Ok answer)
     → prefix behind.now ≡ answer
 
--- a prefix that may be returned there is a part of the bytes, and ends between characters (this project)
+-- a prefix that the handler returns is within the rest of the text, and ends between characters (this project)
 abbrev pub AnswersPlaces : List ℕ → (Bor (List ℕ) → Result (Option ℕ) AllocError → Type 0) → Type 0
 AnswersPlaces text post =
     (behind : Bor (List ℕ)) (n at : ℕ) → IsCharBoundary text at → behind.now ≡ drop at text → post behind (Ok (Some n)) → IsUtf8 behind.now
@@ -32,8 +32,8 @@ is_bracket b = b == left_bracket || b == right_bracket
 abbrev pub begins_character : ℕ → Bool
 begins_character b = nat_lt b ascii_end || nat_le least_lead b
 
--- the text from an offset on, its first n bytes aside, with its lines joined: each byte after its offset, without the prefixes of lines;
--- it ends at a line end after which the label may not continue (CommonMark 6.3)
+-- The text from an offset on, after its first n bytes, with its lines joined: each byte with its offset, without the
+-- prefixes of lines. It ends at a line ending after which the label may not continue (CommonMark 6.3).
 unfoldable pub joined : (List ℕ → Option ℕ) → ℕ → ℕ → List ℕ → List (ℕ × ℕ)
 joined prefix at n [] = []
 joined prefix at (suc n) (b ∷ bs) = joined prefix (at + 1) n bs
@@ -42,37 +42,39 @@ joined prefix at zero (b ∷ bs) =
     then option_map_or (λ n. (at, b) ∷ joined prefix (at + 1) n bs) (prefix bs) []
     else (at, b) ∷ joined prefix (at + 1) 0 bs
 
--- bytes without their offsets (this project)
+-- the bytes without their offsets (this project)
 abbrev pub bytes_of : List (ℕ × ℕ) → List ℕ
 bytes_of cs = map (λ c. c.1) cs
 
--- the offsets of bytes (this project)
+-- the offsets of the bytes (this project)
 abbrev pub offsets_of : List (ℕ × ℕ) → List ℕ
 offsets_of cs = map (λ c. c.0) cs
 
--- what ends a label that holds no line end: a bracket or a line end (CommonMark 6.3)
+-- a byte that ends a label without a line ending: a bracket, or a byte of a line ending (CommonMark 6.3)
 abbrev pub ends_line_label : ℕ → Bool
 ends_line_label b = is_bracket b || is_line_end b
 
--- how many bytes stand before the first bracket that is not escaped (CommonMark 6.3)
+-- the number of bytes before the first bracket that is not escaped (CommonMark 6.3)
 abbrev pub label_len : List ℕ → ℕ
 label_len bs = unescaped_upto is_bracket 0 bs
 
--- each run of white space as one space (CommonMark 6.3, which drops those at both ends; that they stay as one space: this project)
+-- each run of white space as one space (CommonMark 6.3, which drops those at both ends; that they stay as one space:
+-- this project)
 unfoldable pub single_spaced : List ℕ → List ℕ
 single_spaced [] = []
 single_spaced (b ∷ bs) =
     if is_ascii_white b then (if is_ascii_white (slice_index bs 0) then single_spaced bs else space ∷ single_spaced bs) else b ∷ single_spaced bs
 
--- a label as it is read: runs of white space are single spaces, and in a table backslashes before pipes are dropped (CommonMark 6.3, GFM 4.10)
+-- a label as it is read: runs of white space are single spaces; in a table, backslashes before pipes are dropped
+-- (CommonMark 6.3, GFM 4.10)
 abbrev pub shown : Bool → List ℕ → List ℕ
 shown in_table bs = single_spaced (read_in in_table bs)
 
--- a label has at most 999 characters, and one of them is not white space (CommonMark 6.3)
+-- a label has at most 999 characters, and one of them at least is not white space (CommonMark 6.3)
 abbrev pub is_label : List ℕ → Bool
 is_label bs = nat_le (count_by begins_character bs) 999 && list_any (λ b. not (is_ascii_white b)) bs
 
--- the label after a `[`: in the joined text what stands before the first bracket that is not escaped, where that is a `]`;
+-- the label after a `[`: the joined text before the first bracket that is not escaped, if that bracket is a `]`; with
 -- the offset after the `]`, and the label as it is read (CommonMark 6.3)
 unfoldable pub label_at : (List ℕ → Option ℕ) → Bool → List ℕ → Option (ℕ × List ℕ)
 label_at prefix in_table text =
@@ -83,19 +85,21 @@ label_at prefix in_table text =
     then Some (slice_index (offsets_of whole) n + 1, shown in_table label)
     else None
 
--- what a label is read from: in the joined text what stands before the first bracket that is not escaped, or all where none stands (CommonMark 6.3)
+-- the source of a label: the joined text before the first bracket that is not escaped, or all of it if there is none
+-- (CommonMark 6.3)
 abbrev pub before_bracket : (List ℕ → Option ℕ) → List ℕ → List ℕ
 before_bracket prefix text = let bs = bytes_of (joined prefix 0 0 text) in take (label_len bs) bs
 
--- it is read otherwise than it stands: it holds a line end, or white space other than single spaces, or in a table a backslash before a pipe (CommonMark 6.3)
+-- the label as it is read differs from its source: it has a line ending, white space other than single spaces, or in
+-- a table a backslash before a pipe (CommonMark 6.3)
 abbrev pub IsRewritten : (List ℕ → Option ℕ) → Bool → List ℕ → Type 0
 IsRewritten prefix in_table text = shown in_table (before_bracket prefix text) ≢ before_bracket prefix text
 
--- no bracket stands in the joined text, unless it is escaped (CommonMark 6.3)
+-- the joined text has no bracket that is not escaped (CommonMark 6.3)
 abbrev pub HasNoBracket : (List ℕ → Option ℕ) → List ℕ → Type 0
 HasNoBracket prefix text = let bs = bytes_of (joined prefix 0 0 text) in label_len bs ≡ length bs
 
--- the function errs on the bytes after the line end that begins at an offset into the text (this project)
+-- the handler fails on the bytes after the line ending whose last byte is at an offset into the text (this project)
 pub record ErrsBehind (text : List ℕ) (at : ℕ) (post : Bor (List ℕ) → Result (Option ℕ) AllocError → Type 0) : Type 0 where
   pub within : at < length text
   pub line_end : ends_line (slice_index text at) (drop (at + 1) text) ≡ true
@@ -105,6 +109,7 @@ pub record ErrsBehind (text : List ℕ) (at : ℕ) (post : Bor (List ℕ) → Re
   pub error : AllocError
   pub errs : post behind (Err error)
 
--- what asks for memory as a label is read: it has to be written, or no bracket ends it and the function errs after a line end (this project)
+-- reading a label may fail: its text has to be written, or no bracket ends it and the handler fails after a line
+-- ending (this project)
 abbrev pub CanErr : (List ℕ → Option ℕ) → Bool → List ℕ → (Bor (List ℕ) → Result (Option ℕ) AllocError → Type 0) → Type 0
 CanErr prefix in_table text post = IsRewritten prefix in_table text ⊎ (HasNoBracket prefix text × ((at : ℕ) × ErrsBehind text at post))

@@ -5,30 +5,31 @@ use Rattle.first_pass_items.specs.Bytes.{left_parenthesis, right_parenthesis, ba
 use Rattle.first_pass_links.specs.Escapes.{begins_escape}
 use Rattle.first_pass_links.specs.Destinations.{ends_run}
 
--- a byte that may stand in a run by itself: no ASCII control character, no space and no parenthesis (CommonMark 6.3)
+-- a byte that a run may have by itself: no ASCII control character, no space and no parenthesis (CommonMark 6.3)
 abbrev pub is_plain : ℕ → Bool
 is_plain b = not (ends_run b || b == left_parenthesis || b == right_parenthesis)
 
--- A run before the bytes after it, its parentheses nested at most so deep: it has no control character and no space, and parentheses only
--- where they are escaped or balanced (CommonMark 6.3).
+-- A run before the bytes after it, with its parentheses nested at most `deepest` deep. It has no control character
+-- and no space, and its parentheses are escaped or balanced (CommonMark 6.3).
 pub data IsBare : ℕ → List ℕ → List ℕ → Type 0 where
-  -- nothing
+  -- the empty run
   nothing : (deepest : ℕ) (behind : List ℕ) → IsBare deepest [] behind
-  -- a backslash with the ASCII punctuation that it escapes, and then a run
+  -- a backslash with the ASCII punctuation that it escapes, then a run
   escape : (deepest b : ℕ) (more behind : List ℕ) → is_ascii_punctuation b ≡ true → IsBare deepest more behind → IsBare deepest (backslash ∷ b ∷ more) behind
-  -- a byte that stands by itself, also a backslash that escapes nothing, and then a run
+  -- a byte by itself (also a backslash that escapes nothing), then a run
   plain : (deepest b : ℕ) (more behind : List ℕ)
       → is_plain b ≡ true → begins_escape (b ∷ (more ++ behind)) ≡ false → IsBare deepest more behind → IsBare deepest (b ∷ more) behind
-  -- a run in parentheses, nested one less deep, and then a run
+  -- a run in parentheses, nested one less deep, then a run
   nested : (deepest : ℕ) (inside more behind : List ℕ) → IsBare deepest inside (right_parenthesis ∷ (more ++ behind)) → IsBare (suc deepest) more behind
       → IsBare (suc deepest) (left_parenthesis ∷ (inside ++ right_parenthesis ∷ more)) behind
 
--- a run ends before these bytes: nothing, an ASCII control character, a space, or a `)`, which closes none as the run is balanced (CommonMark 6.3)
+-- a run ends before these bytes: there are none, or the first is an ASCII control character, a space, or a `)`; since
+-- the run is balanced, that `)` closes none (CommonMark 6.3)
 abbrev pub ends_before : List ℕ → Bool
 ends_before [] = true
 ends_before (b ∷ bs) = ends_run b || b == right_parenthesis
 
--- the first n bytes are a run, and it ends there (CommonMark 6.3)
+-- the first n bytes are a run, which ends there (CommonMark 6.3)
 pub record BeginsRun (deepest : ℕ) (bs : List ℕ) (n : ℕ) : Type 0 where
   pub within : n ≤ length bs
   pub run : IsBare deepest (take n bs) (drop n bs)

@@ -1,4 +1,4 @@
--- The units that a label is read by. Contracts of private functions alone cite this.
+-- The units in which a label is read. Only contracts of private functions cite this.
 use Rattle.std.specs.Prelude.{◌≡◌, ◌⊎◌, ℕ, ◌+◌, ◌-◌, ◌==◌, ◌<◌, ◌≤◌, ◌&&◌, not, Bool, true, false, List, [], ◌∷◌, ◌++◌, length, take, drop, slice_index, Option}
 use Rattle.std.specs.Prelude.{Result, if◌then◌else◌}
 use Rattle.std.specs.List.{list_any, list_all, count_by}
@@ -16,11 +16,11 @@ use Rattle.first_pass_links.specs.Labels.{AnswersWith, ErrsBehind, begins_charac
 abbrev pub part : List ℕ → ℕ → ℕ → List ℕ
 part text from to = take (to - from) (drop from text)
 
--- a unit whose bytes are all kept (CommonMark 6.3)
+-- a unit of which all bytes are kept (CommonMark 6.3)
 abbrev pub kept_unit : ℕ → ℕ → Bool → Unit
 kept_unit next characters solid = record { next = next; characters = characters; solid = solid; kept = next; resumed = next; space = false }
 
--- a run of white space: it stands for a space, unless it is one (CommonMark 6.3)
+-- a run of white space: a space replaces it, unless it is a single space (CommonMark 6.3)
 abbrev pub space_unit : List ℕ → ℕ → ℕ → ℕ → Unit
 space_unit text at next characters =
     if next == at + 1 && slice_index text at == space
@@ -31,27 +31,30 @@ space_unit text at next characters =
 abbrev pub dropped_unit : ℕ → ℕ → ℕ → Unit
 dropped_unit next characters place = record { next = next; characters = characters; solid = true; kept = place; resumed = place + 1; space = false }
 
--- a backslash: in a table it is dropped before a pipe, before ASCII punctuation it escapes it (CommonMark 2.4, GFM 4.10)
+-- a backslash: in a table it is dropped before a pipe; before ASCII punctuation it is an escape (CommonMark 2.4, GFM
+-- 4.10)
 abbrev pub backslash_unit : Bool → ℕ → List ℕ → Unit
 backslash_unit in_table at bs =
     if in_table && begins_pipe_escape bs then dropped_unit (at + 3) 3 (at + 1)
     else (if in_table && begins pipe (drop 1 bs) then dropped_unit (at + 2) 2 at
     else (if begins_escape bs then kept_unit (at + 2) 2 true else kept_unit (at + 1) 1 true))
 
--- what is read of a unit: its bytes, but for those that are left out or stand for a space (CommonMark 6.3)
+-- the text that is read from a unit: its bytes except those that are left out, and a space if one replaces these
+-- (CommonMark 6.3)
 abbrev pub read_of : List ℕ → ℕ → Unit → List ℕ
 read_of text at unit = part text at unit.kept ++ ((if unit.space then space ∷ [] else []) ++ part text unit.resumed unit.next)
 
--- the bytes that are left of a label from an offset on, each after its offset (this project)
+-- the rest of the joined text of a label from an offset on, each byte with its offset (this project)
 abbrev pub left_at : (List ℕ → Option ℕ) → List ℕ → ℕ → List (ℕ × ℕ)
 left_at prefix text at = joined prefix at 0 (drop at text)
 
--- each byte counts one, and white space other than a space two: less is read of a text that changes (this project)
+-- the weight of a text: one for each byte, and two for white space other than a space; a text that changes gets
+-- lighter (this project)
 unfoldable pub weight : List ℕ → ℕ
 weight [] = 0
 weight (b ∷ bs) = (if is_ascii_white b && not (b == space) then 2 else 1) + weight bs
 
--- a unit at an offset, and what it leaves out, if anything (this project)
+-- a unit at an offset, and the bytes that it leaves out, if any (this project)
 pub record IsUnit (text : List ℕ) (at : ℕ) (unit : Unit) : Type 0 where
   pub begins : at ≤ unit.kept
   pub order : unit.kept ≤ unit.resumed
@@ -63,8 +66,9 @@ pub record IsUnit (text : List ℕ) (at : ℕ) (unit : Unit) : Type 0 where
       × (weight (if unit.space then space ∷ [] else []) < weight (part text unit.kept unit.resumed)))
   pub same : unit.kept ≡ unit.resumed → unit.space ≡ false
 
--- a unit is read: its bytes are the next of the label, and have so many characters; no bracket ends the label among them,
--- and what is read of them stands before what is read of any bytes that the label takes after them (CommonMark 6.3)
+-- A unit is read. Its bytes are the next of the joined text, and have this many characters. No bracket among them
+-- ends the label. The text that is read from them comes before the text that is read from any further bytes of the
+-- label (CommonMark 6.3).
 pub record Reads (prefix : List ℕ → Option ℕ) (in_table : Bool) (text : List ℕ) (at : ℕ) (unit : Unit) : Type 0 where
   pub run : List (ℕ × ℕ)
   pub joins : left_at prefix text at ≡ run ++ left_at prefix text unit.next
@@ -75,25 +79,28 @@ pub record Reads (prefix : List ℕ → Option ℕ) (in_table : Bool) (text : Li
   pub reads : (n : ℕ) → shown in_table (bytes_of run ++ take n (bytes_of (left_at prefix text unit.next)))
       ≡ read_of text at unit ++ shown in_table (take n (bytes_of (left_at prefix text unit.next)))
 
--- the text up to an offset is read: what is written of it, and from where on its bytes are kept (this project)
+-- the text is read up to the offset `at`: these bytes are written, and those from `from` on are kept as they are
+-- (this project)
 pub record IsRead (text : List ℕ) (written : List ℕ) (from at : ℕ) : Type 0 where
   pub order : from ≤ at
   pub within : at ≤ length text
   pub boundary : IsCharBoundary text from
   pub lighter : ((from ≡ 0) × (written ≡ [])) ⊎ (weight written < weight (take from text))
 
--- a run of white space from one offset up to another, over line ends and prefixes, and how many characters it has (CommonMark 6.3)
+-- a run of white space from one offset up to another, across line endings and prefixes, with its number of characters
+-- (CommonMark 6.3)
 pub record IsWhiteRun (prefix : List ℕ → Option ℕ) (text : List ℕ) (at next characters : ℕ) : Type 0 where
   pub run : List (ℕ × ℕ)
   pub joins : left_at prefix text at ≡ run ++ left_at prefix text next
   pub white : list_all is_ascii_white (bytes_of run) ≡ true
   pub count : length run ≡ characters
 
--- nothing but white space is left of the label (CommonMark 6.3)
+-- the rest of the label has only white space (CommonMark 6.3)
 abbrev pub IsBlankRest : (List ℕ → Option ℕ) → List ℕ → ℕ → Type 0
 IsBlankRest prefix text at = list_all is_ascii_white (bytes_of (left_at prefix text at)) ≡ true
 
--- where a run ends: after its first byte, and before a byte that is no white space (CommonMark 6.3)
+-- the end of a run of white space at an offset: it is within the text, between characters, and after the first byte
+-- (directly after it for a single space) (CommonMark 6.3)
 pub record EndsWhiteRun (text : List ℕ) (at next characters : ℕ) : Type 0 where
   pub later : at < next
   pub within : next ≤ length text
@@ -102,7 +109,7 @@ pub record EndsWhiteRun (text : List ℕ) (at next characters : ℕ) : Type 0 wh
   pub few : characters ≤ next - at
   pub lone : characters ≡ 1 → slice_index text at ≡ space → next ≡ at + 1
 
--- a run of white space from an offset on stops at a line end after which the function errs (this project)
+-- the handler fails at a line ending directly after a run of white space from an offset on (this project)
 pub record StopsByError (text : List ℕ) (at : ℕ) (post : Bor (List ℕ) → Result (Option ℕ) AllocError → Type 0) : Type 0 where
   pub next : ℕ
   pub characters : ℕ

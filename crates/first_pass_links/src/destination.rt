@@ -10,9 +10,9 @@ use crate::plain::plain_run;
 use first_pass_lines::lines::begins;
 use first_pass_lines::places::rest_of;
 
-/// The link destination at `start_ix`, an offset into `text`: how many bytes it has, and its text,
-/// which stands inside `<..>` or is a run without white space whose parentheses are balanced, at most
-/// `max_next` deep. `None` where there is none. CommonMark 6.3.
+/// Returns the length of the link destination at `start_ix`, and its text. `start_ix` is an offset into `text`; the
+/// length is in bytes. The destination is inside `<..>`, or is a run without white space whose parentheses are
+/// balanced and at most `max_next` deep. Returns `None` if there is none. CommonMark 6.3.
 #[tactic(auto, unfolding(crate::specs::Destinations::destination_at, crate::specs::Destinations::bracketed_at))]
 pub fn scan_link_dest(text: &str, start_ix: usize, max_next: usize) -> Option<(usize, &str)>
     requires within { start_ix ≤ length text.now }
@@ -38,7 +38,7 @@ pub fn scan_link_dest(text: &str, start_ix: usize, max_next: usize) -> Option<(u
     }
 }
 
-// How many bytes stand before what ends the text inside `<..>`.
+// The number of bytes before the end of the text inside `<..>`.
 fn scan_brackets(bytes: &[u8]) -> usize
     ensures value { result ≡ unescaped_upto ends_brackets 0 bytes.now }
     ensures within { result ≤ length bytes.now }
@@ -50,7 +50,7 @@ fn scan_brackets(bytes: &[u8]) -> usize
     at
 }
 
-// How many bytes a run without brackets has, its parentheses at most `deepest` deep.
+// The length of a run without brackets, with its parentheses at most `deepest` deep.
 fn scan_run(bytes: &[u8], deepest: usize) -> Option<usize>
     ensures value { result ≡ run_len deepest 0 0 bytes.now }
     ensures within { IfSome result (λ len. len ≤ length bytes.now) }
@@ -79,7 +79,7 @@ fn closes_none(byte: u8, nesting: usize) -> bool
     byte == b')' && nesting == 0
 }
 
-// How many parentheses are open after a byte.
+// The number of open parentheses after a byte.
 fn nesting_behind(byte: u8, nesting: usize) -> usize
     requires { nesting < 2 ^ 63 }
     ensures value { result ≡ nesting_behind byte nesting }
@@ -104,8 +104,8 @@ fn ends_run(byte: u8) -> bool
     byte.is_ascii_control() || byte == b' '
 }
 
-/// How many bytes stand together at the start of `bytes`, which are not empty: a backslash escape has two, any other
-/// byte stands alone. CommonMark 2.4.
+/// Returns the length of the unit at the start of `bytes`: two for a backslash escape, one for any other byte.
+/// `bytes` is not empty. CommonMark 2.4.
 #[inline(always)]
 pub fn unit_len(bytes: &[u8]) -> usize
     requires { 0 < length bytes.now }

@@ -1,4 +1,4 @@
-//! Backslash escapes (CommonMark 2.4) and references (2.5) in a text, replaced by what they stand for.
+//! Backslash escapes (CommonMark 2.4) and references (2.5) in a text, replaced by their characters.
 
 ghost use Rattle.std.specs.Prelude.{◌≡◌, ◌+◌, ◌<◌, ◌≤◌, length, drop, unwrap_or, IfOk, IsOkAnd, IfSome, IfNone};
 ghost use Rattle.first_pass_items.specs.CowText.{text_of};
@@ -15,10 +15,9 @@ use first_pass_lines::lanes::LANES;
 use first_pass_lines::places::rest_of;
 use std::alloc::{AllocError, Global};
 
-/// The text with each backslash escape and each reference replaced by the character that it stands for.
-/// In a table a backslash directly before a pipe is dropped first. Where nothing changes the answer
-/// borrows the text, and no memory is taken; else the error is want of memory. CommonMark 2.4, 2.5,
-/// GFM 4.10.
+/// Returns the text with each backslash escape and each reference replaced by its character. In a table, a backslash
+/// directly before a pipe is dropped first. If nothing changes, the result borrows the text and takes no memory.
+/// Fails only if an allocation fails, which can happen only if something changes. CommonMark 2.4, 2.5, GFM 4.10.
 pub fn unescape<'a>(alloc: Global, text: &'a str, in_table: bool) -> Result<CowStr<'a>, AllocError>
     ensures value { IfOk result (λ answer. text_of answer ≡ unescaped in_table text.now) }
     ensures borrowed { unescaped in_table text.now ≡ text.now → IsOkAnd result (Borrows text.now) }
@@ -38,8 +37,8 @@ pub fn unescape<'a>(alloc: Global, text: &'a str, in_table: bool) -> Result<CowS
     Ok(CowStr::Boxed(written.into_boxed_str()))
 }
 
-// The next bytes from the offset `from` on that are replaced by one character: their offset, how many
-// there are, and that character.
+// The next bytes from the offset `from` on that one character replaces: their offset, their number, and that
+// character.
 fn next_change(bytes: &[u8], from: usize, in_table: bool) -> Option<(usize, usize, char)>
     requires { from ≤ length bytes.now }
     ensures some { IfSome result (λ change. IsChange in_table bytes.now from change) }
@@ -56,7 +55,7 @@ fn next_change(bytes: &[u8], from: usize, in_table: bool) -> Option<(usize, usiz
     None
 }
 
-// The place of the first backslash or `&`. Texts are short mostly, and `memchr2` costs more before its first look.
+// The place of the first backslash or `&`. Most texts are short, and `memchr2` costs more before its first look.
 fn next_mark(bytes: &[u8]) -> Option<usize>
     ensures within { IfSome result (λ at. at < length bytes.now) }
     ensures first { IsRunIn is_unmarked bytes.now 0 (length bytes.now) (unwrap_or result (length bytes.now)) }
@@ -78,7 +77,7 @@ fn next_mark(bytes: &[u8]) -> Option<usize>
     None
 }
 
-// The bytes at the start that are replaced by one character: how many there are, and that character.
+// The bytes at the start that one character replaces: their number, and that character.
 #[tactic(auto, unfolding(crate::specs::Changes::change_at, crate::specs::Escapes::replaced_at))]
 fn change_at(bytes: &[u8], in_table: bool) -> Option<(usize, char)>
     ensures { result ≡ change_at in_table bytes.now }

@@ -13,13 +13,14 @@ use first_pass_lines::lines::begins;
 use first_pass_lines::places::rest_of;
 use std::alloc::{AllocError, Global};
 
-/// The head of the footnote definition that `text` begins with, `[^`, a label, `]` and `:`: how many bytes it has,
-/// and its label, read as `scan_link_label_rest` reads one and borrowed where nothing changes.
+/// Returns the length of the head of the footnote definition at the start of `text`, and its label. The head is `[^`,
+/// a label, `]` and `:`. The label is read as `scan_link_label_rest` reads one, and borrowed if nothing in it
+/// changes.
 ///
-/// `linebreak_handler` gets the bytes after each line end in the label, and returns how many bytes of prefix the
-/// next line has, which are left out, or `None` where the label may not continue there.
+/// `linebreak_handler` gets the bytes after each line ending in the label. It returns the length of the prefix of the
+/// next line, which is left out, or `None` if the label may not continue there.
 ///
-/// `None` where no head begins. The error is that of `scan_link_label_rest` after `[^`.
+/// Returns `None` if no head is there. Fails only if `scan_link_label_rest` fails after the `[^`.
 pub fn scan_footnote_head<'t, F>(
     alloc: Global,
     text: &'t str,
@@ -62,8 +63,8 @@ where
     Ok(Some((len + 3, label)))
 }
 
-/// Whether the head of a footnote definition begins here whose label holds no line end. A backslash before a pipe,
-/// which is dropped from a label in a table, makes no difference. No memory is asked for.
+/// Returns whether the head of a footnote definition begins here, with a label that has no line ending. In a table, a
+/// backslash before a pipe is dropped from a label; that makes no difference here. No memory is taken.
 pub fn begins_footnote_in_line(bytes: &[u8]) -> bool
     ensures { (in_table : Bool) → result ≡ is_some (footnote_head (λ further. None) in_table bytes.now) }
 {
@@ -78,7 +79,7 @@ pub fn begins_footnote_in_line(bytes: &[u8]) -> bool
     begins(b':', rest_of(label, len + 1)) && is_label(&label[..len])
 }
 
-/// Whether `[^` stands first in `bytes`.
+/// Returns whether `bytes` begins with `[^`.
 pub fn begins_footnote(bytes: &[u8]) -> bool
     ensures { result ≡ begins_head bytes.now }
 {

@@ -19,20 +19,21 @@ use first_pass_lines::lines::{begins, is_ascii_white, is_line_end};
 use first_pass_lines::places::rest_of;
 use std::alloc::{AllocError, Global};
 
-// How many characters a label has at most (CommonMark 4.7).
+// The most characters that a label may have (CommonMark 4.7).
 const MOST_CHARACTERS: usize = 999;
 
-/// The label that `text`, the bytes after a `[`, begins with: how many bytes it has with its `]`, and
-/// its text, in which each run of white space is one space and backslashes stay; in a table one directly
-/// before a pipe is dropped. It is borrowed where nothing changes, and then no memory is taken.
+/// Returns the length of the link label at the start of `text`, and the label as it is read. `text` is the bytes
+/// after a `[`; the length is in bytes, with the `]`. Each run of white space is read as one space, and backslashes
+/// stay; in a table, one directly before a pipe is dropped. If nothing changes, the label is borrowed and takes no
+/// memory.
 ///
-/// `linebreak_handler` gets the bytes after each line end, and returns how many bytes of prefix the next
-/// line has, which are left out, or `None` where the label may not continue there.
+/// `linebreak_handler` gets the bytes after each line ending. It returns the length of the prefix of the next line,
+/// which is left out, or `None` if the label may not continue there.
 ///
-/// `None` where there is no label: an unescaped `[` or the end comes first, all is white space, or there
-/// are more than 999 characters, prefixes aside. The error is the handler's, at a line end before any
-/// bracket, or want of memory where what stands before the first bracket has to be written: where it is
-/// read otherwise than it stands. CommonMark 4.7, 6.3.
+/// Returns `None` if there is no label: an unescaped `[` or the end comes first, all is white space, or there are
+/// more than 999 characters without the prefixes. Fails only if the handler fails at a line ending before any
+/// bracket, or if an allocation fails. An allocation is needed only if the text before the first bracket changes as
+/// it is read. CommonMark 4.7, 6.3.
 pub fn scan_link_label_rest<'t, F>(
     alloc: Global,
     text: &'t str,
@@ -82,8 +83,8 @@ where
     Ok(Some((at + 1, finish(written, text, from, at)?)))
 }
 
-/// How many bytes stand before the first bracket or line end, escaped brackets aside, or before the end: those of a
-/// label that holds no line end, where that is a `]` (CommonMark 4.7).
+/// Returns the number of bytes before the first bracket or line ending, not counting escaped brackets, or before the
+/// end. If a `]` is there, it is the length of a label without a line ending (CommonMark 4.7).
 pub(crate) fn scan_line_label(bytes: &[u8]) -> usize
     ensures value { result ≡ unescaped_upto ends_line_label 0 bytes.now }
     ensures within { result ≤ length bytes.now }
@@ -95,21 +96,22 @@ pub(crate) fn scan_line_label(bytes: &[u8]) -> usize
     at
 }
 
-// Whether a byte ends a label that holds no line end: a bracket or a line end.
+// Whether a byte ends a label without a line ending: a bracket, or a byte of a line ending.
 fn ends_line_label(byte: u8) -> bool
     ensures { result ≡ ends_line_label byte }
 {
     is_bracket(byte) || is_line_end(byte)
 }
 
-/// Whether bytes may be a label: they are at most 999 characters, one of which is not white space (CommonMark 4.7).
+/// Returns whether these bytes may be a label: they have at most 999 characters, one of which is not white space
+/// (CommonMark 4.7).
 pub(crate) fn is_label(bytes: &[u8]) -> bool
     ensures { result ≡ is_label bytes.now }
 {
     count_characters(bytes) <= MOST_CHARACTERS && holds_text(bytes)
 }
 
-// How many characters begin in bytes.
+// The number of characters that begin in these bytes.
 fn count_characters(bytes: &[u8]) -> usize
     ensures { result ≡ count_by begins_character bytes.now }
 {
@@ -123,8 +125,8 @@ fn holds_text(bytes: &[u8]) -> bool
     bytes.iter().any(|b| !is_ascii_white(*b))
 }
 
-// Bytes of a label that are read together, up to the offset `next`. Those from `kept` up to `resumed` are
-// left out, or stand for a space; both are `next` where none are.
+// Bytes of a label that are read together, up to the offset `next`. Those from `kept` up to `resumed` are left out,
+// or a space replaces them; if there are none, both are `next`.
 #[derive(Clone, Copy, Drop)]
 struct Unit {
     next: usize,
@@ -135,7 +137,7 @@ struct Unit {
     space: bool,
 }
 
-// The unit at an offset, where no bracket stands; `None` where the label may not continue.
+// The unit at an offset at which there is no bracket; `None` if the label may not continue.
 fn scan_unit<F>(
     bytes: &[u8],
     at: usize,
@@ -172,8 +174,8 @@ where
     Ok(Some(kept_unit(at + 1, begun_characters(bytes[at]), true)))
 }
 
-// The run of white space at an offset, over line ends and the prefixes after them: where it ends, and
-// how many characters it has; `None` where the label may not continue.
+// The run of white space at an offset, across line endings and the prefixes after them: its end, and its number of
+// characters. `None` if the label may not continue.
 fn scan_white_run<F>(
     bytes: &[u8],
     at: usize,
@@ -206,8 +208,8 @@ where
     Ok(Some((next, characters)))
 }
 
-// The offset after a byte of white space, and after the prefix of the next line where the byte ends
-// one; `None` where the label may not continue there.
+// The offset after a byte of white space, and after the prefix of the next line if the byte ends a line; `None` if
+// the label may not continue there.
 fn scan_space_byte<F>(
     bytes: &[u8],
     at: usize,
@@ -259,7 +261,7 @@ fn space_unit(bytes: &[u8], at: usize, next: usize, characters: usize) -> Unit
     }
 }
 
-// A backslash, and what it escapes.
+// A backslash, with the byte that it escapes.
 fn backslash_unit(bytes: &[u8], at: usize, in_table: bool) -> Unit
     requires within { at < length bytes.now }
     requires here { slice_index bytes.now at ≡ backslash }
@@ -301,8 +303,8 @@ fn dropped_unit(next: usize, characters: usize, place: usize) -> Unit
     }
 }
 
-// Writes what changes in a unit after the bytes from `from` on, and returns from where on the bytes
-// are kept then.
+// Writes the bytes from `from` on up to the change in a unit, and its replacement. Returns the offset from which
+// bytes are kept then.
 #[inline(always)]
 fn write_unit(
     written: &mut String,
@@ -327,7 +329,7 @@ fn write_unit(
     Ok(unit.resumed)
 }
 
-// What stands for the bytes that are left out.
+// The replacement of the bytes that are left out.
 fn replacement(by_space: bool) -> &'static str
     ensures { result.now ≡ (if by_space then space ∷ [] else []) }
 {
@@ -367,14 +369,14 @@ fn begins_character(byte: u8) -> bool
     byte < 0x80 || byte >= 0xc0
 }
 
-// How many characters begin with a byte: one, or none within a character.
+// The number of characters that begin with a byte: one, or none within a character.
 fn begun_characters(byte: u8) -> usize
     ensures { result ≡ (if begins_character byte then 1 else 0) }
 {
     if begins_character(byte) { 1 } else { 0 }
 }
 
-// Whether a line ends with a byte, before those after it.
+// Whether a byte ends a line, before these bytes.
 fn ends_line(byte: u8, behind: &[u8]) -> bool
     ensures { result ≡ ends_line byte behind.now }
 {

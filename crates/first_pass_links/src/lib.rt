@@ -1,4 +1,4 @@
-//! Escapes, and the parts of links: destinations and labels, of footnotes too.
+//! Escapes, and the parts of links: destinations and labels, also those of footnotes.
 #![tactic(auto)]
 
 pub mod destination;

@@ -1,4 +1,4 @@
-//! Runs of bytes that mean nothing in a label, in a destination or in a text, looked at 16 at once.
+//! Runs of bytes without a special meaning in a label, in a destination or in a text, tested 16 at a time.
 
 ghost use Rattle.std.specs.Prelude.{◌≡◌, ◌+◌, ◌<◌, ◌≤◌, ℕ, length, slice_index, true};
 ghost use Rattle.first_pass_lines.specs.Lanes.{IsRunIn};
@@ -7,8 +7,9 @@ ghost use Rattle.first_pass_links.specs.Plain.{is_plain, is_unmarked};
 use first_pass_lines::lanes::{LANES, first_set};
 use std::simd::prelude::*;
 
-/// How many of the first 16 bytes are characters of ASCII that end nothing, nest nothing and escape nothing in a label
-/// or in a destination (CommonMark 4.7, 6.3), up to the first that isn't; 0 where there are fewer bytes.
+/// Returns how many of the first 16 bytes are plain, up to the first that is not; 0 if there are fewer than 16 bytes.
+/// A plain byte is an ASCII character that ends, nests and escapes nothing in a label or in a destination (CommonMark
+/// 4.7, 6.3).
 #[inline(always)]
 pub(crate) fn plain_run(bytes: &[u8]) -> usize
     ensures within { result ≤ length bytes.now }
@@ -20,7 +21,7 @@ pub(crate) fn plain_run(bytes: &[u8]) -> usize
     plain_lanes(bytes)
 }
 
-// The same of at least 16 bytes.
+// The same for at least 16 bytes.
 #[inline(always)]
 fn plain_lanes(bytes: &[u8]) -> usize
     requires { 16 ≤ length bytes.now }
@@ -32,7 +33,7 @@ fn plain_lanes(bytes: &[u8]) -> usize
     first_set((past_capitals & past_letters).to_bitmask())
 }
 
-/// How many of the 16 bytes from an offset on are neither a backslash nor `&`, up to the first that is.
+/// Returns how many of the 16 bytes from an offset on are neither a backslash nor `&`, up to the first that is.
 #[inline(always)]
 pub(crate) fn unmarked_run(bytes: &[u8], at: usize) -> usize
     requires { at + 16 ≤ length bytes.now }

@@ -2,7 +2,7 @@ use Rattle.std.proofs.Common.{◌≡◌, ◌≤◌, ◌+◌, ◌-◌, length, dr
 use Rattle.first_pass_links.specs.Destinations.{unescaped_upto, ends_brackets}
 use Rattle.first_pass_links.proofs.destination.scan_brackets.Given as goal
 
--- none of the bytes up to here ends the text
+-- no byte before this offset ends the text
 abbrev pub invariant-loop-at : goal.invariant-loop-at
 invariant-loop-at l = record {
   within : l.at ≤ length l.bytes;

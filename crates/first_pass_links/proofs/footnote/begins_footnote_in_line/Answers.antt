@@ -5,7 +5,7 @@ use Rattle.first_pass_links.specs.Labels.{is_label}
 use Rattle.first_pass_links.proofs.LineLabels.{line_len, head_unmarked, head_none, head_some}
 use Rattle.first_pass_links.proofs.footnote.begins_footnote_in_line.Goals as goal
 
--- what the calls said of the bracket after the label, and of the colon after that
+-- the results of the calls on the bracket after the label, and on the colon after that
 bracket : (text label rest : List ℕ) (n : ℕ) (b : Bool) → label ≡ drop 2 text → n ≡ line_len label → rest ≡ drop n label → b ≡ begins 93 rest
     → begins 93 (drop (line_len (drop 2 text)) (drop 2 text)) ≡ b
 bracket text label rest n b l k r e = sym (e ∙ rw (r, k, l) refl)

@@ -40,7 +40,7 @@ returns-in_default-clause-value g c = λ prefix a.
     (subst (λ xs. IsAnswer (label_at prefix c.args.is_in_table xs) None) c.range_from.ensures.value k) in
     rw e refl
 
--- whether a colon stands after the label
+-- whether a colon follows the label
 colon_is : (g : _) (c : After-begins g) → begins 58 (drop (c.in-Some.len + 2) c.args.text.now) ≡ c.begins.result
 colon_is g c =
     ap (begins 58) (sym (c.rest_of.ensures.value ∙ ap (drop (c.in-Some.len + 2)) c.as_bytes-bytes.ensures.value)) ∙ sym c.begins.ensures.value

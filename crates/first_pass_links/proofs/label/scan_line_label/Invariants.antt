@@ -3,7 +3,7 @@ use Rattle.first_pass_links.specs.Destinations.{unescaped_upto}
 use Rattle.first_pass_links.specs.Labels.{ends_line_label}
 use Rattle.first_pass_links.proofs.label.scan_line_label.Given as goal
 
--- none of the bytes up to here ends the text
+-- no byte before this offset ends the label
 abbrev pub invariant-loop-at : goal.invariant-loop-at
 invariant-loop-at l = record {
   within : l.at ≤ length l.bytes;

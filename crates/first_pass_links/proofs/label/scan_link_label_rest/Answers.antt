@@ -135,7 +135,7 @@ returns-clause-behind g c =
     let closing = closing_bracket _ bracket (λ e. c.if-bytes-at-eq91.false (ap (λ xs. get_or xs c.loop-at.at 0) b ∙ e)) in
     IsCharBoundary-after_ascii c.args.text.now c.loop-at.at c.utf8.text within (omega (arith, closing))
 
--- the function errs
+-- the handler fails
 pub returns-in_err-unit-clause-err : goal.returns-in_err-unit-clause-err
 returns-in_err-unit-clause-err g c =
     on_err c.from_residual.result

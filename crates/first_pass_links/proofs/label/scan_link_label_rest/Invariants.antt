@@ -6,7 +6,7 @@ use Rattle.first_pass_links.proofs.Labels.{known_as, label_behind}
 use Rattle.first_pass_links.proofs.Rewritten.{IsTracked}
 use Rattle.first_pass_links.proofs.label.scan_link_label_rest.Given as goal
 
--- what is known here, and what is left, make the label
+-- the state here, with the remaining bytes, gives the label
 abbrev pub invariant-loop-at : goal.invariant-loop-at
 invariant-loop-at g l = record {
   read : IsRead l.text (string_bytes l.written) l.from l.at;

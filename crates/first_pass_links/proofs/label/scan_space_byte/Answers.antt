@@ -24,7 +24,7 @@ returns-then-not-ends_line-clause-reads g c =
     λ h a. left-byte h c.args.bytes.now c.args.at c.requires.within
     (ap (ends_line (get_or c.args.bytes.now c.args.at 0)) (sym c.rest_of-behind.ensures.value) ∙ sym c.ends_line.ensures ∙ c.if-not-ends_line.true)
 
--- the prefix is a part of the bytes after the line end
+-- the prefix is a part of the bytes after the line ending
 prefix_place : (g : Over) (c : In-Some g) → IsCharBoundary c.args.bytes.now (c.args.at + 1 + c.in-Some.prefix)
 prefix_place g c =
     let e = c.rest_of-behind.ensures.value in
@@ -57,7 +57,7 @@ returns-in-None-clause-none g c =
     (behind_white c.args.bytes.now c.args.at c.requires.text c.requires.within c.requires.white) c.rest_of-behind.ensures.value c.in_ok-prefix.ensures
     ∙ c.in-None.is)
 
--- the function errs
+-- the handler fails
 pub returns-in_err-prefix-clause-err : goal.returns-in_err-prefix-clause-err
 returns-in_err-prefix-clause-err g c = on_err c.from_residual.result (record {
   within = c.requires.within;

@@ -2,7 +2,7 @@ use Rattle.std.proofs.Common.{◌≡◌, ℕ, ◌+◌, List, slice_index, sym, a
 use Rattle.first_pass_links.proofs.Labels.{run_more, run_blank}
 use Rattle.first_pass_links.proofs.label.scan_white_run.Goals as goal
 
--- after one space a run stands at the next offset
+-- after one space, the rest of the run begins at the next offset
 first_is : (bytes : List ℕ) (at next behind n : ℕ)
     → (slice_index bytes next ≡ 32 → behind ≡ next + 1) → (n ≡ 0 → next ≡ at) → n + 1 ≡ 1 → slice_index bytes at ≡ 32 → behind ≡ at + 1
 first_is bytes at next behind n f started one white =
