@@ -1,4 +1,4 @@
--- A line has one list of tokens, but for the indices of the texts that they name, and so has a cell.
+-- A line has only one list of tokens, except for the indices of the texts that they name, and so has a cell.
 use Rattle.std.proofs.Common.{◌≡◌, ℕ, zero, suc, ◌+◌, ◌-◌, ◌==◌, ◌&&◌, ◌||◌, not, Bool, true, false, List, ◌∷◌, slice_index, nat_lt, min, Option, Some, []}
 use Rattle.std.proofs.Common.{None, unwrap_or, refl, sym, ap, subst, ◌∙◌, inl, inr}
 use Rattle.std.specs.Option.{option_map, option_map_or}
@@ -29,7 +29,7 @@ use Rattle.first_pass_tokens.specs.Pieces.{delimiter_piece, quote_piece, dot_pie
 use Rattle.first_pass_tokens.specs.LineTokens.{Spot, spot, ends_at, ArePieces, IsDivision, IsLine, IsCell, add_piece, add_pieces, text_end, blanks_at_end}
 use Rattle.first_pass_tokens.specs.LineTokens.{line_end_len, line_break}
 
--- a piece that is ready names no text
+-- a kind that names a text
 abbrev pub names_text : ItemBody → Bool
 names_text (SynthesizeText ix) = true
 names_text _ = false
@@ -111,7 +111,7 @@ found_none s at =
     (λ h. tt)
 
 module _ (texts others : List CowStr) where
-  -- kinds that are alike are texts alike
+  -- of two kinds that are alike, both are texts or neither is
   bodies_text : (x y : ItemBody) → BodiesAlike texts others x y → is_text x ≡ is_text y
   bodies_text (SynthesizeText ix) y h = sym (ap is_text h.1)
   bodies_text _ y h = ap is_text h
@@ -127,7 +127,7 @@ module _ (texts others : List CowStr) where
   touch_alike : (x y u v : Item) → ItemsAlike texts others x u → ItemsAlike texts others y v → touches x y ≡ touches u v
   touch_alike x y u v h k = rw (bodies_text y.body v.body k.bodies, bodies_text x.body u.body h.bodies, h.ends, k.starts) refl
 
-  -- a token after each
+  -- a token after each of two chains
   pub alike_add : (xs us : List Item) (y v : Item) → AreAlike texts others xs us → ItemsAlike texts others y v
       → AreAlike texts others (add_token xs y) (add_token us v)
   alike_add [] [] y v h k = (k, tt)
@@ -149,7 +149,7 @@ module _ (texts others : List CowStr) where
   alike_add (x ∷ z ∷ zs) (u ∷ []) y v h k = absurd h.1
   alike_add (x ∷ z ∷ zs) (u ∷ w ∷ ws) y v h k = (h.0, alike_add (z ∷ zs) (w ∷ ws) y v h.1 k)
 
-  -- tokens after each
+  -- tokens after each of two chains
 
   pub alike_text : (from to : ℕ) (escaped : Bool) (xs us : List Item) → AreAlike texts others xs us
       → AreAlike texts others (add_text from to escaped xs) (add_text from to escaped us)
@@ -173,7 +173,7 @@ module _ (texts others : List CowStr) where
       let x = token at 1 (MaybeEmphasis (suc n) opens closes) in
       alike_run (at + 1) n opens closes (add_token xs x) (add_token us x) (alike_add xs us x x h (token_same at 1 (MaybeEmphasis (suc n) opens closes) refl))
 
-  -- pieces that give tokens alike
+  -- pieces that give tokens that are alike
   record PiecesAlike (stop at : ℕ) (p q : Piece) : Type 0 where
     sizes : size p ≡ size q
     gives : (xs us : List Item) → AreAlike texts others xs us → AreAlike texts others (add_piece stop at p xs) (add_piece stop at q us)
@@ -210,7 +210,7 @@ module _ (texts others : List CowStr) where
   pieces_alike stop at b OpenBrace p q none h k = rw (h, k) (piece_same stop at (Left 1) tt)
   pieces_alike stop at b CloseBrace p q none h k = rw (h, k) (piece_same stop at (Left 1) tt)
 
-  -- a content has one division, but for the indices
+  -- a content has only one division, except for the indices
   record OneWay (s : Inline) (at : ℕ) (ps qs : List Piece) (to stop : Spot) : Type 0 where
     ends : to ≡ stop
     gives : (cut : ℕ) (xs us : List Item) → AreAlike texts others xs us → AreAlike texts others (add_pieces cut at ps xs) (add_pieces cut at qs us)
@@ -237,7 +237,7 @@ module _ (texts others : List CowStr) where
   one_division : (s : Inline) (ps qs : List Piece) (to stop : Spot) → IsDivision texts s ps to → IsDivision others s qs stop → OneWay s s.start ps qs to stop
   one_division s ps qs to stop h k = one_way s s.start s.braces ps to qs stop h.divided h.ended k.divided k.ended
 
-  -- a line has one list of tokens but for the indices, and one answer
+  -- a line has only one list of tokens, except for the indices, and one end and break
   pub one_line : (s : Inline) (tokens more : List Item) (a b : ℕ × Option Item) (c d : MathBraces) → IsLine texts s tokens a c → IsLine others s more b d
       → AreAlike texts others tokens more × (a ≡ b) × (c ≡ d)
   one_line s tokens more a b c d h k =
@@ -250,7 +250,7 @@ module _ (texts others : List CowStr) where
         ap (λ (t : Spot). t.braces) same.ends,
       )
 
-  -- a cell has one list of tokens but for the indices, and one end
+  -- a cell has only one list of tokens, except for the indices, and one end
   pub one_cell : (s : Inline) (tokens more : List Item) (a b : ℕ) (c d : MathBraces) → IsCell texts s tokens a c → IsCell others s more b d
       → AreAlike texts others tokens more × (a ≡ b) × (c ≡ d)
   one_cell s tokens more a b c d h k =

@@ -26,7 +26,7 @@ few_in_order text from to (x ∷ xs) h k =
     let few = few_in_order text x.«end» to xs h.4 k.1 in
     omega (arith, h.0, k.0)
 
--- a token after
+-- a token is appended
 pub bytes_add : (chain : List Item) (y : Item) → y.start < y.«end» → HaveBytes chain → HaveBytes (add_token chain y)
 bytes_add [] y some h = (some, tt)
 bytes_add (x ∷ []) y some h =
@@ -38,12 +38,12 @@ bytes_add (x ∷ []) y some h =
     (λ b. (h.0, (some, tt)))
 bytes_add (x ∷ z ∷ zs) y some h = (h.0, bytes_add (z ∷ zs) y some h.1)
 
--- tokens after
+-- tokens are appended
 pub bytes_adds : (chain tokens : List Item) → HaveBytes tokens → HaveBytes chain → HaveBytes (add_tokens chain tokens)
 bytes_adds chain [] k h = h
 bytes_adds chain (x ∷ xs) k h = bytes_adds (add_token chain x) xs k.1 (bytes_add chain x k.0 h)
 
--- a text after, or none
+-- a text is appended, or nothing
 pub bytes_text : (a b : ℕ) (escaped : Bool) (chain : List Item) → HaveBytes chain → HaveBytes (add_text a b escaped chain)
 bytes_text a b escaped chain h =
     cond_both (nat_lt a b) (add_token chain (text_token a b escaped)) chain HaveBytes
@@ -55,7 +55,7 @@ run_has_bytes : (at n : ℕ) (opens closes : Bool) → HaveBytes (run_tokens at 
 run_has_bytes at zero opens closes = tt
 run_has_bytes at (suc n) opens closes = (omega arith, run_has_bytes (at + 1) n opens closes)
 
--- what a piece adds after
+-- the tokens of a piece are appended
 bytes_piece : (text : List ℕ) (stop at : ℕ) (p : Piece) (chain : List Item) → IsPieceAt text at p → HaveBytes chain → HaveBytes (add_piece stop at p chain)
 bytes_piece text stop at (Left n) chain facts h = bytes_text at (min (at + n) stop) false chain h
 bytes_piece text stop at (Begins dropped escaped) chain facts h = bytes_text (at + dropped) (min (at + (dropped + 1)) stop) escaped chain h
@@ -70,14 +70,14 @@ bytes_pieces texts s stop at b (p ∷ ps) to chain are h =
     bytes_pieces texts s stop (at + size p) (braces_after (found_at s at) b) ps to (add_piece stop at p chain) are.2
     (bytes_piece s.text stop at p chain (piece_of texts b s at p are.0 are.1) h)
 
--- the backslash of the last line's break after, or nothing
+-- the backslash of the break of the last line is appended, or nothing
 pub bytes_closed : (break : Option Item) (chain : List Item) → HaveBytes chain → HaveBytes (close_break break chain)
 bytes_closed None chain h = h
 bytes_closed (Some x) chain h =
     cond_both (is_backslash_break x.body) (add_text x.start (x.start + 1) false chain) chain HaveBytes
     (λ b. bytes_text x.start (x.start + 1) false chain h) (λ b. h)
 
--- another chain after
+-- another chain is appended
 pub bytes_append : (xs ys : List Item) → HaveBytes xs → HaveBytes ys → HaveBytes (xs ++ ys)
 bytes_append [] ys h k = k
 bytes_append (x ∷ xs) ys h k = (h.0, bytes_append xs ys h.1 k)
@@ -89,7 +89,7 @@ line_has_bytes {texts} {s} {tokens} {answer} {after} line =
     subst HaveBytes (sym line.tokens_are)
     (bytes_pieces texts s (text_end s line.content_end) s.start s.braces line.pieces (spot line.content_end after) [] line.division.divided tt)
 
--- a chain that is cut has no more items than before
+-- a chain does not get longer when it is cut
 pub cut_few : (e : ℕ) (chain : List Item) → length (cut e chain) ≤ length chain
 cut_few e [] = omega arith
 cut_few e (x ∷ xs) =
@@ -185,7 +185,7 @@ few_tokens f (x ∷ xs) =
     let rest = few_tokens (with_token f x) xs in
     omega arith
 
--- what is appended of a line has at most as many nodes as bytes
+-- at most as many nodes are appended for a line as it has bytes
 pub few_of_line : {texts : List CowStr} {s : Inline} {old new : Forest Item} {answer : ℕ × Option Item} {after : MathBraces}
     → AppendsLine texts s old new answer after → length new.nodes ≤ length old.nodes + (answer.0 - s.start)
 few_of_line {texts} {s} {old} {new} {answer} line =
@@ -194,7 +194,7 @@ few_of_line {texts} {s} {old} {new} {answer} line =
     let same = ap (λ (f : Forest Item). length f.nodes) line.tree_is in
     omega arith
 
--- and so has what is appended of a cell
+-- and so for a cell
 pub few_of_cell : {texts : List CowStr} {s : Inline} {old new : Forest Item} {end : ℕ} {after : MathBraces}
     → AppendsCell texts s old new end after → length new.nodes ≤ length old.nodes + (end - s.start)
 few_of_cell {texts} {s} {old} {new} {end} cell =

@@ -1,4 +1,4 @@
--- Each pipe in the content of a cell stands after a backslash.
+-- Each pipe in the content of a cell is directly after a backslash.
 use Rattle.std.proofs.Common.{◌≡◌, ℕ, ◌+◌, ◌-◌, ◌≤◌, ◌<◌, true, false, List, [], ◌∷◌, slice_index, Some, None, sym, ap, ◌∙◌, inl, inr, arith, ◌==◌}
 use Rattle.std.proofs.lemmas.Bool.{cases_lt, eq-eqb, false≢true}
 use Rattle.first_pass_items.specs.OptionWords.{has, tables}
@@ -18,11 +18,11 @@ use Rattle.first_pass_tokens.proofs.ReferenceBytes.{is_reference_byte, reference
 use Rattle.first_pass_tokens.proofs.PieceFacts.{IsPieceAt, is_markup, run_same, delimiter_other, quote_other}
 use Rattle.first_pass_tokens.proofs.LineLemmas.{piece_of, not_ended_pipe}
 
--- a byte of its own that is no pipe
+-- a byte that is no pipe
 other_byte : (text : List ℕ) (at k b : ℕ) → k ≡ at → slice_index text at ≡ b → slice_index text k ≡ 124 → b ≡ 124
 other_byte text at k b same is pipe = sym is ∙ ap (slice_index text) (sym same) ∙ pipe
 
--- no pipe is in a token of possible markup
+-- a token of possible markup has no pipe
 markup_no_pipe : (text : List ℕ) (start n : ℕ) (body : ItemBody) (k : ℕ) → is_markup body ≡ true → StandsOver text start (start + n) body
     → start ≤ k → k < start + n → slice_index text k ≡ 124 → ⊥
 markup_no_pipe text start n (MaybeEmphasis left opens closes) k kind over low high pipe =
@@ -59,7 +59,7 @@ markup_no_pipe text start n MaybeImage k kind over low high pipe =
     ]
 markup_no_pipe text start n _ k kind over low high pipe = absurd (false≢true kind)
 
--- a pipe in a piece, after its first byte
+-- a pipe in a piece, after the first byte of the piece
 pipe_inside : (text : List ℕ) (at : ℕ) (p : Piece) (k : ℕ) → IsPieceAt text at p → (slice_index text at == 124) ≡ false → at < k → k < at + size p
     → slice_index text k ≡ 124 → slice_index text (k - 1) ≡ 92
 pipe_inside text at (Left n) k facts other low high pipe =

@@ -1,4 +1,4 @@
--- Chains and trees: what a token adds and joins, what a cut leaves, and the block that a chain closes to.
+-- Chains and trees: the token that is added or joined, the chain after a cut, and the block that a chain closes to.
 use Rattle.std.proofs.Common.{ℕ, suc, zero, ◌≡◌, ◌+◌, ◌≤◌, ◌<◌, ◌==◌, ◌&&◌, Bool, true, false, List, ◌∷◌, ◌++◌, length, take, drop, Option, Some, None, []}
 use Rattle.std.proofs.Common.{MatchOption, nat_lt, slice_get, slice_index, refl, sym, ap, ◌∙◌, inl, inr, arith, length-append, append_assoc}
 use Rattle.std.specs.Option.{option_map}
@@ -23,7 +23,7 @@ pub add_text-some : (from to : ℕ) (escaped : Bool) (chain : List Item)
     → from < to → add_text from to escaped chain ≡ add_token chain (text_token from to escaped)
 add_text-some from to escaped chain some = cond-true _ _ _ (lt-ltb from to some)
 
--- a chain of one token at least keeps its first place
+-- the first token of a chain stays at its place
 add_token-cons : (x z : Item) (zs : List Item) (t u : Item) → add_token (x ∷ add_token (z ∷ zs) t) u ≡ x ∷ add_token (add_token (z ∷ zs) t) u
 add_token-cons x z [] t u = cond_both (touches z t) _ _ (λ (ys : List Item). add_token (x ∷ ys) u ≡ x ∷ add_token ys u) (λ b. refl) (λ b. refl)
 add_token-cons x z (w ∷ ws) t u = refl
@@ -47,7 +47,7 @@ add_token-joined (x ∷ z ∷ zs) from mid to escaped =
     add_token-cons x z zs (text_token from mid escaped) (text_token mid to false)
     ∙ ap (λ (ys : List Item). x ∷ ys) (add_token-joined (z ∷ zs) from mid to escaped)
 
--- a text that is not empty, and then the one after it, are one text
+-- a text that is not empty and the text directly after it are one text
 pub add_text-joined : (from mid to : ℕ) (escaped : Bool) (chain : List Item)
     → from < mid → mid ≤ to → add_text mid to false (add_text from mid escaped chain) ≡ add_text from to escaped chain
 add_text-joined from mid to escaped chain first order =
@@ -60,7 +60,7 @@ add_text-joined from mid to escaped chain first order =
           add_text-none mid to false _ none ∙ ap (λ (x : ℕ). add_text from x escaped chain) (sym same)
     ]
 
--- a chain in which nothing touches
+-- a chain in which no token touches another
 apart_behind : (x z : Item) (zs : List Item) (t : Item) → touches x z ≡ false → AreApart (add_token (z ∷ zs) t) → AreApart (x ∷ add_token (z ∷ zs) t)
 apart_behind x z [] t apart =
     cond_both (touches z t) (record z { «end» = t.«end» } ∷ []) (z ∷ t ∷ [])
@@ -81,7 +81,7 @@ add_text-apart from to escaped chain h =
     cond_both (nat_lt from to) (add_token chain (text_token from to escaped)) chain AreApart
     (λ b. add_token-apart chain (text_token from to escaped) h) (λ b. h)
 
--- a token that does not touch the last one is put after the chain
+-- a token that does not touch the last one is appended to the chain
 add_token-behind : (front : List Item) (x y : Item) → touches x y ≡ false → add_token (front ++ x ∷ []) y ≡ (front ++ x ∷ []) ++ y ∷ []
 add_token-behind [] x y apart = cond-false _ _ _ apart
 add_token-behind (p ∷ []) x y apart = ap (λ (ys : List Item). p ∷ ys) (add_token-behind [] x y apart)
@@ -93,18 +93,18 @@ add_tokens-behind front x (y ∷ ys) h =
     ap (λ (chain : List Item). add_tokens chain ys) (add_token-behind front x y h.0) ∙ add_tokens-behind (front ++ x ∷ []) y ys h.1
     ∙ append_assoc front (x ∷ []) (y ∷ ys)
 
--- tokens of which none touches the one before it, put after nothing
+-- tokens of which none touches the one before it, appended to the empty chain
 pub add_tokens-none : (tokens : List Item) → AreApart tokens → add_tokens [] tokens ≡ tokens
 add_tokens-none [] h = refl
 add_tokens-none (x ∷ xs) h = add_tokens-behind [] x xs h
 
--- a token that is no text is put after the chain
+-- a token that is no text is appended to the chain
 
 pub add_tokens-append : (chain xs ys : List Item) → add_tokens chain (xs ++ ys) ≡ add_tokens (add_tokens chain xs) ys
 add_tokens-append chain [] ys = refl
 add_tokens-append chain (x ∷ xs) ys = add_tokens-append (add_token chain x) xs ys
 
--- a write to a node, and then another
+-- two writes to a node, one after the other
 pub modify-modify : (ns : List (ℕ × Item)) (i : ℕ) (g h : Item → Item) → modify (modify ns i g) i h ≡ modify ns i (λ x. h (g x))
 modify-modify [] i g h = refl
 modify-modify (n ∷ ns) zero g h = refl
@@ -126,7 +126,7 @@ slice_get-behind : (xs : List (ℕ × Item)) (y : ℕ × Item) → slice_get (xs
 slice_get-behind [] y = refl
 slice_get-behind (x ∷ xs) y = slice_get-behind xs y
 
--- what can be joined to a node that was just appended
+-- texts that can be joined to a node that was just appended
 joins_appended : (f : Forest Item) (y : Item) (at : ℕ) → joins_at (appended f y) at (appended f y).current ≡ (is_text y.body && (y.«end» == at))
 joins_appended f y at = ap (λ (o : Option (ℕ × Item)). ends_text_at at (option_map (λ n. n.1) o)) (slice_get-behind f.nodes (length f.spine + 1, y))
 
@@ -160,7 +160,7 @@ with_token-joined f y x t =
       | inr apart ↦ cond-false _ _ _ apart ∙ sym (ap (λ (g : Forest Item). with_token g x) (cond-false _ _ _ apart) ∙ joined_last f y x t)
     ]
 
--- the tree with a chain and then a token after it, and with the chain that has the token
+-- appending a chain and then a token to the tree is appending the chain with the token
 pub with_tokens-add : (f : Forest Item) (chain : List Item) (x : Item) → with_tokens f (add_token chain x) ≡ with_token (with_tokens f chain) x
 with_tokens-add f [] x = refl
 with_tokens-add f (y ∷ []) x =
@@ -197,14 +197,14 @@ with_tokens-text f chain s e b order =
 pub with_token-plain : (f : Forest Item) (x : Item) → is_text x.body ≡ false → with_token f x ≡ appended f x
 with_token-plain f x plain = cond-false _ _ _ (and_left _ _ plain)
 
--- where no node is current, or one that is no text, nothing is joined
+-- if no node is current, or one that is no text, no text is joined
 pub joins_none-fresh : (f : Forest Item) → f.current ≡ None → JoinsNone f
 joins_none-fresh f none at = ap (joins_at f at) none
 
 pub joins_none-appended : (f : Forest Item) (x : Item) → is_text x.body ≡ false → JoinsNone (appended f x)
 joins_none-appended f x plain at = joins_appended f x at ∙ and_left _ _ plain
 
--- a token after a chain of one token at least
+-- a token after a chain that is not empty
 pub with_token-behind : (f : Forest Item) (y : Item) (ys : List Item) (x : Item) → with_token (chained f (y ∷ ys)) x ≡ chained f (add_token (y ∷ ys) x)
 with_token-behind f y [] x =
     elim (cases_Bool (touches y x)) [
@@ -236,7 +236,7 @@ pub appended-chained : (f : Forest Item) (chain : List Item) (x : Item) → appe
 appended-chained f [] x = refl
 appended-chained f (y ∷ ys) x = appended-chained (appended f y) ys x
 
--- a chain that a break by a backslash would stand after, where the block ends, and any other chain
+-- a chain before a break by a backslash at the end of the block, and any other chain
 
 pub chained-append : (f : Forest Item) (xs ys : List Item) → chained (chained f xs) ys ≡ chained f (xs ++ ys)
 chained-append f [] ys = refl
@@ -275,7 +275,7 @@ chained-current f x (y ∷ ys) =
     let z : length (appended f x).nodes + length ys ≡ length f.nodes + suc (length ys) = omega arith in
     chained-current (appended f x) y ys ∙ ap (λ (m : ℕ). Some (place_at m)) z
 
--- a node that was just opened has nothing after it, and none of its children is current
+-- after a node that was just opened there are no nodes, and none of its children is current
 pub pushed-fresh : (g : Forest Item) (x : Item) (ix : TreeIndex) → ix.0 ≡ length g.nodes
     → (open_place (pushed (appended g x) ix).spine + 1 ≡ length (pushed (appended g x) ix).nodes) × ((pushed (appended g x) ix).current ≡ None)
 pushed-fresh g x ix at = (omega (arith, at, length-append g.nodes ((length g.spine + 1, x) ∷ [])), refl)
@@ -285,7 +285,7 @@ pub record IsOpened (f : Forest Item) (x : Item) (place : TreeIndex) (f₂ : For
   pub at : place.0 ≡ length f.nodes
   pub is : f₂ ≡ pushed (appended f x) place
 
--- the clauses of append and push, as they come
+-- the clauses of append and push, in their form
 
 module _ {f f₂ : Forest Item} {x : Item} {place : TreeIndex} (o : IsOpened f x place f₂) where
   pub opened-spine : f₂.spine ≡ place ∷ f.spine
@@ -303,7 +303,7 @@ behind_depth [] d chain k low high = leaf_depth d chain k high
 behind_depth (n ∷ ns) d chain zero low high = absurd (omega arith)
 behind_depth (n ∷ ns) d chain (suc k) low high = behind_depth ns d chain k (omega arith) (omega arith)
 
--- the children are leaves, where the innermost open node was the last node
+-- the children are leaves, if the innermost open node was the last node
 pub has_leaves-chained : (f : Forest Item) (chain : List Item) → open_place f.spine + 1 ≡ length f.nodes → HasLeaves (chained f chain)
 has_leaves-chained f chain last k low high =
     let nodes = chained-nodes f chain in
@@ -397,7 +397,7 @@ module _ {f f₂ : Forest Item} {x : Item} {place : TreeIndex} (o : IsOpened f x
       ap (λ (v : Forest Item). length v.nodes) chain_is ∙ chained-length f₂ chain
       ∙ ap (λ (v : Forest Item). length v.nodes + length chain) o.is ∙ ap (λ (n : ℕ). n + length chain) (length-append f.nodes ((length f.spine + 1, x) ∷ []))
 
-  -- the clause of pop, as it comes
+  -- the clause of pop, in its form
   pub closed-calls : (r : Option TreeIndex)
       → MatchOption r ((f₃.spine ≡ []) × (f₄ ≡ f₃)) (λ ix. (f₃.spine ≡ ix ∷ f₄.spine) × (f₄ ≡ popped f₃ ix f₄.spine)) → IsClosed f x chain place f₄
   closed-calls None m = absurd (no_open f₃.spine place f.spine m.0 closed_spine)
@@ -409,9 +409,9 @@ module _ {f f₂ : Forest Item} {x : Item} {place : TreeIndex} (o : IsOpened f x
             λ h. block-calls f (appended f x) f₂ f₃ f₄ x h (leaves chain) place place (Some ix) o.at refl (ap (λ (n : ℕ). Some (place_at n)) (sym o.at)) o.is
             (ap (λ (v : Forest Item). v.nodes) chain_is ∙ chained-nodes f₂ chain) (ap (λ (v : Forest Item). v.spine) chain_is ∙ chained-spine f₂ chain) m;
       }
-  -- the clause of remove_node, as it comes: the node alone is left
+  -- the clause of remove_node, in its form: only the node remains
 
--- the same for trees that are spelled out
+-- the same for trees in full
 pub closed-chained : (g : Forest Item) (x : Item) (h : Item → Item) (chain : List Item) (ix : TreeIndex)
     → ix.0 ≡ length g.nodes → modified (popped (chained (pushed (appended g x) ix) chain) ix g.spine) ix h ≡ added g (block_of (h x) (leaves chain))
 closed-chained g x h chain ix at =

@@ -1,4 +1,4 @@
--- Dashes: a text so many times, and where it may be cut.
+-- Dashes: a text repeated n times, and the offsets at which it may be cut.
 use Rattle.std.proofs.Common.{◌≡◌, ℕ, zero, suc, ◌+◌, ◌-◌, ◌*◌, ◌≤◌, List, [], ◌∷◌, ◌++◌, length, take, drop, encode_utf8, IsUtf8, IsCharBoundary, refl, sym}
 use Rattle.std.proofs.Common.{ap, subst, ◌∙◌, arith, length-append, append_assoc}
 use Rattle.std.specs.List.{slice_range}
@@ -32,7 +32,7 @@ times_add (suc k) m t =
     let next : suc k + m ≡ suc (k + m) = omega arith in
     ap (λ (n : ℕ). times n t) next ∙ ap (λ (xs : List ℕ). t ++ xs) (times_add k m t) ∙ sym (append_assoc t (times k t) (times m t))
 
--- one more at the end
+-- one more repetition at the end
 pub times_more : (k : ℕ) (t : List ℕ) → times k t ++ t ≡ times (suc k) t
 times_more k t =
     let one : times 1 t ≡ t = append-nil t in
@@ -47,7 +47,7 @@ times_utf8 : (k : ℕ) (t : List ℕ) → IsUtf8 t → IsUtf8 (times k t)
 times_utf8 zero t h = IsUtf8-nil
 times_utf8 (suc k) t h = IsUtf8-append t (times k t) h (times_utf8 k t h)
 
--- so many of one text, and so many of another, out of seven of each
+-- parts of seven repetitions of one text and seven of another
 module _ (t u : List ℕ) (first : length t ≡ 3) (second : length u ≡ 3) (utf8 : IsUtf8 u) (k m : ℕ) (few : k ≤ 7) (some : m ≤ 7) where
   abbrev both : List ℕ
   both = times 7 t ++ times 7 u

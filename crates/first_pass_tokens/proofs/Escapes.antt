@@ -1,4 +1,5 @@
--- Each escaped text of a chain stands after a backslash that no token has, so a chain may be cut at any offset between two characters.
+-- Each escaped text of a chain is directly after a backslash that no token has, so a chain may be cut at any offset
+-- between two characters.
 use Rattle.std.proofs.Common.{◌≡◌, ℕ, ◌+◌, ◌-◌, ◌≤◌, ◌<◌, ◌==◌, ◌&&◌, Bool, true, false, List, [], ◌∷◌, ◌++◌, slice_index, Option, Some, None, IsCharBoundary}
 use Rattle.std.proofs.Common.{nat_lt, min, if◌then◌else◌, inl, inr, refl, sym, ap, subst, ◌∙◌, arith, zero, suc}
 use Rattle.std.proofs.lemmas.Bool.{cond-true, cond-false, cond_both, cases_lt, and_parts, and_right, lt-ltb, le-ltb, ltb-true, eqb-true, ne_eqb, false≢true}
@@ -19,16 +20,16 @@ use Rattle.first_pass_tokens.proofs.PieceFacts.{IsPieceAt, markup_unescaped}
 use Rattle.first_pass_tokens.proofs.LineLemmas.{piece_of}
 use Rattle.first_pass_tokens.proofs.OrderLemmas.{order_add}
 
--- an escaped text begins after an offset, and after a backslash
+-- an escaped text begins after an offset, and directly after a backslash
 abbrev pub EscapeBehind : List ℕ → ℕ → Item → Type 0
 EscapeBehind text from x = is_escaped x.body ≡ true → (from < x.start) × (slice_index text (x.start - 1) ≡ backslash)
 
--- each escaped text of a chain stands after a backslash that no token has
+-- each escaped text of a chain is directly after a backslash that no token has
 abbrev pub EscapesStand : List ℕ → ℕ → List Item → Type 0
 EscapesStand text from [] = Unit {0}
 EscapesStand text from (x ∷ xs) = EscapeBehind text from x × EscapesStand text x.«end» xs
 
--- the last token of a chain that begins at an offset ends at another or before
+-- the last token of a chain from an offset on ends at another offset or before it
 abbrev EndsBy : ℕ → ℕ → List Item → Type 0
 EndsBy from at [] = from ≤ at
 EndsBy from at (x ∷ xs) = EndsBy x.«end» at xs
@@ -69,7 +70,7 @@ ends_piece from stop at (Begins dropped escaped) chain h =
 ends_piece from stop at (Token dropped n body) chain h = ends_add from (at + (dropped + n)) chain (token (at + dropped) n body) (omega arith)
 ends_piece from stop at (Run n opens closes) chain h = ends_run from at n opens closes chain h
 
--- a token after
+-- a token is appended
 pub escapes_add : (text : List ℕ) (from mid : ℕ) (chain : List Item) (y : Item) → EndsBy from mid chain → EscapesStand text from chain → EscapeBehind text mid y
     → EscapesStand text from (add_token chain y)
 escapes_add text from mid [] y h k behind = (λ e. (omega (arith, (behind e).0), (behind e).1), tt)
@@ -85,7 +86,7 @@ escapes_text text from mid a b escaped chain h k behind =
     cond_both (nat_lt a b) (add_token chain (text_token a b escaped)) chain (EscapesStand text from)
     (λ some. escapes_add text from mid chain (text_token a b escaped) h k behind) (λ none. k)
 
--- the tokens of a text joined after a chain
+-- the tokens of a text are joined to a chain
 pub escapes_adds : (text : List ℕ) (from mid to : ℕ) (chain tokens : List Item)
     → AreInOrder text from mid chain → EscapesStand text from chain → AreInOrder text mid to tokens
     → EscapesStand text mid tokens → EscapesStand text from (add_tokens chain tokens)
@@ -94,7 +95,7 @@ escapes_adds text from mid to chain (x ∷ xs) h k order stand =
     escapes_adds text from x.«end» to (add_token chain x) xs (order_add text from mid chain x h order.0 order.1 order.2 order.3)
     (escapes_add text from mid chain x (ends_in_order text from mid chain h) k stand.0) order.4 stand.1
 
--- the backslash that ends a block's last line
+-- the backslash at the end of the last line of a block
 pub escapes_closed : (text : List ℕ) (from to : ℕ) (break : Option Item) (chain : List Item) → AreInOrder text from to chain → EscapesStand text from chain
     → EscapesStand text from (close_break break chain)
 escapes_closed text from to None chain h k = k
@@ -102,7 +103,7 @@ escapes_closed text from to (Some x) chain h k =
     cond_both (is_backslash_break x.body) (add_text x.start (x.start + 1) false chain) chain (EscapesStand text from)
     (λ b. escapes_text text from to x.start (x.start + 1) false chain (ends_in_order text from to chain h) k (λ e. absurd (false≢true e))) (λ b. k)
 
--- an item after that is no escaped text
+-- an item that is no escaped text is appended
 pub escapes_append : (text : List ℕ) (from : ℕ) (chain : List Item) (y : Item)
     → EscapesStand text from chain → is_escaped y.body ≡ false → EscapesStand text from (chain ++ y ∷ [])
 escapes_append text from [] y k plain = (λ e. absurd (false≢true (sym plain ∙ e)), tt)
@@ -117,7 +118,7 @@ escapes_run text from at (suc n) opens closes chain h k =
     escapes_run text from (at + 1) n opens closes (add_token chain x) (ends_add from (at + 1) chain x (omega arith))
     (escapes_add text from at chain x h k (λ e. absurd (false≢true e)))
 
--- what a piece adds after
+-- the tokens of a piece are appended
 escapes_piece : (text : List ℕ) (from stop at : ℕ) (p : Piece) (chain : List Item) → IsPieceAt text at p → EndsBy from at chain → EscapesStand text from chain
     → EscapesStand text from (add_piece stop at p chain)
 escapes_piece text from stop at (Left n) chain facts h k = escapes_text text from at at (min (at + n) stop) false chain h k (λ e. absurd (false≢true e))
@@ -136,7 +137,7 @@ escapes_pieces texts s from stop at b (p ∷ ps) to chain are h k =
     escapes_pieces texts s from stop (at + size p) (braces_after (found_at s at) b) ps to (add_piece stop at p chain) are.2 (ends_piece from stop at p chain h)
     (escapes_piece s.text from stop at p chain (piece_of texts b s at p are.0 are.1) h k)
 
--- The escaped texts of a line stand after their backslashes.
+-- The escaped texts of a line are directly after their backslashes.
 pub line_escapes : {texts : List CowStr} {s : Inline} {tokens : List Item} {answer : ℕ × Option Item} {after : MathBraces}
     → IsLine texts s tokens answer after → EscapesStand s.text s.start tokens
 line_escapes {texts} {s} {tokens} {answer} {after} line =
@@ -147,7 +148,7 @@ line_escapes {texts} {s} {tokens} {answer} {after} line =
 cut_first : (e : ℕ) (x : Item) (xs : List Item) → x.start < e → cut e (x ∷ xs) ≡ cut_item e x ∷ cut e xs
 cut_first e x xs before = cond-true _ _ _ (lt-ltb x.start e before)
 
--- a chain that begins after the cut leaves nothing
+-- a chain that begins after the cut becomes empty
 cut_beyond : (text : List ℕ) (from to e : ℕ) (chain : List Item) → e < from → AreInOrder text from to chain → cut e chain ≡ []
 cut_beyond text from to e [] past h = refl
 cut_beyond text from to e (x ∷ xs) past h =
@@ -174,7 +175,7 @@ backslash_in_order text from e x stands at order =
     (omega (arith, s.0), omega arith, before, at, omega arith))
     (λ b. order)
 
--- A chain in order that is cut is in order up to there, also where an escaped text begins at the cut.
+-- A chain in order is in order up to a cut, also if an escaped text begins at the cut.
 pub cut_escaped : (text : List ℕ) (from to e : ℕ) (chain : List Item)
     → AreInOrder text from to chain → EscapesStand text from chain → IsCharBoundary text e → from ≤ e
     → AreInOrder text from e (cut e chain)
@@ -194,7 +195,7 @@ cut_escaped text from to e (x ∷ xs) h k at order =
       | inr behind ↦ subst (AreInOrder text from e) (sym (cut_at_first e x xs behind)) (backslash_in_order text from e x k.0 at order)
     ]
 
--- Each token of a chain that is cut has a byte.
+-- Each token of a chain has a byte after a cut.
 pub cut_has_bytes : (text : List ℕ) (from e : ℕ) (chain : List Item) → HaveBytes chain → EscapesStand text from chain → HaveBytes (cut e chain)
 cut_has_bytes text from e [] h k = tt
 cut_has_bytes text from e (x ∷ xs) h k =

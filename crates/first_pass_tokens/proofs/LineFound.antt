@@ -1,4 +1,4 @@
--- Each line has tokens, and so has each cell, once the texts that they name are named.
+-- Each line has tokens, and so has each cell, with the texts that they name among some texts.
 use Rattle.std.proofs.Common.{◌⊎◌, inl, inr, ℕ, zero, suc, ◌+◌, ◌-◌, ◌<◌, ◌≤◌, ◌≡◌, Bool, true, false, List, [], ◌∷◌, ◌++◌, length, encode_utf8, Option, refl}
 use Rattle.std.proofs.Common.{arith}
 use Rattle.std.proofs.lemmas.Bool.{cases_lt, or_left, le-leb}
@@ -19,11 +19,11 @@ use Rattle.first_pass_tokens.proofs.LineLemmas.{piece_some}
 use Rattle.first_pass_tokens.proofs.NamedTexts.{more_none, more_both, among_last, becomes_more}
 use Rattle.first_pass_tokens.specs.LineTokens.{Spot, spot, ends_at, ArePieces, text_end, add_pieces, line_end_len, line_break, blanks_at_end, IsLine, IsCell}
 
--- a text that is borrowed
+-- a borrowed text
 borrowed : List ℕ → CowStr
 borrowed text = Borrowed (record { ref_ptr = (0, 0); now = text })
 
--- the piece of what stands at a place, and texts with those that it names
+-- the piece at a place, and texts with those that it names
 record FoundPiece (texts : List CowStr) (b : MathBraces) (found : Found) : Type 0 where
   named : List CowStr
   more : AreMore named texts

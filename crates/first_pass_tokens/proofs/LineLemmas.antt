@@ -1,4 +1,4 @@
--- The division of a content: one more piece, that there is one division, that no line end stands in it, and where the line ends.
+-- The division of a content: one more piece, its uniqueness, that it has no line ending, and the end of the line.
 use Rattle.std.proofs.Common.{ℕ, min, zero, suc, ◌≡◌, ◌⊎◌, ◌+◌, ◌-◌, ◌≤◌, ◌<◌, ◌==◌, ◌&&◌, ◌||◌, ◌%◌, if◌then◌else◌, Bool, true, false, List, ◌∷◌, ◌++◌, []}
 use Rattle.std.proofs.Common.{length, take, drop, get_or, slice_index, nat_lt, nat_le, Option, None, IfSome, Result, Ok, Err, IfOk, unwrap_or, refl, sym, ap}
 use Rattle.std.proofs.Common.{subst, ◌∙◌, inl, inr, arith, length-drop}
@@ -41,12 +41,12 @@ add_pieces_more texts s stop at b [] mid chain p same = ap (λ (t : Spot). add_p
 add_pieces_more texts s stop at b (q ∷ ps) mid chain p h =
     add_pieces_more texts s stop (at + size q) (braces_after (found_at s at) b) ps mid (add_piece stop at q chain) p h.2
 
--- pieces continue after the place where they begin
+-- pieces end at or after their start
 pub pieces_reach : (texts : List CowStr) (s : Inline) (at : ℕ) (b : MathBraces) (ps : List Piece) (to : Spot) → ArePieces texts s at b ps to → at ≤ to.at
 pieces_reach texts s at b [] to is = (let same : at ≡ to.at = ap (λ (t : Spot). t.at) is in omega arith)
 pieces_reach texts s at b (p ∷ ps) to h = (let more = pieces_reach texts s (at + size p) (braces_after (found_at s at) b) ps to h.2 in omega arith)
 
--- where no content ends
+-- places at which no content ends
 not_ended_cell : (s : Inline) (at : ℕ) → ends_at s at ≡ false
     → (at < length s.text) × (is_line_end (slice_index s.text at) ≡ false) × (ends_cell s (slice_index s.text at) ≡ false)
 unfolding ends_at
@@ -59,7 +59,7 @@ not_ended_cell s at on =
 pub not_ended : (s : Inline) (at : ℕ) → ends_at s at ≡ false → (at < length s.text) × (is_line_end (slice_index s.text at) ≡ false)
 not_ended s at on = (let h = not_ended_cell s at on in (h.0, h.1))
 
--- with tables no pipe stands there in a row
+-- with tables, there is no pipe at such a place in a row
 pub not_ended_pipe : (s : Inline) (at : ℕ) → s.row ≡ true → has s.options tables ≡ true → ends_at s at ≡ false → (slice_index s.text at == 124) ≡ false
 not_ended_pipe s at row on runs =
     let b = slice_index s.text at in
@@ -73,14 +73,14 @@ pub piece_of : (texts : List CowStr) (b : MathBraces) (s : Inline) (at : ℕ) (p
     → IsPieceAt s.text at p
 piece_of texts b s at p on is = becomes_facts texts b s.text at (found_at s at) p (found_facts s at (not_ended s at on).0) is
 
--- a piece takes a byte at least
+-- a piece has at least one byte
 pub piece_some : (text : List ℕ) (at : ℕ) (p : Piece) → IsPieceAt text at p → 0 < size p
 piece_some text at (Left n) facts = facts.some
 piece_some text at (Run n opens closes) facts = facts.some
 piece_some text at (Begins dropped escaped) facts = omega arith
 piece_some text at (Token dropped n body) facts = omega (arith, facts.some)
 
--- a piece lies in the text, and no line end stands in it
+-- a piece is within the text, and has no line ending
 pub record IsInLine (text : List ℕ) (at : ℕ) (p : Piece) : Type 0 where
   pub fits : at + size p ≤ length text
   pub plain : (k : ℕ) → at ≤ k → k < at + size p → is_line_end (slice_index text k) ≡ false
@@ -105,7 +105,7 @@ piece_in_line s at (Token dropped n body) on facts =
       plain = λ k low high. visible_plain (slice_index s.text k) (facts.bytes k low high);
     }
 
--- a content lies in the text, and no line end stands in it
+-- a content is within the text, and has no line ending
 pub record IsContent (text : List ℕ) (start end : ℕ) : Type 0 where
   pub order : start ≤ end
   pub within : end ≤ length text
@@ -129,7 +129,7 @@ pub content_of : {texts : List CowStr} {s : Inline} {ps : List Piece} {to : Spot
     → IsContent s.text s.start to.at
 content_of {texts} {s} {ps} {to} within d = content_from texts s s.start s.braces ps to within d.divided
 
--- where a content ends
+-- the end of a content
 pub ended_by : (s : Inline) (end : ℕ) → ends_at s end ≡ true
     → (length s.text ≤ end) ⊎ ((is_line_end (slice_index s.text end) ≡ true) ⊎ (ends_cell s (slice_index s.text end) ≡ true))
 unfolding ends_at
@@ -140,7 +140,7 @@ ended_by s end h =
       | inr byte ↦ inr (or_cases (is_line_end b) (ends_cell s b) byte)
     ]
 
--- the same of a line
+-- the same for a line
 line_ended_by : (s : Inline) (end : ℕ) → s.row ≡ false → ends_at s end ≡ true → (length s.text ≤ end) ⊎ (is_line_end (slice_index s.text end) ≡ true)
 line_ended_by s end plain h =
     elim (ended_by s end h) [
@@ -151,7 +151,7 @@ line_ended_by s end plain h =
       ]
     ]
 
--- the line end in what is left of a text
+-- the line ending in the rest of a text
 end_here : (b : ℕ) (bs : List ℕ) → is_line_end b ≡ true → unwrap_or (eol_len (b ∷ bs)) 0 ≡ (if b == 13 && begins 10 bs then 2 else 1)
 end_here b bs line =
     elim (or_cases (b == 10) (b == 13) line) [
@@ -195,7 +195,7 @@ content_len s end plain c ended =
     ap is_content (get_or-drop s.start s.text (end - s.start) 0 ∙ ap (slice_index s.text) place)
     ∙ elim (line_ended_by s end plain ended) [ inl past ↦ absurd (omega arith) | inr line ↦ not_from_true _ line ])
 
--- a line goes up to the end of its content, and takes its line end
+-- a line ends after the line ending after its content
 line_place : (s : Inline) (end : ℕ) → s.row ≡ false → IsContent s.text s.start end → ends_at s end ≡ true
     → end + line_end_len s end ≡ s.start + line_len (drop s.start s.text)
 unfolding line_len
@@ -209,7 +209,7 @@ line_place s end plain c ended =
     ap (λ (bs : List ℕ). unwrap_or (eol_len bs) 0) rest ∙ line_end_at s end plain ended in
     omega arith
 
--- a line end lies in the text, and is not empty
+-- a line ending is within the text, and is not empty
 line_end_fits : (s : Inline) (end : ℕ) → end ≤ length s.text → end + line_end_len s end ≤ length s.text
 unfolding line_end_len
 line_end_fits s end within =
@@ -229,7 +229,8 @@ line_end_some s end within =
     cond_both (nat_le (length s.text) end) 0 _ (λ (n : ℕ). 0 < n) (λ b. let past = leb-true (length s.text) end b in absurd (omega arith))
     (λ b. cond_both (slice_index s.text end == 13 && slice_index s.text (end + 1) == 10) 2 1 (λ (n : ℕ). 0 < n) (λ two. omega arith) (λ one. omega arith))
 
--- how many bytes pass at the end of a front of a list, if one does not or there are no more
+-- a bound on the number of bytes that pass a test at the end of the first bytes of a list, if one fails or there are
+-- no more
 suffix_bounded : (p : ℕ → Bool) (xs : List ℕ) (n k : ℕ)
     → n ≤ length xs → k ≤ n → (k ≡ 0) ⊎ ((0 < k) × (p (get_or xs (k - 1) 0) ≡ false)) → suffix_len p (take n xs) ≤ n - k
 suffix_bounded p xs zero k within order stops = omega (arith, suffix_len-le-length p (take 0 xs))
@@ -272,7 +273,7 @@ end_bounded p text start begin end low high within stops =
     ]) in
     omega arith
 
--- a break lies in its line, and ends with it
+-- a break is within its line, and ends with it
 break_in_line : (s : Inline) (end : ℕ) → s.start ≤ end → end ≤ length s.text → IfSome (line_break s end) (λ x. IsBreak s.start (end + line_end_len s end) x)
 unfolding line_break breaks_by_backslash backslashes_at_end blanks_at_end
 break_in_line s end order within =
@@ -291,7 +292,7 @@ break_in_line s end order within =
     (λ hard. let two = leb-true 2 (blanks_at_end s end) hard in record { from = omega arith; before = omega arith; to = refl; kind = refl })
     (λ soft. record { from = order; before = omega arith; to = refl; kind = refl })))
 
--- where a line ends
+-- the end of a line
 pub ends_line : {texts : List CowStr} {s : Inline} {tokens : List Item} {answer : ℕ × Option Item} {after : MathBraces}
     → s.start ≤ length s.text → IsLine texts s tokens answer after → EndsLine s answer
 ends_line {texts} {s} {tokens} {answer} {after} within line =
@@ -308,13 +309,13 @@ ends_line {texts} {s} {tokens} {answer} {after} within line =
       broken = break_in_line s end c.order c.within;
     })
 
--- the same of what a call returns
+-- the same for the result of a call
 pub ends_line-if : (texts : List CowStr) (after : MathBraces) (s : Inline) (old new : Forest Item) (r : Result (ℕ × Option Item) AllocError)
     → s.start ≤ length s.text → IfOk r (λ a. AppendsLine texts s old new a after) → IfOk r (λ a. EndsLine s a)
 ends_line-if texts after s old new (Ok a) within h = ends_line within h.line
 ends_line-if texts after s old new (Err e) within h = tt
 
--- where a cell ends
+-- the end of a cell
 content_reach : (s : Inline) (end : ℕ) → IsContent s.text s.start end → end ≤ s.start + prefix_len is_content (drop s.start s.text)
 content_reach s end c =
     let order = c.order in
@@ -374,7 +375,7 @@ pub appended_cell : {texts : List CowStr} {s : Inline} {old new : Forest Item} {
     → old ≡ chained f chain → JoinsNone f → new ≡ chained f (add_tokens chain h.tokens)
 appended_cell f chain h is none = h.tree_is ∙ ap (λ (g : Forest Item). with_tokens g h.tokens) is ∙ with_tokens-chained f chain h.tokens none
 
--- a cell appended where no text can be joined
+-- a cell appended to a tree to which no text can be joined
 pub appended_cell_alone : {texts : List CowStr} {s : Inline} {old new : Forest Item} {end : ℕ} {after : MathBraces} (h : AppendsCell texts s old new end after)
     → JoinsNone old → new ≡ chained old h.tokens
 appended_cell_alone {texts} {s} {old} h none = appended_cell old [] h refl none ∙ ap (chained old) (add_tokens-none h.tokens (cell_apart h.cell))

@@ -1,4 +1,4 @@
--- The tokens of possible markup in a line stand over the bytes of their kinds, and no backquote is left to a text.
+-- Tokens of possible markup in a line have the bytes of their kinds, and no text has a backquote.
 use Rattle.std.proofs.Common.{◌≡◌, ℕ, ◌+◌, ◌-◌, ◌≤◌, ◌==◌, ◌&&◌, Bool, true, false, nat_lt, min, List, [], ◌∷◌, Option, slice_index, sym, ap, subst, ◌∙◌, inl}
 use Rattle.std.proofs.Common.{inr, refl, arith, zero, suc, ◌<◌}
 use Rattle.std.proofs.lemmas.Bool.{cases_lt, cond_both, and_parts, eqb-true, false≢true}
@@ -22,7 +22,7 @@ text_over : (text : List ℕ) (start end : ℕ) (body : ItemBody) → is_text bo
 text_over text start end (Text escaped) h = tt
 text_over text start end _ h = absurd (false≢true h)
 
--- a token after
+-- a token is appended
 over_add : (text : List ℕ) (chain : List Item) (y : Item) → StandsOver text y.start y.«end» y.body → StandOver text chain → StandOver text (add_token chain y)
 over_add text [] y over h = (over, tt)
 over_add text (x ∷ []) y over h =
@@ -32,13 +32,13 @@ over_add text (x ∷ []) y over h =
     (λ b. (h.0, (over, tt)))
 over_add text (x ∷ z ∷ zs) y over h = (h.0, over_add text (z ∷ zs) y over h.1)
 
--- a text after, or none
+-- a text is appended, or nothing
 over_text : (text : List ℕ) (a b : ℕ) (escaped : Bool) (chain : List Item) → StandOver text chain → StandOver text (add_text a b escaped chain)
 over_text text a b escaped chain h =
     cond_both (nat_lt a b) (add_token chain (text_token a b escaped)) chain (StandOver text)
     (λ some. over_add text chain (text_token a b escaped) tt h) (λ none. h)
 
--- tokens after
+-- tokens are appended
 over_adds : (text : List ℕ) (chain tokens : List Item) → StandOver text chain → StandOver text tokens → StandOver text (add_tokens chain tokens)
 over_adds text chain [] h k = h
 over_adds text chain (x ∷ xs) h k = over_adds text (add_token chain x) xs (over_add text chain x k.0 h) k.1
@@ -54,7 +54,7 @@ run_over text at (suc n) opens closes h =
           (next.0, ap is_delimiter next.1 ∙ here.1)),
     )
 
--- what a piece adds after
+-- the tokens of a piece are appended
 over_piece : (text : List ℕ) (stop at : ℕ) (p : Piece) (chain : List Item) → IsPieceAt text at p → StandOver text chain
     → StandOver text (add_piece stop at p chain)
 over_piece text stop at (Left n) chain facts h = over_text text at (min (at + n) stop) false chain h
@@ -85,7 +85,7 @@ line_over {texts} {s} {tokens} {answer} {after} line =
     subst (StandOver s.text) (sym line.tokens_are)
     (over_pieces texts s (text_end s line.content_end) s.start s.braces line.pieces (spot line.content_end after) [] line.division.divided tt)
 
--- a token after; a text that is joined has the bytes of both
+-- a token is appended; a text that is joined has the bytes of both
 spare_add : (text : List ℕ) (chain : List Item) (y : Item) → (is_text y.body ≡ true → HasNoBackquote text y.start y.«end»)
     → TextsHaveNoBackquote text chain → TextsHaveNoBackquote text (add_token chain y)
 spare_add text [] y none h = (none, tt)
@@ -98,7 +98,7 @@ spare_add text (x ∷ []) y none h =
     (λ b. (h.0, (none, tt)))
 spare_add text (x ∷ z ∷ zs) y none h = (h.0, spare_add text (z ∷ zs) y none h.1)
 
--- a text after, or none
+-- a text is appended, or nothing
 spare_text : (text : List ℕ) (a b : ℕ) (escaped : Bool) (chain : List Item) → HasNoBackquote text a b → TextsHaveNoBackquote text chain
     → TextsHaveNoBackquote text (add_text a b escaped chain)
 spare_text text a b escaped chain none h =
@@ -113,11 +113,11 @@ spare_run text at (suc n) opens closes chain h =
     let x = token at 1 (MaybeEmphasis (suc n) opens closes) in
     spare_run text (at + 1) n opens closes (add_token chain x) (spare_add text chain x (λ is. absurd (false≢true is)) h)
 
--- a byte alone
+-- a single byte
 spare_byte : (text : List ℕ) (at to : ℕ) → to ≤ at + 1 → (slice_index text at == 96) ≡ false → HasNoBackquote text at to
 spare_byte text at to short other k low high = (let same : k ≡ at = omega arith in ap (λ (x : ℕ). slice_index text x == 96) same ∙ other)
 
--- what a piece adds after
+-- the tokens of a piece are appended
 spare_piece : (text : List ℕ) (stop at : ℕ) (p : Piece) (chain : List Item) → IsPieceAt text at p → TextsHaveNoBackquote text chain
     → TextsHaveNoBackquote text (add_piece stop at p chain)
 spare_piece text stop at (Left n) chain facts h =

@@ -1,4 +1,5 @@
--- Texts that tokens name stay named while more is named, and each token of a line names one of them, if it names a text.
+-- Texts that tokens name stay named while more are appended, and each token of a line names one of them, if it names
+-- a text.
 use Rattle.std.proofs.Common.{◌≡◌, ℕ, zero, suc, ◌+◌, List, ◌∷◌, ◌++◌, length, slice_get, Option, Some, refl, sym, ap, ◌∙◌, append_assoc, []}
 use Rattle.std.proofs.lemmas.List.{append-nil}
 use Rattle.first_pass_items.specs.declared.cow_str.CowStr.{CowStr}
@@ -53,7 +54,7 @@ pieces_more new old s at b (p ∷ ps) to more h = (
 division_more : {new old : List CowStr} {s : Inline} {ps : List Piece} {to : Spot} → AreMore new old → IsDivision old s ps to → IsDivision new s ps to
 division_more {new} {old} {s} {ps} {to} more d = record { divided = pieces_more new old s s.start s.braces ps to more d.divided; ended = d.ended }
 
--- a line stays one while more is named, and so does a cell
+-- a line stays one while more texts are appended, and so does a cell
 pub line_more : {new old : List CowStr} {s : Inline} {tokens : List Item} {answer : ℕ × Option Item} {after : MathBraces}
     → AreMore new old → IsLine old s tokens answer after
     → IsLine new s tokens answer after

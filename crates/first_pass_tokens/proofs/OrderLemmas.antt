@@ -1,4 +1,5 @@
--- Tokens one after the other: a chain in order stays so with a token after it, and the tokens of a line or a cell are in order.
+-- Tokens, one after the other: a chain in order stays in order if a token is appended, and the tokens of a line or a
+-- cell are in order.
 use Rattle.std.proofs.Common.{ℕ, zero, suc, ◌≡◌, ◌⊎◌, ◌+◌, ◌-◌, ◌≤◌, ◌<◌, ◌==◌, ◌%◌, min, Bool, true, false, List, ◌∷◌, ◌++◌, length, take, drop, get_or, []}
 use Rattle.std.proofs.Common.{slice_index, nat_lt, nat_le, if◌then◌else◌, Option, Some, None, IfSome, IsUtf8, IsCharBoundary, refl, sym, ap, subst, ◌∙◌, inl}
 use Rattle.std.proofs.Common.{inr, arith, length-drop}
@@ -41,13 +42,13 @@ pub order_from : (text : List ℕ) (low from to : ℕ) (chain : List Item) → A
 order_from text low from to [] h less = omega arith
 order_from text low from to (x ∷ xs) h less = (omega (arith, h.0), h.1, h.2, h.3, h.4)
 
--- another list in order after
+-- another list in order is appended
 pub order_append : (text : List ℕ) (from mid to : ℕ) (xs ys : List Item)
     → AreInOrder text from mid xs → AreInOrder text mid to ys → AreInOrder text from to (xs ++ ys)
 order_append text from mid to [] ys h k = order_from text from mid to ys k h
 order_append text from mid to (x ∷ xs) ys h k = (h.0, h.1, h.2, h.3, order_append text x.«end» mid to xs ys h.4 k)
 
--- a token after
+-- a token is appended
 pub order_add : (text : List ℕ) (from mid : ℕ) (chain : List Item) (y : Item) → AreInOrder text from mid chain → mid ≤ y.start → y.start ≤ y.«end»
     → IsCharBoundary text y.start → IsCharBoundary text y.«end» → AreInOrder text from y.«end» (add_token chain y)
 order_add text from mid [] y h behind order starts ends = (omega arith, order, starts, ends, omega arith)
@@ -57,13 +58,13 @@ order_add text from mid (x ∷ []) y h behind order starts ends =
     (λ b. (h.0, h.1, h.2, h.3, (omega (arith, h.4), order, starts, ends, omega arith)))
 order_add text from mid (x ∷ z ∷ zs) y h behind order starts ends = (h.0, h.1, h.2, h.3, order_add text x.«end» mid (z ∷ zs) y h.4 behind order starts ends)
 
--- tokens in order after
+-- tokens in order are appended
 pub order_adds : (text : List ℕ) (from mid to : ℕ) (chain tokens : List Item)
     → AreInOrder text from mid chain → AreInOrder text mid to tokens → AreInOrder text from to (add_tokens chain tokens)
 order_adds text from mid to chain [] h k = order_to text from mid to chain h k
 order_adds text from mid to chain (x ∷ xs) h k = order_adds text from x.«end» to (add_token chain x) xs (order_add text from mid chain x h k.0 k.1 k.2 k.3) k.4
 
--- a text after, or none
+-- a text is appended, or nothing
 pub order_text : (text : List ℕ) (from mid a b : ℕ) (escaped : Bool) (chain : List Item)
     → AreInOrder text from mid chain → mid ≤ a → a ≤ b → IsCharBoundary text a → IsCharBoundary text b → AreInOrder text from b (add_text a b escaped chain)
 order_text text from mid a b escaped chain h behind order starts ends =
@@ -71,9 +72,9 @@ order_text text from mid a b escaped chain h behind order starts ends =
     (λ some. order_add text from mid chain (text_token a b escaped) h behind order starts ends)
     (λ none. order_to text from mid b chain h (omega arith))
 
--- a chain in order, the text that grows after it, and pieces; texts stop at an offset
+-- a chain in order, the pending text that grows after it, and pieces; texts end at an offset
 module _ (s : Inline) (utf8 : IsUtf8 s.text) (stop : ℕ) (to : Spot) (from : ℕ) (stops : IsCharBoundary s.text stop) (last_text : IsTextEnd s to.at stop) where
-  -- a visible byte stands between two characters
+  -- there is a place between two characters before a visible byte
   place_before : (at : ℕ) → IsVisible (slice_index s.text at) → IsCharBoundary s.text at
   place_before at h = IsCharBoundary-before_ascii s.text at (at_byte s.text at (omega (arith, h.0))) (omega (arith, h.1))
 
@@ -164,7 +165,7 @@ module _ (s : Inline) (utf8 : IsUtf8 s.text) (stop : ℕ) (to : Spot) (from : �
       (order_adds s.text from at (at + n) (add_text begin at escaped chain) (run_tokens at n opens closes)
       (order_text s.text from begin begin at escaped chain h (omega arith) upto starts here) (run_in_order at n opens closes facts.bytes))))
 
--- the first and the last of the bytes that pass at the end of a front of a list
+-- the first and the last of the bytes that pass a test at the end of the first bytes of a list
 pub suffix_first : (p : ℕ → Bool) (xs : List ℕ) (n : ℕ)
     → n ≤ length xs → 0 < suffix_len p (take n xs) → (suffix_len p (take n xs) ≤ n) × (p (get_or xs (n - suffix_len p (take n xs)) 0) ≡ true)
 suffix_first p xs zero within some = absurd (omega (arith, suffix_len-le-length p (take 0 xs)))
@@ -224,7 +225,7 @@ cell_end_small s b h = (let pipe = eqb-true b 124 (and_parts (has s.options tabl
 white_small : (b : ℕ) → is_white b ≡ true → b < 128
 white_small b h = grind (arith, nat_tests, h)
 
--- a place in the content that begins at an offset, between two characters
+-- a place between two characters, in the content from an offset on
 abbrev IsPlaceFrom : List ℕ → ℕ → ℕ → Type 0
 IsPlaceFrom text start at = (start ≤ at) × IsCharBoundary text at
 
@@ -261,7 +262,7 @@ blanks_by s end (suc n) is order within boundary =
     subst (λ k. IsPlaceFrom s.text s.start (end - k)) (sym is)
     (omega (arith, f.0), IsCharBoundary-before_ascii s.text (end - blanks_at_end s end) (omega (arith, f.0)) (white_small _ f.1))
 
--- where the last text of a content ends
+-- the end of the last text of a content
 text_end_place : (s : Inline) (end : ℕ) → s.start ≤ end → end ≤ length s.text → IsCharBoundary s.text end → IsPlaceFrom s.text s.start (text_end s end)
 unfolding text_end
 text_end_place s end order within boundary =
@@ -270,7 +271,7 @@ text_end_place s end order within boundary =
     (last.0, IsCharBoundary-before_ascii s.text (end - 1) (omega (arith, last.1)) (omega (arith, last.2))))
     (λ other. blanks_by s end (blanks_at_end s end) refl order within boundary)
 
--- A break after a text that ends at an offset, up to where its line ends; a backslash that makes it is one byte.
+-- A break after a text that ends at an offset, up to the end of its line; if a backslash makes it, that is one byte.
 pub record StandsBehind (text : List ℕ) (at next : ℕ) (x : Item) : Type 0 where
   pub from : at ≤ x.start
   pub order : x.start ≤ x.«end»
@@ -318,7 +319,8 @@ line_end_place {s} {answer} utf8 boundary ends =
       | inr past ↦ let e : answer.0 ≡ length s.text = omega arith in subst (IsCharBoundary s.text) (sym e) (IsCharBoundary-end s.text)
     ]
 
--- The tokens of a line are in order from its start up to an offset, after which its break stands, and the line ends between two characters.
+-- The tokens of a line are in order from its start up to an offset, its break is after that, and the line ends
+-- between two characters.
 pub record LineInOrder (s : Inline) (stop : ℕ) (tokens : List Item) (answer : ℕ × Option Item) : Type 0 where
   pub tokens_fit : AreInOrder s.text s.start stop tokens
   pub before : stop ≤ answer.0
@@ -335,7 +337,7 @@ content_in_order texts s pieces to stop utf8 boundary are last_text place =
     (pieces_in_order s utf8 stop to s.start place.1 last_text texts s.start s.braces pieces s.start false [] are
     (omega arith) (omega arith) (inr refl) place.0 boundary (omega arith))
 
--- The tokens of a cell are in order from its start up to its end, which stands between two characters.
+-- The tokens of a cell are in order from its start up to its end, which is between two characters.
 pub cell_in_order : {texts : List CowStr} {s : Inline} {tokens : List Item} {end : ℕ} {after : MathBraces}
     → IsUtf8 s.text → IsCharBoundary s.text s.start → s.start ≤ length s.text → IsCell texts s tokens end after
     → AreInOrder s.text s.start end tokens
@@ -375,7 +377,7 @@ line_in_order {texts} {s} {tokens} {answer} {after} utf8 boundary within line =
           (break_stands s end answer.0 answer_is c.order c.within finish next);
     }
 
--- a chain after which the last line's break stands, closed
+-- a chain before the break of the last line, closed
 pub order_closed : (text : List ℕ) (from at next : ℕ) (break : Option Item) (chain : List Item)
     → AreInOrder text from at chain → at ≤ next → IfSome break (StandsBehind text at next) → AreInOrder text from next (close_break break chain)
 order_closed text from at next None chain h later behind = order_to text from at next chain h later
@@ -386,7 +388,7 @@ order_closed text from at next (Some x) chain h later behind =
     (order_text text from at x.start (x.start + 1) false chain h behind.from (omega arith) behind.starts shown.1) shown.0)
     (λ b. order_to text from at next chain h later)
 
--- the chain of a line alone
+-- the chain of a single line
 pub closed_line_in_order : {texts : List CowStr} {s : Inline} {tokens : List Item} {next : ℕ} {break : Option Item} {after : MathBraces}
     → IsUtf8 s.text → IsCharBoundary s.text s.start → s.start ≤ length s.text → IsLine texts s tokens (next, break) after
     → AreInOrder s.text s.start next (close_break break (add_tokens [] tokens))

@@ -1,4 +1,4 @@
--- The piece at a place, case by case: which bytes it has, and which token. What else is said of pieces rests on these facts alone.
+-- The piece at a place, case by case: its bytes and its token. Other facts on pieces follow only from these.
 use Rattle.std.proofs.Common.{◌≡◌, ℕ, ◌+◌, ◌-◌, ◌≤◌, ◌<◌, ◌==◌, ◌&&◌, not, Bool, true, false, List, length, drop, get_or, slice_index, Option, Some, unwrap_or}
 use Rattle.std.proofs.Common.{refl, sym, ap, subst, ◌∙◌, inl, inr, arith, length-drop, ◌||◌, suc, nat_lt, None}
 use Rattle.std.specs.Option.{option_map_or}
@@ -32,11 +32,11 @@ use Rattle.first_pass_tokens.specs.Pieces.{backslash_piece_in, backquote_piece, 
 use Rattle.first_pass_tokens.specs.Pieces.{dash_piece, run_piece, delimiter_piece, bracket_piece, run_at}
 use Rattle.first_pass_tokens.proofs.ReferenceBytes.{is_reference_byte, reference_at}
 
--- a visible character of ASCII
+-- a visible ASCII character
 abbrev pub IsVisible : ℕ → Type 0
 IsVisible b = (32 < b) × (b < 127)
 
--- so many bytes from a place on are visible
+-- n bytes from a place on are visible
 abbrev pub AreVisible : List ℕ → ℕ → ℕ → Type 0
 AreVisible text at n = (k : ℕ) → at ≤ k → k < at + n → IsVisible (slice_index text k)
 
@@ -54,7 +54,7 @@ is_markup (MaybeLinkClose b) = true
 is_markup MaybeImage = true
 is_markup _ = false
 
--- it is no text
+-- markup is no text
 pub markup_plain : (body : ItemBody) → is_markup body ≡ true → is_text body ≡ false
 markup_plain (Text escaped) h = absurd (false≢true h)
 markup_plain _ h = refl
@@ -71,7 +71,7 @@ pub record IsEscape (text : List ℕ) (at dropped : ℕ) : Type 0 where
   pub punctuation : is_ascii_punctuation (slice_index text (at + dropped)) ≡ true
   pub other : (slice_index text (at + dropped) == 96) ≡ false
 
--- a token's bytes, after those that are dropped
+-- the bytes of a token, after those that are dropped
 pub record IsMarkup (text : List ℕ) (at dropped n : ℕ) (body : ItemBody) : Type 0 where
   pub some : 0 < n
   pub few : dropped ≤ 1
@@ -80,7 +80,7 @@ pub record IsMarkup (text : List ℕ) (at dropped n : ℕ) (body : ItemBody) : T
   pub kind : is_markup body ≡ true
   pub over : StandsOver text (at + dropped) (at + dropped + n) body
 
--- bytes that are left over: all of them like the first, which is no backquote
+-- the bytes of plain text: all are equal to the first, which is no backquote
 pub record IsLeft (text : List ℕ) (at n : ℕ) : Type 0 where
   pub some : 0 < n
   pub fits : at + n ≤ length text
@@ -102,7 +102,7 @@ IsPieceAt text at (Run n opens closes) = IsDelimiterRun text at n
 IsPieceAt text at (Begins dropped escaped) = IsEscape text at dropped
 IsPieceAt text at (Token dropped n body) = IsMarkup text at dropped n body
 
--- a delimiter is visible, no backslash, no backquote and no pipe
+-- a delimiter is visible, and is no backslash, no backquote and no pipe
 pub delimiter_visible : (b : ℕ) → is_delimiter b ≡ true → IsVisible b
 delimiter_visible b h = (grind (arith, nat_tests, h), grind (arith, nat_tests, h))
 
@@ -143,7 +143,7 @@ module _ (text : List ℕ) (at : ℕ) where
         | inr later ↦ let same : k ≡ at + 1 = omega arith in ap (slice_index text) same ∙ next
       ]
 
-  -- a run of a byte
+  -- a run of equal bytes
   pub run_same : (k : ℕ) → at ≤ k → k < at + run_at text at → slice_index text k ≡ slice_index text at
   unfolding run_at
   run_same k low high =
@@ -153,7 +153,7 @@ module _ (text : List ℕ) (at : ℕ) where
       (ap (λ (x : ℕ). slice_index text x == slice_index text at) (sym same)
       ∙ ap (λ (b : ℕ). b == slice_index text at) (sym (get_or-drop at text (k - at) 0)) ∙ passes)
 
-  -- ends before another byte
+  -- it ends before another byte
   run_stops : 0 < slice_index text at → (slice_index text (at + run_at text at) == slice_index text at) ≡ false
   unfolding run_at
   run_stops some =
@@ -170,7 +170,7 @@ module _ (text : List ℕ) (at : ℕ) where
   run_visible : IsVisible (slice_index text at) → AreVisible text at (run_at text at)
   run_visible here k low high = subst IsVisible (sym (run_same k low high)) here
 
-  -- one byte that is left over
+  -- one byte of plain text
   one_left : at < length text → (slice_index text at == 96) ≡ false → IsLeft text at 1
   one_left within other = record {
     some = omega arith;
@@ -179,12 +179,12 @@ module _ (text : List ℕ) (at : ℕ) where
     other = other;
   }
 
-  -- a run in the text
+  -- a run is within the text
   pub run_fits : run_at text at ≤ length (drop at text)
   unfolding run_at
   run_fits = prefix_len-le-length (λ b. b == slice_index text at) (drop at text)
 
-  -- a run of delimiters, as tokens or left over
+  -- a run of delimiters, as tokens or as plain text
   run_piece_facts : at < length text → 0 < run_at text at → is_delimiter (slice_index text at) ≡ true → (r : DelimiterRun) → r.size ≡ run_at text at
       → IsPieceAt text at (run_piece r)
   run_piece_facts within some delimiter r size =
@@ -251,7 +251,7 @@ module _ (text : List ℕ) (at : ℕ) where
         subst (λ (x : ℕ). StandsOver text x (x + n) (MaybeCode n false)) place (refl, all, λ h. absurd (false≢true h));
   }
 
--- a run has its first byte
+-- a run has at least its first byte
 pub run_some : (text : List ℕ) (at : ℕ) → at < length text → 0 < run_at text at
 unfolding run_at
 run_some text at within =
@@ -268,7 +268,7 @@ run_some text at within =
           absurd (false≢true (sym stops ∙ eq-eqb _ _ same))
     ]
 
--- after the first of a run the others are one
+-- after the first byte of a run, the others are a run
 pub run_next : (text : List ℕ) (at n : ℕ) → suc n ≡ run_at text at → 0 < n → (n ≡ run_at text (at + 1)) × (slice_index text (at + 1) ≡ slice_index text at)
 unfolding run_at
 run_next text at n all some =
@@ -289,7 +289,7 @@ run_next text at n all some =
       next,
     )
 
--- a byte that is not 0 stands in the text
+-- a byte that is not 0 is within the text
 pub at_byte : (text : List ℕ) (at : ℕ) → 0 < slice_index text at → at < length text
 at_byte text at some =
     elim (cases_lt at (length text)) [
@@ -297,14 +297,14 @@ at_byte text at some =
       | inr past ↦ let none = get_or_past text at 0 past in absurd (omega arith)
     ]
 
--- a visible character is no line end and no white space
+-- a visible character is no line ending and no white space
 pub visible_plain : (b : ℕ) → IsVisible b → is_line_end b ≡ false
 visible_plain b h = grind (arith, nat_tests, h.0, h.1)
 
 pub visible_solid : (b : ℕ) → IsVisible b → is_white b ≡ false
 visible_solid b h = grind (arith, nat_tests, h.0, h.1)
 
--- visible bytes stand in the text
+-- visible bytes are within the text
 pub visible_fits : (text : List ℕ) (at n : ℕ) → 0 < n → AreVisible text at n → at + n ≤ length text
 visible_fits text at n some bytes =
     let last = bytes (at + n - 1) (omega arith) (omega arith) in
@@ -316,7 +316,7 @@ module _ (text : List ℕ) (at : ℕ) (within : at < length text) where
   unfolding backquote_piece
   backquote_facts is = run_facts text at is (run_some text at within) (run_at text at) refl
 
-  -- a backslash, and what it is dropped before
+  -- a backslash, and the bytes before which it is dropped
   backslash_facts : slice_index text at ≡ 92 → IsPieceAt text at (backslash_piece text at)
   unfolding backslash_piece
   backslash_facts is =
@@ -400,7 +400,7 @@ quote_visible b h = (grind (arith, nat_tests, h), grind (arith, nat_tests, h))
 pub quote_other : (b : ℕ) → is_quote b ≡ true → ((b == 92) ≡ false) × ((b == 124) ≡ false)
 quote_other b h = (grind (arith, nat_tests, h), grind (arith, nat_tests, h))
 
--- a delimiter is no quote
+-- the run at a delimiter is no quote
 delimiter_size : (text : List ℕ) (at : ℕ) → is_delimiter (slice_index text at) ≡ true → run_size text at ≡ run_at text at
 unfolding run_size
 delimiter_size text at h =
@@ -453,7 +453,7 @@ dot_facts text at within is =
     })
     (λ left. one_left text at within (ap (λ (x : ℕ). x == 96) is))
 
--- a run of hyphens that stands for a character
+-- a run of hyphens that a character replaces
 dash_token : (text : List ℕ) (at n c : ℕ) → slice_index text at ≡ 45 → n ≡ run_at text at → 0 < n → smart_char 45 n ≡ Some c
     → IsMarkup text at 0 n (SynthesizeChar c)
 dash_token text at n c is run some char =
@@ -486,7 +486,7 @@ dash_facts text at within is =
       other = ap (λ (x : ℕ). x == 96) is;
     }))
 
--- the piece at a special byte that is no ampersand and no hyphen
+-- the piece at a special byte other than an ampersand or a hyphen
 special_facts : (s : Inline) (at : ℕ) → at < length s.text → IsPieceAt s.text at (special_piece s at)
 unfolding special_piece
 special_facts s at within =
@@ -498,7 +498,7 @@ special_facts s at within =
     (λ h₃. cond_both (is_quote b) _ _ holds (λ h. quote_facts s at within h)
     (λ h₄. cond_both (b == 46) _ _ holds (λ h. dot_facts s.text at within (eqb-true b 46 h)) (λ h₅. bracket_facts s.text at within h₂)))))
 
--- a byte that is not special is not that special byte
+-- a byte that is not special differs from any special byte
 pub off : (b c : ℕ) (options : Options) → is_special options c ≡ true → is_special options b ≡ false → (b == c) ≡ false
 off b c options marked plain =
     elim (cases_Bool (b == c)) [
@@ -510,7 +510,7 @@ special_backquote : (options : Options) → is_special options 96 ≡ true
 unfolding is_special
 special_backquote options = refl
 
--- the bytes of what stands at a place
+-- the bytes of the piece found at a place
 abbrev pub IsFoundAt : List ℕ → ℕ → Found → Type 0
 IsFoundAt text at (Ready piece) = IsPieceAt text at piece
 IsFoundAt text at (Reference n c) = entity_at (drop at text) ≡ Some (n, c)
@@ -542,7 +542,7 @@ special_found_facts s at within =
     (λ h₄. cond_both (b == 125) CloseBrace _ holds (λ h. one_left s.text at within (ap (λ (x : ℕ). x == 96) (eqb-true b 125 h)))
     (λ h₅. special_facts s at within)))))
 
--- what stands at a place of the text
+-- the piece found at a place of the text
 pub found_facts : (s : Inline) (at : ℕ) → at < length s.text → IsFoundAt s.text at (found_at s at)
 unfolding found_at
 found_facts s at within =
@@ -586,7 +586,7 @@ dashes_token text at n ix run many is =
       });
     }
 
--- the piece of what stands at a place
+-- the piece at a place, completed
 pub becomes_facts : (texts : List CowStr) (b : MathBraces) (text : List ℕ) (at : ℕ) (found : Found) (p : Piece) → IsFoundAt text at found
     → Becomes texts b found p → IsPieceAt text at p
 becomes_facts texts b text at (Ready piece) p facts is = subst (IsPieceAt text at) (sym is) facts

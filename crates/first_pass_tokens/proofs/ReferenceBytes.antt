@@ -1,4 +1,4 @@
--- Which bytes a reference is made of: `&`, `#`, ASCII letters and digits, and `;`.
+-- The bytes of a reference: `&`, `#`, ASCII letters and digits, and `;`.
 use Rattle.std.proofs.Common.{◌≡◌, ℕ, suc, ◌+◌, ◌-◌, ◌<◌, ◌≤◌, ◌==◌, ◌&&◌, ◌||◌, nat_le, Bool, true, false, List, [], ◌∷◌, take, drop, slice_index, Option}
 use Rattle.std.proofs.Common.{Some, None, refl, sym, ap, subst, ◌∙◌, arith, if◌then◌else◌}
 use Rattle.std.specs.Option.{option_map}
@@ -29,7 +29,7 @@ hexdigit_byte b h = grind (arith, nat_tests, h)
 letter_byte : (b : ℕ) → is_ascii_alphabetic b ≡ true → is_reference_byte b ≡ true
 letter_byte b h = grind (arith, nat_tests, h)
 
--- one byte more in front
+-- one more byte before them
 longer : (b n : ℕ) (bs : List ℕ) → is_reference_byte b ≡ true → n ≤ prefix_len is_reference_byte bs → suc n ≤ prefix_len is_reference_byte (b ∷ bs)
 longer b n bs byte h =
     let more : prefix_len is_reference_byte (b ∷ bs) ≡ 1 + prefix_len is_reference_byte bs = rw byte in
@@ -40,7 +40,7 @@ one_more : (k n : ℕ) (bs : List ℕ) → begins k bs ≡ true → is_reference
 one_more k n [] h byte e = cc
 one_more k n (x ∷ xs) h byte e = (let more = longer x n xs (ap is_reference_byte (eqb-true x k h) ∙ byte) e in omega arith)
 
--- bytes that pass a test, and then `;`
+-- bytes that pass a test, then `;`
 module _ (p : ℕ → Bool) (known : (b : ℕ) → p b ≡ true → is_reference_byte b ≡ true) where
   run_by : (t : Bool) (b : ℕ) (bs : List ℕ) → p b ≡ t → (begins 59 (drop (prefix_len p bs) bs) ≡ true → prefix_len p bs + 1 ≤ prefix_len is_reference_byte bs)
       → begins 59 (drop (prefix_len p (b ∷ bs)) (b ∷ bs)) ≡ true → prefix_len p (b ∷ bs) + 1 ≤ prefix_len is_reference_byte (b ∷ bs)
@@ -85,7 +85,7 @@ name_bytes : (bs : List ℕ) (n c : ℕ) → name_at bs ≡ Some (n, c) → n �
 unfolding name_at
 name_bytes bs n c e = name_by _ bs n c _ refl e
 
--- what stands after so many bytes
+-- a reference after k bytes: its own length is k less
 after_some : (k n c : ℕ) (o : Option (ℕ × ℕ)) → behind k o ≡ Some (n, c) → (m : ℕ) × (o ≡ Some (m, c)) × (n ≡ k + m)
 after_some k n c None e = cc
 after_some k n c (Some r) e = (let parts = some_pair_parts (k + r.0) n r.1 c e in (r.0, ap (λ (x : ℕ). Some (both r.0 x)) parts.1, sym parts.0))

@@ -8,7 +8,7 @@ use Rattle.std.proofs.lemmas.Str.{IsCharBoundary-after_ascii, IsCharBoundary-bef
 use Rattle.first_pass_tokens.specs.Pieces.{text_upto, is_delimiter, is_quote, run_at, run_size}
 use Rattle.first_pass_tokens.proofs.PieceFacts.{IsVisible, run_same}
 
--- a byte of a text up to an offset is one of the text
+-- a byte of a text up to an offset is a byte of the text
 pub byte_upto : (text : List ℕ) (end : Option ℕ) (k : ℕ)
     → k < length (text_upto text end) → (slice_index (text_upto text end) k ≡ slice_index text k) × (k < length text)
 byte_upto text None k within = (refl, within)
@@ -16,7 +16,7 @@ byte_upto text (Some e) k within =
     let size = length-take e text in
     (get_or-take e text k 0 (omega arith), omega arith)
 
--- a text up to an offset is the front of the text of its length
+-- a text up to an offset is the first bytes of the text, as many as it has
 pub front_upto : (whole text : List ℕ) (end : Option ℕ) → text ≡ text_upto whole end → text ≡ take (length text) whole
 front_upto whole text None is = is ∙ sym (take_all (length text) whole (let size = ap length is in omega arith))
 front_upto whole text (Some e) is =
@@ -30,7 +30,7 @@ front_upto whole text (Some e) is =
 either_visible : (b : ℕ) → is_delimiter b || is_quote b ≡ true → IsVisible b
 either_visible b h = (grind (arith, nat_tests, h), grind (arith, nat_tests, h))
 
--- where a run begins and ends
+-- the start and the end of a run
 pub record IsRunPlace (whole text : List ℕ) (at n : ℕ) : Type 0 where
   pub starts : IsCharBoundary whole at
   pub ends : IsCharBoundary whole (at + n)

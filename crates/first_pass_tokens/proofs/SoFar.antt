@@ -1,4 +1,4 @@
--- What is read of a content, and what is appended of it.
+-- The part of a content that is read, and the tokens appended for it.
 use Rattle.std.proofs.Common.{ℕ, zero, suc, ◌≡◌, ◌⊎◌, ◌+◌, ◌-◌, ◌≤◌, ◌<◌, ◌==◌, ◌%◌, min, Bool, true, false, List, [], ◌∷◌, ◌++◌, length, slice_index, nat_lt}
 use Rattle.std.proofs.Common.{Option, Result, Ok, Err, OnOk, IfOk, refl, sym, ap, subst, ◌∙◌, inl, inr, arith}
 use Rattle.std.specs.List.{suffix_len, slice_range}
@@ -29,12 +29,13 @@ use Rattle.first_pass_tokens.proofs.ChainLemmas.{add_text-none, add_text-joined,
 use Rattle.first_pass_tokens.proofs.NamedTexts.{pieces_more}
 use Rattle.first_pass_tokens.proofs.LineLemmas.{are_more, add_pieces_more, end_bounded, piece_of}
 
--- the text that is not appended begins with the content, or after a byte that is no white space, and no backslash if the text is empty
+-- the pending text begins with the content, or after a byte that is no white space, and no backslash if the text is
+-- empty
 abbrev pub BeginsText : List ℕ → ℕ → ℕ → ℕ → Type 0
 BeginsText text start begin at =
     (begin ≡ start) ⊎ ((0 < begin) × (is_white (slice_index text (begin - 1)) ≡ false) × ((begin < at) ⊎ ((slice_index text (begin - 1) == 92) ≡ false)))
 
--- The content is read up to a place: the chain then, and a text that is not appended yet.
+-- The content is read up to a place: the chain so far, and a pending text.
 pub record SoFar (texts : List CowStr) (z : Inline) (chain : List Item) (pending : HeldText) (at : ℕ) (b : MathBraces) : Type 0 where
   pub pieces : List Piece
   pub divided : ArePieces texts z z.start z.braces pieces (spot at b)
@@ -60,12 +61,12 @@ special_cr : (options : Options) → is_special options 13 ≡ true
 unfolding is_special
 special_cr options = refl
 
--- with tables a pipe is special
+-- with tables, a pipe is special
 plain_cell : (options : Options) (b : ℕ) → is_special options b ≡ false → begins_cell options b ≡ false
 unfolding is_special
 plain_cell options b plain = (or_parts (begins_cell options b) _ (or_parts (begins_token b) _ plain).1).0
 
--- a byte that is not special is a piece by itself, and ends no content
+-- a byte that is not special is a piece by itself, and no content ends there
 plain_piece : (z : Inline) (at : ℕ)
     → at < length z.text → is_special z.options (slice_index z.text at) ≡ false → (ends_at z at ≡ false) × (found_at z at ≡ Ready (Left 1))
 unfolding ends_at found_at
@@ -75,7 +76,7 @@ plain_piece z at within plain =
     let cell = and_right z.row _ (plain_cell z.options b plain) in
     (or_from _ _ (lt-leb (length z.text) at within) (or_from _ _ line cell), cond-false _ _ _ plain)
 
--- what stands at a special byte
+-- the piece found at a special byte
 pub found_special : (z : Inline) (at : ℕ) → is_special z.options (slice_index z.text at) ≡ true → special_found z at ≡ found_at z at
 unfolding found_at
 found_special z at special = sym (cond-true _ _ _ special)
@@ -122,7 +123,7 @@ begins_on text start begin at n (inl same) = inl same
 begins_on text start begin at n (inr (positive, solid, inl longer)) = inr (positive, solid, inl (omega arith))
 begins_on text start begin at n (inr (positive, solid, inr other)) = inr (positive, solid, inr other)
 
--- a text that is appended up to a place before stop
+-- a text that is appended up to a place before `stop`
 shown_here : (begin at stop : ℕ) (escaped : Bool) (chain : List Item) → at ≤ stop → add_text begin (min at stop) escaped chain ≡ add_text begin at escaped chain
 shown_here begin at stop escaped chain order =
     let here : min at stop ≡ at = omega arith in
@@ -138,7 +139,7 @@ module _ {texts : List CowStr} (z : Inline) (chain : List Item) (pending : HeldT
       → add_pieces stop z.start (s.pieces ++ p ∷ []) [] ≡ add_piece stop at p (add_text pending.begin (min at stop) pending.escaped chain)
   shown_on p stop ahead = add_pieces_more texts z stop z.start z.braces s.pieces (spot at b) [] p s.divided ∙ ap (add_piece stop at p) (s.shown stop ahead)
 
-  -- the same, where the text before the piece is appended
+  -- the same, if the text before the piece is appended
   shown_past : (p : Piece) (stop : ℕ)
       → at ≤ stop → add_pieces stop z.start (s.pieces ++ p ∷ []) [] ≡ add_piece stop at p (add_text pending.begin at pending.escaped chain)
   shown_past p stop past = shown_on p stop (omega (arith, s.upto)) ∙ ap (add_piece stop at p) (shown_here pending.begin at stop pending.escaped chain past)
@@ -202,7 +203,7 @@ module _ {texts : List CowStr} (z : Inline) (chain : List Item) (pending : HeldT
             ∙ sym (add_text-none (at + n) (min (at + n) stop) false _ (omega arith));
       }
 
--- n bytes that are single pieces
+-- n bytes that are pieces of one byte
 so_far_bytes : {texts : List CowStr} (z : Inline) (chain : List Item) (pending : HeldText) (n at : ℕ) (b : MathBraces)
     → SoFar texts z chain pending at b → at + n ≤ length z.text
     → ((k : ℕ) → at ≤ k → k < at + n → (ends_at z k ≡ false) × (found_at z k ≡ Ready (Left 1))) → SoFar texts z chain pending (at + n) b
@@ -218,7 +219,7 @@ so_far_bytes {texts} z chain pending (suc n) at b s fits single =
     let here : at + 1 + n ≡ at + suc n = omega arith in
     subst (λ (k : ℕ). SoFar texts z chain pending k b) here rest
 
--- up to a place that no special byte stands before
+-- up to a place with no special byte before it
 so_far_upto : {texts : List CowStr} (z : Inline) (chain : List Item) (pending : HeldText) (at to : ℕ) (b : MathBraces)
     → SoFar texts z chain pending at b → at ≤ to
     → to ≤ length z.text → ((k : ℕ) → at ≤ k → k < to → is_special z.options (slice_index z.text k) ≡ false) → SoFar texts z chain pending to b
@@ -227,7 +228,7 @@ so_far_upto {texts} z chain pending at to b s order within plain =
     subst (λ (k : ℕ). SoFar texts z chain pending k b) there
     (so_far_bytes z chain pending (to - at) at b s (omega arith) (λ k low high. plain_piece z k (omega arith) (plain k low (omega arith))))
 
--- the text that is left begins before the white space at the end
+-- the pending text begins before the white space at the end
 begins_before_white : (z : Inline) (begin end : ℕ) → z.start ≤ begin → begin ≤ end → end ≤ length z.text
     → BeginsText z.text z.start begin end → begin ≤ end - blanks_at_end z end
 unfolding blanks_at_end
@@ -266,7 +267,7 @@ text_end_within : (z : Inline) (end : ℕ) → text_end z end ≤ end
 unfolding text_end
 text_end_within z end = cond_both (breaks_by_backslash z end) (end - 1) (end - blanks_at_end z end) (λ (x : ℕ). x ≤ end) (λ b. omega arith) (λ b. omega arith)
 
--- an offset where the last text of a content may end: a text of it that is pending begins there or before
+-- an offset at which the last text of a content may end: a pending text begins there or before
 pub record IsTextEnd (z : Inline) (end stop : ℕ) : Type 0 where
   pub short : stop ≤ end
   pub behind : (begin : ℕ) → z.start ≤ begin → begin ≤ end → BeginsText z.text z.start begin end → begin ≤ stop
@@ -277,7 +278,7 @@ line_text_end z end within = record { short = text_end_within z end; behind = λ
 pub cell_text_end : (z : Inline) (end : ℕ) → end ≤ length z.text → IsTextEnd z end (end - blanks_at_end z end)
 cell_text_end z end within = record { short = omega arith; behind = λ begin low high begins. begins_before_white z begin end low high within begins }
 
--- The content is read up to a place, and its tokens up to there are in the tree, but for a text that is not appended yet.
+-- The content is read up to a place, and its tokens up to there are in the tree, except for a pending text.
 pub record IsRead (texts : List CowStr) (z : Inline) (old tree : Forest Item) (pending : HeldText) (to : Spot) : Type 0 where
   pub tokens : List Item
   pub read : SoFar texts z tokens pending to.at to.braces
@@ -294,7 +295,7 @@ pub read_upto : {texts : List CowStr} {z : Inline} {old tree : Forest Item} {pen
 read_upto {texts} {z} {old} {tree} {pending} at to b r order within plain =
     record { tokens = r.tokens; read = so_far_upto z r.tokens pending at to b r.read order within plain; tree_is = r.tree_is }
 
--- the same, while more is named
+-- the same, while more texts are named
 pub read_more : {new old : List CowStr} {z : Inline} {before tree : Forest Item} {pending : HeldText} {to : Spot}
     → AreMore new old → IsRead old z before tree pending to
     → IsRead new z before tree pending to
@@ -315,7 +316,7 @@ read_more {new} {old} {z} {before} {tree} {pending} {to} more r =
       tree_is = r.tree_is;
     }
 
--- the piece of what stands there ends as that does
+-- a piece ends as the one found there does
 pub becomes_solid : (texts : List CowStr) (b : MathBraces) (text : List ℕ) (at : ℕ) (found : Found) (p : Piece)
     → Becomes texts b found p → FoundSolid text at found
     → EndsSolid text at p
@@ -326,7 +327,7 @@ becomes_solid texts b text at (Dollar opens closes) p is solid = subst (EndsSoli
 becomes_solid texts b text at OpenBrace p is solid = subst (EndsSolid text at) (sym is) (omega arith)
 becomes_solid texts b text at CloseBrace p is solid = subst (EndsSolid text at) (sym is) (omega arith)
 
--- the tree after a piece has the chain after it
+-- the tree after a piece has the chain after that piece
 tree_is_after : (text : List ℕ) (old tree : Forest Item) (chain : List Item) (pending : HeldText) (at : ℕ) (p : Piece) → IsPieceAt text at p
     → pending.begin ≤ at → tree ≡ with_tokens old chain → tree_after at p pending tree ≡ with_tokens old (chain_after at p pending chain)
 tree_is_after text old tree chain pending at (Left n) facts order same = same
@@ -377,7 +378,7 @@ read_all z old tree pending to r ended =
           ∙ ap (with_tokens old) (sym (s.shown stop ahead ∙ ap (λ (x : ℕ). add_text pending.begin x pending.escaped r.tokens) here));
     }
 
--- a line whose content is read, once the text that is pending is appended
+-- a line whose content is read, once the pending text is appended
 read_line : {texts : List CowStr} (z : Inline) (old tree new : Forest Item) (pending : HeldText) (end : ℕ) (after : MathBraces) → z.row ≡ false
     → IsReadTo texts z old tree (spot end after) pending → new ≡ with_text tree pending.begin (text_end z end) pending.escaped
     → AppendsLine texts z old new (end + line_end_len z end, line_break z end) after
@@ -387,7 +388,7 @@ read_line z old tree new pending end after plain r new_is = record {
   tree_is = new_is ∙ r.appended (text_end z end) r.before_break (text_end_within z end);
 }
 
--- the same of what a line's end returns
+-- the same for the result at the end of a line
 pub read_ended : {texts : List CowStr} (z : Inline) (old tree new : Forest Item) (pending : HeldText) (end : ℕ) (after : MathBraces)
     (r : Result (ℕ × Option Item) AllocError)
     → z.row ≡ false → IsReadTo texts z old tree (spot end after) pending
@@ -400,7 +401,7 @@ read_ended {texts} z old tree new pending end after (Ok a) plain read new_is is 
     (read_line z old tree new pending end after plain read (new_is z.braces))
 read_ended z old tree new pending end after (Err e) plain read new_is is = tt
 
--- a cell whose content is read, once the text that is pending is appended
+-- a cell whose content is read, once the pending text is appended
 pub read_cell : {texts : List CowStr} (z : Inline) (old tree new : Forest Item) (pending : HeldText) (end : ℕ) (after : MathBraces)
     → IsReadTo texts z old tree (spot end after) pending → new ≡ with_text tree pending.begin (end - blanks_at_end z end) pending.escaped
     → AppendsCell texts z old new end after

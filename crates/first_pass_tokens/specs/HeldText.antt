@@ -1,4 +1,5 @@
--- The text that is pending between two pieces of a content: it began before, and may continue after. Contracts of private functions alone cite this.
+-- The pending text between two pieces of a content: it began earlier, and may continue. Only contracts of private
+-- functions cite this.
 use Rattle.std.specs.Prelude.{◌≡◌, ℕ, ◌+◌, ◌-◌, ◌≤◌, false, List, []}
 use Rattle.first_pass_items.specs.declared.cow_str.CowStr.{CowStr}
 use Rattle.first_pass_items.specs.declared.item.Item.{Item}
@@ -11,23 +12,24 @@ use Rattle.first_pass_tokens.specs.LineTokens.{Spot, IsDivision, add_pieces, tex
 use Rattle.first_pass_tokens.specs.TreeTokens.{with_tokens}
 use Rattle.first_pass_tokens.specs.Chains.{token, run_tokens}
 
--- the text that is pending after a piece: bytes that are left over belong to the one before, a piece that begins a text leaves that one,
--- and after a token another one begins (this project)
+-- the pending text after a piece: plain text continues it, a piece that begins a text replaces it, and after a token
+-- a new one begins (this project)
 abbrev pub held_after : ℕ → Piece → HeldText → HeldText
 held_after at (Left n) p = p
 held_after at (Begins dropped escaped) p = record { begin = at + dropped; escaped = escaped }
 held_after at (Token dropped n body) p = record { begin = at + dropped + n; escaped = false }
 held_after at (Run n opens closes) p = record { begin = at + n; escaped = false }
 
--- the tree after a piece: a piece that begins a text ends the one that was pending, and so does a token (this project)
+-- the tree after a piece: a piece that begins a text ends the pending text, and so does a token (this project)
 abbrev pub tree_after : ℕ → Piece → HeldText → Forest Item → Forest Item
 tree_after at (Left n) p f = f
 tree_after at (Begins dropped escaped) p f = with_text f p.begin at p.escaped
 tree_after at (Token dropped n body) p f = appended (with_text f p.begin at p.escaped) (token (at + dropped) n body)
 tree_after at (Run n opens closes) p f = with_tokens (with_text f p.begin at p.escaped) (run_tokens at n opens closes)
 
--- A content is read up to its end, where a text is pending. Up to whatever offset that text continues, the tree then has the content's tokens up to there; and
--- it begins before the white space at the content's end, and before the backslash that breaks a line there (this project).
+-- A content is read up to its end, with a text pending. If that text is ended at any offset, the tree has the tokens
+-- of the content up to there. The text begins before the white space at the end of the content, and before a
+-- backslash that breaks the line there (this project).
 pub record IsReadTo (texts : List CowStr) (s : Inline) (old new : Forest Item) (to : Spot) (p : HeldText) : Type 0 where
   pub pieces : List Piece
   pub division : IsDivision texts s pieces to

@@ -1,4 +1,5 @@
--- The tokens of a line: its content divided into pieces, the texts and other tokens that they give, and the break after them.
+-- The tokens of a line: the pieces of its content, the texts and other tokens that they give, and the break after
+-- them.
 use Rattle.std.specs.Prelude.{◌≡◌, ℕ, ◌+◌, ◌-◌, ◌%◌, ◌==◌, ◌<◌, ◌≤◌, ◌&&◌, ◌||◌, Bool, true, false, List, [], ◌∷◌, length, drop, slice_index, Option, Some}
 use Rattle.std.specs.Prelude.{None, IfSome, nat_lt, nat_le, min, if◌then◌else◌}
 use Rattle.std.specs.List.{slice_range, prefix_len, suffix_len}
@@ -20,11 +21,12 @@ use Rattle.first_pass_tokens.specs.NamedTexts.{Becomes}
 abbrev pub ends_cell : Inline → ℕ → Bool
 ends_cell s b = s.row && (has s.options tables && b == pipe)
 
--- a line end stands there, or the text ends (CommonMark 2.1), or a pipe ends a cell: one that is escaped stands inside a piece (GFM 4.10)
+-- the content ends at this place: at a line ending or the end of the text (CommonMark 2.1), or at a pipe that ends a
+-- cell; an escaped pipe is inside a piece (GFM 4.10)
 unfoldable pub ends_at : Inline → ℕ → Bool
 ends_at s at = nat_le (length s.text) at || (is_line_end (slice_index s.text at) || ends_cell s (slice_index s.text at))
 
--- a place, with the brace contexts before it (this project)
+-- a place with the brace contexts before it (this project)
 pub record Spot : Type 0 where
   pub at : ℕ
   pub braces : MathBraces
@@ -32,19 +34,20 @@ pub record Spot : Type 0 where
 abbrev pub spot : ℕ → MathBraces → Spot
 spot at braces = record { at = at; braces = braces }
 
--- the pieces of a content from one place up to another: each is that of what stands at its place, its text among these, and the next one begins after it, with
--- the brace contexts after it (this project)
+-- the pieces of a content from one place up to another: each is that at its place, with its text among these; the
+-- next one follows it, with the brace contexts after it (this project)
 abbrev pub ArePieces : List CowStr → Inline → ℕ → MathBraces → List Piece → Spot → Type 0
 ArePieces texts s at braces [] to = spot at braces ≡ to
 ArePieces texts s at braces (p ∷ ps) to =
     (ends_at s at ≡ false) × Becomes texts braces (found_at s at) p × ArePieces texts s (at + size p) (braces_after (found_at s at) braces) ps to
 
--- the content up to the end of its line, divided into its pieces, their texts among these (this project)
+-- the content up to the end of its line, divided into pieces, with their texts among these (this project)
 pub record IsDivision (texts : List CowStr) (s : Inline) (pieces : List Piece) (to : Spot) : Type 0 where
   pub divided : ArePieces texts s s.start s.braces pieces to
   pub ended : ends_at s to.at ≡ true
 
--- the chain with the text or the tokens of a piece after it, no text past an offset; a dropped backslash is in neither (CommonMark 2.4)
+-- the chain with the text or the tokens of a piece after it, and no text past an offset; a dropped backslash is in no
+-- token (CommonMark 2.4)
 abbrev pub add_piece : ℕ → ℕ → Piece → List Item → List Item
 add_piece stop at (Left n) chain = add_text at (min (at + n) stop) false chain
 add_piece stop at (Begins dropped escaped) chain = add_text (at + dropped) (min (at + (dropped + 1)) stop) escaped chain
@@ -56,44 +59,48 @@ abbrev pub add_pieces : ℕ → ℕ → List Piece → List Item → List Item
 add_pieces stop at [] chain = chain
 add_pieces stop at (p ∷ ps) chain = add_pieces stop (at + size p) ps (add_piece stop at p chain)
 
--- how many bytes the line end at a place has: none where the text ends, two for `\r\n` (CommonMark 2.1)
+-- the length of the line ending at a place: 0 at the end of the text, 2 for `\r\n` (CommonMark 2.1)
 unfoldable pub line_end_len : Inline → ℕ → ℕ
 line_end_len s end =
     if nat_le (length s.text) end then 0
     else (if slice_index s.text end == carriage_return && slice_index s.text (end + 1) == line_feed then 2 else 1)
 
--- how many bytes at the content's end are white space (this project; CommonMark 6.7 and 6.8 have spaces)
+-- the number of bytes of white space at the end of the content (this project; CommonMark 6.7 and 6.8 have spaces)
 unfoldable pub blanks_at_end : Inline → ℕ → ℕ
 blanks_at_end s end = suffix_len is_white (slice_range s.text s.start end)
 
--- how many bytes at the content's end are backslashes (CommonMark 2.4)
+-- the number of backslashes at the end of the content (CommonMark 2.4)
 unfoldable pub backslashes_at_end : Inline → ℕ → ℕ
 backslashes_at_end s end = suffix_len (λ b. b == backslash) (slice_range s.text s.start end)
 
--- a backslash that none before it escapes stands before the line end, and bytes after the line end (CommonMark 6.7)
+-- a backslash that is not escaped is directly before the line ending, and bytes follow the line ending (CommonMark
+-- 6.7)
 unfoldable pub breaks_by_backslash : Inline → ℕ → Bool
 breaks_by_backslash s end = (backslashes_at_end s end % 2 == 1) && nat_lt (end + line_end_len s end) (length s.text)
 
--- where the last text of the content ends: before that backslash (CommonMark 6.7), or before the white space (this project; CommonMark 6.8 has spaces)
+-- the end of the last text of the content: before a backslash that breaks the line (CommonMark 6.7), or before the
+-- white space (this project; CommonMark 6.8 has spaces)
 unfoldable pub text_end : Inline → ℕ → ℕ
 text_end s end = if breaks_by_backslash s end then end - 1 else end - blanks_at_end s end
 
--- The break from the end of a content up to an offset: hard by the last backslash of the content (CommonMark 6.7); hard by two or more bytes of white space at
--- its end, tabs too (this project; CommonMark 6.7 asks for two or more spaces); or soft (CommonMark 6.8).
+-- The break from the end of a content up to an offset: hard by the last backslash of the content (CommonMark 6.7);
+-- hard by two or more bytes of white space at its end, also tabs (this project; CommonMark 6.7 asks for two or more
+-- spaces); otherwise soft (CommonMark 6.8).
 abbrev pub break_of : ℕ → ℕ → Bool → ℕ → Item
 break_of end next by_backslash blanks =
     if by_backslash then record { start = end - 1; «end» = next; body = HardBreak true }
     else (if nat_le 2 blanks then record { start = end - blanks; «end» = next; body = HardBreak false }
     else record { start = end; «end» = next; body = SoftBreak })
 
--- the break after the content; none where the text ends without a line end (CommonMark 6.7, 6.8)
+-- the break after the content; none if the text ends without a line ending (CommonMark 6.7, 6.8)
 unfoldable pub line_break : Inline → ℕ → Option Item
 line_break s end =
     if nat_le (length s.text) end then None
     else Some (break_of end (end + line_end_len s end) (breaks_by_backslash s end) (blanks_at_end s end))
 
--- The tokens of the line whose content begins there, which is no cell's, each text that they name among these; and the answer: where the line ends, after its
--- line end, and its break; and the brace contexts after it (CommonMark 2.4, 2.5, 6.1 to 6.8).
+-- The tokens of the line whose content is this, no cell's, with each text that they name among these. `answer` has
+-- the end of the line, after its line ending, and its break; `after` has the brace contexts there (CommonMark 2.4,
+-- 2.5, 6.1 to 6.8).
 pub record IsLine (texts : List CowStr) (s : Inline) (tokens : List Item) (answer : ℕ × Option Item) (after : MathBraces) : Type 0 where
   pub no_cell : s.row ≡ false
   pub pieces : List Piece
@@ -102,8 +109,9 @@ pub record IsLine (texts : List CowStr) (s : Inline) (tokens : List Item) (answe
   pub tokens_are : tokens ≡ add_pieces (text_end s content_end) s.start pieces []
   pub answer_is : answer ≡ (content_end + line_end_len s content_end, line_break s content_end)
 
--- The tokens of the cell whose content begins there, each text that they name among these; and where the content ends: at a pipe that is not escaped, or with
--- its line, with the brace contexts there. White space at its end is in no text, and no break is after it (GFM 4.10).
+-- The tokens of the cell whose content is this, with each text that they name among these. The content ends at a pipe
+-- that is not escaped, or with its line; `after` has the brace contexts there. White space at its end is in no text,
+-- and no break follows (GFM 4.10).
 pub record IsCell (texts : List CowStr) (s : Inline) (tokens : List Item) (end : ℕ) (after : MathBraces) : Type 0 where
   pub pieces : List Piece
   pub division : IsDivision texts s pieces (spot end after)
@@ -115,14 +123,16 @@ is_break SoftBreak = true
 is_break (HardBreak by_backslash) = true
 is_break _ = false
 
--- a break of the line from one offset up to another: it begins in the line and ends with it (CommonMark 6.7, 6.8)
+-- a break of the line from one offset up to another: it begins in the line, and ends at the end of the line
+-- (CommonMark 6.7, 6.8)
 pub record IsBreak (start next : ℕ) (x : Item) : Type 0 where
   pub from : start ≤ x.start
   pub before : x.start < x.«end»
   pub to : x.«end» ≡ next
   pub kind : is_break x.body ≡ true
 
--- where a line ends, and its break: after the first line end from the content's start on, or with the text (CommonMark 2.1, 6.7, 6.8)
+-- the end of a line and its break: the end is after the first line ending from the start of the content on, or that
+-- of the text (CommonMark 2.1, 6.7, 6.8)
 pub record EndsLine (s : Inline) (answer : ℕ × Option Item) : Type 0 where
   pub within : answer.0 ≤ length s.text
   pub from : s.start ≤ answer.0
@@ -130,7 +140,8 @@ pub record EndsLine (s : Inline) (answer : ℕ × Option Item) : Type 0 where
   pub place : answer.0 ≡ s.start + line_len (drop s.start s.text)
   pub broken : IfSome answer.1 (λ x. IsBreak s.start answer.0 x)
 
--- where the content of a cell ends: at a pipe that is not escaped or with its line, and after its first byte unless it is empty (GFM 4.10)
+-- the end of the content of a cell: at a pipe that is not escaped, or at the end of the line; after its first byte
+-- unless it is empty (GFM 4.10)
 pub record EndsCell (s : Inline) (end : ℕ) : Type 0 where
   pub from : s.start ≤ end
   pub within : end ≤ length s.text

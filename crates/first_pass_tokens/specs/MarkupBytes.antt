@@ -1,4 +1,4 @@
--- Which bytes the tokens of possible markup stand over.
+-- The bytes in the range of each token of possible markup.
 use Rattle.std.specs.Prelude.{◌≡◌, ◌⊎◌, ℕ, ◌+◌, ◌-◌, ◌==◌, ◌<◌, ◌≤◌, true, false, List, [], ◌∷◌, drop, slice_index, Option, Some, None, if◌then◌else◌}
 use Rattle.first_pass_items.specs.Bytes.{exclamation_mark, dollar_sign, hyphen, full_stop, less_than, left_bracket, backslash, right_bracket, backquote, pipe}
 use Rattle.first_pass_items.specs.declared.item.Item.{Item}
@@ -9,20 +9,20 @@ use Rattle.first_pass_tree.specs.Forest.{is_text}
 use Rattle.first_pass_entities.specs.Entities.{entity_at}
 use Rattle.first_pass_tokens.specs.Pieces.{is_delimiter, is_quote, run_at}
 
--- so many backquotes from an offset on, and none after them (CommonMark 6.1, backtick string)
+-- n backquotes from an offset on, and none after them (CommonMark 6.1, backtick string)
 pub record AreBackquotes (text : List ℕ) (start n : ℕ) : Type 0 where
   pub some : 0 < n
   pub each : (k : ℕ) → start ≤ k → k < start + n → slice_index text k ≡ backquote
   pub behind : (slice_index text (start + n) == backquote) ≡ false
 
--- the character that so many of a byte in a row stand for: three full stops for a horizontal ellipsis, two hyphens for an en dash, three for an em dash
--- (this project)
+-- the character for n equal bytes in a row: a horizontal ellipsis for three full stops, an en dash for two hyphens,
+-- an em dash for three (this project)
 abbrev pub smart_char : ℕ → ℕ → Option ℕ
 smart_char byte n =
     if byte == full_stop then (if n == 3 then Some 0x2026 else None)
     else (if byte == hyphen then (if n == 2 then Some 0x2013 else (if n == 3 then Some 0x2014 else None)) else None)
 
--- the bytes from one offset up to another are alike, and stand for a character (this project)
+-- the bytes from one offset up to another are equal, and a character replaces them (this project)
 pub record StandFor (text : List ℕ) (start «end» c : ℕ) : Type 0 where
   pub byte : ℕ
   pub n : ℕ
@@ -37,15 +37,15 @@ pub record IsReferred (text : List ℕ) (start «end» : ℕ) : Type 0 where
   pub to : «end» ≡ start + n
   pub referred : entity_at (drop start text) ≡ Some (n, char)
 
--- the bytes from one offset up to another are all the hyphens in a row there, four or more (this project)
+-- the bytes from one offset up to another are the whole run of hyphens there, four or more (this project)
 pub record AreHyphens (text : List ℕ) (start «end» : ℕ) : Type 0 where
   pub to : «end» ≡ start + run_at text start
   pub many : 3 < run_at text start
   pub hyphens : slice_index text start ≡ hyphen
 
--- a token of possible markup stands over what its kind says: a delimiter, from which on so many stand in a row; all of some backquotes, after a backslash
--- where it says so; the quote that it says; a dollar sign; the bytes that stand for its character, or for its text; `<`; `![`, `[` or `]`
--- (CommonMark 2.5, 6.1 to 6.6; smart punctuation: this project)
+-- A token of possible markup has the bytes of its kind: a delimiter, with the length of the rest of its run; a run of
+-- backquotes, after a backslash if it is marked as escaped; its quote; a dollar sign; the bytes that its character or
+-- its text replaces; `<`; `![`, `[` or `]` (CommonMark 2.5, 6.1 to 6.6; smart punctuation: this project).
 abbrev pub StandsOver : List ℕ → ℕ → ℕ → ItemBody → Type 0
 StandsOver text start end (MaybeEmphasis left opens closes) = (end ≡ start + 1) × (is_delimiter (slice_index text start) ≡ true) × (left ≡ run_at text start)
 StandsOver text start end (MaybeMath opens closes context) = (end ≡ start + 1) × (slice_index text start ≡ dollar_sign)
@@ -59,12 +59,12 @@ StandsOver text start end MaybeLinkOpen = (end ≡ start + 1) × (slice_index te
 StandsOver text start end (MaybeLinkClose active) = (end ≡ start + 1) × (slice_index text start ≡ right_bracket) × (active ≡ true)
 StandsOver text start end _ = Unit {0}
 
--- each of these tokens does (this project)
+-- each of these tokens has the bytes of its kind (this project)
 abbrev pub StandOver : List ℕ → List Item → Type 0
 StandOver text [] = Unit {0}
 StandOver text (x ∷ xs) = StandsOver text x.start x.«end» x.body × StandOver text xs
 
--- no backquote stands from one offset up to another (CommonMark 6.1)
+-- no byte from one offset up to another is a backquote (CommonMark 6.1)
 abbrev pub HasNoBackquote : List ℕ → ℕ → ℕ → Type 0
 HasNoBackquote text start end = (k : ℕ) → start ≤ k → k < end → (slice_index text k == backquote) ≡ false
 
@@ -73,6 +73,6 @@ abbrev pub TextsHaveNoBackquote : List ℕ → List Item → Type 0
 TextsHaveNoBackquote text [] = Unit {0}
 TextsHaveNoBackquote text (x ∷ xs) = (is_text x.body ≡ true → HasNoBackquote text x.start x.«end») × TextsHaveNoBackquote text xs
 
--- each pipe from one offset up to another stands directly after a backslash there (GFM 4.10)
+-- each pipe from one offset up to another is directly after a backslash in that range (GFM 4.10)
 abbrev pub PipesAreEscaped : List ℕ → ℕ → ℕ → Type 0
 PipesAreEscaped text start end = (k : ℕ) → start ≤ k → k < end → slice_index text k ≡ pipe → (start < k) × (slice_index text (k - 1) ≡ backslash)

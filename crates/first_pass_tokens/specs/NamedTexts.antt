@@ -1,4 +1,5 @@
--- The texts that tokens name: of references (CommonMark 2.5), and of four and more hyphens in a row (smart punctuation).
+-- The texts that tokens name: those of references (CommonMark 2.5), and of runs of four and more hyphens (smart
+-- punctuation).
 use Rattle.std.specs.Prelude.{◌≡◌, ◌≤◌, ℕ, zero, suc, ◌+◌, ◌-◌, ◌/◌, ◌%◌, ◌==◌, List, [], ◌∷◌, ◌++◌, slice_get, Some, encode_utf8, if◌then◌else◌}
 use Rattle.first_pass_items.specs.declared.cow_str.CowStr.{CowStr}
 use Rattle.first_pass_items.specs.CowText.{text_of}
@@ -11,13 +12,14 @@ use Rattle.first_pass_tokens.specs.declared.pieces.Found.TheVariants.{Ready, Ref
 use Rattle.first_pass_tokens.specs.declared.pieces.Piece.{Piece}
 use Rattle.first_pass_tokens.specs.declared.pieces.Piece.TheVariants.{Left, Token}
 
--- a text so many times (this project)
+-- a text, repeated n times (this project)
 abbrev pub times : ℕ → List ℕ → List ℕ
 times zero text = []
 times (suc n) text = text ++ times n text
 
--- how many em dashes so many hyphens stand for, and how many en dashes after those: em dashes alone where three divides the number, else en dashes alone where
--- two does, else the fewest en dashes such that three hyphens are left for each em dash (this project)
+-- The numbers of em dashes, and of en dashes after them, for a run of hyphens. If 3 divides its length, only em
+-- dashes; otherwise, if 2 does, only en dashes. Otherwise the fewest en dashes such that the rest are em dashes of
+-- three hyphens each (this project).
 unfoldable pub dash_counts : ℕ → ℕ × ℕ
 dash_counts n =
     if n % 3 == 0 then (n / 3, 0)
@@ -25,20 +27,21 @@ dash_counts n =
     else (if n % 3 == 2 then ((n - 2) / 3, 1)
     else ((n - 4) / 3, 2)))
 
--- the dashes that so many hyphens stand for: U+2014, and then U+2013 (this project)
+-- the dashes for a run of hyphens: U+2014, then U+2013 (this project)
 abbrev pub dashes : ℕ → List ℕ
 dashes n = times (dash_counts n).0 (encode_utf8 0x2014) ++ times (dash_counts n).1 (encode_utf8 0x2013)
 
--- an index names a text among these (this project)
+-- an index names this text among these (this project)
 abbrev pub NamesAmong : List CowStr → CowIndex → List ℕ → Type 0
 NamesAmong texts ix text = (named : CowStr) × (slice_get texts ix.0 ≡ Some named) × (text_of named ≡ text)
 
--- the piece is a token of so many bytes, whose index names a text among these (this project)
+-- the piece is a token of n bytes, whose index names this text among these (this project)
 abbrev pub IsNamingToken : List CowStr → ℕ → List ℕ → Piece → Type 0
 IsNamingToken texts n text piece = (ix : CowIndex) × NamesAmong texts ix text × (piece ≡ Token 0 n (SynthesizeText ix))
 
--- the piece of what stands at a place after these brace contexts, with the text that it names among these: the character that a reference stands for, or
--- dashes; a dollar sign is a token of possible math with its context, and a brace is left over (CommonMark 2.5; smart punctuation and math: this project)
+-- The piece at a place after these brace contexts, with the text that it names among these. A reference names its
+-- character, a run of hyphens its dashes. A dollar sign is a token of possible math with its context; a brace is
+-- plain text (CommonMark 2.5; smart punctuation and math: this project).
 abbrev pub Becomes : List CowStr → MathBraces → Found → Piece → Type 0
 Becomes texts braces (Ready ready) piece = piece ≡ ready
 Becomes texts braces (Reference n c) piece = IsNamingToken texts n (encode_utf8 c) piece
@@ -47,16 +50,16 @@ Becomes texts braces (Dollar opens closes) piece = piece ≡ Token 0 1 (MaybeMat
 Becomes texts braces OpenBrace piece = piece ≡ Left 1
 Becomes texts braces CloseBrace piece = piece ≡ Left 1
 
--- these texts are the old ones and others after them, so that each index names what it named (this project)
+-- these texts are the old ones with others after them, so each index still names the same text (this project)
 abbrev pub AreMore : List CowStr → List CowStr → Type 0
 AreMore new old = (more : List CowStr) × (new ≡ old ++ more)
 
--- these texts are the old ones and one more (this project)
+-- these texts are the old ones with one more (this project)
 abbrev pub AddsOne : (CowStr → Type 0) → List CowStr → List CowStr → Type 0
 AddsOne P new old = (text : CowStr) × P text × (new ≡ old ++ text ∷ [])
 
--- these texts are the old ones with that of what stands at a place, if it has one: a character that a reference stands for takes no memory, and seven dashes
--- or fewer take none (this project)
+-- these texts are the old ones with that of the piece at a place, if it has one; the character of a reference takes
+-- no memory, nor do seven dashes or fewer (this project)
 abbrev pub AddsNamed : Found → List CowStr → List CowStr → Type 0
 AddsNamed (Ready piece) new old = new ≡ old
 AddsNamed (Reference n c) new old = AddsOne TakesNoMemory new old

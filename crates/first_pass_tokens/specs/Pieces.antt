@@ -1,4 +1,4 @@
--- The pieces that the content of a line is divided into. Places are offsets into the text.
+-- The pieces of the content of a line. Places are offsets into the text.
 use Rattle.std.specs.Prelude.{◌≡◌, ℕ, ◌+◌, ◌-◌, ◌==◌, ◌<◌, ◌&&◌, ◌||◌, not, Bool, true, false, List, take, drop, slice_index, length, Option, Some, None}
 use Rattle.std.specs.Prelude.{unwrap_or, nat_lt, if◌then◌else◌}
 use Rattle.std.specs.Option.{option_map_or}
@@ -21,8 +21,8 @@ use Rattle.first_pass_tokens.specs.declared.pieces.Piece.TheVariants.{Left, Begi
 use Rattle.first_pass_tokens.specs.declared.pieces.Content.{Content}
 use Rattle.first_pass_tokens.specs.Braces.{MathBraces}
 
--- inline content: the options that it is read under, the whole text that it stands in, that text up to where no content is left, where it begins, whether it is
--- that of a cell in a table's row, and the brace contexts before it (this project)
+-- Inline content: its options, the whole text around it, that text up to the last possible end of the content, its
+-- start, whether it is that of a cell in a table row, and the brace contexts before it (this project).
 pub record Inline : Type 0 where
   pub options : Options
   pub whole : List ℕ
@@ -36,7 +36,7 @@ abbrev pub text_upto : List ℕ → Option ℕ → List ℕ
 text_upto text None = text
 text_upto text (Some e) = take e text
 
--- the content, where this much of its text is left to it, after these brace contexts (this project)
+-- the content, with the text up to its last possible end, after these brace contexts (this project)
 abbrev pub content_in : List ℕ → Content → MathBraces → Inline
 content_in text c braces = record { options = c.options; whole = c.whole.now; text = text; start = c.start; row = c.row; braces = braces }
 
@@ -44,45 +44,47 @@ content_in text c braces = record { options = c.options; whole = c.whole.now; te
 abbrev pub source : Content → MathBraces → Inline
 source c braces = content_in (text_upto c.whole.now c.«end») c braces
 
--- how many bytes like the one at a place stand there in a row (CommonMark 6.1, backtick string)
+-- the length of the run of equal bytes at a place (CommonMark 6.1, backtick string)
 unfoldable pub run_at : List ℕ → ℕ → ℕ
 run_at text at = prefix_len (λ b. b == slice_index text at) (drop at text)
 
--- at a run of backquotes: all of them are one token, which may begin or end code (CommonMark 6.1)
+-- the piece at a run of backquotes: the whole run is one token, which may begin or end code (CommonMark 6.1)
 unfoldable pub backquote_piece : List ℕ → ℕ → Piece
 backquote_piece text at = Token 0 (run_at text at) (MaybeCode (run_at text at) false)
 
--- at a backslash in a row: a pipe after it begins a text that is not escaped, and a pipe after two of them one that is; they are dropped (GFM 4.10)
+-- the piece at a backslash in a row: a pipe after one backslash begins a text that is not escaped, and a pipe after
+-- two of them one that is; the backslashes are dropped (GFM 4.10)
 abbrev pub pipe_piece : List ℕ → ℕ → Option Piece
 pipe_piece text at =
     if slice_index text (at + 1) == pipe then Some (Begins 1 false)
     else (if slice_index text (at + 1) == backslash && slice_index text (at + 2) == pipe then Some (Begins 2 true) else None)
 
--- at a backslash: before a run of backquotes it is dropped, and the token of the run keeps that it stood there; before other ASCII punctuation
--- it is dropped, and that byte begins an escaped text; else it stands for itself (CommonMark 2.4, 6.1)
+-- The piece at a backslash. Before a run of backquotes it is dropped, and the token of the run is marked as escaped.
+-- Before other ASCII punctuation it is dropped, and that byte begins an escaped text. Otherwise it is plain text
+-- (CommonMark 2.4, 6.1).
 unfoldable pub backslash_piece : List ℕ → ℕ → Piece
 backslash_piece text at =
     if slice_index text (at + 1) == backquote then Token 1 (run_at text (at + 1)) (MaybeCode (run_at text (at + 1)) true)
     else (if is_ascii_punctuation (slice_index text (at + 1)) then Begins 1 true else Left 1)
 
--- at a backslash in a row or elsewhere (CommonMark 2.4, GFM 4.10)
+-- the piece at a backslash, in a row or elsewhere (CommonMark 2.4, GFM 4.10)
 abbrev pub backslash_piece_in : Bool → List ℕ → ℕ → Piece
 backslash_piece_in row text at = unwrap_or (if row then pipe_piece text at else None) (backslash_piece text at)
 
--- the bytes that delimiter runs are made of: * and _ (CommonMark 6.2), ~ (GFM 6.5) and ^ (this project)
+-- a byte of a delimiter run: * or _ (CommonMark 6.2), ~ (GFM 6.5) or ^ (this project)
 abbrev pub is_delimiter : ℕ → Bool
 is_delimiter b = b == asterisk || (b == underscore || (b == tilde || b == circumflex))
 
--- the bytes of quotes (this project)
+-- a quote, double or single (this project)
 abbrev pub is_quote : ℕ → Bool
 is_quote b = b == quotation_mark || b == apostrophe
 
--- the character before a place of a content, if it is not its first (this project)
+-- the character before a place of a content, unless the place is its start (this project)
 unfoldable pub char_before : Inline → ℕ → Option ℕ
 char_before s at = if nat_lt s.start at then last_char (take at s.whole) else None
 
--- the delimiter run of so many bytes at a place of a content: before it stands what the content has there, after it what the whole text has
--- (CommonMark 6.2, delimiter run)
+-- the delimiter run of this many bytes at a place of a content: the character before it is one of the content, the
+-- character after it one of the whole text (CommonMark 6.2, delimiter run)
 unfoldable pub run_in : Inline → ℕ → ℕ → DelimiterRun
 run_in s at size = record {
   delimiter = slice_index s.text at;
@@ -93,42 +95,45 @@ run_in s at size = record {
   after = first_char (drop (at + size) s.whole);
 }
 
--- a run of tildes is no delimiter run where it has more than two (GFM 6.5)
+-- a run of tildes with more than two is no delimiter run (GFM 6.5)
 abbrev pub is_too_long : DelimiterRun → Bool
 is_too_long r = r.delimiter == tilde && nat_lt 2 r.size
 
--- a delimiter run: a token for each of its bytes if it can open or close, else all of it is left over (CommonMark 6.2, GFM 6.5)
+-- the piece of a delimiter run: a token for each of its bytes if it can open or close, otherwise plain text
+-- (CommonMark 6.2, GFM 6.5)
 abbrev pub run_piece : DelimiterRun → Piece
 run_piece r = if (can_open r || can_close r) && not (is_too_long r) then Run r.size (can_open r) (can_close r) else Left r.size
 
--- how many bytes the delimiter run at a place has: all that are alike, of quotes one (CommonMark 6.2; quotes: this project)
+-- the length of the delimiter run at a place: all equal bytes, or one quote (CommonMark 6.2; quotes: this project)
 unfoldable pub run_size : List ℕ → ℕ → ℕ
 run_size text at = if is_quote (slice_index text at) then 1 else run_at text at
 
--- at a delimiter: the run of all that stand there in a row (CommonMark 6.2)
+-- the piece at a delimiter: that of its whole run (CommonMark 6.2)
 unfoldable pub delimiter_piece : Inline → ℕ → Piece
 delimiter_piece s at = run_piece (run_in s at (run_size s.text at))
 
--- a quote: a run of one, which can open and close as it stands (this project)
+-- the token of a quote: a delimiter run of one, with whether it can open and close (this project)
 abbrev pub quote_token : DelimiterRun → Piece
 quote_token r = Token 0 1 (MaybeSmartQuote r.delimiter (can_open r) (can_close r))
 
--- at a quote (this project)
+-- the piece at a quote (this project)
 unfoldable pub quote_piece : Inline → ℕ → Piece
 quote_piece s at = quote_token (run_in s at (run_size s.text at))
 
--- at a full stop: three of them are a horizontal ellipsis, U+2026 (this project)
+-- the piece at a full stop: three of them are a horizontal ellipsis, U+2026 (this project)
 unfoldable pub dot_piece : List ℕ → ℕ → Piece
 dot_piece text at = if slice_index text (at + 1) == full_stop && slice_index text (at + 2) == full_stop then Token 0 3 (SynthesizeChar 0x2026) else Left 1
 
--- at a hyphen: a run of two is an en dash, U+2013, a run of three an em dash, U+2014, else the run is left over (this project)
+-- the piece at a hyphen: a run of two is an en dash, U+2013, a run of three an em dash, U+2014; any other run is
+-- plain text (this project)
 unfoldable pub dash_piece : List ℕ → ℕ → Piece
 dash_piece text at =
     if run_at text at == 2 then Token 0 2 (SynthesizeChar 0x2013)
     else (if run_at text at == 3 then Token 0 3 (SynthesizeChar 0x2014)
     else Left (run_at text at))
 
--- at a byte that opens or closes a link, an image, or HTML, the first case that fits, else the byte is left over (CommonMark 6.3 to 6.6)
+-- the piece at a byte that may open or close a link, an image or HTML: the first case that fits, otherwise plain text
+-- (CommonMark 6.3 to 6.6)
 unfoldable pub bracket_piece : List ℕ → ℕ → Piece
 bracket_piece text at =
     if slice_index text at == less_than && not (slice_index text (at + 1) == backslash) then Token 0 1 MaybeHtml
@@ -137,8 +142,8 @@ bracket_piece text at =
     else (if slice_index text at == right_bracket then Token 0 1 (MaybeLinkClose true)
     else Left 1)))
 
--- at any other special byte: the first case that fits, else the byte is left over (CommonMark 2.4, 6.1 to 6.6; smart punctuation:
--- this project)
+-- the piece at any other special byte: the first case that fits, otherwise plain text (CommonMark 2.4, 6.1 to 6.6;
+-- smart punctuation: this project)
 unfoldable pub special_piece : Inline → ℕ → Piece
 special_piece s at =
     if slice_index s.text at == backslash then backslash_piece_in s.row s.text at
@@ -148,24 +153,24 @@ special_piece s at =
     else (if slice_index s.text at == full_stop then dot_piece s.text at
     else bracket_piece s.text at))))
 
--- at an ampersand: a reference, where one stands there, else the byte is left over (CommonMark 2.5)
+-- the piece at an ampersand: a reference if there is one, otherwise plain text (CommonMark 2.5)
 unfoldable pub reference_found : List ℕ → ℕ → Found
 reference_found text at = option_map_or (λ (e : ℕ × ℕ). Reference e.0 e.1) (entity_at (drop at text)) (Ready (Left 1))
 
--- at a hyphen: a run of four and more stands for a text (this project)
+-- the piece at a hyphen: dashes for a run of four and more (this project)
 unfoldable pub dash_found : List ℕ → ℕ → Found
 dash_found text at = if nat_lt 3 (run_at text at) then Dashes (run_at text at) else Ready (dash_piece text at)
 
--- a byte that is no white space stands there in a text (this project)
+-- the text has a byte at this place, and it is no white space (this project)
 abbrev pub is_solid_at : List ℕ → ℕ → Bool
 is_solid_at text at = nat_lt at (length text) && not (is_ascii_white (slice_index text at))
 
--- at a dollar sign: it can open where no white space follows, and close where none stands before it in the content, up to where no content is left
--- (math; this project)
+-- the piece at a dollar sign: it can open if a byte follows that is no white space, and close if the content has such
+-- a byte before it; no byte past the end of the content counts (math; this project)
 unfoldable pub dollar_found : Inline → ℕ → Found
 dollar_found s at = Dollar (is_solid_at s.text (at + 1)) (nat_lt s.start at && is_solid_at s.text (at - 1))
 
--- what stands at a special byte (CommonMark 2.4, 2.5, 6.1 to 6.6; smart punctuation and math: this project)
+-- the piece at a special byte (CommonMark 2.4, 2.5, 6.1 to 6.6; smart punctuation and math: this project)
 unfoldable pub special_found : Inline → ℕ → Found
 special_found s at =
     if slice_index s.text at == ampersand then reference_found s.text at
@@ -175,18 +180,18 @@ special_found s at =
     else (if slice_index s.text at == right_brace then CloseBrace
     else Ready (special_piece s at)))))
 
--- what stands at a place: a byte that is not special is left over (CommonMark 6.9, textual content)
+-- the piece at a place: a byte that is not special is plain text (CommonMark 6.9, textual content)
 unfoldable pub found_at : Inline → ℕ → Found
 found_at s at = if is_special s.options (slice_index s.text at) then special_found s at else Ready (Left 1)
 
--- how many bytes a piece takes (this project)
+-- the number of bytes that a piece takes (this project)
 abbrev pub size : Piece → ℕ
 size (Left n) = n
 size (Begins dropped escaped) = dropped + 1
 size (Token dropped n body) = dropped + n
 size (Run n opens closes) = n
 
--- how many bytes stand there (this project)
+-- the number of bytes of the piece found at a place (this project)
 abbrev pub found_size : Found → ℕ
 found_size (Ready piece) = size piece
 found_size (Reference n c) = n
@@ -195,14 +200,15 @@ found_size (Dollar opens closes) = 1
 found_size OpenBrace = 1
 found_size CloseBrace = 1
 
--- a piece is not empty, what it drops before a text ends with a backslash, and a token has bytes of its own (this project)
+-- a piece is not empty, the bytes that it drops before a text end with a backslash, and a token has bytes of its own
+-- (this project)
 abbrev pub EndsSolid : List ℕ → ℕ → Piece → Type 0
 EndsSolid text at (Left n) = 0 < n
 EndsSolid text at (Begins dropped escaped) = (0 < dropped) × (slice_index text (at + dropped - 1) ≡ backslash)
 EndsSolid text at (Token dropped n body) = 0 < n
 EndsSolid text at (Run n opens closes) = 0 < n
 
--- the same of what stands at a place (this project)
+-- the same for the piece found at a place (this project)
 abbrev pub FoundSolid : List ℕ → ℕ → Found → Type 0
 FoundSolid text at (Ready piece) = EndsSolid text at piece
 FoundSolid text at (Reference n c) = 0 < n

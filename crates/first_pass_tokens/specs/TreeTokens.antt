@@ -7,7 +7,8 @@ use Rattle.first_pass_tokens.specs.Braces.{MathBraces}
 use Rattle.first_pass_tokens.specs.Pieces.{Inline}
 use Rattle.first_pass_tokens.specs.LineTokens.{IsLine, IsCell}
 
--- the tree with a token after its nodes: a text is joined to the current node, where that is a text that ends where it begins (this project)
+-- the tree with a token after its nodes: a text is joined to the current node if that is a text that ends where it
+-- begins (this project)
 abbrev pub with_token : Forest Item → Item → Forest Item
 with_token f x = if is_text x.body && joins_at f x.start f.current then with_end f x.«end» f.current else appended f x
 
@@ -16,7 +17,8 @@ abbrev pub with_tokens : Forest Item → List Item → Forest Item
 with_tokens f [] = f
 with_tokens f (x ∷ xs) = with_tokens (with_token f x) xs
 
--- the tree with these items as last children of the innermost open node, none of them joined; the last of them is current (this project)
+-- the tree with these items as the last children of the innermost open node, none of them joined; the last of them is
+-- current (this project)
 abbrev pub chained : Forest Item → List Item → Forest Item
 chained f [] = f
 chained f (x ∷ xs) = chained (appended f x) xs
@@ -29,15 +31,15 @@ leaves chain = map (λ x. (0, x)) chain
 abbrev pub JoinsNone : Forest Item → Type 0
 JoinsNone f = (at : ℕ) → joins_at f at f.current ≡ false
 
--- the new tree is the old one with the tokens of the line whose content begins there, each text that they name among these, and these are the brace contexts
--- after it (CommonMark 2.4, 2.5, 6.1 to 6.8)
+-- the new tree is the old one with the tokens of the line whose content is this, with each text that they name among
+-- these; `after` has the brace contexts after the line (CommonMark 2.4, 2.5, 6.1 to 6.8)
 pub record AppendsLine (texts : List CowStr) (s : Inline) (old new : Forest Item) (answer : ℕ × Option Item) (after : MathBraces) : Type 0 where
   pub tokens : List Item
   pub line : IsLine texts s tokens answer after
   pub tree_is : new ≡ with_tokens old tokens
 
--- the new tree is the old one with the tokens of the cell whose content begins there, each text that they name among these, and these are the brace contexts
--- after it (GFM 4.10)
+-- the new tree is the old one with the tokens of the cell whose content is this, with each text that they name among
+-- these; `after` has the brace contexts after the cell (GFM 4.10)
 pub record AppendsCell (texts : List CowStr) (s : Inline) (old new : Forest Item) (end : ℕ) (after : MathBraces) : Type 0 where
   pub tokens : List Item
   pub cell : IsCell texts s tokens end after

@@ -1,15 +1,15 @@
-//! Brace contexts: between which braces a dollar sign stands.
+//! Brace contexts: the braces around a dollar sign.
 
 ghost use Rattle.std.specs.Prelude.{◌≡◌};
 ghost use Rattle.first_pass_tokens.specs.Braces.{no_braces, dollar_context, after_dollar, after_open, after_close};
 
 use std::marker::Model;
 
-/// How many brace contexts are told apart; braces that are nested deeper are only counted.
+/// The number of brace contexts that have numbers of their own; deeper braces are only counted.
 pub const MATH_BRACE_CONTEXT_MAX_NESTING: usize = 25;
 
-/// The brace contexts of a block, which tell what stands between the same braces: possible math begins and ends with
-/// dollar signs of one context. They take no memory.
+/// The brace contexts of a block. Dollar signs between the same braces have the same context, and possible math
+/// begins and ends with dollar signs of one context. They take no memory.
 #[derive(Drop)]
 pub struct BraceContexts {
     stack: [u8; 26],
@@ -29,7 +29,7 @@ impl Model for BraceContexts {
 }
 
 impl BraceContexts {
-    /// Those at a block's start: none is open.
+    /// Returns the brace contexts at the start of a block: none is open.
     pub fn new() -> BraceContexts
         ensures { result ≡ no_braces }
     {
@@ -40,7 +40,7 @@ impl BraceContexts {
         }
     }
 
-    /// The number of the context that a dollar sign stands in.
+    /// Returns the number of the context of a dollar sign.
     #[tactic(auto, unfolding(crate::specs::Braces::dollar_context))]
     pub fn dollar(&self) -> u8
         ensures { result ≡ dollar_context self.now }
@@ -54,7 +54,7 @@ impl BraceContexts {
         }
     }
 
-    /// Goes past a dollar sign.
+    /// Moves past a dollar sign.
     #[tactic(auto, unfolding(crate::specs::Braces::after_dollar))]
     pub fn pass_dollar(&mut self)
         ensures { self.new ≡ after_dollar self.old }
@@ -65,7 +65,7 @@ impl BraceContexts {
         }
     }
 
-    /// Goes past `{`.
+    /// Moves past `{`.
     #[tactic(auto, unfolding(crate::specs::Braces::after_open))]
     pub fn open(&mut self)
         ensures { self.new ≡ after_open self.old }
@@ -83,7 +83,7 @@ impl BraceContexts {
         }
     }
 
-    /// Goes past `}`.
+    /// Moves past `}`.
     #[tactic(auto, unfolding(crate::specs::Braces::after_close))]
     pub fn close(&mut self)
         ensures { self.new ≡ after_close self.old }

@@ -13,29 +13,29 @@ ghost use Rattle.first_pass_tokens.specs.Chains.{AreApart};
 ghost use Rattle.first_pass_tokens.specs.LineTokens.{Spot, IsLine, IsCell, IsDivision};
 ghost use Rattle.first_pass_tokens.specs.MarkupBytes.{StandOver, TextsHaveNoBackquote, PipesAreEscaped};
 
-/// A line has one list of tokens, but for the indices of the texts that they name, and one answer, and
-/// one list of brace contexts is left.
+/// A line has only one list of tokens (except for the indices of the texts that they name), one end and break, and
+/// one list of brace contexts after it.
 pub fn one_line()
     ensures { (texts more : List CowStr) (s : Inline) (tokens others : List Item) (a b : ℕ × Option Item)
         (c d : MathBraces) → IsLine texts s tokens a c → IsLine more s others b d
         → AreAlike texts more tokens others × (a ≡ b) × (c ≡ d) }
 {}
 
-/// A cell has one list of tokens, but for the indices of the texts that they name, and one end, and one
-/// list of brace contexts is left.
+/// A cell has only one list of tokens (except for the indices of the texts that they name), one end, and one list of
+/// brace contexts after it.
 pub fn one_cell()
     ensures { (texts more : List CowStr) (s : Inline) (tokens others : List Item) (a b : ℕ) (c d : MathBraces)
         → IsCell texts s tokens a c → IsCell more s others b d → AreAlike texts more tokens others × (a ≡ b) × (c ≡ d) }
 {}
 
-/// With tables each pipe in the content of a cell stands directly after a backslash (GFM 4.10).
+/// With tables, each pipe in the content of a cell is directly after a backslash (GFM 4.10).
 pub fn cell_has_no_other_pipe()
     ensures { (texts : List CowStr) (s : Inline) (tokens : List Item) (end : ℕ) (after : MathBraces)
         → s.row ≡ true → has s.options tables ≡ true
         → IsCell texts s tokens end after → PipesAreEscaped s.text s.start end }
 {}
 
-/// No line end stands in the content of a line or a cell.
+/// The content of a line or a cell has no line ending.
 pub fn content_has_no_line_end()
     ensures { (texts : List CowStr) (s : Inline) (pieces : List Piece) (to : Spot) → s.start ≤ length s.text
         → IsDivision texts s pieces to
@@ -51,9 +51,9 @@ pub fn line_is_joined()
         → IsCell texts s tokens end after → AreApart tokens }
 {}
 
-/// A token of possible markup in a line or a cell stands over the bytes of its kind: all of some backquotes, and
-/// after a backslash where it says so (CommonMark 6.1); a delimiter (6.2); `<` (6.5, 6.6); `![`, `[` or `]` (6.3,
-/// 6.4); a quote, or the bytes that its character stands for.
+/// A token of possible markup in a line or a cell has the bytes of its kind. They are a whole run of backquotes,
+/// after a backslash if it is marked as escaped (CommonMark 6.1); a delimiter (6.2); `<` (6.5, 6.6); `![`, `[` or `]`
+/// (6.3, 6.4); a quote, or the bytes that its character replaces.
 pub fn markup_has_its_bytes()
     ensures line { (texts : List CowStr) (s : Inline) (tokens : List Item) (answer : ℕ × Option Item)
         (after : MathBraces) → IsLine texts s tokens answer after
@@ -62,7 +62,7 @@ pub fn markup_has_its_bytes()
         → IsCell texts s tokens end after → StandOver s.text tokens }
 {}
 
-/// No text of a line or a cell has a backquote: none is left over, escaped or not (CommonMark 6.1).
+/// No text of a line or a cell has a backquote, escaped or not (CommonMark 6.1).
 pub fn texts_have_no_backquote()
     ensures line { (texts : List CowStr) (s : Inline) (tokens : List Item) (answer : ℕ × Option Item)
         (after : MathBraces) → IsLine texts s tokens answer after

@@ -26,15 +26,15 @@ use first_pass_tree::forest::Tree;
 use first_pass_walk::walk::next_special_in_words;
 use std::alloc::AllocError;
 
-/// Appends the tokens of one line to the innermost open node: the texts, the references (CommonMark 2.5) and the
-/// tokens of possible code, emphasis, HTML, links and images (6.1 to 6.6) of a content, up to the first line end, or
-/// the end that is set, or the text's end. `lut` is the table of the bytes that are special under its options. What a
-/// reference or a run of four and more hyphens stands for is put after `texts`, those that tokens name by an index,
-/// and `braces`, the brace contexts before the line, become those after it.
+/// Appends the tokens of one line to the innermost open node. They are the texts, the references (CommonMark 2.5),
+/// and the tokens of possible code, emphasis, HTML, links and images (6.1 to 6.6). `content` is read up to the first
+/// line ending, to its `end` if it has one, or to the end of the text. The text of a reference, or of a run of four
+/// and more hyphens, is appended to `texts`, and its token names it by an index. `braces` holds the brace contexts
+/// before the line, then those after it.
 ///
-/// Returns the offset after the line's line end, and the line break there (CommonMark 6.7, 6.8), which
-/// is not appended; `None` where no line end is left. A backslash before ASCII punctuation
-/// is dropped (2.4), and white space at the content's end is in no text. The error is want of memory.
+/// Returns the offset after the line ending, and the line break there (CommonMark 6.7, 6.8), which is not appended;
+/// the break is `None` if no line ending is left. A backslash before ASCII punctuation is dropped (2.4), and white
+/// space at the end of the content is in no text. Fails only if an allocation fails.
 #[inline(always)]
 pub fn append_line(
     content: Content<'_>,
@@ -57,14 +57,13 @@ pub fn append_line(
     end_line(text, content, end, pending, tree)
 }
 
-/// Appends the tokens of one cell of a table's row to the innermost open node: those of a line (see
-/// `append_line`), of a content, up to the first line end, the end that is set, the text's end, or, where
-/// its options have tables, the first pipe that is not escaped. A backslash before
-/// a pipe is dropped, and so are two of them (GFM 4.10). `lut` is the table of the bytes that are special
-/// under its options.
+/// Appends the tokens of one cell of a table row to the innermost open node. They are those of a line (see
+/// `append_line`). `content` is read up to the first line ending, to its `end` if it has one, or to the end of the
+/// text; if the options have tables, up to the first pipe that is not escaped. A backslash before a pipe is dropped,
+/// and so are two of them (GFM 4.10).
 ///
-/// Returns the offset where the content ends: that of the pipe, the line end or the text's end. White
-/// space before it is in no text. The error is want of memory.
+/// Returns the end of the content: the offset of the pipe, the line ending or the end of the text. White space before
+/// it is in no text. Fails only if an allocation fails.
 #[inline(always)]
 pub fn append_cell(
     content: Content<'_>,
@@ -88,14 +87,14 @@ pub fn append_cell(
     Ok(end)
 }
 
-// A text that began at an offset and may continue, and is not in the tree yet.
+// A text that began at an offset, may continue, and is not in the tree yet.
 #[derive(Clone, Copy, Drop)]
 struct HeldText {
     begin: usize,
     escaped: bool,
 }
 
-/// The bytes of a text up to an offset, or all of them.
+/// Returns the bytes of a text up to an offset, or all of them.
 #[inline(always)]
 pub fn text_upto(text: &str, end: Option<usize>) -> &[u8]
     requires { IfSome end (λ e. e ≤ length text.now) }
@@ -109,7 +108,7 @@ pub fn text_upto(text: &str, end: Option<usize>) -> &[u8]
     }
 }
 
-// Appends the tokens of a content, but for a text that is pending. Returns where the content ends.
+// Appends the tokens of a content, except for a pending text. Returns the end of the content and that text.
 #[inline(always)]
 fn append_pieces(
     text: &[u8],
@@ -146,7 +145,7 @@ fn append_pieces(
     Ok((text.len(), pending))
 }
 
-// Whether the content ends at a byte: at a line end, or at a pipe in a row.
+// Whether the content ends at a byte: at a line ending, or at a pipe in a row.
 #[inline(always)]
 #[tactic(auto, unfolding(crate::specs::LineTokens::ends_at))]
 fn ends_at(text: &[u8], content: Content<'_>, at: usize) -> bool
@@ -158,7 +157,7 @@ fn ends_at(text: &[u8], content: Content<'_>, at: usize) -> bool
         || (content.row && content.options.contains(Options::ENABLE_TABLES) && byte == b'|')
 }
 
-// Appends the pending text, where the piece at `at` begins another one, and the piece's token.
+// Appends the pending text if the piece at `at` begins another one, and the token of the piece.
 #[inline(always)]
 fn append_piece(
     tree: &mut Tree<Item>,
@@ -201,7 +200,7 @@ fn append_piece(
     Ok(())
 }
 
-// Appends a token for each of so many delimiters from an offset on.
+// Appends a token for each of `n` delimiters from an offset on.
 fn append_run(
     tree: &mut Tree<Item>,
     at: usize,
@@ -226,7 +225,7 @@ fn append_run(
     Ok(())
 }
 
-// Ends a line: appends the last text, and returns where the line ends, and its break.
+// Ends a line: appends the last text, and returns the end of the line and its break.
 #[inline(always)]
 #[tactic(auto, unfolding(crate::specs::LineTokens::text_end, crate::specs::LineTokens::line_break, crate::specs::LineTokens::breaks_by_backslash, crate::specs::LineTokens::backslashes_at_end, crate::specs::LineTokens::blanks_at_end))]
 fn end_line(
@@ -261,8 +260,8 @@ fn end_line(
     Ok((next, Some(break_of(end, next, by_backslash, blanks))))
 }
 
-// Whether the content has a last byte that is above the space and no backslash, as most lines have. Such a line has no
-// white space at its end, and no hard break after it.
+// Whether the content has a last byte that is above the space and no backslash, as most lines have. Such a line has
+// no white space at its end, and no hard break after it.
 #[inline(always)]
 fn ends_solid(text: &[u8], start: usize, end: usize) -> bool
     requires order { start ≤ end }
@@ -314,7 +313,7 @@ fn breaks_by_backslash(text: &[u8], start: usize, end: usize, next: usize) -> bo
     next < text.len() && backslashes_at_end(text, start, end) % 2 == 1
 }
 
-// How many backslashes stand at the end of the content.
+// The number of backslashes at the end of the content.
 fn backslashes_at_end(text: &[u8], start: usize, end: usize) -> usize
     requires order { start ≤ end }
     requires within { end ≤ length text.now }
@@ -325,14 +324,14 @@ fn backslashes_at_end(text: &[u8], start: usize, end: usize) -> usize
     bytes.iter().rev().take_while(|b| **b == b'\\').count()
 }
 
-// How many bytes of white space stand at the end of the content.
+// The number of bytes of white space at the end of the content.
 fn blanks_at_end(text: &[u8], start: usize, end: usize) -> usize
     requires order { start ≤ end }
     requires within { end ≤ length text.now }
     ensures value { result ≡ suffix_len is_white_byte (slice_range text.now start end) }
     ensures fits { start + result ≤ end }
 {
-    // None and one space are the commonest.
+    // None and one space are the most frequent.
     let bytes = &text[start..end];
     match bytes {
         [.., last] if *last > b' ' => 0,
@@ -341,7 +340,7 @@ fn blanks_at_end(text: &[u8], start: usize, end: usize) -> usize
     }
 }
 
-// How many bytes the line end at a place has: `\r\n` has two.
+// The length of the line ending at a place: `\r\n` has two bytes.
 #[tactic(auto, unfolding(crate::specs::LineTokens::line_end_len))]
 fn line_end_len(text: &[u8], end: usize) -> usize
     requires { end ≤ length text.now }

@@ -1,4 +1,4 @@
-//! The texts that tokens name: of references (CommonMark 2.5), and of four and more hyphens in a row.
+//! The texts that tokens name: those of references (CommonMark 2.5), and of runs of four and more hyphens.
 
 ghost use Rattle.std.specs.Prelude.{◌≡◌, ◌+◌, ◌*◌, [], ◌∷◌, ◌++◌, ◌≤◌, ◌^◌, ◌<◌, encode_utf8, IfOk, OnOk};
 ghost use Rattle.std.specs.String.{string_bytes};
@@ -14,9 +14,9 @@ use first_pass_items::cow_str::{CowStr, InlineStr};
 use first_pass_items::item::{CowIndex, ItemBody};
 use std::alloc::{AllocError, Global};
 
-/// The piece of what stands at a place. The text that its token names, if it names one, is put after `texts`, those
-/// that tokens name, and `braces`, the brace contexts before it, become those after it. A reference's text takes no
-/// memory, nor do seven dashes or fewer. The error is want of memory.
+/// Returns the piece for `found`. If its token names a text, that text is appended to `texts`. `braces` holds the
+/// brace contexts before the piece, then those after it. The text of a reference takes no memory, nor do seven dashes
+/// or fewer. Fails only if an allocation fails.
 #[inline(always)]
 pub fn named_piece<'a>(
     texts: &mut Vec<CowStr<'a>>,
@@ -54,7 +54,7 @@ pub fn named_piece<'a>(
     }
 }
 
-// Puts a text after those that tokens name. Returns the token of so many bytes that names it.
+// Appends a text to those that tokens name. Returns the token of `n` bytes that names it.
 fn name_text<'a>(
     texts: &mut Vec<CowStr<'a>>,
     text: CowStr<'a>,
@@ -69,7 +69,7 @@ fn name_text<'a>(
     Ok(Piece::Token(0, n, ItemBody::SynthesizeText(ix)))
 }
 
-// The dashes that so many hyphens stand for.
+// The dashes for `n` hyphens.
 fn dash_text<'a>(alloc: Global, n: usize) -> Result<CowStr<'a>, AllocError>
     ensures value { IfOk result (λ text. text_of text ≡ dashes n) }
     ensures in_place { IfOk result (λ text.
@@ -85,7 +85,7 @@ fn dash_text<'a>(alloc: Global, n: usize) -> Result<CowStr<'a>, AllocError>
     Ok(CowStr::Boxed(text.into_boxed_str()))
 }
 
-// How many em dashes so many hyphens stand for, and how many en dashes after those.
+// The number of em dashes for `n` hyphens, and of en dashes after them.
 #[tactic(auto, unfolding(crate::specs::NamedTexts::dash_counts))]
 fn dash_counts(n: usize) -> (usize, usize)
     ensures value { result ≡ dash_counts n }
@@ -102,7 +102,7 @@ fn dash_counts(n: usize) -> (usize, usize)
     }
 }
 
-// So many em dashes, and so many en dashes after those; at most seven of each.
+// `em` em dashes and then `en` en dashes, at most seven together.
 fn short_dashes<'a>(em: usize, en: usize) -> &'a str
     requires { em + en ≤ 7 }
     ensures { result.now ≡ times em (encode_utf8 0x2014) ++ times en (encode_utf8 0x2013) }
@@ -111,7 +111,7 @@ fn short_dashes<'a>(em: usize, en: usize) -> &'a str
     &both[3 * (7 - em)..3 * (7 + en)]
 }
 
-// Writes a character so many times.
+// Writes a character `n` times.
 fn push_times(text: &mut String, character: char, n: usize) -> Result<(), AllocError>
     ensures { OnOk result (string_bytes text.new ≡ string_bytes text.old ++ times n (encode_utf8 character)) }
 {

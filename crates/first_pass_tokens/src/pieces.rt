@@ -1,4 +1,4 @@
-//! The pieces that the content of a line is divided into: which one begins at a place.
+//! The pieces of the content of a line: the one that begins at a place.
 
 ghost use Rattle.std.specs.Prelude.{◌≡◌, ◌||◌, ◌+◌, ◌<◌, ◌≤◌, ◌^◌, true, length, slice_index, take, ℕ, List, IsCharBoundary, IsUtf8};
 ghost use Rattle.first_pass_items.specs.Bytes.{ampersand, backslash, backquote, hyphen, full_stop};
@@ -12,57 +12,57 @@ use first_pass_items::option_set::Options;
 use first_pass_lines::lines::is_ascii_white;
 use first_pass_lines::places::rest_of;
 
-/// The content of a line of text, or of a cell in a table's row.
+/// The content of a line of text, or of a cell in a table row.
 #[derive(Clone, Copy, Drop)]
 pub struct Content<'t> {
-    /// The options that it is read under.
+    /// The options under which it is read.
     pub options: Options,
-    /// The whole text that it stands in, of which offsets speak.
+    /// The whole text around it; offsets are into this text.
     pub whole: &'t str,
-    /// Which bytes are special under its options.
+    /// The bytes that are special under its options.
     pub special: &'t [bool; 256],
-    /// Where it begins: an offset into the text.
+    /// Its start, an offset into the text.
     pub start: usize,
-    /// The offset into the text from which on no content is left; `None` where that is the text's end.
+    /// The offset into the text at which it ends at the latest; `None` for the end of the text.
     pub end: Option<usize>,
-    /// Whether it is a cell's.
+    /// Whether it is that of a cell.
     pub row: bool,
 }
 
-/// A part of a line's content, as the tokens are read off it.
+/// A part of the content of a line, from which tokens are made.
 #[derive(Clone, Copy, Drop)]
 pub enum Piece {
-    /// Bytes that are left over, and stand in a text.
+    /// Plain text: bytes that are part of a text.
     Left(usize),
-    /// Backslashes that are dropped, and a byte that begins a text, escaped or not.
+    /// Backslashes that are dropped (their number), and a byte that begins a text, escaped or not.
     Begins(usize, bool),
-    /// Backslashes that are dropped, and then a token of so many bytes that is no text.
+    /// Backslashes that are dropped (their number), then a token other than a text (its length and kind).
     Token(usize, usize, ItemBody),
-    /// A token for each of so many delimiters; whether their run can open and close.
+    /// A token for each delimiter of a run: the length of the run, and whether it can open and close.
     Run(usize, bool, bool),
 }
 
-/// What stands at a place of a content: a piece, or what `named_piece` makes one of, with the texts that tokens name
-/// and the brace contexts.
+/// A piece at a place of a content, or one that `named_piece` completes with the texts that tokens name and the brace
+/// contexts.
 #[derive(Clone, Copy, Drop)]
 pub enum Found {
     /// A piece that names no text.
     Ready(Piece),
-    /// A reference of so many bytes to a character.
+    /// A reference: its length in bytes, and its character.
     Reference(usize, char),
-    /// So many hyphens in a row, four or more.
+    /// A run of hyphens, four or more.
     Dashes(usize),
-    /// A dollar sign, of possible math: whether it can open and close.
+    /// A dollar sign of possible math: whether it can open and close.
     Dollar(bool, bool),
     /// `{`, which opens a brace context.
     OpenBrace,
-    /// `}`, which closes one.
+    /// `}`, which closes a brace context.
     CloseBrace,
 }
 
-/// What stands at a special byte of a content: a reference (CommonMark 2.5), four or more hyphens with smart
-/// punctuation, a dollar sign or a brace with math, or a piece (see `special_piece`). `at` is the byte's offset into
-/// the whole text, and `text` is that text up to the content's end.
+/// Returns the piece found at a special byte of a content: a reference (CommonMark 2.5), four or more hyphens with
+/// smart punctuation, a dollar sign or a brace with math, or a piece that needs nothing else (see `special_piece`).
+/// `at` is the offset of the byte into the whole text, and `text` is that text up to the end of the content.
 #[inline(always)]
 #[tactic(auto, unfolding(crate::specs::Pieces::special_found))]
 pub fn special_found(text: &[u8], content: Content<'_>, at: usize) -> Found
@@ -84,7 +84,7 @@ pub fn special_found(text: &[u8], content: Content<'_>, at: usize) -> Found
     }
 }
 
-// What stands at a dollar sign.
+// The piece found at a dollar sign.
 #[tactic(auto, unfolding(crate::specs::Pieces::dollar_found))]
 fn dollar_found(text: &[u8], content: Content<'_>, at: usize) -> Found
     requires { at < length text.now }
@@ -97,14 +97,14 @@ fn dollar_found(text: &[u8], content: Content<'_>, at: usize) -> Found
     Found::Dollar(opens, closes)
 }
 
-// Whether a byte that is no white space stands at a place.
+// Whether there is a byte at a place that is no white space.
 fn is_solid_at(text: &[u8], at: usize) -> bool
     ensures { result ≡ is_solid_at text.now at }
 {
     at < text.len() && !is_ascii_white(text[at])
 }
 
-// What stands at an ampersand.
+// The piece found at an ampersand.
 #[tactic(auto, unfolding(crate::specs::Pieces::reference_found))]
 fn reference_found(text: &[u8], at: usize) -> Found
     requires { at < length text.now }
@@ -118,7 +118,7 @@ fn reference_found(text: &[u8], at: usize) -> Found
     }
 }
 
-// What stands at a hyphen.
+// The piece found at a hyphen.
 #[tactic(auto, unfolding(crate::specs::Pieces::dash_found, crate::specs::Pieces::dash_piece))]
 fn dash_found(text: &[u8], at: usize) -> Found
     requires within { at < length text.now }
@@ -135,13 +135,13 @@ fn dash_found(text: &[u8], at: usize) -> Found
     }
 }
 
-// The piece at any other special byte of a content; `at` is its offset into the text `whole`, and `text` is that text
-// up to the content's end. A run of `*`, `_`, `^` or at most two `~` that can open or close is a token for each of
-// them (CommonMark 6.2, GFM 6.5). All backquotes in a row are a token of possible code (CommonMark 6.1), `<` with no
-// backslash after it is one of possible HTML or an autolink (6.5, 6.6), `[`, `]` and `![` are tokens of possible links
-// and images (6.3, 6.4). With smart punctuation a quote is a token, and three full stops are a token of the character
-// that they stand for. A backslash before backquotes or other ASCII punctuation is dropped (2.4). In a row of a table
-// a backslash before a pipe is dropped, and so are two of them (GFM 4.10). Any other byte is left over.
+// The piece at any other special byte of a content. `at` is its offset into the text `whole`, and `text` is that text
+// up to the end of the content. A run of `*`, `_`, `^` or at most two `~` that can open or close is a token for each
+// of them (CommonMark 6.2, GFM 6.5). A run of backquotes is a token of possible code (CommonMark 6.1). `<` with no
+// backslash after it is one of possible HTML or an autolink (6.5, 6.6). `[`, `]` and `![` are tokens of possible
+// links and images (6.3, 6.4). With smart punctuation, a quote is a token, and three full stops are a token of one
+// character. A backslash before backquotes or other ASCII punctuation is dropped (2.4). In a table row, a backslash
+// before a pipe is dropped, and so are two of them (GFM 4.10). Any other byte is plain text.
 #[inline(always)]
 #[tactic(auto, unfolding(crate::specs::Pieces::special_piece))]
 fn special_piece(text: &[u8], content: Content<'_>, at: usize) -> Piece
@@ -163,7 +163,7 @@ fn special_piece(text: &[u8], content: Content<'_>, at: usize) -> Piece
     }
 }
 
-/// How many bytes a piece takes.
+/// Returns the number of bytes that a piece takes.
 pub fn piece_len(piece: Piece) -> usize
     requires { size piece < 2 ^ 64 }
     ensures { result ≡ size piece }
@@ -176,7 +176,7 @@ pub fn piece_len(piece: Piece) -> usize
     }
 }
 
-// The piece at a backslash, in a row of a table or elsewhere: `\|` is a pipe that ends no cell, and so is `\\|`.
+// The piece at a backslash, in a table row or elsewhere: in a row, `\|` is a pipe that ends no cell, and so is `\\|`.
 fn backslash_piece_in(text: &[u8], at: usize, row: bool) -> Piece
     requires within { at < length text.now }
     requires here { slice_index text.now at ≡ backslash }
@@ -193,7 +193,7 @@ fn backslash_piece_in(text: &[u8], at: usize, row: bool) -> Piece
     backslash_piece(text, at)
 }
 
-// The piece at a backslash that no pipe is after.
+// The piece at a backslash that no pipe follows.
 #[tactic(auto, unfolding(crate::specs::Pieces::backslash_piece))]
 fn backslash_piece(text: &[u8], at: usize) -> Piece
     requires within { at < length text.now }
@@ -259,7 +259,7 @@ fn run_piece(run: &DelimiterRun) -> Piece
     }
 }
 
-// The run of delimiters at a place, and what stands beside it.
+// The delimiter run at a place, with the characters beside it.
 #[inline(always)]
 #[tactic(auto, unfolding(crate::specs::Pieces::run_in))]
 fn run_in(text: &[u8], content: Content<'_>, at: usize) -> DelimiterRun
@@ -283,7 +283,7 @@ fn run_in(text: &[u8], content: Content<'_>, at: usize) -> DelimiterRun
     }
 }
 
-// How many bytes the delimiter run at a place has: of quotes one.
+// The length of the delimiter run at a place; a quote is a run of one.
 #[tactic(auto, unfolding(crate::specs::Pieces::run_size))]
 fn run_size(text: &[u8], at: usize) -> usize
     requires { at < length text.now }
@@ -334,7 +334,7 @@ fn dot_piece(text: &[u8], at: usize) -> Piece
     }
 }
 
-// The character before a place of a content, if it is not its first.
+// The character before a place of a content, unless the place is its start.
 #[inline(always)]
 #[tactic(auto, unfolding(crate::specs::Pieces::char_before))]
 fn char_before(content: Content<'_>, at: usize) -> Option<char>
@@ -365,7 +365,7 @@ fn bracket_piece(text: &[u8], at: usize) -> Piece
     }
 }
 
-// How many bytes like the one at a place stand there in a row.
+// The length of the run of equal bytes at a place.
 #[tactic(auto, unfolding(crate::specs::Pieces::run_at))]
 fn run_len(text: &[u8], at: usize) -> usize
     requires { at < length text.now }
@@ -377,7 +377,7 @@ fn run_len(text: &[u8], at: usize) -> usize
     rest_of(text, at).iter().take_while(|b| **b == byte).count()
 }
 
-// The byte at a place, and 0 past the end.
+// The byte at a place; 0 past the end.
 fn byte_at(text: &[u8], at: usize) -> u8
     ensures { result ≡ slice_index text.now at }
 {

@@ -10,7 +10,7 @@ use Rattle.first_pass_walk.proofs.WalkFacts.{spares_words}
 use Rattle.first_pass_tokens.proofs.line.append_pieces.Goals as goal
 use Rattle.first_pass_tokens.proofs.line.append_pieces.Goals.{In_default, In-Some}
 
--- the content is read up to the next special place
+-- the content is read up to the next special byte
 upto_special : (c : In-Some) → IsRead c.loop-at.texts.items (content_in c.args.text.now c.args.content c.args.braces.now) c.args.tree.now
     c.loop-at.tree c.loop-at.pending (spot c.in-Some.at c.loop-at.braces)
 upto_special c =
@@ -18,7 +18,7 @@ upto_special c =
     read_upto c.loop-at.from c.in-Some.at c.loop-at.braces c.loop-at.invariant.read found.from (omega (arith, found.within))
     (λ k low high. sym (c.requires.marks _ (omega (arith, c.type_inv.text k))) ∙ found.least k low high)
 
--- and up to the text's end, where none is left
+-- and up to the end of the text, if there is none
 upto_end : (c : In_default) → IsRead c.loop-at.texts.items (content_in c.args.text.now c.args.content c.args.braces.now) c.args.tree.now
     c.loop-at.tree c.loop-at.pending (spot (length c.args.text.now) c.loop-at.braces)
 upto_end c =

@@ -3,7 +3,7 @@ use Rattle.first_pass_tokens.specs.Chains.{run_tokens}
 use Rattle.first_pass_tokens.specs.TreeTokens.{with_tokens}
 use Rattle.first_pass_tokens.proofs.line.append_run.Given as goal
 
--- the tokens that are left make of the tree what all of them make of the first one
+-- appending the remaining tokens to the tree gives the first tree with all of them
 abbrev pub invariant-loop-left : goal.invariant-loop-left
 invariant-loop-left l =
     (with_tokens l.tree (run_tokens l.next l.left l.opens l.closes) ≡ with_tokens l.initial.tree (run_tokens l.at l.n l.opens l.closes))

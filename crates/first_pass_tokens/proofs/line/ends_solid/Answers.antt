@@ -7,7 +7,7 @@ use Rattle.first_pass_tokens.proofs.LineLemmas.{end_bounded}
 use Rattle.first_pass_tokens.proofs.line.ends_solid.Goals as goal
 use Rattle.first_pass_tokens.proofs.line.ends_solid.Goals.{then-start-end, else-start-end}
 
--- no byte at the content's end passes, where the last one does not
+-- no byte at the end of the content passes a test that the last one fails
 none_at_end : (p : ℕ → Bool) (text : List ℕ) (start end : ℕ) → start ≤ end → end ≤ length text
     → p (slice_index text (end - 1)) ≡ false → suffix_len p (slice_range text start end) ≡ 0
 none_at_end p text start end order within last =
