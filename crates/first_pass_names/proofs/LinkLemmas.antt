@@ -1,4 +1,4 @@
--- A table of definitions with one more, as its entries are seen.
+-- The entries of a table of definitions after one more.
 use Rattle.std.proofs.Common.{◌≡◌, Bool, true, false, cond, List, [], ◌∷◌, map, All, Option, None, Some, is_some, refl, sym, ap, subst, ◌∙◌}
 use Rattle.std.proofs.lemmas.Bool.{cond_both, true≢false}
 use Rattle.std.proofs.lemmas.List.Elements.{All-cons, All-head, All-tail}
@@ -23,15 +23,15 @@ use Rattle.first_pass_grammar.specs.Derivation.{told, told_label}
 use Rattle.first_pass_names.specs.TableEntries.{link_entry, footnote_label, tables_of}
 use Rattle.first_pass_names.specs.declared.items.Allocations.{Allocations}
 
--- entries with one more, where a look-up by order finds none of its label
+-- entries with one more, if a look-up by order finds none with its label
 abbrev put : {X : Type 0} → CowStr → X → List (CowStr × X) → List (CowStr × X)
 put label x es = cond (is_some (lookup (is_at (label_cmp label)) es)) es (insert_entry label_cmp es label x)
 
--- a look-up by order finds the label of the same folding
+-- a look-up by order finds the label with the same folding
 put_is : {X : Type 0} → (label : CowStr) (x : X) (es : List (CowStr × X)) → with_first es label x ≡ put label x es
 put_is label x es = λ i. cond (is_some (lookup (λ l. texts_ties (folding_of label) (folding_of l) i) es)) es (insert_entry label_cmp es label x)
 
--- ---- what is seen of entries with one more
+-- ---- the view of entries with one more
 
 module _ {X Y : Type 0} (seen : CowStr × X → Y) where
   -- after an entry that comes before
@@ -65,7 +65,7 @@ unfolding with_label IsStrictlySortedBy
 put_labels label x [] order = refl
 put_labels label x (e ∷ es) order = put_cons footnote_label label x e es _ order (label_cmp label e.0) refl (put_labels label x es order.1)
 
--- A definition more is told.
+-- One more definition is in the tables.
 pub link_defined : (old new : Allocations) (label : CowStr) (x : LinkDef)
     → IsInOrder old.refdefs → new.refdefs ≡ with_first old.refdefs label x → new.footdefs ≡ old.footdefs
     → tables_of new ≡ told (tables_of old) (link_entry (label, x) ∷ [])
@@ -75,7 +75,7 @@ link_defined old new label x order links notes =
     ap (map link_entry) (links ∙ put_is label x old.refdefs) ∙ put_entries label x old.refdefs order in
     cc
 
--- The label of a footnote more is told.
+-- The label of one more footnote is in the tables.
 pub footnote_defined : (old new : Allocations) (label : CowStr)
     → IsInOrder old.footdefs → new.footdefs ≡ with_first old.footdefs label (record { use_count = 0 }) → new.refdefs ≡ old.refdefs
     → tables_of new ≡ told_label (tables_of old) (text_of label)
@@ -84,7 +84,7 @@ footnote_defined old new label order notes links =
     ap (map footnote_label) (notes ∙ put_is label (record { use_count = 0 }) old.footdefs) ∙ put_labels label (record { use_count = 0 }) old.footdefs order in
     cc
 
--- ---- what holds of each entry, and of one more
+-- ---- a property of each entry, and of one more
 
 module _ {T : Type 0} (P : CowStr × T → Type 0) (label : CowStr) (x : T) (one : P (label, x)) where
   put_each : (e : CowStr × T) (es : List (CowStr × T)) → All P (e ∷ es) → (o : Ordering)

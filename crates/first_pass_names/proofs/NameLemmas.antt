@@ -1,4 +1,4 @@
--- What is named stays named while more is named.
+-- Names stay valid while more is named.
 use Rattle.std.proofs.Common.{◌≡◌, ℕ, false, List, [], ◌++◌, length, Result, Ok, Err, OnOk, refl, sym, ap, subst, ◌∙◌, append_assoc}
 use Rattle.std.specs.declared.alloc.AllocError.{AllocError}
 use Rattle.std.proofs.lemmas.List.{append-nil}
@@ -24,7 +24,7 @@ pub info_named : (old named more : Names) (ix : CowIndex) (cow : CowStr) (read i
 info_named old named more ix cow read info at is same text borrowed e =
     subst (NamesInfo more ix) same (record { named = cow; at = text_last old named more ix cow at is e; text = text; borrowed = borrowed })
 
--- where texts alone are named more
+-- if only texts are added
 pub extends_texts : (new old : Names) → AddsTexts new old → Extends new old
 extends_texts new old h = record {
   more_texts = h.more;
@@ -46,7 +46,7 @@ texts_both new mid old e f = record {
   headings = e.headings ∙ f.headings;
 }
 
--- the same of a call that names texts, where it has an answer
+-- the same for a call that names texts, if it succeeds
 pub more_extends : {A : Type 0} (new old : Names) (r : Result A AllocError) → new.alignments ≡ old.alignments → new.headings ≡ old.headings
     → OnOk r (AreMore new.texts old.texts) → OnOk r (Extends new old)
 more_extends new old (Ok a) alignments headings more =

@@ -1,4 +1,4 @@
-//! What the nodes of a tree name by an index, and what a text defines.
+//! The tables beside a tree: what nodes name by an index, and what the text defines.
 
 ghost use Rattle.std.specs.Option.{option_map};
 ghost use Rattle.first_pass_attributes.specs.Attributes.{attributes_in};
@@ -21,8 +21,8 @@ use std::alloc::{AllocError, Global};
 use std::boxed::BoxedStr;
 use std::ops::{DerefStr, Index};
 
-/// The tables beside a tree: what the text defines, and the texts, the alignments and the attributes of headings that
-/// nodes name by an index.
+/// The tables beside a tree: the definitions of the text, and the texts, alignments and heading attributes that nodes
+/// name by an index.
 #[derive(Drop)]
 pub struct Allocations<'a> {
     pub(crate) texts: Vec<CowStr<'a>>,
@@ -33,7 +33,7 @@ pub struct Allocations<'a> {
 }
 
 impl<'a> Allocations<'a> {
-    /// Empty tables, which take no memory.
+    /// Returns empty tables, which take no memory.
     pub fn new(alloc: Global) -> Allocations<'a>
         ensures tables { tables_of result ≡ no_tables }
         ensures names { names_of result ≡ no_names }
@@ -47,22 +47,22 @@ impl<'a> Allocations<'a> {
         }
     }
 
-    /// The link definitions: of each label the first.
+    /// Returns the link definitions: for each label the first.
     pub fn refdefs(&self) -> &RefDefs<'a>
         ensures { result.now ≡ refdefs_of self.now }
     {
         &self.refdefs
     }
 
-    /// The footnote definitions: the label of each once, as the first has it.
+    /// Returns the footnote definitions: each label once, spelled as in its first definition.
     pub fn footdefs(&self) -> &FootDefs<'a>
         ensures { result.now ≡ footdefs_of self.now }
     {
         &self.footdefs
     }
 
-    /// Puts a text after those that nodes name, and returns its index. The one error is that a request for
-    /// memory was refused; then nothing changes.
+    /// Appends a text to those that nodes name, and returns its index. Fails only if an allocation fails; then
+    /// nothing changes.
     pub fn allocate_cow(&mut self, cow: CowStr<'a>) -> Result<CowIndex, AllocError>
         ensures index { IfOk result (λ ix. ix.0 ≡ length (names_of self.old).texts) }
         ensures names { OnOk result (names_of self.new ≡ with_named (names_of self.old) cow.entry) }
@@ -74,8 +74,8 @@ impl<'a> Allocations<'a> {
         Ok(ix)
     }
 
-    /// Puts the alignments of a table's columns after those that nodes name, and returns their index. The one error
-    /// is that a request for memory was refused; then nothing changes (GFM 4.10).
+    /// Appends the alignments of the columns of a table to those that nodes name, and returns their index. Fails only
+    /// if an allocation fails; then nothing changes (GFM 4.10).
     pub fn allocate_alignment(
         &mut self,
         alignment: Vec<Alignment>,
@@ -90,8 +90,8 @@ impl<'a> Allocations<'a> {
         Ok(ix)
     }
 
-    /// Puts the attributes of a heading after those that nodes name, and returns their index. The one error is that a
-    /// request for memory was refused; then nothing changes.
+    /// Appends the attributes of a heading to those that nodes name, and returns their index. Fails only if an
+    /// allocation fails; then nothing changes.
     pub fn allocate_heading(
         &mut self,
         attrs: HeadingAttributes<'a>,
@@ -106,10 +106,9 @@ impl<'a> Allocations<'a> {
         Ok(ix)
     }
 
-    /// Puts a link definition into the table of them, unless one of its label stands there: the first of several
-    /// matching definitions stays (CommonMark 4.7). Its label, its destination and its title stay as they are given:
-    /// what is borrowed from the text stays borrowed. The one error is that a request for memory was refused; then
-    /// nothing changes.
+    /// Adds a link definition to the table, unless the table has one with a matching label: the first of several
+    /// matching definitions stays (CommonMark 4.7). The label, destination and title are kept as given: slices of the
+    /// text stay borrowed. Fails only if an allocation fails; then nothing changes.
     pub fn define_link(
         &mut self,
         label: LabelKey<'a>,
@@ -126,9 +125,9 @@ impl<'a> Allocations<'a> {
         Ok(())
     }
 
-    /// Puts the label of a footnote definition into the table of them, unless one of its folding stands there: the
-    /// first of several stays, as it is spelled. No use of the footnote is counted yet. What is borrowed from the text
-    /// stays borrowed. The one error is that a request for memory was refused; then nothing changes (this project).
+    /// Adds the label of a footnote definition to the table, unless the table has one with the same folding: the
+    /// first of several stays, as it is spelled. No use of the footnote is counted yet. A slice of the text stays
+    /// borrowed. Fails only if an allocation fails; then nothing changes (this project).
     pub fn define_footnote(&mut self, alloc: Global, label: &CowStr<'a>) -> Result<(), AllocError>
         ensures entries { OnOk result (TellsFootnote (entries self.old) (entries self.new) label.now) }
         ensures tables { OnOk result (tables_of self.new ≡ told_label (tables_of self.old) (text_of label.now)) }
@@ -141,10 +140,10 @@ impl<'a> Allocations<'a> {
         Ok(())
     }
 
-    /// The link definition that a label names which stands at the start of `text`, the bytes after a `[`: how many
-    /// bytes the label has with its `]`, and the definition. `None` where no label stands there, or none of the
-    /// definitions has it. The label may cross line ends; on further lines nothing is left out as the prefix of a
-    /// container. The one error is that a request for memory was refused (CommonMark 4.7, 6.3).
+    /// Returns the length of the link label at the start of `text`, and the link definition that it names. `text` is
+    /// the bytes after a `[`; the length is in bytes, with the `]`. Returns `None` if no label is there, or if no
+    /// definition has it. The label may cross line endings; no container prefix is left out on further lines. Fails
+    /// only if an allocation fails (CommonMark 4.7, 6.3).
     pub fn link_at(
         &self,
         alloc: Global,
@@ -162,7 +161,7 @@ impl<'a> Allocations<'a> {
         }
     }
 
-    /// The text that a node names by this index; an empty one where the index names none.
+    /// Returns the text that a node names by this index; an empty text if the index names none.
     pub fn text_at(&self, ix: CowIndex) -> &str
         ensures { result.now ≡ text_named (names_of self.now) ix }
     {
@@ -172,7 +171,8 @@ impl<'a> Allocations<'a> {
         }
     }
 
-    /// The alignments of a table's columns that a node names by this index; none where the index names none.
+    /// Returns the alignments of the columns of a table that a node names by this index; none if the index names
+    /// none.
     pub fn alignments_at(&self, ix: AlignmentIndex) -> &[Alignment]
         ensures { result.now ≡ alignments_named (names_of self.now) ix }
     {
@@ -182,7 +182,7 @@ impl<'a> Allocations<'a> {
         }
     }
 
-    /// The attributes of a heading that a node names by this index; `None` where the index names none.
+    /// Returns the attributes of a heading that a node names by this index; `None` if the index names none.
     pub fn attributes_at(&self, ix: HeadingIndex) -> Option<&HeadingAttributes<'a>>
         ensures { option_map (λ h. attributes_in h.now) result ≡ slice_get (names_of self.now).headings ix.0 }
     {
@@ -190,7 +190,7 @@ impl<'a> Allocations<'a> {
     }
 }
 
-// The same text once more: borrowed where it is borrowed, else a copy of it.
+// A copy of the text, borrowed if the text is borrowed.
 fn copy_of<'a>(alloc: Global, text: &CowStr<'a>) -> Result<CowStr<'a>, AllocError>
     ensures { IfOk result (λ copy. IsCopy text.now copy) }
 {
@@ -203,14 +203,14 @@ fn copy_of<'a>(alloc: Global, text: &CowStr<'a>) -> Result<CowStr<'a>, AllocErro
     }
 }
 
-// What a further line of a label has before the label continues: nothing.
+// The prefix of a further line of a label: none.
 fn no_prefix(_line: &[u8]) -> Result<Option<usize>, AllocError>
     ensures { result ≡ Ok (Some 0) }
 {
     Ok(Some(0))
 }
 
-// The label that stands at the start of `text`, with how many bytes it has.
+// The label at the start of `text`, with its length in bytes.
 fn scan_label<'t>(alloc: Global, text: &'t str) -> Result<Option<(usize, CowStr<'t>)>, AllocError>
     ensures { IfOk result (λ answer. MatchOption (label_at (λ further. Some 0) false text.now)
         (answer ≡ None)
@@ -226,7 +226,7 @@ impl<'a> Index<CowIndex> for Allocations<'a> {
 
     ghost index_gives = { λ allocs ix named. slice_get (names_of allocs).texts ix.0 ≡ Some named };
 
-    /// The text that a node names by this index.
+    /// Returns the text that a node names by this index.
     fn index(&self, ix: CowIndex) -> &CowStr<'a> {
         &self.texts[ix.0]
     }
@@ -239,7 +239,7 @@ impl<'a> Index<AlignmentIndex> for Allocations<'a> {
 
     ghost index_gives = { λ allocs ix named. slice_get (names_of allocs).alignments ix.0 ≡ Some named.items };
 
-    /// The alignments of a table's columns that a node names by this index.
+    /// Returns the alignments of the columns of a table that a node names by this index.
     fn index(&self, ix: AlignmentIndex) -> &Vec<Alignment> {
         &self.alignments[ix.0]
     }
@@ -252,7 +252,7 @@ impl<'a> Index<HeadingIndex> for Allocations<'a> {
 
     ghost index_gives = { λ allocs ix named. slice_get (names_of allocs).headings ix.0 ≡ Some (attributes_in named) };
 
-    /// The attributes of a heading that a node names by this index.
+    /// Returns the attributes of a heading that a node names by this index.
     fn index(&self, ix: HeadingIndex) -> &HeadingAttributes<'a> {
         &self.headings[ix.0]
     }

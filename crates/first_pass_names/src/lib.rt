@@ -1,4 +1,5 @@
-//! What an index of a node names: the tables of texts and of alignments beside the tree. Tokens put texts there.
+//! The tables beside the tree, with the texts, alignments and heading attributes that nodes name by an index. The
+//! texts of tokens are added here.
 #![tactic(auto)]
 
 pub mod items;

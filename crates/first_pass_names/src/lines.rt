@@ -1,4 +1,4 @@
-//! The tokens of lines and of cells, with the texts that they name among those of the tables.
+//! The tokens of lines and of cells, with the texts that they name in the tables.
 
 ghost use Rattle.std.specs.Prelude.{◌≡◌, ◌≤◌, length, false, IfOk, IfSome, OnOk, IsUtf8};
 ghost use Rattle.first_pass_walk.specs.Walk.{MarksSpecial};
@@ -17,10 +17,10 @@ use first_pass_tree::forest::Tree;
 use std::alloc::AllocError;
 
 impl<'a> Allocations<'a> {
-    /// Appends the tokens of one line to the innermost open node, and puts the texts that they name after those of the
-    /// tables: see `first_pass_tokens::line::append_line`. `braces`, the brace contexts before the line, become those
-    /// after it. Returns the offset after the line's line end, and the line break there (CommonMark 6.7, 6.8), which
-    /// is not appended. The error is want of memory.
+    /// Appends the tokens of one line to the innermost open node, and the texts that they name to the tables: see
+    /// `first_pass_tokens::line::append_line`. `braces` holds the brace contexts before the line, then those after
+    /// it. Returns the offset after the line ending, and the line break there (CommonMark 6.7, 6.8), which is not
+    /// appended. Fails only if an allocation fails.
     #[inline(always)]
     pub fn append_line(
         &mut self,
@@ -44,10 +44,10 @@ impl<'a> Allocations<'a> {
         line::append_line(content, tree, &mut self.texts, braces)
     }
 
-    /// Appends the tokens of one cell of a table's row to the innermost open node, and puts the texts that they name
-    /// after those of the tables: see `first_pass_tokens::line::append_cell`. `braces`, the brace contexts before the
-    /// cell, become those after it. Returns the offset where the content ends: that of the pipe, the line end or the
-    /// text's end (GFM 4.10). The error is want of memory.
+    /// Appends the tokens of one cell of a table row to the innermost open node, and the texts that they name to the
+    /// tables: see `first_pass_tokens::line::append_cell`. `braces` holds the brace contexts before the cell, then
+    /// those after it. Returns the end of the content: the offset of the pipe, the line ending or the end of the text
+    /// (GFM 4.10). Fails only if an allocation fails.
     #[inline(always)]
     pub fn append_cell(
         &mut self,
