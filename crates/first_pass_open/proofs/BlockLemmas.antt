@@ -1,4 +1,4 @@
--- A block opened, filled with a chain and closed.
+-- A block that is opened, filled with a chain, and closed.
 use Rattle.std.proofs.Common.{◌≡◌, ℕ, zero, suc, ◌+◌, ◌<◌, List, [], ◌∷◌, ◌++◌, length, slice_get, Option, Some, None, IsSome, refl, sym, ap, subst, ◌∙◌, arith}
 use Rattle.std.proofs.Common.{append_assoc, length-append}
 use Rattle.std.proofs.lemmas.List.{length-map}
@@ -14,7 +14,7 @@ use Rattle.first_pass_tokens.proofs.ChainLemmas.{chained-spine, chained-nodes, c
 use Rattle.first_pass_grammar.specs.Leaves.{marker_items}
 use Rattle.first_pass_open.specs.OpenBlock.{with_child, closed_by, IsJustPushed}
 
--- the node that was opened stands where the nodes ended
+-- the node that was opened is after all earlier nodes
 pub opened_is : (g p : Forest Item) (x : Item) (ix : TreeIndex) → ix.0 ≡ length g.nodes → p ≡ pushed (appended g x) (record { 0 = length g.nodes })
     → p ≡ pushed (appended g x) ix
 opened_is g p x ix at is = is ∙ ap (λ (n : ℕ). pushed (appended g x) (record { 0 = n })) (sym at)
@@ -36,7 +36,7 @@ pub marked_chain : (p m n : Forest Item) (marker : Option Item) (chain : List It
 marked_chain p m n None chain e f = f ∙ ap (λ v. chained v chain) e
 marked_chain p m n (Some x) chain e f = f ∙ ap (λ v. chained v chain) e ∙ chained-append p (x ∷ []) chain
 
--- the nodes of a tree in which a block stands open
+-- the nodes of a tree with an open block
 opened_nodes : (g : Forest Item) (x : Item) (chain : List Item) (ix : TreeIndex)
     → (chained (pushed (appended g x) ix) chain).nodes ≡ g.nodes ++ (length g.spine + 1, x) ∷ at_depth (length g.spine + 2) (leaves chain)
 opened_nodes g x chain ix =

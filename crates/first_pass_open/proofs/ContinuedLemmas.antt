@@ -1,4 +1,4 @@
--- How a line continues the containers that are open, told by how many of the open nodes it continues.
+-- How a line continues the open containers, from the number of open nodes that it continues.
 use Rattle.std.proofs.Common.{◌≡◌, inl, inr, ℕ, zero, suc, ◌+◌, ◌-◌, ◌<◌, ◌≤◌, ◌==◌, true, false, List, ◌∷◌, length, get_or, reverse}
 use Rattle.std.proofs.Common.{slice_get, Option, Some, None, is_some, refl, sym, ap, ◌∙◌, subst, arith}
 use Rattle.std.proofs.Math.Bool.{and-true}
@@ -23,7 +23,7 @@ stop_by : (c : Container) (path : List Container) (r q : Rest) → after path r 
 unfolding at_definition after
 stop_by c path r q some none = rw some (rw none (and-true (is_definition c)))
 
--- the first open node that a line doesn't continue
+-- the first open node that a line does not continue
 stop_at : (o : Option Container) (path : List Container) (r q : Rest)
     → after path r ≡ Some q → prefix_of o q ≡ None → at_definition (with_container o path) r ≡ is_definition_node o
 stop_at None path r q some none = cc
@@ -46,7 +46,7 @@ stop_more options ns spine i r (suc d) h none =
     ∙ stop_kept (container_at options ns (get_or (reverse spine) (i + d) root)) (path_to options ns spine (i + d)) r (none (i + d) (omega arith) (omega arith))
     ∙ stop_more options ns spine i r d (omega arith) none
 
--- A line continues the outermost i open nodes, and no more.
+-- A line continues only the outermost i open nodes.
 pub record IsKept (options : Options) (f : Forest Item) (i : ℕ) (r q : Rest) : Type 0 where
   pub within : i ≤ length f.spine
   pub taken : after (path_in options f.nodes (outer i f.spine)) r ≡ Some q
@@ -55,7 +55,7 @@ pub record IsKept (options : Options) (f : Forest Item) (i : ℕ) (r q : Rest) :
 all_path : (options : Options) (f : Forest Item) → path_to options f.nodes f.spine (length f.spine) ≡ path_in options f.nodes f.spine
 all_path options f = ap (path_in options f.nodes) (outer-all f.spine)
 
--- it continues all
+-- it continues all of them
 all_kept : (options : Options) (f : Forest Item) (i : ℕ) (r q : Rest) → IsKept options f i r q → length f.spine ≤ i
     → continued_to options f i ≡ continued (path_in options f.nodes f.spine) r
 all_kept options f i r q k h =
@@ -72,7 +72,7 @@ all_kept options f i r q k h =
     ∙ sym (whole_none (path_in options f.nodes f.spine) r (ap is_some some)) in
     cc
 
--- it doesn't
+-- it does not
 some_kept : (options : Options) (f : Forest Item) (i : ℕ) (r q : Rest) → IsKept options f i r q → i < length f.spine
     → continued_to options f i ≡ continued (path_in options f.nodes f.spine) r
 some_kept options f i r q k h =

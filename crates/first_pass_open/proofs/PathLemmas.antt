@@ -34,7 +34,7 @@ get_front [] more i h = absurd (omega arith)
 get_front (n ∷ ns) more zero h = refl
 get_front (n ∷ ns) more (suc i) h = get_front ns more i (omega arith)
 
--- more nodes after
+-- more nodes after these
 pub path_in-append : (options : Options) (ns more : List (ℕ × Item)) (spine : List TreeIndex)
     → AreIn (length ns) spine → path_in options (ns ++ more) spine ≡ path_in options ns spine
 path_in-append options ns more [] a = refl
@@ -75,13 +75,13 @@ item-end n =
     let h : has_columns n (line_rest []) ≡ true = ap (λ (r : Rest). nat_le n (indent (line_rest [])) || at_line_end r.left) e ∙ or_true (nat_le n 0) in
     item_prefix n (line_rest []) h ∙ ap (λ r. Some r) e
 
--- a list item or a definition, whose prefix has these columns
+-- a list item or a definition, whose prefix is these columns
 pub columns_prefix : (options : Options) (body : ItemBody) (n : ℕ) (r : Rest) → (body ≡ ListItemBody n) ⊎ (body ≡ DefinitionListDefinition n)
     → prefix_of (container_of options body) r ≡ prefix (ListItem n) r
 columns_prefix options body n r (inl e) = ap (λ b. prefix_of (container_of options b) r) e
 columns_prefix options body n r (inr e) = ap (λ b. prefix_of (container_of options b) r) e ∙ definition_prefix n r
 
--- At the end of the text a line continues a path, or doesn't.
+-- At the end of the text, the line continues a path and takes nothing, or does not continue it.
 pub after-end : (path : List Container) → (after path (line_rest []) ≡ None) ⊎ (after path (line_rest []) ≡ Some (line_rest []))
 unfolding after prefix
 after-end [] = inr refl
@@ -112,7 +112,7 @@ get_last [] x (suc i) h = absurd (omega arith)
 get_last (n ∷ ns) x zero h = absurd (omega arith)
 get_last (n ∷ ns) x (suc i) h = get_last ns x i (omega arith)
 
--- a node just opened
+-- a node that was just opened
 pub path_of-opened : (options : Options) (g : Forest Item) (x : Item) (ix : TreeIndex) → ix.0 ≡ length g.nodes → AreIn (length g.nodes) g.spine
     → path_of options (pushed (appended g x) ix) ≡ with_container (container_of options x.body) (path_of options g)
 path_of-opened options g x ix at a =

@@ -1,4 +1,4 @@
--- Where a plain byte is next, no container begins, and the indentation has no columns.
+-- If a plain byte is next, no container begins, and the indentation has no columns.
 use Rattle.std.proofs.Common.{◌≡◌, min, true, None, refl}
 use Rattle.first_pass_lines.specs.Rest.{Rest, indent}
 use Rattle.first_pass_lines.specs.Plain.{begins_plain, begins_inert}

@@ -1,4 +1,4 @@
--- A line of which nothing is left continues all open nodes but block quotes.
+-- A line that is over continues all open nodes except block quotes.
 use Rattle.std.proofs.Common.{◌≡◌, ℕ, zero, suc, ◌+◌, ◌-◌, ◌<◌, ◌≤◌, nat_le, ◌||◌, Bool, true, false, List, [], ◌∷◌, ◌++◌, length, get_or, take, reverse}
 use Rattle.std.proofs.Common.{Option, Some, None, refl, sym, ap, subst, ◌∙◌, arith}
 use Rattle.std.specs.Option.{option_map}
@@ -26,7 +26,7 @@ byte_none : (r : Rest) (bs : List ℕ) → at_line_end bs ≡ true → column_of
 byte_none r [] h = refl
 byte_none r (b ∷ bs) h = grind (arith, nat_tests, h)
 
--- nothing is left of a line: no column, and then its end
+-- a line is over: no column is left, only its end
 pub record IsOver (r : Rest) : Type 0 where
   pub none : r.owed ≡ 0
   pub ends : at_line_end r.left ≡ true
@@ -41,7 +41,7 @@ columns_passed n r o =
     ∙ or_true (nat_le n (indent r)) in
     item_prefix n r h ∙ ap (λ q. Some q) e
 
--- it continues what is no block quote,
+-- such a line continues a container that is no block quote,
 passed : (c : Container) (r : Rest) → IsOver r → is_quote c ≡ false → prefix c r ≡ Some r
 passed (BlockQuote kind) r o h = absurd cc
 passed (ListItem n) r o h = columns_passed n r o
@@ -75,7 +75,7 @@ quote_append (c ∷ p) q h k =
     let none = both_none (is_quote c) (has_quote p) h in
     ap (λ t. t || has_quote (p ++ q)) none.0 ∙ quote_append p q none.1 k
 
--- no block quote is among fewer open nodes either
+-- nor is a block quote among fewer open nodes
 with_fewer : (o : Option Container) (p q : List Container) → has_quote (with_container o p) ≡ false → (has_quote p ≡ false → has_quote q ≡ false)
     → has_quote (with_container o q) ≡ false
 with_fewer None p q h k = k h
@@ -91,7 +91,7 @@ fewer options ns (ix ∷ spine) (suc k) (suc n) h none =
     with_fewer (container_at options ns ix) (path_in options ns (take n spine)) (path_in options ns (take k spine)) none
     (λ few. fewer options ns spine k n (omega arith) few)
 
--- A line continues the outermost i open nodes, of which nothing is left then, and no block quote is open after those.
+-- A line continues the outermost i open nodes and is over then, and no block quote is open inside those.
 pub rest_passed : (options : Options) (f : Forest Item) (n i : ℕ) (r s : Rest) → has_quote_after options f n ≡ false → n ≤ i
     → after (path_in options f.nodes (outer i f.spine)) r ≡ Some s → IsOver s → after (path_of options f) r ≡ Some s
 rest_passed options f n i r s none h taken o =
@@ -105,7 +105,7 @@ one_none : (o : Option Container) → is_quote_node o ≡ false → has_quote (w
 one_none None h = refl
 one_none (Some c) h = ap (λ t. t || false) h
 
--- one open node more, which is no block quote
+-- one more open node, which is no block quote
 pub none_after_more : (options : Options) (f : Forest Item) (places : List TreeIndex) (n : ℕ) (item : Item) → places ≡ reverse f.spine → n < length places
     → option_map (λ n. n.1) (slice_get f.nodes (get_or places n root).0) ≡ Some item → is_quote_node (container_of options item.body) ≡ false
     → has_quote_after options f (n + 1) ≡ false → has_quote_after options f n ≡ false

@@ -1,4 +1,4 @@
--- A block that is added between two offsets, and where a line ends.
+-- A block that is added between two offsets, and the end of a line.
 use Rattle.std.specs.Prelude.{◌≡◌, ℕ, ◌+◌, ◌≤◌, true, List, drop, Option, Some, None}
 use Rattle.first_pass_items.specs.declared.item.Item.{Item}
 use Rattle.first_pass_tree.specs.Forest.{Forest, added}
@@ -6,22 +6,23 @@ use Rattle.first_pass_lines.specs.Lines.{line_len}
 use Rattle.first_pass_grammar.specs.Order.{extent_of, is_task_marker, IsBetween, FitsBetween}
 use Rattle.first_pass_grammar.specs.OpenOrder.{is_in_item, within_top}
 
--- where the line ends that has something at an offset
+-- the end of the line containing an offset
 abbrev pub line_end_at : List ℕ → ℕ → ℕ
 line_end_at text at = at + line_len (drop at text)
 
--- A block is a last child of the innermost open node, and its nodes lie between two offsets in order, at most four of its own for each byte there.
+-- A block is a last child of the innermost open node. Its nodes are between two offsets, in order, and it has at most
+-- four nodes of its own for each byte there.
 pub record AddsBetween (text : List ℕ) (from to : ℕ) (old new : Forest Item) : Type 0 where
   pub items : List (ℕ × Item)
   pub tree_is : new ≡ added old items
   pub fits : FitsBetween text (within_top old) from to items
 
--- a task list item marker lies between two offsets, if there is one
+-- a task list item marker is between two offsets, if there is one
 abbrev pub StandsBefore : List ℕ → ℕ → ℕ → Option Item → Type 0
 StandsBefore text from to None = from ≤ to
 StandsBefore text from to (Some x) = (is_task_marker x.body ≡ true) × IsBetween text from to (extent_of x)
 
--- a task list item marker stands in a list item that is innermost (GFM 5.3)
+-- if there is a task list item marker, the innermost open node is a list item (GFM 5.3)
 abbrev pub IsInItem : Forest Item → Option Item → Type 0
 IsInItem f None = Unit {0}
 IsInItem f (Some x) = is_in_item f ≡ true

@@ -1,4 +1,4 @@
--- A block in a tree while it is open.
+-- A block in the tree while it is open.
 use Rattle.std.specs.Prelude.{◌≡◌, ℕ, ◌+◌, List, [], ◌∷◌, length, Option, Some, None}
 use Rattle.first_pass_items.specs.declared.item.Item.{Item}
 use Rattle.first_pass_items.specs.declared.item.ItemBody.{ItemBody}
@@ -17,7 +17,7 @@ pub record IsJustPushed (f : Forest Item) (ix : TreeIndex) : Type 0 where
   pub last : ix.0 + 1 ≡ length f.nodes
   pub none : f.current ≡ None
 
--- the innermost open node closed, with its end
+-- the tree after the innermost open node is closed at an end
 abbrev pub closed_by : Forest Item → ℕ → List TreeIndex → Forest Item
 closed_by f e [] = f
 closed_by f e (ix ∷ rest) = with_end_at (popped f ix rest) ix e
@@ -26,6 +26,6 @@ closed_by f e (ix ∷ rest) = with_end_at (popped f ix rest) ix e
 abbrev pub begun_item : ℕ → ItemBody → Item
 begun_item start body = record { start = start; «end» = 0; body = body }
 
--- the tree with such a block open
+-- the tree after such a block is opened
 abbrev pub opened_block : Forest Item → ℕ → ItemBody → Forest Item
 opened_block f start body = pushed (appended f (begun_item start body)) (record { 0 = length f.nodes })

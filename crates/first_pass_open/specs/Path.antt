@@ -1,4 +1,4 @@
--- The containers that are open in a tree.
+-- The open containers of a tree.
 use Rattle.std.specs.Prelude.{ℕ, ◌-◌, ◌==◌, Bool, false, List, [], ◌∷◌, length, take, drop, reverse, slice_get, ◌||◌, Option, Some, None}
 use Rattle.std.specs.Option.{option_and_then}
 use Rattle.first_pass_items.specs.declared.item.Item.{Item}
@@ -14,7 +14,7 @@ use Rattle.first_pass_items.specs.declared.option_set.Options.{Options}
 use Rattle.first_pass_grammar.specs.Containers.{Context, context, footnote_columns, prefix, is_quote, is_definition}
 use Rattle.first_pass_grammar.specs.Kinds.{Continued}
 
--- the container that a node is under these options, if it is one
+-- the container of a node under these options, if it is one
 abbrev pub container_of : Options → ItemBody → Option Container
 container_of options (BlockQuoteBody kind) = Some (BlockQuote kind)
 container_of options (ListItemBody columns) = Some (ListItem columns)
@@ -25,7 +25,7 @@ container_of options _ = None
 abbrev pub container_at : Options → List (ℕ × Item) → TreeIndex → Option Container
 container_at options ns ix = option_and_then (container_of options) (body_at ns ix.0)
 
--- what is no container continues every line, and takes nothing of it
+-- a node that is no container continues on every line, with an empty prefix
 abbrev pub prefix_of : Option Container → Rest → Option Rest
 prefix_of None r = Some r
 prefix_of (Some c) r = prefix c r
@@ -42,7 +42,7 @@ path_in options ns (ix ∷ spine) = with_container (container_at options ns ix) 
 abbrev pub path_of : Options → Forest Item → List Container
 path_of options f = path_in options f.nodes f.spine
 
--- what a line is read in, under these options, where these are open
+-- the context of a line: these options, and the open containers of this tree
 abbrev pub context_of : Options → Forest Item → Context
 context_of options f = context options (path_of options f)
 
@@ -50,7 +50,7 @@ context_of options f = context options (path_of options f)
 abbrev pub outer : ℕ → List TreeIndex → List TreeIndex
 outer m spine = drop (length spine - m) spine
 
--- all open nodes but the outermost m, the innermost first (this project)
+-- all open nodes except the outermost m, the innermost first (this project)
 abbrev pub inner : ℕ → List TreeIndex → List TreeIndex
 inner m spine = take (length spine - m) spine
 
@@ -59,12 +59,12 @@ abbrev pub is_quote_node : Option Container → Bool
 is_quote_node None = false
 is_quote_node (Some c) = is_quote c
 
--- a block quote is among these containers (CommonMark 5.1)
+-- one of these containers is a block quote (CommonMark 5.1)
 abbrev pub has_quote : List Container → Bool
 has_quote [] = false
 has_quote (c ∷ path) = is_quote c || has_quote path
 
--- a block quote is among the open nodes after the outermost m (CommonMark 5.1)
+-- one of the open nodes inside the outermost m is a block quote (CommonMark 5.1)
 abbrev pub has_quote_after : Options → Forest Item → ℕ → Bool
 has_quote_after options f m = has_quote (path_in options f.nodes (inner m f.spine))
 
@@ -73,10 +73,10 @@ abbrev pub is_definition_node : Option Container → Bool
 is_definition_node None = false
 is_definition_node (Some c) = is_definition c
 
--- the open node after the outermost n is one, if there is such a node (this project)
+-- the open node directly inside the outermost n is a definition of a definition list (this project)
 abbrev pub definition_after : Options → Forest Item → ℕ → Bool
 definition_after options f n = is_definition_node (option_and_then (container_at options f.nodes) (slice_get (reverse f.spine) n))
 
--- how a line continues the open containers that continues the outermost n open nodes, and no more (this project)
+-- how a line continues the open containers if it continues only the outermost n open nodes (this project)
 abbrev pub continued_to : Options → Forest Item → ℕ → Continued
 continued_to options f n = record { whole = n == length f.spine; at_definition = definition_after options f n }

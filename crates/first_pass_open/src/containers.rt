@@ -13,8 +13,8 @@ use first_pass_items::option_set::Options;
 use first_pass_scan::line_start::LineStart;
 use first_pass_tree::forest::Tree;
 
-// Takes the columns of an item's or a definition's indent, or fewer where the line ends after them, and says whether
-// they are there; takes nothing where they aren't.
+// Takes the columns of the indent of an item or a definition, or fewer if the line ends after them. Returns whether
+// they are there; takes nothing if they are not.
 #[inline(always)]
 #[tactic(auto, unfolding(first_pass_grammar::specs::Containers::prefix))]
 fn takes_columns<'a>(columns: usize, line_start: &mut LineStart<'a>) -> bool
@@ -29,14 +29,14 @@ fn takes_columns<'a>(columns: usize, line_start: &mut LineStart<'a>) -> bool
     true
 }
 
-// Takes the prefix by which the line continues a node, and says whether it does; takes nothing where it doesn't.
+// Takes the prefix with which the line continues a node. Returns whether it is there; takes nothing if it is not.
 #[inline(always)]
 #[tactic(auto, unfolding(first_pass_grammar::specs::Containers::prefix))]
 fn takes_prefix<'a>(body: ItemBody, line_start: &mut LineStart<'a>, options: Options) -> bool
     ensures { MatchOption (prefix_of (container_of options body) line_start.old)
         ((result ≡ false) × (line_start.new ≡ line_start.old)) (λ next. (result ≡ true) × (line_start.new ≡ next)) }
 {
-    // A few tests and no match on all kinds of nodes, which would be a jump that is seldom predicted.
+    // A few tests in place of a match on all kinds of nodes, whose jump is seldom predicted.
     let columns = match body {
         ItemBody::ListItem(columns) | ItemBody::DefinitionListDefinition(columns) => Some(columns),
         _ => None,
@@ -53,11 +53,11 @@ fn takes_prefix<'a>(body: ItemBody, line_start: &mut LineStart<'a>, options: Opt
     true
 }
 
-/// How many of the open nodes the line continues, the outermost first, up to the first by which it
-/// doesn't; the line start is then after what they take (CommonMark 5). A definition of a definition list takes the
-/// columns of its indent, as a list item does. A footnote definition takes four columns, or fewer and then the end of
-/// the line, where the options have footnotes as GitHub does, and else nothing; what is no container continues every
-/// line. The flag makes no difference.
+/// Returns how many of the open nodes the line continues, counted from the outermost up to the first that it does not
+/// continue. `line_start` is then after their prefixes (CommonMark 5). A list item and a definition have the columns
+/// of their indent as prefix. A footnote definition has four columns, or fewer and then the end of the line, if the
+/// options have GitHub's footnotes; otherwise nothing. Nodes that are no containers continue on every line. The last
+/// argument is not used.
 #[inline(always)]
 pub fn scan_containers<'a>(
     tree: &Tree<Item>,
@@ -89,12 +89,12 @@ fn is_quote(body: ItemBody) -> bool
     matches!(body, ItemBody::BlockQuote(_))
 }
 
-// So many nodes are open at least where a walk over them is saved.
+// The least number of open nodes for which a walk over them is saved.
 const MANY_OPEN: usize = 16;
 
-/// How many of the open nodes, the outermost first, are those up to the innermost block quote: a line of which nothing
-/// is left there continues all others. Where few nodes are open, it is how many these are. It stays right as long as no
-/// node is opened or closed (CommonMark 5.1, 5.2).
+/// Returns how many open nodes there are down to the innermost block quote, counted from the outermost. A line that
+/// is over after those continues all others. If few nodes are open, returns their number. The result is valid as long
+/// as no node is opened or closed (CommonMark 5.1, 5.2).
 pub fn quotes_end(tree: &Tree<Item>) -> usize
     ensures { (options : OptionSet) → has_quote_after options tree.now result ≡ false }
 {
@@ -113,8 +113,8 @@ pub fn quotes_end(tree: &Tree<Item>) -> usize
     end
 }
 
-/// What is left of the line that `bytes` begin with after what all open nodes take of it, of which none after the
-/// outermost `quotes_end` is a block quote; `None` where the line doesn't continue all of them (CommonMark 5).
+/// Returns the rest of the first line of `bytes` after the prefixes of all open nodes; `None` if the line does not
+/// continue all of them. No node inside the outermost `quotes_end` may be a block quote (CommonMark 5).
 #[inline(always)]
 pub fn continued_rest<'b>(
     bytes: &'b [u8],
@@ -138,8 +138,8 @@ pub fn continued_rest<'b>(
     Some(rest)
 }
 
-/// Takes the prefix of a block quote, where it is there, and returns how many bytes of the line stand before
-/// its marker; takes nothing where it isn't (CommonMark 5.1).
+/// Takes the prefix of a block quote, and returns the number of bytes of the line before its marker. If the prefix is
+/// not there, takes nothing and returns `None` (CommonMark 5.1).
 #[inline(always)]
 #[tactic(auto, unfolding(first_pass_grammar::specs::Containers::prefix))]
 pub fn scan_quote<'a>(line_start: &mut LineStart<'a>) -> Option<usize>
@@ -147,7 +147,7 @@ pub fn scan_quote<'a>(line_start: &mut LineStart<'a>) -> Option<usize>
         × (line_start.new ≡ line_start.old))
         (λ next. (result ≡ Some (after_columns 3 line_start.old).taken) × (line_start.new ≡ next)) }
 {
-    // Most markers stand right here: look for one here first, and after columns only then.
+    // Most markers are right here: first look for one here, and only then after columns.
     let at = line_start.bytes_scanned();
     if line_start.scan_blockquote_marker() {
         return Some(at);

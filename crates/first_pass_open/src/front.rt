@@ -1,4 +1,4 @@
-//! The front of a line: what the open containers take of it, and what is left then (CommonMark 5).
+//! The front of a line: the prefixes of the open containers on it, and its rest (CommonMark 5).
 
 ghost use Rattle.std.specs.Prelude.{◌≡◌, ◌<◌, ◌≤◌, ℕ, drop, length, is_some, Some, None, false, IfSome, IsTrue, IsUtf8, IsCharBoundary};
 ghost use Rattle.first_pass_items.specs.declared.option_set.Options.{Options};
@@ -15,18 +15,18 @@ use first_pass_lines::places::rest_of;
 use first_pass_scan::line_start::LineStart;
 use first_pass_tree::forest::Tree;
 
-/// What the open containers make of a line.
+/// How a line continues the open containers.
 #[derive(Drop)]
 pub struct Front<'a> {
     /// How many of the open nodes the line continues, the outermost first.
     pub kept: usize,
-    /// Whether these are all.
+    /// Whether these are all open nodes.
     pub whole: bool,
-    /// What is left of the line after what they take.
+    /// The rest of the line after their prefixes.
     pub rest: LineStart<'a>,
 }
 
-/// The front of the line that `bytes` begin with, where these nodes are open.
+/// Returns the front of the first line of `bytes`, with these nodes open.
 #[inline(always)]
 pub fn front_of<'b>(bytes: &'b [u8], tree: &Tree<Item>, options: Options) -> Front<'b>
     ensures within { result.kept ≤ length tree.now.spine }
@@ -50,7 +50,7 @@ pub fn front_of<'b>(bytes: &'b [u8], tree: &Tree<Item>, options: Options) -> Fro
     }
 }
 
-/// The front of the line that begins at the offset `start` into the text.
+/// Returns the front of the line at `start`, an offset into the text.
 #[inline(always)]
 pub fn scan_front<'a>(source: &Source<'a>, tree: &Tree<Item>, start: usize) -> Front<'a>
     requires { IsCharBoundary source.now.text.now start }
@@ -75,8 +75,8 @@ pub fn scan_front<'a>(source: &Source<'a>, tree: &Tree<Item>, start: usize) -> F
     front_of(rest_of(source.text.as_bytes(), start), tree, source.options)
 }
 
-/// What is left of the line that begins at the offset `start` after what all open containers take of it;
-/// `None` where it doesn't continue all of them (CommonMark 5).
+/// Returns the rest of the line at `start` after the prefixes of all open containers; `None` if it does not continue
+/// all of them. `start` is an offset into the text (CommonMark 5).
 #[inline(always)]
 pub fn scan_continued<'a>(
     source: &Source<'a>,
@@ -96,8 +96,8 @@ pub fn scan_continued<'a>(
     Some(front.rest)
 }
 
-/// The same as `scan_continued`, where no open node after the outermost `quotes_end` is a block quote: a line of which
-/// nothing is left is not walked through those (CommonMark 5).
+/// Returns the same as `scan_continued`, if no open node inside the outermost `quotes_end` is a block quote: the walk
+/// over those nodes is saved if the line is over (CommonMark 5).
 #[inline(always)]
 pub fn scan_continued_past<'a>(
     source: &Source<'a>,
@@ -121,8 +121,8 @@ pub fn scan_continued_past<'a>(
     Some(rest)
 }
 
-/// Whether the open node after the outermost `kept` is a definition of a definition list; `false` where no more are
-/// open.
+/// Returns whether the open node directly inside the outermost `kept` is a definition of a definition list; `false`
+/// if no more are open.
 pub fn is_definition_after(tree: &Tree<Item>, kept: usize) -> bool
     ensures { (options : Options) → result ≡ definition_after options tree.now kept }
 {

@@ -1,4 +1,4 @@
-//! The open nodes, how far a line continues them, and how a block stands open while its lines are read.
+//! The open nodes, how far a line continues them, and a leaf block while its lines are read.
 #![tactic(auto)]
 
 pub mod containers;

@@ -9,15 +9,15 @@ use first_pass_tree::forest::Tree;
 use first_pass_tree::tree_index::TreeIndex;
 use std::alloc::AllocError;
 
-/// How far the lines of a block were read: where the block ends, and where the line begins that is not read, or the
-/// text's length.
+/// How far the lines of a block are read: the end of the block, and the start of the next unread line, or the end of
+/// the text.
 #[derive(Clone, Copy)]
 pub struct BlockLines {
     pub end: usize,
     pub next: usize,
 }
 
-/// Appends a block that starts at an offset, opens it, and returns its index.
+/// Appends a block that starts at an offset, opens it, and returns its index. Fails only if an allocation fails.
 #[inline(always)]
 pub fn open_block(
     tree: &mut Tree<Item>,
@@ -35,7 +35,7 @@ pub fn open_block(
     tree.push()
 }
 
-/// Closes the innermost open node, of which there has to be one, at an offset, and returns its index.
+/// Closes the innermost open node at an offset, and returns its index. There has to be an open node.
 pub fn close_block(tree: &mut Tree<Item>, end: usize) -> TreeIndex
     requires { IsSome (slice_get tree.old.spine 0) }
     ensures tree { tree.new ≡ closed_by tree.old end tree.old.spine }

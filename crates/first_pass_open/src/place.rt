@@ -6,12 +6,12 @@ ghost use Rattle.first_pass_lines.specs.Places.{offset};
 use first_pass_scan::line_start::LineStart;
 use std::marker::Model;
 
-/// A place in a text: where the reading of its line began, and what is left of the line there.
+/// A place in a text: the offset at which reading its line began, and the rest of the line.
 #[derive(Drop)]
 pub struct Place<'a> {
-    /// The offset into the text at which the reading of the line began.
+    /// The offset into the text at which reading the line began.
     pub line: usize,
-    /// What is left of the line.
+    /// The rest of the line.
     pub rest: LineStart<'a>,
 }
 
@@ -24,7 +24,7 @@ impl<'a> Model for Place<'a> {
 }
 
 impl<'a> Place<'a> {
-    /// How many bytes of the text stand before the place.
+    /// Returns the offset of the place into the text.
     #[inline(always)]
     pub fn offset(&self) -> usize
         requires { offset self.now < 2 ^ 63 }
@@ -33,7 +33,7 @@ impl<'a> Place<'a> {
         self.line + self.rest.bytes_scanned()
     }
 
-    /// What is left of the line, and all that follows it.
+    /// Returns the rest of the line and all that follows it.
     #[inline(always)]
     pub fn left(&self) -> &'a [u8]
         ensures { result.now ≡ self.now.rest.left }
@@ -41,7 +41,7 @@ impl<'a> Place<'a> {
         self.rest.left()
     }
 
-    /// The same place once more, which takes no memory.
+    /// Returns a copy of the place, which takes no memory.
     #[inline(always)]
     pub fn copy(&self) -> Place<'a>
         ensures { result ≡ self.now }

@@ -1,4 +1,4 @@
-//! The text that is read, and all that no call changes while it is.
+//! The text that is read, and everything that no call changes while it is read.
 
 ghost use Rattle.std.specs.Prelude.{◌≡◌, ◌<◌, ◌^◌, length};
 ghost use Rattle.first_pass_walk.specs.Walk.{MarksSpecial};
@@ -7,22 +7,22 @@ use first_pass_items::option_set::Options;
 use first_pass_walk::walk::special_bytes;
 use std::alloc::Global;
 
-/// A text, and what it is read with. No call changes it.
+/// A text with its options and the tables for reading it. No call changes it.
 #[derive(Drop)]
 pub struct Source<'a> {
-    /// Where memory comes from.
+    /// The source of memory.
     pub alloc: Global,
-    /// The whole text, of which offsets speak.
+    /// The whole text; offsets are into this text.
     pub text: &'a str,
     /// The options.
     pub options: Options,
-    /// Which bytes may begin inline markup, under the options.
+    /// The bytes that may begin inline markup under the options.
     pub special: [bool; 256],
     ghost marks: { MarksSpecial special options },
 }
 
 impl<'a> Source<'a> {
-    /// A text that is read under these options.
+    /// Returns a text to be read under these options.
     pub fn new(alloc: Global, text: &'a str, options: Options) -> Source<'a>
         ensures text { result.text.now ≡ text.now }
         ensures options { result.options ≡ options }
@@ -35,8 +35,8 @@ impl<'a> Source<'a> {
         }
     }
 
-    /// Does nothing. It hands its caller what each text keeps: it is shorter than half of all numbers, so
-    /// that two offsets into it can be added.
+    /// Gives the caller the fact that the text has fewer than 2^63 bytes, so two offsets into it can be added. Does
+    /// nothing at run time.
     pub fn is_short(&self)
         ensures { length self.now.text.now < 2 ^ 63 }
     {
