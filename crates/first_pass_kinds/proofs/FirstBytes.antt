@@ -1,4 +1,5 @@
--- What the first byte of a line tells before its containers are asked; and which first bytes are those of an item that interrupts a paragraph.
+-- Facts from the first byte of a line, before its containers are read; and the first bytes of an item that interrupts
+-- a paragraph.
 use Rattle.std.proofs.Common.{◌≡◌, inl, inr, ℕ, suc, ◌+◌, ◌==◌, nat_lt, nat_le, ◌&&◌, ◌||◌, not, Bool, true, false, true≢false, List, [], ◌∷◌, drop}
 use Rattle.std.proofs.Common.{Option, Some, None, is_some, if◌then◌else◌, refl, sym, ap, subst, ◌∙◌, arith}
 use Rattle.std.proofs.lemmas.Bool.{cases_eq, ne_eqb, eqb-true}
@@ -23,12 +24,12 @@ use Rattle.first_pass_kinds.specs.declared.interrupt.NextLine.TheVariants.{More,
 use Rattle.first_pass_kinds.specs.NextLines.{next_line_of}
 use Rattle.first_pass_kinds.proofs.PlainLines.{none_either, plain_more}
 
--- neither a column nor a block quote marker stands here
+-- neither a column nor a block quote marker is here
 pub record HasNone (r : Rest) : Type 0 where
   pub column : next_column r ≡ None
   pub quote : past_quote r ≡ None
 
--- Then a container takes nothing, be it continued or not,
+-- Then the prefix of a container takes nothing, whether the line continues it or not;
 if_same : (t : Bool) (r : Rest) → or_shorter (if t then Some r else None) r ≡ r
 if_same true r = refl
 if_same false r = refl
@@ -54,17 +55,17 @@ unfolding after
 after_same [] r h = refl
 after_same (c ∷ path) r h = after_by c r (after path r) h (after_same path r h)
 
--- a path of them takes nothing,
+-- a path of containers takes nothing;
 front_same : (path : List Container) (r : Rest) → HasNone r → front path r ≡ r
 unfolding front
 front_same [] r h = refl
 front_same (c ∷ path) r h = ap (or_shorter (after (c ∷ path) r)) (front_same path r h) ∙ after_same (c ∷ path) r h
 
--- and no columns are left after them.
+-- and no columns remain after them.
 text_same : (path : List Container) (r : Rest) → HasNone r → all_taken (front path r) ≡ r
 text_same path r h = ap all_taken (front_same path r h) ∙ after-none (indent r) r h.column
 
--- So it is where a line begins with no space, tab or `>`.
+-- This holds for a line that begins with no space, tab or `>`.
 column_none : (r : Rest) (bs : List ℕ) → begins 32 bs ≡ false → begins 9 bs ≡ false → column_of_byte r bs ≡ None
 column_none r [] a b = refl
 column_none r (b ∷ bs) s t = rw s (rw t refl)
@@ -97,7 +98,7 @@ plain_first around start bs h =
     let same : start ≡ start + 0 = omega arith in
     ap More same ∙ plain_more around start (line_rest bs) (line_rest bs) (sym (text_same around.path (line_rest bs) (plain_none bs h))) h
 
--- where a line ends, no byte stands first but that of a line end
+-- at the end of a line, the first byte is that of a line ending
 eol_begins : (c : ℕ) (bs : List ℕ) → at_line_end bs ≡ true → ((xs : List ℕ) → at_line_end (c ∷ xs) ≡ false) → begins c bs ≡ false
 eol_begins c [] h k = refl
 eol_begins c (b ∷ bs) h k = elim (cases_eq b c) [
@@ -128,7 +129,7 @@ eol_ends : (around : Context) (c : Continued) (r : Rest) → at_line_end (all_ta
 unfolding interrupts
 eol_ends around c r h = rw h (either (nat_lt (indent r) 4))
 
--- A line that ends where it begins is no line of the text before it.
+-- A line that ends at its start is no line of the text before it.
 pub eol_first : (around : Context) (start : ℕ) (bs : List ℕ) → at_line_end bs ≡ true → Other ≡ next_line_of around start (line_rest bs)
 eol_first around start bs h =
     let ends : at_line_end (all_taken (front around.path (line_rest bs))).left ≡ true =
@@ -136,7 +137,7 @@ eol_first around start bs h =
     rw (eol_underline around.path (line_rest bs) ends)
     (rw (eol_ends around (continued around.path (line_rest bs)) (front around.path (line_rest bs)) ends) refl)
 
--- a line isn't blank that has a plain byte after its first space
+-- a line with a plain byte after its first space is not blank
 blank_by : (f g : ℕ → ℕ) (o : Option ℕ) → option_map f o ≡ None → option_map g o ≡ None
 blank_by f g None e = refl
 blank_by f g (Some n) e = absurd cc

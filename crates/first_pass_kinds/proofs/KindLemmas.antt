@@ -1,4 +1,4 @@
--- What the kind of a place says of what begins there.
+-- Facts from the kind of the block at a place.
 use Rattle.std.proofs.Common.{◌≡◌, inl, inr, ℕ, ◌+◌, ◌<◌, ◌≤◌, min, nat_lt, ◌==◌, Bool, true, false, List, length, drop, Option, Some, None, is_some, IfSome}
 use Rattle.std.proofs.Common.{IfNone, IsUtf8, refl, sym, ap, subst, ◌∙◌, if◌then◌else◌, arith}
 use Rattle.std.proofs.lemmas.Bool.Decides.{nat_tests}
@@ -20,14 +20,14 @@ use Rattle.first_pass_grammar.specs.Kinds.{begins_html_to_blank, html_kind, firs
 use Rattle.first_pass_kinds.specs.Found.{kind_of, IsFoundWith}
 use Rattle.first_pass_kinds.specs.declared.kinds.Found.{Found}
 
--- columns that were counted up to four
+-- columns counted up to four
 pub few_columns : (n m : ℕ) → n ≡ min 4 m → n < 4 → (nat_lt m 4 ≡ true) × (n ≡ m)
 few_columns n m is few = (grind (arith, nat_tests, is, few), omega arith)
 
 pub many_columns : (n m : ℕ) → n ≡ min 4 m → 4 ≤ n → nat_lt m 4 ≡ false
 many_columns n m is many = grind (arith, nat_tests, is, many)
 
--- what stands where a block of this kind begins
+-- the bytes at the start of a block of this kind
 abbrev pub Says : Rest → Kind → Type 0
 Says r Blank = is_blank_rest r ≡ true
 Says r IndentedCode = (is_blank_rest r ≡ false) × (nat_lt (indent r) 4 ≡ false)
@@ -84,7 +84,7 @@ pub blank_kind : (options : Options) (r : Rest) → is_blank_rest r ≡ true →
 unfolding first_kind
 blank_kind options r h = let first : first_kind options r ≡ Some Blank = rw h refl in subst (λ o. IsKindBy r o Blank) (sym first) refl
 
--- of one after four columns
+-- the kind of a place after four columns
 pub code_kind : (options : Options) (r : Rest) → is_blank_rest r ≡ false → nat_lt (indent r) 4 ≡ false → IsKind options r IndentedCode
 unfolding first_kind
 code_kind options r h u = let first : first_kind options r ≡ Some IndentedCode = rw h (rw u refl) in subst (λ o. IsKindBy r o IndentedCode) (sym first) refl
@@ -94,7 +94,8 @@ early_is : (options : Options) (r : Rest) → is_blank_rest r ≡ false → nat_
 unfolding first_kind
 early_is options r h u = rw h (rw u refl)
 
--- What was found at a place: it isn't blank, there are so many columns before it, under four, and this metadata or none.
+-- A block was found at a place: the line is not blank, fewer than four columns are before the block, and it is this
+-- metadata block, or none.
 pub record FoundEarly (options : Options) (r : Rest) (m : Option ℕ) : Type 0 where
   pub some : is_blank_rest r ≡ false
   pub few : nat_lt (indent r) 4 ≡ true
@@ -138,12 +139,12 @@ pub tag_here : (options : Options) (r : Rest) (n : ℕ)
     → FoundEarly options r None → html_kind (all_taken r).left ≡ None → BeginsTagLine (all_taken r).left n → IsKind options r HtmlToBlank
 tag_here options r n f is tag = subst (λ o. IsKindBy r o HtmlToBlank) (sym (html_first options r f ∙ is)) (inl (n, tag, refl))
 
--- one of the others
+-- one of the other kinds
 pub last_here : (options : Options) (r : Rest) → FoundEarly options r None → html_kind (all_taken r).left ≡ None
     → ((n : ℕ) → BeginsTagLine (all_taken r).left n → ⊥) → IsKind options r (last_kind (all_taken r).left)
 last_here options r f is no_tag = subst (λ o. IsKindBy r o (last_kind (all_taken r).left)) (sym (html_first options r f ∙ is)) (inr (no_tag, refl))
 
--- a tag that was found, or wasn't
+-- a tag that was found, or was not
 pub tag_found : (o : Option ℕ) (bs left : List ℕ) → is_some o ≡ true → left ≡ bs → IfSome o (BeginsTagLine bs) → (n : ℕ) × BeginsTagLine left n
 tag_found None bs left h same tag = cc
 tag_found (Some n) bs left h same tag = (n, subst (λ z. BeginsTagLine z n) (sym same) tag)
@@ -153,7 +154,7 @@ pub tag_absent : (o : Option ℕ) (bs left : List ℕ)
 tag_absent None bs left h same none = subst (λ z. (n : ℕ) → BeginsTagLine z n → ⊥) (sym same) none
 tag_absent (Some n) bs left h same none = cc
 
--- what was found of an HTML block
+-- the parts that were found of an HTML block
 pub found_html : (o : Option Found) (f : Found) (h : Option Kind) (bs left : List ℕ)
     → o ≡ Some f → option_map kind_of o ≡ h → IfSome o (IsFoundWith bs) → left ≡ bs → (h ≡ Some (kind_of f)) × IsFoundWith left f
 found_html o f h bs left is kind with same = (

@@ -1,5 +1,5 @@
--- Where no mark is next, nothing interrupts a paragraph but a table, a footnote or a definition; and where an ATX heading is, no block begins that is looked
--- for before it.
+-- If no mark is next, only a table, a footnote or a definition interrupts a paragraph; at an ATX heading, no block
+-- begins that is tried before it.
 use Rattle.std.proofs.Common.{◌≡◌, inl, inr, ℕ, ◌==◌, nat_lt, Bool, true, false, true≢false, List, [], ◌∷◌, Option, Some, None, if◌then◌else◌}
 use Rattle.std.proofs.Common.{refl, sym, ap, ◌∙◌, subst, arith}
 use Rattle.std.proofs.lemmas.Bool.{cases_eq, ne_eqb, eqb-true}
@@ -19,7 +19,7 @@ use Rattle.first_pass_kinds.specs.Marks.{is_no_mark, begins_no_mark}
 use Rattle.first_pass_kinds.proofs.KindLemmas.{FoundEarly, last_here}
 use Rattle.first_pass_kinds.proofs.PlainKinds.{tag_begins}
 
--- what holds of the bytes that begin with c, where c stands first
+-- a property of all bytes that begin with c holds if c is first
 at_first : (P : List ℕ → Type 0) (c : ℕ) (bs : List ℕ) → begins c bs ≡ true → ((xs : List ℕ) → P (c ∷ xs)) → P bs
 at_first P c [] h f = absurd (true≢false (sym h))
 at_first P c (b ∷ bs) h f = subst (λ (x : ℕ). P (x ∷ bs)) (sym (eqb-true b c h)) (f bs)
@@ -28,12 +28,12 @@ either : {A : Type 0} (t : Bool) (o : Option A) → o ≡ None → (if t then o 
 either true o e = e
 either false o e = refl
 
--- no ATX heading begins with another byte than a number sign
+-- an ATX heading begins only with a number sign
 unsigned : (b : ℕ) (bs : List ℕ) → b == 35 ≡ false → atx_level (b ∷ bs) ≡ None
 unfolding atx_level
 unsigned b bs other = rw other (either (ends_signs (b ∷ bs)) None refl)
 
--- a byte that is no mark is none of the marks
+-- a byte that is no mark differs from each mark
 isnt : (b c : ℕ) → is_no_mark b ≡ true → is_no_mark c ≡ false → b == c ≡ false
 isnt b c h k = elim (cases_eq b c) [
   | inl same ↦ absurd (true≢false (sym h ∙ ap is_no_mark same ∙ k))
@@ -44,7 +44,7 @@ no_digit : (b : ℕ) → is_no_mark b ≡ true → is_ascii_digit b ≡ false
 unfolding is_no_mark
 no_digit b h = grind (arith, nat_tests, h)
 
--- A line that begins with no mark interrupts no paragraph, but as a table, a footnote or a definition.
+-- A line that begins with no mark interrupts a paragraph only as a table, a footnote or a definition.
 unmarked_first : (whole : Bool) (b : ℕ) (bs : List ℕ) → is_no_mark b ≡ true → interrupts_with whole (b ∷ bs) ≡ false
 unfolding is_no_mark hrule_len code_fence list_marker listitem
 unmarked_first whole b bs h =
@@ -66,7 +66,7 @@ heading_begins (b ∷ bs) level e = elim (cases_eq b 35) [
   | inr other ↦ let none = unsigned b bs (ne_eqb b 35 other) in absurd cc
 ]
 
--- with which no thematic break, no metadata and no HTML begins,
+-- at which no thematic break, no metadata and no HTML begins,
 sign_hrule : (bs : List ℕ) → begins 35 bs ≡ true → hrule_len bs ≡ None
 unfolding hrule_len
 sign_hrule bs h = at_first (λ xs. hrule_len xs ≡ None) 35 bs h (λ xs. refl)
@@ -92,7 +92,7 @@ sign_tag bs h n t = true≢false (sym (tag_begins bs n t) ∙ at_first (λ xs. b
 heading_last : (bs : List ℕ) (level : HeadingLevel) → begins 35 bs ≡ true → atx_level bs ≡ Some level → last_kind bs ≡ AtxHeading level
 heading_last bs level h e = rw (sign_hrule bs h) (rw e refl)
 
--- so it is the block at under four columns.
+-- so it is the block if fewer than four columns are before it.
 pub heading_kind : (options : Options) (r : Rest) (level : HeadingLevel) → is_blank_rest r ≡ false → nat_lt (indent r) 4 ≡ true
     → atx_level (all_taken r).left ≡ Some level → IsKind options r (AtxHeading level)
 heading_kind options r level some few e =

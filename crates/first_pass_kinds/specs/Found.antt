@@ -1,4 +1,4 @@
--- Which kind what was found at a place stands for, and what ends an HTML block.
+-- The kind of the block found at a place, and the end of an HTML block.
 use Rattle.std.specs.Prelude.{◌≡◌, ℕ, List, drop, min, Some}
 use Rattle.first_pass_items.specs.declared.option_set.Options.{Options}
 use Rattle.first_pass_lines.specs.Rest.{indent}
@@ -21,14 +21,14 @@ marked_kind (MarkedBreak size) = ThematicBreak size
 marked_kind (MarkedHeading level) = AtxHeading level
 marked_kind (MarkedFence count byte) = FencedCode count byte
 
--- the kind of what was found
+-- the kind of the block that was found
 abbrev pub kind_of : Found → Kind
 kind_of FoundBlank = Blank
 kind_of FoundParagraph = Paragraph
 kind_of FoundHtml = HtmlToBlank
 kind_of (Marked leaf) = marked_kind leaf
 
--- the end with which an HTML block of the kinds 1 to 5 was found is that of the block which begins here (CommonMark 4.6)
+-- the end found for an HTML block of the kinds 1 to 5 is that of the block which begins here (CommonMark 4.6)
 abbrev pub HasEnd : List ℕ → MarkedLeaf → Type 0
 HasEnd bs (MarkedHtml «end») = html_end (drop 1 bs) ≡ Some (end_of «end»)
 HasEnd bs _ = Unit {0}
@@ -37,7 +37,8 @@ abbrev pub IsFoundWith : List ℕ → Found → Type 0
 IsFoundWith bs (Marked leaf) = HasEnd bs leaf
 IsFoundWith bs _ = Unit {0}
 
--- What was found at a place says what begins there, after how many columns (4 are said where there are more), and at which offset.
+-- A block was found at a place: its kind and its end are those of the block which begins there. With it come the
+-- columns before it, or 4 if there are more, and its offset.
 pub record IsFoundAt (options : Options) (p : Place) (found : Found) (columns at : ℕ) : Type 0 where
   pub kind : IsKind options p.rest (kind_of found)
   pub «end» : IsFoundWith (unindented p).rest.left found

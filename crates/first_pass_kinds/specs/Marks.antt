@@ -1,4 +1,4 @@
--- Bytes with which nothing begins that interrupts a paragraph, but for tables, footnotes and definitions.
+-- Bytes at which nothing that interrupts a paragraph begins, except tables, footnotes and definitions.
 use Rattle.std.specs.Prelude.{ℕ, ◌==◌, ◌||◌, not, Bool, false, List, [], ◌∷◌}
 use Rattle.std.specs.Char.{is_ascii_digit}
 use Rattle.first_pass_items.specs.Bytes.{number_sign, less_than, greater_than, backquote, tilde}
@@ -6,13 +6,14 @@ use Rattle.first_pass_lines.specs.Lines.{is_line_end}
 use Rattle.first_pass_scan.specs.LeafLines.{is_rule_byte}
 use Rattle.first_pass_scan.specs.Markers.{is_bullet}
 
--- a byte that is no line end, and with which no thematic break, ATX heading, code fence, block quote, list item or HTML block begins (this project)
+-- a byte that is no line ending, and at which no thematic break, ATX heading, code fence, block quote, list item or
+-- HTML block begins (this project)
 unfoldable pub is_no_mark : ℕ → Bool
 is_no_mark b =
     not (is_line_end b || is_rule_byte b || b == number_sign || b == backquote || b == tilde || b == greater_than || is_bullet b || is_ascii_digit b
     || b == less_than)
 
--- such a byte stands first (this project)
+-- the first byte is such a byte (this project)
 abbrev pub begins_no_mark : List ℕ → Bool
 begins_no_mark [] = false
 begins_no_mark (b ∷ bs) = is_no_mark b

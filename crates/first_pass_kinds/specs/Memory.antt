@@ -1,4 +1,4 @@
--- Where a line that may head a table asks for memory (this project).
+-- Lines that may head a table, and so take memory (this project).
 use Rattle.std.specs.Prelude.{◌&&◌, ℕ, Bool, List, nat_lt}
 use Rattle.first_pass_items.specs.Bytes.{pipe}
 use Rattle.first_pass_items.specs.OptionWords.{has, tables}
@@ -7,10 +7,12 @@ use Rattle.first_pass_lines.specs.Rest.{Rest, indent}
 use Rattle.first_pass_grammar.specs.Containers.{Context, front}
 use Rattle.first_pass_grammar.specs.Kinds.{all_taken}
 
--- the bytes may head a table that interrupts a paragraph, whose alignments take memory: with tables, they begin with a pipe (GFM 4.10)
+-- the bytes may head a table that interrupts a paragraph, whose alignments take memory: with tables, they begin with
+-- a pipe (GFM 4.10)
 abbrev pub may_head : Context → List ℕ → Bool
 may_head around bs = has around.options tables && begins pipe bs
 
--- the line may head one after the prefixes of the containers that it continues, at under four columns (GFM 4.10)
+-- the line may head such a table, after the prefixes of the containers that it continues and fewer than four columns
+-- (GFM 4.10)
 abbrev pub line_may_head : Context → Rest → Bool
 line_may_head around line = nat_lt (indent (front around.path line)) 4 && may_head around (all_taken (front around.path line)).left

@@ -1,4 +1,4 @@
--- What a line is to a text whose lines are before it.
+-- The role of a line after paragraph text.
 use Rattle.std.specs.Prelude.{ℕ, ◌||◌, Bool, true, false, Option, Some, None}
 use Rattle.first_pass_items.specs.declared.item.HeadingLevel.{HeadingLevel}
 use Rattle.first_pass_lines.specs.Rest.{Rest}
@@ -8,7 +8,8 @@ use Rattle.first_pass_grammar.specs.Kinds.{unindented, underline_of, ends_paragr
 use Rattle.first_pass_kinds.specs.declared.interrupt.NextLine.{NextLine}
 use Rattle.first_pass_kinds.specs.declared.interrupt.NextLine.TheVariants.{More, Underline, Other}
 
--- what the line that begins at an offset, and of which this is left, is to a text before it (CommonMark 4.3, 4.8, and for a `:` this project)
+-- the role of a line after paragraph text, by its underline, by whether it ends the text, and by the offset of its
+-- own text (CommonMark 4.3, 4.8, and for a `:` this project)
 abbrev pub next_by : Option (ℕ × HeadingLevel) → Bool → ℕ → NextLine
 next_by (Some underline) ends at = Underline underline.1
 next_by None true at = Other

@@ -1,7 +1,7 @@
--- How long the head of a table is.
+-- The length of the head of a table.
 use Rattle.std.specs.Prelude.{ℕ, ◌+◌, List, drop}
 use Rattle.first_pass_lines.specs.Lines.{line_len}
 
--- how many bytes a header row and the delimiter row in the line after it have, their line ends too (GFM 4.10)
+-- the length of a header row and of the delimiter row in the next line, with their line endings (GFM 4.10)
 abbrev pub head_len : List ℕ → ℕ
 head_len bs = line_len bs + line_len (drop (line_len bs) bs)

@@ -1,4 +1,4 @@
-//! Which lines end a paragraph before them.
+//! The lines that end a paragraph before them.
 
 ghost use Rattle.std.specs.Prelude.{◌≡◌, Bool, min, drop, is_some, nat_lt, ◌&&◌, ◌||◌, not, true, IfOk, IfSome, OnErr, OnOk, Some, None, if◌then◌else◌, IsUtf8, IsCharBoundary};
 ghost use Rattle.first_pass_items.specs.Bytes.{space, colon};
@@ -37,8 +37,7 @@ use first_pass_scan::line_start::{LineStart, scan_listitem};
 use first_pass_tree::forest::Tree;
 use std::alloc::AllocError;
 
-// Whether a list item interrupts a paragraph at the beginning of `bytes`, in a line that continues all
-// containers or not.
+// Whether a list item at the start of `bytes` interrupts a paragraph, in a line that continues all containers or not.
 fn interrupts_as_item(bytes: &[u8], current_container: bool) -> bool
     ensures { result ≡ item_interrupts current_container bytes.now (listitem bytes.now) }
 {
@@ -58,10 +57,11 @@ fn is_bullet(byte: u8) -> bool
     matches!(byte, b'-' | b'+' | b'*')
 }
 
-/// Whether `bytes`, what is left of a line after its indentation of under four columns, interrupt a paragraph, but for
-/// tables: their line ends, or a thematic break, an ATX heading, a code fence, a block quote, a list item or an HTML
-/// block of the kinds 1 to 6 begins. An item interrupts where the line doesn't continue all containers; else only a
-/// bullet or the number 1 does, and only with a rest that isn't blank (CommonMark 4.8, 4.1, 4.2, 4.5, 5.1, 5.2, 4.6).
+/// Returns whether `bytes` interrupts a paragraph, except as a table, a footnote or a definition. `bytes` is the rest
+/// of a line after its indentation of fewer than four columns. It interrupts if its line ends, or if a thematic
+/// break, an ATX heading, a code fence, a block quote, a list item or an HTML block of the kinds 1 to 6 begins. In a
+/// line that continues all containers, an item interrupts only if it has a bullet or the number 1, and a rest that is
+/// not blank (CommonMark 4.8, 4.1, 4.2, 4.5, 5.1, 5.2, 4.6).
 #[inline(always)]
 pub fn interrupts_without_table(bytes: &[u8], current_container: bool) -> bool
     ensures { result ≡ interrupts_with current_container bytes.now }
@@ -75,8 +75,8 @@ pub fn interrupts_without_table(bytes: &[u8], current_container: bool) -> bool
     interrupts_by_mark(bytes, current_container)
 }
 
-// Whether a byte stands first that is no line end, and with which nothing begins that interrupts a paragraph, but for
-// tables, footnotes and definitions.
+// Whether the first byte is no line ending, and nothing that interrupts a paragraph begins with it, except tables,
+// footnotes and definitions.
 #[inline(always)]
 #[tactic(auto, unfolding(crate::specs::Marks::is_no_mark))]
 fn begins_no_mark(bytes: &[u8]) -> bool
@@ -96,7 +96,7 @@ fn begins_no_mark(bytes: &[u8]) -> bool
     }
 }
 
-// Whether a bullet, a space and a letter or a character past ASCII stand first: then an item begins, and no thematic
+// Whether a bullet, a space and a letter or a character past ASCII come first: then an item begins, and no thematic
 // break.
 #[inline(always)]
 fn begins_plain_item(bytes: &[u8]) -> bool
@@ -109,7 +109,7 @@ fn begins_plain_item(bytes: &[u8]) -> bool
     }
 }
 
-// The same as `interrupts_without_table`, by each mark in turn: for the lines that the two tests above leave open.
+// The same as `interrupts_without_table`, mark by mark: for the lines that the two tests above leave open.
 fn interrupts_by_mark(bytes: &[u8], current_container: bool) -> bool
     ensures { result ≡ interrupts_with current_container bytes.now }
 {
@@ -122,8 +122,9 @@ fn interrupts_by_mark(bytes: &[u8], current_container: bool) -> bool
         || html_kind(bytes).is_some()
 }
 
-/// Whether, with footnotes in either form, `bytes` interrupt a paragraph as the head of a footnote definition does
-/// whose label holds no line end (this project). What a table drops of a label makes no difference.
+/// Returns whether, with footnotes in either form, `bytes` interrupts a paragraph as the head of a footnote
+/// definition whose label has no line ending (this project). It makes no difference that a table drops bytes of a
+/// label.
 #[inline(always)]
 pub fn interrupts_as_footnote(bytes: &[u8], has_footnotes: bool) -> bool
     ensures { (in_table : Bool) → result
@@ -132,7 +133,7 @@ pub fn interrupts_as_footnote(bytes: &[u8], has_footnotes: bool) -> bool
     has_footnotes && begins_footnote_in_line(bytes)
 }
 
-// Whether, with definition lists, the `:` of a definition begins `bytes` (this project).
+// Whether, with definition lists, `bytes` begins with the `:` of a definition (this project).
 #[inline(always)]
 fn begins_definition(bytes: &[u8], options: Options) -> bool
     ensures { result ≡ (has options definition_list && begins colon bytes.now) }
@@ -140,11 +141,12 @@ fn begins_definition(bytes: &[u8], options: Options) -> bool
     begins(b':', bytes) && options.contains(Options::ENABLE_DEFINITION_LIST)
 }
 
-/// Whether `bytes`, what is left of a line after its indentation of under four columns and all that the text has
-/// after it, interrupt a paragraph that is read inside the open containers. The line continues the outermost `kept`
-/// open nodes. They interrupt as above; as the head of a footnote definition does; as the `:` of a definition does,
-/// where the first container that the line doesn't continue is a definition; or as a table does that the line heads
-/// (CommonMark 4.8, GFM 4.10).
+/// Returns whether `bytes` interrupts a paragraph inside the open containers. `bytes` is the rest of a line after its
+/// indentation of fewer than four columns, and all the text that follows. The line continues the outermost `kept`
+/// open nodes. It interrupts as in `interrupts_without_table`; as the head of a footnote definition; as the `:` of a
+/// definition, if the first container that the line does not continue is a definition; or as the header row of a
+/// table (CommonMark 4.8, GFM 4.10). Fails only if an allocation fails, which can happen only if the line may head a
+/// table.
 #[inline(always)]
 pub fn scan_interruption(
     source: &Source<'_>,
@@ -168,19 +170,19 @@ pub fn scan_interruption(
     interrupts_as_table(source, tree, bytes)
 }
 
-/// What a line is to a text whose lines are before it.
+/// The role of a line after paragraph text.
 #[derive(Clone, Copy, Drop)]
 pub enum NextLine {
-    /// One more of them, whose own text begins at this offset into the text.
+    /// One more line of the paragraph text; the own text of the line begins at this offset.
     More(usize),
-    /// The underline by which they are a heading of this level.
+    /// The underline that makes the paragraph text a setext heading of this level.
     Underline(HeadingLevel),
-    /// None of them: they are a paragraph.
+    /// No line of the paragraph text, which is a paragraph.
     Other,
 }
 
-// The level of the setext heading whose underline is left of a line, which continues all containers or not, after
-// so many columns of indentation, but 4 where there are more (CommonMark 4.3).
+// The level of the setext heading whose underline is `rest`, the rest of a line that continues all containers or not.
+// `columns` is the indentation before it, or 4 if there is more (CommonMark 4.3).
 #[inline(always)]
 fn scan_underline(rest: &LineStart<'_>, whole: bool, columns: usize) -> Option<HeadingLevel>
     ensures { result ≡ option_map (λ found. found.1)
@@ -198,15 +200,15 @@ fn scan_underline(rest: &LineStart<'_>, whole: bool, columns: usize) -> Option<H
 struct LineText<'a> {
     // How many of the open nodes the line continues, the outermost first.
     kept: usize,
-    // Whether these are all.
+    // Whether these are all open nodes.
     whole: bool,
-    // Its columns of indentation, but 4 where there are more.
+    // Its columns of indentation, or 4 if there are more.
     columns: usize,
-    // What is left of it after those.
+    // The rest of the line after those.
     rest: LineStart<'a>,
 }
 
-// The text of the line that begins at the offset `start` into the text.
+// The text of the line at `start`, an offset into the text.
 #[inline(always)]
 fn scan_text<'a>(source: &Source<'a>, tree: &Tree<Item>, start: usize) -> LineText<'a>
     requires { IsCharBoundary source.now.text.now start }
@@ -234,10 +236,11 @@ fn scan_text<'a>(source: &Source<'a>, tree: &Tree<Item>, start: usize) -> LineTe
     }
 }
 
-/// What the line that begins at the offset `start` into the text is to a text before it: an underline, where it
-/// continues all open containers; a line that ends a paragraph, or with definition lists a line that continues all
-/// open containers and begins with a `:`; or one more line of that text, whatever open containers it continues
-/// (CommonMark 4.3, 4.8, 5.1).
+/// Returns the role of the line at `start`, an offset into the text, after paragraph text. It is an underline only if
+/// it continues all open containers. It is no line of the paragraph text if it interrupts a paragraph, or if, with
+/// definition lists, it continues all open containers and begins with a `:`. Otherwise it is one more line, no matter
+/// which open containers it continues (CommonMark 4.3, 4.8, 5.1). Fails only if an allocation fails, which can happen
+/// only if the line may head a table.
 #[tactic(auto, unfolding(first_pass_grammar::specs::Kinds::interrupts, first_pass_grammar::specs::Kinds::underline_of))]
 pub fn scan_next_line(
     source: &Source<'_>,
@@ -257,8 +260,8 @@ pub fn scan_next_line(
 {
     source.is_short();
     let bytes = rest_of(source.text.as_bytes(), start);
-    // No prefix of a container begins with a letter or a character past ASCII, and no mark does. So such a line is one
-    // more of the text, and the walk over the open containers is left out.
+    // No container prefix and no mark begins with a letter or a character past ASCII. Such a line is one more of the
+    // paragraph text, and no walk over the open containers is needed.
     if is_plain_front(bytes) {
         return Ok(NextLine::More(start));
     }
@@ -281,9 +284,10 @@ pub fn scan_next_line(
     Ok(NextLine::More(start + text.rest.bytes_scanned()))
 }
 
-/// What is left of the line that `bytes` begin with, all that the text has from the line on, after its columns, where
-/// the line belongs to a block quote with a tag that is innermost, whatever open containers it continues; `None`
-/// where it is read as any other. The error is want of memory, where the line may head a table.
+/// Returns the first line of `bytes` after its indentation, if it belongs to the innermost block quote, which has a
+/// tag. The line may continue any number of open containers. `bytes` is all the text from the line on. Returns `None`
+/// if the line would end a paragraph, and is read as any other. Fails only if an allocation fails, which can happen
+/// only if the line may head a table.
 #[tactic(auto, unfolding(first_pass_grammar::specs::Kinds::interrupts))]
 pub fn scan_line_behind_tag<'b>(
     source: &Source<'_>,
@@ -308,8 +312,8 @@ pub fn scan_line_behind_tag<'b>(
     Ok(Some(rest))
 }
 
-// Whether a line of which this is left after so many columns of indentation, but 4 where there are more, ends a
-// paragraph before it, where it continues the outermost `kept` open nodes.
+// Whether a line with this rest ends a paragraph before it. The line continues the outermost `kept` open nodes;
+// `columns` is its indentation before the rest, or 4 if there is more.
 #[inline(always)]
 fn scan_paragraph_end(
     source: &Source<'_>,
@@ -332,8 +336,8 @@ fn scan_paragraph_end(
     }
 }
 
-// Whether what is left of a line after so many columns of indentation, but 4 where there are more, is the underline
-// of a setext heading (CommonMark 4.3).
+// Whether the rest of a line is the underline of a setext heading. `columns` is the indentation before it, or 4 if
+// there is more (CommonMark 4.3).
 fn is_underline(bytes: &[u8], columns: usize) -> bool
     ensures { result ≡ (nat_lt columns 4 && is_some (setext_underline bytes.now)) }
 {
@@ -366,11 +370,11 @@ fn scan_definition_end(
     Ok(is_underline(text.left(), columns))
 }
 
-/// What is left of the line that begins at the offset `start` where a link reference definition, or with `in_label`
-/// its label, continues in it: after what the line has of the prefixes of the open containers, and after up to four
-/// columns. `None` where it doesn't: where the line ends a paragraph, or is the underline of a setext heading; to a
-/// label a line is one only where it continues all open containers (CommonMark 4.7). The error is want of memory,
-/// where the line may head a table.
+/// Returns the rest of the line at `start` if a link reference definition, or with `in_label` its label, continues
+/// there. The rest is after the container prefixes on the line, and after up to four columns. Returns `None` if the
+/// line ends a paragraph, or is the underline of a setext heading; in a label, an underline counts only if its line
+/// continues all open containers (CommonMark 4.7). Fails only if an allocation fails, which can happen only if the
+/// line may head a table.
 #[tactic(auto, unfolding(first_pass_grammar::specs::Definitions::crossed))]
 pub fn scan_line_crossed<'a>(
     source: &Source<'a>,

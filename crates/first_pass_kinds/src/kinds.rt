@@ -1,4 +1,4 @@
-//! What begins at a place in a line.
+//! The block that begins at a place in a line.
 
 ghost use Rattle.std.specs.Prelude.{◌≡◌, ◌+◌, ◌≤◌, min, length, drop, Some, None, IfSome};
 ghost use Rattle.std.specs.Option.{option_map};
@@ -21,37 +21,37 @@ use first_pass_open::place::Place;
 use first_pass_open::source::Source;
 use first_pass_scan::leaf_scan::{scan_code_fence, scan_hrule};
 
-/// What begins at a place of a line where no container begins, with what was found of it.
+/// The block that begins at a place at which no container begins, with the parts that were found of it.
 #[derive(Clone, Copy)]
 pub enum Found {
     /// A blank line (CommonMark 4.9).
     Blank,
     /// A paragraph (CommonMark 4.8).
     Paragraph,
-    /// An HTML block that ends before a blank line: one of the kinds 6 and 7 (CommonMark 4.6).
+    /// An HTML block that ends before a blank line: kind 6 or 7 (CommonMark 4.6).
     HtmlToBlank,
     /// Another leaf block.
     Marked(MarkedLeaf),
 }
 
-/// A leaf block that is told by its indentation or by the mark that it begins with.
+/// A leaf block that is recognized by its indentation or by the mark at its start.
 #[derive(Clone, Copy)]
 pub enum MarkedLeaf {
     /// Indented code (CommonMark 4.4).
     IndentedCode,
     /// A metadata block, with the byte of its marks: `-` or `+`.
     Metadata(u8),
-    /// An HTML block of the kinds 1 to 5, with what ends it (CommonMark 4.6).
+    /// An HTML block of the kinds 1 to 5, with its end condition (CommonMark 4.6).
     HtmlToEnd(HtmlEnd),
-    /// A thematic break, with how many bytes it has, its line end too (CommonMark 4.1).
+    /// A thematic break, with its length in bytes, its line ending included (CommonMark 4.1).
     ThematicBreak(usize),
     /// An ATX heading (CommonMark 4.2).
     AtxHeading(HeadingLevel),
-    /// A fenced code block, with how many bytes its fence has, and which (CommonMark 4.5).
+    /// A fenced code block, with the length of its fence and the byte of the fence (CommonMark 4.5).
     FencedCode(usize, u8),
 }
 
-/// The HTML block of the kinds 1 to 6 that begins here, if one does (CommonMark 4.6).
+/// Returns the HTML block of the kinds 1 to 6 that begins here, if there is one (CommonMark 4.6).
 #[inline(always)]
 pub fn html_kind(bytes: &[u8]) -> Option<Found>
     ensures kind { option_map kind_of result ≡ html_kind bytes.now }
@@ -86,8 +86,7 @@ fn last_kind(bytes: &[u8]) -> Found
     }
 }
 
-// The byte of the metadata block that begins at the offset `at` into the text after so many columns, which have to
-// be none.
+// The byte of the metadata block at the offset `at` into the text. A metadata block has no columns before it.
 fn metadata_behind(
     text: &[u8],
     at: usize,
@@ -108,8 +107,8 @@ fn metadata_behind(
     metadata_at(text, at, yaml, pluses, ends)
 }
 
-/// What begins at a place in a text where no container does; takes all columns before it, and says how many there
-/// were, but 4 where there were more (CommonMark 4).
+/// Returns the block that begins at a place at which no container begins, and the columns before it, or 4 if there
+/// are more. Moves the place past all these columns (CommonMark 4).
 pub fn kind_at<'a>(
     source: &Source<'_>,
     place: &mut Place<'a>,
@@ -134,7 +133,7 @@ pub fn kind_at<'a>(
     if columns >= 4 {
         return (Found::Marked(MarkedLeaf::IndentedCode), columns);
     }
-    // An ATX heading is looked for first, before kinds that precede it in the grammar: none of those begins with `#`.
+    // An ATX heading is tried first, before kinds that precede it in the grammar: none of those begins with `#`.
     if let Some(level) = scan_atx_heading(place.rest.left()) {
         return (Found::Marked(MarkedLeaf::AtxHeading(level)), columns);
     }

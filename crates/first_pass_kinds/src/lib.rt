@@ -1,4 +1,4 @@
-//! What begins at a place, and which lines interrupt a paragraph.
+//! The block that begins at a place, and the lines that interrupt a paragraph.
 #![tactic(auto)]
 
 pub mod interrupt;

@@ -1,4 +1,4 @@
-//! Which lines head a table (GFM 4.10).
+//! The lines that head a table (GFM 4.10).
 
 ghost use Rattle.std.specs.Prelude.{◌≡◌, ◌≤◌, ◌+◌, ◌==◌, length, drop, true, IfOk, IfSome, OnOk, OnErr, IsUtf8, IsCharBoundary};
 ghost use Rattle.std.specs.List.{suffix_len};
@@ -25,13 +25,14 @@ use std::alloc::AllocError;
 pub struct HeadedTable {
     /// The alignments of its columns.
     pub alignments: Vec<Alignment>,
-    /// How many bytes its header row and its delimiter row have, from where the header row begins, their line ends too.
+    /// The length in bytes of its header row and its delimiter row, from the start of the header row on, with their
+    /// line endings.
     pub head_len: usize,
 }
 
-// The table that the line heads with which `bytes` begin, all that the text has from there on: its alignments are those
-// of the delimiter row in the next line, where that continues all open containers and the line has as many columns. The
-// next line is looked at first: most lines of prose are followed by none that begins as such a row does.
+// The table whose header row is the first line of `bytes`. `bytes` is all the rest of the text. The alignments are
+// those of the delimiter row in the next line, if that line continues all open containers and the header row has as
+// many columns. The next line is tested first: after most lines of prose it does not begin like such a row.
 #[tactic(auto, unfolding(first_pass_grammar::specs::TableHeads::table_at))]
 fn scan_table_at(
     source: &Source<'_>,
@@ -61,8 +62,8 @@ fn scan_table_at(
     }))
 }
 
-/// Whether a paragraph is interrupted by the table that the line heads with which `bytes` begin, all that the text has
-/// from there on: with tables, a line that begins with a pipe (GFM 4.10). Only such a line asks for memory.
+/// Returns whether a table interrupts a paragraph at the first line of `bytes`, its header row. `bytes` is all the
+/// rest of the text. With tables, the line has to begin with a pipe (GFM 4.10). Only such a line takes memory.
 #[inline(always)]
 pub fn interrupts_as_table(
     source: &Source<'_>,
@@ -78,23 +79,24 @@ pub fn interrupts_as_table(
     Ok(scan_table_at(source, tree, bytes)?.is_some())
 }
 
-// How many backslashes stand last.
+// The number of backslashes at the end.
 fn scan_last_backslashes(bytes: &[u8]) -> usize
     ensures { result ≡ suffix_len (λ b. b == backslash) bytes.now }
 {
     bytes.iter().rev().take_while(|b| **b == b'\\').count()
 }
 
-// Whether the line that `bytes` begin with ends in an odd number of backslashes.
+// Whether the first line of `bytes` ends in an odd number of backslashes.
 fn ends_in_backslash(bytes: &[u8]) -> bool
     ensures { result ≡ ends_in_backslash bytes.now }
 {
     scan_last_backslashes(&bytes[..content_len(bytes)]) % 2 == 1
 }
 
-/// The table that the line heads with which `bytes` begin, all that the text has from there on, where no container or
-/// other block begins; `None` where it heads none, and begins a paragraph: with tables, it and the next line are a
-/// header row and a delimiter row of as many columns (GFM 4.10). The error is want of memory.
+/// Returns the table whose header row is the first line of `bytes`, given that no container or other block begins
+/// there. `bytes` is all the rest of the text. Returns `None` if the line is no header row, and begins a paragraph.
+/// With tables, the header row and the delimiter row in the next line have the same number of columns (GFM 4.10).
+/// Fails only if an allocation fails.
 #[tactic(auto, unfolding(first_pass_grammar::specs::TableHeads::headed_table))]
 pub fn scan_headed_line(
     source: &Source<'_>,
@@ -119,8 +121,9 @@ pub fn scan_headed_line(
     }
 }
 
-/// The table that the text heads which begins at the offset `start` into the text, and no container or other block
-/// does; `None` where it heads none, and is a paragraph (see `scan_headed_line`). The error is want of memory.
+/// Returns the table whose header row begins at `start`, given that no container or other block begins there. `start`
+/// is an offset into the text. Returns `None` if a paragraph begins there (see `scan_headed_line`). Fails only if an
+/// allocation fails.
 pub fn scan_headed_table(
     source: &Source<'_>,
     tree: &Tree<Item>,

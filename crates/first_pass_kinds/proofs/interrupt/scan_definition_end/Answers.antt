@@ -35,14 +35,14 @@ all_by false = refl
 ended_by : (said by_text by_line last : Bool) → said ≡ by_text → by_text ≡ by_line → said ≡ true → true ≡ by_line || last
 ended_by said by_text by_line last e f g = let z : by_line ≡ true = sym f ∙ sym e ∙ g in rw z refl
 
--- it doesn't, and an underline of it is none to a label in a line that doesn't continue all containers
+-- it does not, and for a label its underline does not count if the line does not continue all containers
 lazy_by : (said by_text by_line last in_label whole : Bool) → said ≡ by_text → by_text ≡ by_line → said ≡ false → (in_label && not whole) ≡ true → false ≡
     by_line || (last && (not in_label || whole))
 lazy_by said by_text by_line last true false e f g h = let z : by_line ≡ false = sym f ∙ sym e ∙ g in rw z (none_by last)
 lazy_by said by_text by_line last true true e f g h = cc
 lazy_by said by_text by_line last false whole e f g h = cc
 
--- it doesn't, and an underline of it is one
+-- it does not, and its underline counts
 whole_by : (said by_text by_line last found in_label whole : Bool) → said ≡ by_text → by_text ≡ by_line → said ≡ false → (in_label && not whole) ≡ false →
     found ≡ last → found ≡ by_line || (last && (not in_label || whole))
 whole_by said by_text by_line last found true true e f g h k = let z : by_line ≡ false = sym f ∙ sym e ∙ g in rw z (k ∙ all_by last)
@@ -82,12 +82,12 @@ returns-clause-value c =
     c.if-branch.false c.if-is_over.false
     (c.is_underline.ensures ∙ underline_at c.args.front.now.rest _ _ columns (c.left.ensures ∙ left))
 
--- a fact of an error
+-- a fact in case of an error
 on_err : {A E P : Type 0} (r : Result A E) → P → OnErr r P
 on_err (Ok x) p = tt
 on_err (Err e) p = p
 
--- it errs where a table may begin
+-- it fails only if a table may begin
 err_at : (around : Context) (r : Rest) (columns : ℕ) (bs : List ℕ)
     → columns ≡ min 4 (indent r) → bs ≡ (all_taken r).left → (nat_lt columns 4 && may_head around bs) ≡ true →
     (nat_lt (indent r) 4 && may_head around (all_taken r).left) ≡ true
