@@ -34,8 +34,8 @@ use Rattle.first_pass_grammar.specs.Containers.{at_rest, after}
 use Rattle.first_pass_open.proofs.PlaceLemmas.{after_keeps, line_start_end, place_end}
 use Rattle.first_pass_names.proofs.NameLemmas.{extends_both}
 
--- The raw lines of an extent are read up to those of another, which is what is left of it: what is then the chain of these after the one so far, is that of
--- the whole.
+-- The raw lines of an extent are read up to those of its rest. The chain so far, followed by the lines of the rest,
+-- is the chain of the whole extent.
 pub record LinesSoFar (range : Ranges) (text : List ℕ) (options : Options) (names : Names) (whole rest : Extent) (old now : Forest Item) : Type 0 where
   pub chain : List Item
   pub tree_is : now ≡ chained old chain
@@ -100,7 +100,7 @@ lines_end range text options names whole rest old now e next s is =
       left_is = sym (s.left_is ∙ ap (λ (x : Extent). x.left) is);
     }
 
--- the containers around the block, as its lines are read
+-- the containers around the block are the same while its lines are read
 pub lines_path : (range : Ranges) (text : List ℕ) (options : Options) (names : Names) (whole rest : Extent) (old now : Forest Item)
     → LinesSoFar range text options names whole rest old now → AreIn (length old.nodes) old.spine → path_of options now ≡ path_of options old
 lines_path range text options names whole rest old now s there = ap (path_of options) s.tree_is ∙ path_of-chained options old s.chain there
@@ -112,7 +112,7 @@ pub lines_quotes : (range : Ranges) (text : List ℕ) (options : Options) (names
 lines_quotes range text options names whole rest old now n s there none =
     ap (λ f. has_quote_after options f n) s.tree_is ∙ quote_after-chained options old s.chain n there ∙ none
 
--- a line of the text from an offset up to where the next one begins
+-- a line of the text, from its start up to the start of the next one
 pub record IsLineAt (text : List ℕ) (at next : ℕ) : Type 0 where
   pub here : IsCharBoundary text at
   pub later : at < next
@@ -133,7 +133,7 @@ line_read text bytes at next u here within e f =
       boundary = subst (IsCharBoundary text) (sym is) (line_end_boundary text at u here within);
     }
 
--- After what a path takes of it the line ends where it ended.
+-- After the prefixes of a path, a line has the same end.
 pub behind_path : (text : List ℕ) (path : List Container) (at next : ℕ) (r : Rest)
     → IsUtf8 text → IsLineAt text at next → after path (line_rest (drop at text)) ≡ Some r → line_end (place_at at r) ≡ next
 behind_path text path at next r u line e =
@@ -142,11 +142,11 @@ behind_path text path at next r u line e =
 pub within_line : (at from next : ℕ) (r : Rest) → from ≡ at + r.taken → line_end (place_at at r) ≡ next → from ≤ next
 within_line at from next r e f = omega arith
 
--- where no line is left
+-- no lines remain
 pub none_left : (text : List ℕ) (at : ℕ) → length text ≤ at → lines_from text at ≡ []
 none_left text at past = lines_at-end text at past
 
--- what is left of a block's lines from an offset on
+-- the rest of the lines of a block from an offset on
 abbrev pub extent_from : List ℕ → List Container → (Place → Place → Verdict) → ℕ → Extent
 extent_from text path judge at = extent (in_containers path judge) (length text) (lines_from text at)
 
@@ -178,14 +178,14 @@ extent_here text path judge at next o v line goes is =
     ∙ ap (λ o. extent_by (judged judge first (option_map (at_rest first) o)) first (lines_from text next) (extent_from text path judge next)) goes
     ∙ ap (λ v. extent_by v first (lines_from text next) (extent_from text path judge next)) is
 
--- a line that does neither of the others continues the block
+-- a line that does none of the others continues the block
 pub goes_by : (a : Answer) → ((e : ℕ) → ¬ (a ≡ Stops e)) → ((e : ℕ) → ¬ (a ≡ Closes e)) → ¬ (a ≡ IsLast) → a ≡ GoesOn
 goes_by GoesOn f g h = refl
 goes_by IsLast f g h = absurd (h refl)
 goes_by (Closes e) f g h = absurd (g e refl)
 goes_by (Stops e) f g h = absurd (f e refl)
 
--- the lines of a block from an offset on are read up to another
+-- the lines of a block are read from one offset up to another
 abbrev pub ReadSoFar : Ranges → List ℕ → Options → Names → (Place → Place → Verdict) → ℕ → ℕ → Forest Item → Forest Item → Type 0
 ReadSoFar range text options names judge start at old now =
     LinesSoFar range text options names (extent_from text (path_of options old) judge start) (extent_from text (path_of options old) judge at) old now
@@ -206,7 +206,7 @@ module _ (range : Ranges) (text : List ℕ) (options : Options) (names : Names) 
     same_path : path_of options now ≡ path_of options old
     same_path = lines_path range text options names whole rest old now s there
 
-    -- the line doesn't continue the containers
+    -- the line does not continue the containers
     pub read_left : (found : Option Rest) → found ≡ None → found ≡ after (path_of options now) (line_rest (drop at text))
         → AppendsLines range (document text options names) (extent_from text (path_of options old) judge start) old now at at
     read_left found none is =
@@ -222,7 +222,7 @@ module _ (range : Ranges) (text : List ℕ) (options : Options) (names : Names) 
           extent_here text (path_of options old) judge at next (Some r) (said v (place_at at q)) line
           (ap (λ path. after path (line_rest (drop at text))) (sym same_path) ∙ sym taken) (is ∙ ap (λ (a : Answer). said a (place_at at q)) e)
 
-      -- the line is none of the block's
+      -- the line does not belong to the block
       pub read_stops : (e : ℕ)
           → answer ≡ Stops e → AppendsLines range (document text options names) (extent_from text (path_of options old) judge start) old now e at
       read_stops e stops = lines_end range text options names whole rest old now e at s (rest_by (Stops e) stops ∙ ap (ends_at e) (sym line.lines))
@@ -235,7 +235,7 @@ module _ (range : Ranges) (text : List ℕ) (options : Options) (names : Names) 
       module _ (named : Names) (owed from : ℕ) (new : Forest Item) (apart : JoinsNone old) (extends : Extends named names)
           (appends : AppendsRaw range text named owed from next now new) (owed_is : owed ≡ q.owed) (from_is : from ≡ at + q.taken)
           (next_is : next ≡ line_end (place_at at q)) where
-        -- it is one of the block's
+        -- it belongs to the block
         pub read_more : answer ≡ GoesOn → ReadSoFar range text options named judge start next old new
         read_more goes =
             lines_more range text options names named whole rest (extent_from text (path_of options old) judge next)
@@ -252,12 +252,12 @@ module _ (range : Ranges) (text : List ℕ) (options : Options) (names : Names) 
             (rest_by IsLast last ∙ ap (λ k. with_line (place_at at q) (ends_at k (lines_from text next))) (sym next_is)) extends appends owed_is from_is
             next_is) refl
 
--- a raw line, by a kind that equals its own
+-- a raw line, by a kind equal to its own
 pub line_as : (text : List ℕ) (names : Names) (kind named : RawKind) (owed from to : ℕ) (old new : Forest Item) → kind ≡ named
     → AppendsRaw (range_of kind) text names owed from to old new → AppendsRaw (range_of named) text names owed from to old new
 line_as text names kind named owed from to old new is = subst (λ k. AppendsRaw (range_of k) text names owed from to old new) is
 
--- where the line ends that has something at an offset
+-- the end of the line containing an offset
 pub first_read : (text bytes : List ℕ) (start first : ℕ) → IsUtf8 text → IsCharBoundary text start → bytes ≡ text → first ≡ start + line_len (drop start bytes)
     → (first ≡ behind_line_at text start) × IsCharBoundary text first
 first_read text bytes start first u b e f =

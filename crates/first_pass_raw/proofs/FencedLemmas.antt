@@ -40,7 +40,7 @@ pub indented_place : (text : List ℕ) (start n : ℕ) (r s : Rest) → IsUtf8 t
     → (start + n ≡ offset (unindented (place_at start r))) × IsPlaceOf text (unindented (place_at start r))
 indented_place text start n r s u e f i = (ap (λ k. start + k) (f ∙ ap (λ (z : Rest). z.taken) e), all_keep text start r u i)
 
--- what the search for a closing fence says of what is left after the columns
+-- the result of a search for a closing fence in the rest after the columns
 pub closing_end : (text bytes rest : List ℕ) (start n at byte count : ℕ) (r s : Rest) (o : Option ℕ)
     → nat_lt (indent r) 4 ≡ true → IsUtf8 text → s ≡ all_taken r → n ≡ s.taken → IsPlaceOf text (place_at start r)
     → bytes ≡ text → at ≡ start + n → rest ≡ drop at bytes → o ≡ closing_fence_len byte count rest
@@ -53,7 +53,7 @@ closing_end text bytes rest start n at byte count r s o few u e f i g h j k =
     ∙ ap (λ m. option_map (λ l. m + l) (closing_fence_len byte count (all_taken r).left)) (sym same)
     ∙ ap (λ bs. option_map (λ l. at + l) (closing_fence_len byte count bs)) (sym left) ∙ ap (option_map (λ l. at + l)) (sym k)
 
--- an info string after an offset, from the white space before it up to where its line ends, and how much white space stands last
+-- an info string after an offset: the white space before it, the end of its line, and the white space before that end
 pub record IsInfo (text : List ℕ) (start from next white : ℕ) : Type 0 where
   pub from_is : from ≡ start + prefix_len is_white (drop start text)
   pub next_is : next ≡ from + line_len (drop from text)
@@ -69,7 +69,7 @@ info_read text bytes rest start n from next white e f g h j k =
       white_is = k ∙ ap (λ bs. suffix_len is_ascii_white (take (next - from) (drop from bs))) e;
     }
 
--- the first of the bytes that pass at the end
+-- the first of the bytes at the end that pass a test
 last_passes : (p : ℕ → Bool) (xs : List ℕ) → 0 < suffix_len p xs → p (get_or xs (length xs - suffix_len p xs) 0) ≡ true
 last_passes p xs some =
     let n : ℕ = suffix_len p xs in
@@ -78,7 +78,7 @@ last_passes p xs some =
     ap p (sym (get_or-reverse xs (n - 1) 0 (omega arith) ∙ ap (λ k. get_or xs k 0) place)) ∙ prefix_len_passes p (reverse xs) (n - 1) 0 (omega arith)
 
 module _ (text : List ℕ) (start from next white : ℕ) (info : IsInfo text start from next white) (u : IsUtf8 text) (b : IsCharBoundary text start) where
-  -- it begins between characters
+  -- its start is between characters
   pub info_from : IsCharBoundary text from
   info_from =
       let e : start + (0 + prefix_len is_white (drop start text)) ≡ from = omega (arith, info.from_is) in
@@ -92,7 +92,7 @@ module _ (text : List ℕ) (start from next white : ℕ) (info : IsInfo text sta
       let n = info.next_is in
       (length-take-le (next - from) (drop from text) (omega arith), omega arith, omega arith)
 
-  -- its line ends between characters
+  -- the end of its line is between characters
   info_next : IsCharBoundary text next
   info_next =
       let i = line_is_place text from info_from in
@@ -119,7 +119,7 @@ module _ (text : List ℕ) (start from next white : ℕ) (info : IsInfo text sta
       let ascii : (k : ℕ) → is_ascii_white k ≡ true → k < 128 = λ k h. grind (arith, nat_tests, h) in
       IsCharBoundary-before_ascii text (next - white) (omega (arith, l.1, l.2)) (ascii _ (ap is_ascii_white (sym read) ∙ passes))
 
-  -- it ends between characters
+  -- its end is between characters
   pub info_end : IsCharBoundary text (next - white)
   info_end = elim (cases_lt 0 white) [
     | inl some ↦ info_stops some
@@ -140,7 +140,7 @@ module _ (text : List ℕ) (start from next white : ℕ) (info : IsInfo text sta
       ∙ ap (λ m. trimmed (take m (drop from text))) n
       ∙ ap (λ bs. trimmed (take (line_len bs) bs)) (ap (λ m. drop m text) info.from_is ∙ sym (drop-drop (prefix_len is_white (drop start text)) start text))
 
--- a fence where a test passes
+-- a fence if a test passes
 abbrev fence_if : Bool → ℕ × ℕ → Option (ℕ × ℕ)
 fence_if t fence = if t then Some fence else None
 
@@ -165,7 +165,7 @@ unfolding code_fence
 fence_run bs n c h =
     fence_by (begins 96 bs) (nat_le 3 (run_len 96 bs) && not (has_backquote (drop (run_len 96 bs) bs))) (begins 126 bs) (nat_le 3 (run_len 126 bs)) bs n c h
 
--- It ends between characters.
+-- The end of a fence is between characters.
 pub fence_end : (text : List ℕ) (start n c : ℕ)
     → IsUtf8 text → IsCharBoundary text start → code_fence (drop start text) ≡ Some (n, c) → IsCharBoundary text (start + n)
 fence_end text start n c u b h =

@@ -38,7 +38,7 @@ use Rattle.first_pass_raw.specs.RawBlocks.{IsPlaceAt, AppendsRaw, AppendsLines, 
 use Rattle.first_pass_raw.proofs.IndentedLemmas.{first_at, first_is}
 use Rattle.first_pass_raw.proofs.ExtentLemmas.{LinesSoFar, lines_start, lines_more, lines_end, lines_path, opened_path, extent_from, block_open, block_done}
 
--- a text that bytes begin with stands in them
+-- a text at the start of bytes is part of them
 begun : (text bs : List ℕ) → Decides (begins_with text bs) ((b : List ℕ) × (bs ≡ text ++ b))
 begun text bs =
     let d = bytes_eq-Decides text (take (length text) bs) in (
@@ -60,7 +60,7 @@ none_before : (text : List ℕ) → HasSubslice [] text → (c : List ℕ) × ([
 none_before text ([], c, e) = (c, e)
 none_before text (a ∷ before, c, e) = cc
 
--- a text stands somewhere in the bytes just where it is a part of them
+-- a text is somewhere in the bytes exactly if it is a part of them
 pub holds-decides : (text bs : List ℕ) → Decides (holds text bs) (HasSubslice bs text)
 unfolding holds
 holds-decides text [] = Decides-like (begins_with text []) (stands_first text []) (none_before text) (begun text [])
@@ -69,7 +69,7 @@ holds-decides text (b ∷ bs) =
     (λ s. elim s [ inl first ↦ stands_first text (b ∷ bs) first | inr behind ↦ stands_behind text b bs behind ]) (stands_either text b bs)
     (Decides-or (begins_with text (b ∷ bs)) (holds text bs) (begun text (b ∷ bs)) (holds-decides text bs))
 
--- what a search in a line tells
+-- the result of a search in a line
 pub raw_held : (until : BlockEnd) (line bytes : List ℕ) (found : Bool) → until ≡ AtRawEndTag → bytes ≡ line → found ≡ holds_raw_end_tag bytes
     → found ≡ holds_end until line
 unfolding holds_end
@@ -80,7 +80,7 @@ pub text_held : (until : BlockEnd) (text line : List ℕ) (found : Bool)
 unfolding holds_end
 text_held until text line found until_is m = rw until_is (sym (one_answer (holds text line) found (holds-decides text line) (contains_text found text line m)))
 
--- whether a line holds what ends a block, at a place that begins what is left of it
+-- whether a line contains the end of a block, read at the place of its rest
 pub held_is : (text : List ℕ) (until : BlockEnd) (p : Place) (at next : ℕ) (found : Bool) (piece : List ℕ)
     → IsPlaceAt text at p → next ≡ line_end p → piece ≡ slice_range text at next → found ≡ holds_end until piece → holds_end until (line_of p) ≡ found
 held_is text until p at next found piece i next_is piece_is is =
@@ -93,7 +93,7 @@ some_left : (bs : List ℕ) → ¬ (length bs ≡ 0) → is_empty bs ≡ false
 some_left [] e = absurd (e refl)
 some_left (b ∷ bs) e = refl
 
--- what a line is to an HTML block of the kinds 1 to 5, of which something is left at a place
+-- the verdict on a line for an HTML block of the kinds 1 to 5, if there are bytes at its place
 pub tag_here : (text : List ℕ) (until : BlockEnd) (line p : Place) (at next : ℕ) (found : Bool) (piece : List ℕ)
     → IsPlaceOf text p → at ≡ offset p → ¬ (at ≡ length text) → next ≡ line_end p → piece ≡ slice_range text at next
     → found ≡ holds_end until piece → {v : Bool} → found ≡ v
@@ -106,7 +106,7 @@ tag_here text until line p at next found piece i at_is some next_is piece_is m {
     ap (λ t. if t then Closes (offset p) else (if holds_end until (line_of p) then IsLast p else GoesOn p)) left
     ∙ ap (λ t. if t then IsLast p else GoesOn p) (held ∙ is)
 
--- items that are no texts, so that nothing is joined to one
+-- items that are no texts, so nothing is joined to one
 abbrev pub ArePlain : List Item → Type 0
 ArePlain [] = Unit
 ArePlain (x ∷ xs) = (is_text x.body ≡ false) × ArePlain xs
@@ -143,7 +143,7 @@ plain_apart f [] apart h = apart
 plain_apart f (x ∷ xs) apart h =
     subst (λ (g : Forest Item). JoinsNone (with_tokens g xs)) (sym (with_token-plain f x h.0)) (plain_apart (appended f x) xs (joins_none-appended f x h.0) h.1)
 
--- raw lines of HTML after more of them
+-- more raw lines of HTML before these
 html_behind : (d : Document) (before chain : List Item) (ps : List Place) (whole : List Item)
     → AreRawLines range_html d chain ps whole → AreRawLines range_html d (before ++ chain) ps (before ++ whole)
 unfolding AreRawLines
@@ -154,7 +154,7 @@ html_behind d before chain (p ∷ ps) whole (line, is, further) =
     plain_tokens line (before ++ chain) plain ∙ append_assoc before chain line ∙ ap (λ c. before ++ c) (sym (plain_tokens line chain plain)) in
     (line, is, subst (λ c. AreRawLines range_html d c ps (before ++ whole)) (sym same) (html_behind d before (add_tokens chain line) ps whole further))
 
--- The first line of an HTML block, which begins at an offset where so many columns are owed, stands after a tree with the block open.
+-- The first line of an HTML block, with columns owed at its start, is appended to a tree in which the block is open.
 module _ (text : List ℕ) (options : Options) (named : Names) (start columns next : ℕ) (g one : Forest Item)
     (first : AppendsRaw range_html text named columns start next (opened_block g start HtmlBlock) one) (next_is : next ≡ behind_line_at text start) where
   abbrev opened : Forest Item
@@ -163,7 +163,7 @@ module _ (text : List ℕ) (options : Options) (named : Names) (start columns ne
   apart : JoinsNone opened
   apart = joins_none-fresh opened refl
 
-  -- what follows is not joined to it
+  -- the following tokens are not joined to it
   pub first_apart : JoinsNone one
   first_apart = subst JoinsNone (sym first.tree_is) (plain_apart opened first.items apart
       (plain_line (document text options named) columns start next first.items (first.are options named (extends_none named))))
@@ -179,13 +179,13 @@ module _ (text : List ℕ) (options : Options) (named : Names) (start columns ne
         (lines_start range_html text options named whole opened) refl (extends_none named) first refl
         (sym i.offset_is) first_end
 
-    -- a block that has it alone
+    -- a block with only this line
     first_alone : AppendsLines range_html (document text options named) (with_line (owing columns p) (ends_at next (lines_from text next))) opened one next next
     first_alone =
         let further : Extent = ends_at next (lines_from text next) in
         lines_end range_html text options named (with_line (owing columns p) further) further opened one next next (first_read further) refl
 
-    -- a block that has lines after it, too
+    -- a block with more lines after it
     first_then : (names : Names) (further : Extent) (two : Forest Item) (e stop : ℕ)
         → Extends names named → AppendsLines range_html (document text options names) further one two e stop
         → AppendsLines range_html (document text options names) (with_line (owing columns p) further) opened two e stop
@@ -214,12 +214,12 @@ module _ (text : List ℕ) (options : Options) (named : Names) (start columns ne
           left_is = lines.left_is;
         })
 
-    -- the lines after the first one begin where it ends
+    -- the lines after the first one begin at its end
     behind_first : (path : List Container) (judge : Place → Place → Verdict)
         → extent_from text path judge (behind_line_at text (offset p)) ≡ extent_from text path judge next
     behind_first path judge = ap (extent_from text path judge) (ap (behind_line_at text) i.offset_is ∙ sym next_is)
 
-    -- where the first line holds the text that ends the kind
+    -- the first line contains the end of the block
     held_extent : (path : List Container) (until : BlockEnd)
         → holds_end until (line_of p) ≡ true → html_to_end text path until p ≡ with_line p (ends_at next (lines_from text next))
     held_extent path until held =
@@ -228,7 +228,7 @@ module _ (text : List ℕ) (options : Options) (named : Names) (start columns ne
         ∙ ap (λ k. with_line p (ends_at k (lines_from text (behind_line_at text (offset p))))) (sym first_end)
         ∙ ap (λ k. with_line p (ends_at next (lines_from text k))) (ap (behind_line_at text) i.offset_is ∙ sym next_is)
 
-    -- where it doesn't, and where none is sought
+    -- it does not, or none is looked for
     pub tag_extent : (path : List Container) (until : BlockEnd)
         → holds_end until (line_of p) ≡ false → html_to_end text path until p ≡ with_line p (extent_from text path (tag_judge until) next)
     tag_extent path until held =
@@ -253,7 +253,7 @@ module _ (text : List ℕ) (options : Options) (named : Names) (start columns ne
     html_one until new held new_is = whole_added named (html_to_end text (path_of options g) until p) (ends_at next (lines_from text next)) one new next next
         (held_extent (path_of options g) until held) first_alone new_is
 
-    -- it has those after the first, too
+    -- it has more lines after the first
     module _ (names : Names) (judge : Place → Place → Verdict) (two : Forest Item) (e : Extent) (stop left : ℕ) (path : path_of options one ≡ path_of options g)
         (lines : AppendsLines range_html (document text options names) (extent_from text (path_of options one) judge next) one two stop left)
         (e_is : e ≡ with_line p (extent_from text (path_of options g) judge next)) where
@@ -264,7 +264,7 @@ module _ (text : List ℕ) (options : Options) (named : Names) (start columns ne
           let here = subst (λ path. AppendsLines range_html (document text options names) (extent_from text path judge next) one two stop left) path lines in
           whole_added names e further two new stop left e_is (first_then names further two stop left extends here) new_is
 
-  -- it is open still after its first line, and after the others
+  -- it is still open after its first line, and after the others
   pub one_open : IsSome (slice_get one.spine 0)
   one_open =
       let p : Place = first_at text start 0 in

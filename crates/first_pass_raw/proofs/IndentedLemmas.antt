@@ -42,7 +42,7 @@ use Rattle.first_pass_open.proofs.PlaceLemmas.{after_keeps, line_start_end, read
 use Rattle.first_pass_names.proofs.NameLemmas.{extends_none, extends_both}
 use Rattle.first_pass_raw.proofs.RawLineLemmas.{raw_one, raw_two}
 
--- a chain ends with a text, which ends at an offset
+-- a chain ends with a text that ends at an offset
 pub record EndsWithText (chain : List Item) (to : ℕ) : Type 0 where
   pub front : List Item
   pub last : Item
@@ -67,7 +67,7 @@ ends_added (x ∷ z ∷ zs) t h =
     let e = ends_added (z ∷ zs) t h in
     record { front = x ∷ e.front; last = e.last; is = ap (λ (ys : List Item). x ∷ ys) e.is; text = e.text; ends = e.ends }
 
--- the texts of a line of one byte at least
+-- the texts of a line of at least one byte
 record LastText (texts : List Item) (to : ℕ) : Type 0 where
   before : List Item
   from : ℕ
@@ -98,7 +98,7 @@ ends_line d chain owed from to items some (columns, are, is) =
     ∙ add_tokens-append (add_tokens chain columns) l.before (t ∷ []) in
     subst (λ c. EndsWithText c to) (sym e) (ends_added (add_tokens (add_tokens chain columns) l.before) t refl)
 
--- a chain continues an item, whatever its end is
+-- a chain continues an item, whatever the end of that item
 record Stays (front : List Item) (x : Item) (chain : List Item) : Type 0 where
   to : ℕ
   rest : List Item
@@ -120,7 +120,7 @@ stays_tokens front x chain [] s = s
 stays_tokens front x chain (t ∷ ts) s =
     stays_tokens front x (add_token chain t) ts (subst (λ c. Stays front x (add_token c t)) (sym s.is) (stays_token front x s.to s.rest t))
 
--- what tokens after a chain leave of its last item
+-- the last item of a chain stays, apart from its end, as tokens are appended
 last_stays : (chain more : List Item) (to : ℕ) (e : EndsWithText chain to) → Stays e.front e.last (add_tokens chain more)
 last_stays chain more to e = stays_tokens e.front e.last chain more (record { to = e.last.«end»; rest = []; is = e.is })
 
@@ -138,7 +138,7 @@ module _ (old : Forest Item) (front : List Item) (x : Item) where
       let l = length-append front (x ∷ []) in
       omega arith
 
-  -- it gets another end
+  -- it gets a different end
   last_ends : (place : TreeIndex) (to : ℕ)
       → place.0 ≡ length old.nodes + length front → with_end_at (chained old (front ++ x ∷ [])) place to ≡ chained old (front ++ record x { «end» = to } ∷ [])
   last_ends place to at =
@@ -149,7 +149,7 @@ module _ (old : Forest Item) (front : List Item) (x : Item) where
       (modify-at f.nodes [] (length f.spine + 1, x) place.0 (λ y. record y { «end» = to }) (omega arith))
       ∙ appended-chained old front (record x { «end» = to })
 
--- the run of nodes that are deeper than one whose depth is the next one's
+-- the run of nodes deeper than one, if the next node has the same depth
 run_none : (ns : List (ℕ × Item)) (i : ℕ) → (i + 1 < length ns → slice_index (depths ns) (i + 1) ≡ slice_index (depths ns) i) → end_of (depths ns) i ≡ i + 1
 run_none ns i same =
     elim (cases_lt (i + 1) (length ns)) [
@@ -193,7 +193,7 @@ module _ (old : Forest Item) (opened : open_place old.spine + 1 ≡ length old.n
       (λ more. leaf (place.0 + 1) (omega arith) more ∙ sym (leaf place.0 (omega arith) (omega arith))) in
       omega arith
 
-  -- what stays of the chain without what stands after an item
+  -- the chain without the nodes after an item
   pub chain_kept : kept_after (chained old (front ++ x ∷ rest)) place ≡ chained old (front ++ x ∷ [])
   chain_kept =
       let g : Forest Item = chained old (front ++ x ∷ rest) in
@@ -204,7 +204,7 @@ module _ (old : Forest Item) (opened : open_place old.spine + 1 ≡ length old.n
       (chained-spine old (front ++ x ∷ rest) ∙ sym (chained-spine old (front ++ x ∷ [])))
       (ap (λ m. Some (place_in m)) at ∙ sym (last_current old front x))
 
--- lines of code and one more
+-- lines of code, then one more
 code_append : (d : Document) (chain : List Item) (ps qs : List Place) (mid whole : List Item)
     → AreRawLines range_text d chain ps mid → AreRawLines range_text d mid qs whole → AreRawLines range_text d chain (ps ++ qs) whole
 unfolding AreRawLines
@@ -220,7 +220,7 @@ pub more_lines : (d : Document) (chain : List Item) (ps : List Place) (q : Place
     → IsRawLine range_text d q.rest.owed (offset q) (line_end q) line → AreRawLines range_text d chain (ps ++ q ∷ []) (add_tokens mid line)
 more_lines d chain ps q mid line are is = code_append d chain ps (q ∷ []) mid (add_tokens mid line) are (one_line d mid q line is)
 
--- a blank line after others, and one that isn't
+-- a blank line after others, and a line that is not blank
 blank_behind : (ps : List Place) (q : Place) → is_blank_rest q.rest ≡ true → without_blanks (ps ++ q ∷ []) ≡ without_blanks ps
 unfolding without_blanks
 blank_behind [] q h = cond-true _ _ _ h
@@ -314,7 +314,7 @@ columns_by : (r : Rest) (o : Option Rest) → code_rest o ≡ Some r → (s : Re
 columns_by r None e = absurd (none-some r e)
 columns_by r (Some s) e = (s, refl, (cond_some (has_columns 4 s) (after_columns 4 s) r e).1)
 
--- It ends where its text does.
+-- It ends at the end of its text.
 pub next_end : (text : List ℕ) (path : List Container) (next : ℕ) (r : Rest)
     → IsUtf8 text → IsCharBoundary text next → code_rest_at text path next ≡ Some r → line_end (place_at next r) ≡ behind_line_at text next
 next_end text path next r u b some =
@@ -323,7 +323,7 @@ next_end text path next r u b some =
     ap (λ s. line_end (place_at next s)) (sym c.2) ∙ columns_line_end 4 (place_at next c.0)
     ∙ (after_keeps text next path (line_rest (drop next text)) c.0 u c.1 (line_is_place text next b)).1 ∙ line_start_end text next
 
--- the offset at which it ends, as the code reads it
+-- the offset of its end, as the code computes it
 pub next_read : (text : List ℕ) (path : List Container) (next taken last : ℕ) (r : Rest) → IsUtf8 text → IsCharBoundary text next
     → code_rest_at text path next ≡ Some r → IsPlaceOf text (place_at next r) → taken ≡ r.taken → last ≡ behind_line_at text (next + taken)
     → (last ≡ behind_line_at text next) × (next < last) × IsCharBoundary text last
@@ -333,7 +333,7 @@ next_read text path next taken last r u b some i t e =
     let n : last ≡ behind_line_at text next = e ∙ ap (λ k. behind_line_at text (next + k)) t ∙ read_end text next r i ∙ next_end text path next r u b some in
     (n, omega arith, subst (IsCharBoundary text) (sym n) (line_end_boundary text next u b more))
 
--- a line that isn't blank has a byte
+-- a line that is not blank has a byte
 some_bytes : (bs : List ℕ) → is_blank_line bs ≡ false → 0 < length bs
 some_bytes [] h = absurd (false≢true (sym h))
 some_bytes (b ∷ bs) h = omega arith
@@ -349,7 +349,7 @@ pub first_boundary : (text : List ℕ) (start next : ℕ)
     → IsUtf8 text → IsCharBoundary text start → is_blank_line (drop start text) ≡ false → next ≡ behind_line_at text start → IsCharBoundary text next
 first_boundary text start next u b some e = subst (IsCharBoundary text) (sym e) (line_end_boundary text start u b (some_within text start some))
 
--- lines put before others that continue indented code
+-- lines before others that continue indented code
 abbrev pub put_before : List Place → List Place × List Place → List Place × List Place
 put_before ps further = (ps ++ further.0, further.1)
 
@@ -358,8 +358,8 @@ pub record IsJustOpened (f : Forest Item) : Type 0 where
   pub place : TreeIndex
   pub pushed : IsJustPushed f place
 
--- The lines of indented code stand after the nodes of a tree, whatever more is named: its first line's text is at a place, and it ends at an offset and leaves
--- the lines from another on.
+-- The lines of indented code are appended after the nodes of a tree, and stay what they are if more is named later.
+-- The text of its first line is at a place. The block ends at an offset; the lines from another offset on remain.
 pub record AppendsIndented (text : List ℕ) (options : Options) (names : Names) (p : Place) (old new : Forest Item) («end» next : ℕ)
     (blank : Bool) : Type 0 where
   pub chain : List Item
@@ -370,8 +370,8 @@ pub record AppendsIndented (text : List ℕ) (options : Options) (names : Names)
   pub blank_is : blank ≡ last_is_blank (code_behind text (path_of options old) (offset p)).0
   pub left_is : lines_from text next ≡ (code_behind text (path_of options old) (offset p)).1
 
--- The lines of indented code are read up to where another begins, its first at a place: the chain of those up to the last that isn't blank, which ends with a
--- text, and the tokens of the blank ones after it.
+-- The lines of indented code, the first at a place, are read up to the start of another. The chain of those up to the
+-- last that is not blank ends with a text; then come the tokens of the blank ones.
 pub record IndentedSoFar (text : List ℕ) (options : Options) (names : Names) (p : Place) (old now : Forest Item) (next : ℕ) (kept : Kept)
     (blank : Bool) : Type 0 where
   pub read : List Place
@@ -398,7 +398,7 @@ line_at text options names p owed from to old new a o f t further e =
 place_line_end : (text : List ℕ) (start : ℕ) (p : Place) → IsPlaceAt text start p → line_end p ≡ behind_line_at text start
 place_line_end text start p at = ap (λ bs. offset p + line_len bs) at.left_is ∙ ap (λ k. k + line_len (drop start text)) at.offset_is
 
--- its current node, where a chain ends with a text
+-- its current node, if a chain ends with a text
 current_is : (old now : Forest Item) (chain : List Item) (to : ℕ) (e : EndsWithText chain to)
     → now ≡ chained old chain → now.current ≡ Some (record { 0 = length old.nodes + length e.front })
 current_is old now chain to e is = ap (λ (f : Forest Item). f.current) (is ∙ ap (chained old) e.is) ∙ last_current old e.front e.last
@@ -438,7 +438,7 @@ module _ (text : List ℕ) (options : Options) (names more_names : Names) (p : P
     (i : IsPlaceOf text (place_at next r)) (e : Extends more_names names)
     (owed_is : owed ≡ r.owed) (taken_is : taken ≡ r.taken) (a : AppendsRaw range_text text more_names owed (next + taken) last now new)
     (last_is : last ≡ behind_line_at text (next + taken)) where
-  -- where the text of the next line begins
+  -- the start of the text of the next line
   abbrev q : Place
   q = place_at next r
 
@@ -465,7 +465,7 @@ module _ (text : List ℕ) (options : Options) (names more_names : Names) (p : P
       ∙ ap (λ ps. (ps, further.1)) (sym (append_assoc s.read (q ∷ []) further.0))
       ∙ ap (λ k. put_before (s.read ++ q ∷ []) (code_lines (path_of options old) (lines_from text k))) (sym last_place)
 
-  -- after a blank line, and after one that isn't
+  -- after a blank line, and after one that is not blank
   blank_next : is_blank_rest r ≡ true → IndentedSoFar text options more_names p old new last kept true
   blank_next h =
       let same : add_tokens s.chain (s.more ++ a.items) ≡ add_tokens (add_tokens s.chain s.more) a.items = add_tokens-append s.chain s.more a.items in
@@ -518,7 +518,7 @@ module _ (text : List ℕ) (options : Options) (names more_names : Names) (p : P
       → IndentedSoFar text options more_names p old new last kept_now blank_now
   so_far_next blank_now kept_now h k = next_by blank_now kept_now (sym h) k
 
--- The lines open and close nothing, so that the next line is read in the containers that were open before.
+-- The lines open and close nothing, so the next line is read in the containers that were open before.
 pub next_rest : (text : List ℕ) (options : Options) (names : Names) (p : Place) (old now : Forest Item) (next : ℕ) (kept : Kept) (blank : Bool)
     (found : Option Rest) → IndentedSoFar text options names p old now next kept blank → IsForest old
     → found ≡ code_rest_at text (path_of options now) next → found ≡ code_rest_at text (path_of options old) next
@@ -534,14 +534,14 @@ next_quotes text options names p old now next kept blank n s f none =
     ap (λ g. has_quote_after options g n) s.tree_is
     ∙ quote_after-chained options old (add_tokens s.chain s.more) n (open_are_in old.nodes old.spine f.opened) ∙ none
 
--- a node just opened is the last one
+-- a node that was just opened is the last one
 pub opened_last : (f : Forest Item) → IsJustOpened f → open_place f.spine + 1 ≡ length f.nodes
 opened_last f o =
     let i : open_place f.spine ≡ o.place.0 = ap open_place o.pushed.innermost in
     let l = o.pushed.last in
     omega arith
 
--- the first place that begins there, of which so many columns are owed
+-- the first place at an offset, with columns owed there
 abbrev pub first_at : List ℕ → ℕ → ℕ → Place
 first_at text start owed = record { line = start; rest = record { left = drop start text; taken = 0; owed = owed; column = 0 } }
 
@@ -556,14 +556,14 @@ module _ (text : List ℕ) (options : Options) (names : Names) (p : Place) (old 
   tree_now : now ≡ chained old (s.last.front ++ record s.last.last { «end» = stays.to } ∷ stays.rest)
   tree_now = s.tree_is ∙ ap (chained old) stays.is
 
-  -- the last node that stays is a child of the innermost open one
+  -- the last node that stays is a child of the innermost open node
   pub kept_child : IfSome kept.last (λ child. IsChild now child)
   kept_child =
       subst (λ o. IfSome o (λ child. IsChild now child)) (sym s.place)
       (subst (λ f. IsChild f (place_in (length old.nodes + length s.last.front))) (sym tree_now)
       (chain_child old opened s.last.front (record s.last.last { «end» = stays.to }) stays.rest (place_in (length old.nodes + length s.last.front)) refl))
 
-  -- the chain without what the blank lines at its end added
+  -- the chain without the tokens of the blank lines at its end
   cut_is : (new : Forest Item) → IfSome kept.last (λ child. new ≡ with_end_at (kept_after now child) child kept.«end») → new ≡ chained old s.chain
   cut_is new h =
       let x : Item = record s.last.last { «end» = stays.to } in
@@ -595,7 +595,7 @@ module _ (text : List ℕ) (options : Options) (names : Names) (p : Place) (old 
 abbrev code_item : ℕ → Item
 code_item start = begun_item start IndentCodeBlock
 
--- the block just opened
+-- the block that was just opened
 pub just_opened : (old now : Forest Item) (start : ℕ) → now ≡ opened_block old start IndentCodeBlock → IsJustOpened now
 just_opened old now start e = record {
   place = place_in (length old.nodes);
@@ -607,7 +607,7 @@ module _ (text : List ℕ) (options : Options) (names : Names) (p : Place) (old 
   block_filled : now ≡ chained (opened_block old start IndentCodeBlock) a.chain
   block_filled = a.tree_is ∙ ap (λ f. chained f a.chain) opened_is
 
-  -- it is open still
+  -- it is still open
   pub code_open : IsSome (slice_get now.spine 0)
   code_open = still_open old now (code_item start) a.chain (place_in (length old.nodes)) refl block_filled
 

@@ -1,4 +1,4 @@
--- Raw lines after the nodes of a tree: the columns that are owed, and the bytes.
+-- Raw lines after the nodes of a tree: the owed columns, and the bytes.
 use Rattle.std.proofs.Common.{◌≡◌, ℕ, zero, suc, ◌+◌, ◌-◌, ◌<◌, ◌≤◌, Bool, true, false, List, ◌∷◌, ◌++◌, length, refl, sym, ap, ◌∙◌, arith, []}
 use Rattle.std.specs.List.{slice_range}
 use Rattle.std.proofs.lemmas.Bool.{cond-true, cond-false}
@@ -16,7 +16,7 @@ use Rattle.first_pass_names.specs.TableEntries.{with_named}
 use Rattle.first_pass_names.proofs.NameLemmas.{extends_none, text_last}
 use Rattle.first_pass_raw.specs.RawBlocks.{AppendsColumns, AppendsRaw}
 
--- the index of a text that was put after those that are named names it, whatever more is named
+-- the index of a newly appended text names it, also if more is named later
 pub named_last : (old new more : Names) (cow : CowStr) (ix : CowIndex) (text : List ℕ)
     → new ≡ with_named old cow → ix.0 ≡ length old.texts → text_of cow ≡ text → Extends more new → NamesText more ix text
 named_last old new more cow ix text e at is f =
@@ -47,7 +47,7 @@ columns_appended old_names names cow ix n at old new some small text e place new
       are = λ more h. some_columns more n at ix some (named_last old_names names more cow ix (spaces n) e place (text ∙ spaces_taken n small) h);
     }
 
--- columns are no text, so that nothing joins them
+-- columns are no text, so nothing is joined to them
 columns_plain : (names : Names) (n at : ℕ) (items : List Item) (f : Forest Item) → AreColumns names n at items → chained f items ≡ with_tokens f items
 columns_plain names zero at items f h = ap (chained f) h ∙ sym (ap (with_tokens f) h)
 columns_plain names (suc n) at items f (ix, named, is) = ap (chained f) is ∙ sym (with_token-plain f (columns_item at ix) refl) ∙ sym (ap (with_tokens f) is)
@@ -63,7 +63,7 @@ pub raw_two : (range : Ranges) (text : List ℕ) (from to : ℕ)
 unfolding raw_items
 raw_two range text from to h = cond-true _ _ _ h
 
--- where a line ends with `\r\n`, it has these two bytes
+-- at the end of a line with `\r\n` are these two bytes
 
 raw_appended : (range : Ranges) (text : List ℕ) (names : Names) (owed from to : ℕ) (old mid new : Forest Item)
     → AppendsColumns names owed from old mid → new ≡ with_tokens mid (raw_items range text from to) → AppendsRaw range text names owed from to old new
@@ -76,7 +76,7 @@ raw_appended range text names owed from to old mid new c e =
       are = λ options more h. (c.items, c.are more h, refl);
     }
 
--- a raw line whose end is not `\r\n`, and one whose end is
+-- a raw line that does not end with `\r\n`, and one that does
 pub line_one : (range : Ranges) (text bytes : List ℕ) (names : Names) (owed from to : ℕ) (old mid new : Forest Item) (both : Bool)
     → AppendsColumns names owed from old mid → bytes ≡ text → both ≡ ends_with_both bytes from to → both ≡ false
     → new ≡ with_tokens mid (range from to) → AppendsRaw range text names owed from to old new

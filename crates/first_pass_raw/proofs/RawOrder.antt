@@ -1,4 +1,5 @@
--- Raw leaf blocks are in order: each lies between two offsets with what is below it, and its lines are placed in the text one after the other.
+-- Raw leaf blocks are in order: each is between two offsets with everything below it, and its lines follow one
+-- another in the text.
 use Rattle.std.proofs.Common.{◌≡◌, ◌⊎◌, inl, inr, ℕ, zero, suc, ◌+◌, ◌-◌, ◌*◌, ◌<◌, ◌≤◌, ◌==◌, ◌&&◌, Bool, true, false, not, List, ◌∷◌, ◌++◌, length, drop, []}
 use Rattle.std.proofs.Common.{get_or, slice_index, nat_lt, nat_le, if◌then◌else◌, Option, Some, None, IsUtf8, IsCharBoundary, refl, sym, ap, subst, ◌∙◌, arith}
 use Rattle.std.proofs.Common.{length-append, length-drop, get_or-drop}
@@ -41,41 +42,42 @@ use Rattle.first_pass_grammar.proofs.OwnNodes.{own_at_most}
 use Rattle.first_pass_raw.specs.RawBlocks.{behind_line_at, code_behind, fenced_behind, metadata_behind, html_to_end, html_to_blank}
 use Rattle.first_pass_open.proofs.PlaceLemmas.{all_keep, after_keeps, place_end, line_start_end}
 
--- These places stand in the text between two offsets, each after the line of the one before it.
+-- These places are in the text between two offsets, each after the line of the one before it.
 unfoldable pub ArePlaced : List ℕ → ℕ → List Place → ℕ → Type 0
 ArePlaced text from [] to = from ≤ to
 ArePlaced text from (p ∷ ps) to = (from ≤ offset p) × IsPlaceOf text p × ArePlaced text (line_end p) ps to
 
--- Each of these lines, of which the first is read from an offset on, has a byte.
+-- Each of these lines has a byte; the first is read from an offset on.
 unfoldable pub HaveBytes : ℕ → List Place → Type 0
 HaveBytes from [] = Unit
 HaveBytes from (p ∷ ps) = (from < line_end p) × HaveBytes (line_end p) ps
 
--- So has each of a block's lines, but that its only line may have none.
+-- So has each line of a block, except that its only line may have none.
 abbrev pub AreFew : ℕ → List Place → Type 0
 AreFew from ps = (length ps ≤ 1) ⊎ HaveBytes from ps
 
--- The lines of an extent are so placed, up to its end, which is between characters, and are so few.
+-- The lines of an extent are placed in this way up to its end, which is between characters; if there are two or more,
+-- each has a byte.
 pub record IsPlaced (text : List ℕ) (from : ℕ) (e : Lines) : Type 0 where
   pub places : ArePlaced text from e.places e.«end»
   pub boundary : IsCharBoundary text e.«end»
   pub few : AreFew from e.places
 
--- The lines of an extent are so placed, and each has a byte.
+-- The lines of an extent are placed in this way, and each has a byte.
 pub record IsFilled (text : List ℕ) (from : ℕ) (e : Lines) : Type 0 where
   pub places : ArePlaced text from e.places e.«end»
   pub boundary : IsCharBoundary text e.«end»
   pub bytes : HaveBytes from e.places
 
--- An extent ends no later than the first line begins that it leaves.
+-- An extent ends no later than the start of the first remaining line.
 abbrev pub EndsBefore : List ℕ → Lines → Type 0
 EndsBefore text e = e.«end» ≤ start_of (length text) e.left
 
--- that is where reading continues
+-- reading continues there
 pub ends_before_next : (text : List ℕ) (e : Lines) (next : ℕ) → next ≤ length text → lines_from text next ≡ e.left → EndsBefore text e → e.«end» ≤ next
 ends_before_next text e next within left_is h = (let at = ap (start_of (length text)) left_is in let same = start_of-lines text next within in omega arith)
 
--- the first of the two offsets is not after the other
+-- the first of the two offsets is not after the second
 pub placed_bound : (text : List ℕ) (from to : ℕ) (ps : List Place) → ArePlaced text from ps to → from ≤ to
 unfolding ArePlaced
 placed_bound text from to [] h = h
@@ -87,13 +89,13 @@ unfolding ArePlaced
 placed_from text low from to [] less h = omega arith
 placed_from text low from to (p ∷ ps) less h = (let a = h.0 in omega arith, h.1, h.2)
 
--- columns that are owed have an empty range
+-- owed columns have an empty range
 columns_in_order : (text : List ℕ) (names : Names) (owed at : ℕ) (items : List Item)
     → IsCharBoundary text at → AreColumns names owed at items → AreInOrder text at at items
 columns_in_order text names zero at items b is = subst (AreInOrder text at at) (sym is) (omega arith)
 columns_in_order text names (suc n) at items b is = subst (AreInOrder text at at) (sym is.2) (omega arith, omega arith, b, b, omega arith)
 
--- `\r\n` at the end of a line: between characters before both, and between the two
+-- `\r\n` at the end of a line: between characters before both, and between them
 both_by : (text : List ℕ) (from to : ℕ)
     → to ≤ length text → ends_with_both text from to ≡ true → (from + 2 ≤ to) × IsCharBoundary text (to - 2) × IsCharBoundary text (to - 1)
 both_by text from to within h =
@@ -104,12 +106,12 @@ both_by text from to within h =
     let newline_is = eqb-true (slice_index text (to - 1)) 10 a.1 in
     (omega arith, IsCharBoundary-before_ascii text (to - 2) (omega arith) (omega arith), IsCharBoundary-before_ascii text (to - 1) (omega arith) (omega arith))
 
--- There is one of them at most.
+-- There is at most one item for them.
 columns_few : (names : Names) (owed at : ℕ) (items : List Item) → AreColumns names owed at items → length items ≤ 1
 columns_few names zero at items is = rw is (omega arith)
 columns_few names (suc n) at items is = rw is.2 (omega arith)
 
--- A chain with tokens after it has at most so many more.
+-- A chain gets at most as many items more as tokens are appended to it.
 add_token_few : (chain : List Item) (y : Item) → length (add_token chain y) ≤ suc (length chain)
 add_token_few [] y = omega arith
 add_token_few (x ∷ []) y =
@@ -123,7 +125,7 @@ add_tokens_few (x ∷ xs) chain =
     let g = add_tokens_few xs (add_token chain x) in
     omega arith
 
--- What a range of a raw line's bytes stands as is in order, and one item at most.
+-- The items of a range of the bytes of a raw line are in order, and at most one.
 record IsRange (range : Ranges) : Type 0 where
   order : (text : List ℕ) (from to : ℕ) → from ≤ to → IsCharBoundary text from → IsCharBoundary text to → AreInOrder text from to (range from to)
   few : (from to : ℕ) → length (range from to) ≤ 1
@@ -139,7 +141,8 @@ text_range = record {
 html_range : IsRange range_html
 html_range = record { order = λ text from to order b c. (omega arith, order, b, c, omega arith); few = λ from to. omega arith }
 
--- A raw line lies from where its text begins to where the line ends, and has at most three items; so does a chain of them.
+-- A raw line reaches from the start of its text to the end of the line, and has at most three items; so has each line
+-- of a chain.
 module _ (range : Ranges) (r : IsRange range) where
   raw_in_order : (text : List ℕ) (from to : ℕ)
       → from ≤ to → IsCharBoundary text from → IsCharBoundary text to → AreInOrder text from to (raw_items range text from to)
@@ -200,7 +203,7 @@ module _ (range : Ranges) (r : IsRange range) where
         let f = lines_few ps (add_tokens chain line) whole further in
         omega arith
 
--- Lines that have bytes are no more than these.
+-- Lines that have bytes are no more than those bytes.
 bytes_few : (text : List ℕ) (from to : ℕ) (ps : List Place) → HaveBytes from ps → ArePlaced text from ps to → length ps + from ≤ to
 unfolding HaveBytes ArePlaced
 bytes_few text from to [] some placed = omega arith
@@ -209,7 +212,7 @@ bytes_few text from to (p ∷ ps) some placed =
     let f = bytes_few text (line_end p) to ps some.1 placed.2 in
     omega arith
 
--- So a block of raw lines has at most four items for each byte between two offsets that it lies between.
+-- So a block of raw lines has at most four items for each byte between two offsets around it.
 few_by : (text : List ℕ) (from to start stop n : ℕ) (ps : List Place)
     → n ≤ 0 + 3 * length ps → AreFew start ps → ArePlaced text start ps stop → from ≤ start → stop ≤ to → from < to → suc n ≤ 4 * (to - from)
 few_by text from to start stop n ps least (inl one) placed behind before apart = omega arith
@@ -224,7 +227,7 @@ pub html_line_in_order : (d : Document) (owed from to : ℕ) (items : List Item)
     → from ≤ to → IsCharBoundary d.text from → IsCharBoundary d.text to → IsRawLine range_html d owed from to items → AreInOrder d.text from to items
 html_line_in_order d owed from to items order b c line = bytes_in_order range_html html_range d owed from to items order b c line
 
--- A block of raw lines fits where it begins and ends.
+-- A block of raw lines fits between its start and its end.
 raw_fits : (range : Ranges) → IsRange range → (d : Document) (from to start stop : ℕ) (body : ItemBody) (ps : List Place) (chain : List Item)
     (items : List (ℕ × Item)) → IsUtf8 d.text → items ≡ block_with start stop body chain
     → AreRawLines range d [] ps chain → IsCharBoundary d.text start → IsCharBoundary d.text stop → ArePlaced d.text start ps stop → AreFew start ps
@@ -236,7 +239,7 @@ raw_fits range r d from to start stop body ps chain items u is lines b c placed 
     (lines_in_order range r d ps start start stop [] chain u placed (omega arith) lines)
     (few_by d.text from to start stop (length chain) ps (lines_few range r d ps [] chain lines) few placed behind before))
 
--- what lines are left without the blank ones at the end
+-- the lines without the blank ones at the end
 kept_by : (text : List ℕ) (from to : ℕ) (p : Place) (t : Bool) (qs : List Place)
     → is_blank_rest p.rest ≡ t → from ≤ offset p → IsPlaceOf text p → IsCharBoundary text from
     → ArePlaced text (line_end p) qs (last_end (line_end p) qs) → IsCharBoundary text (last_end (line_end p) qs)
@@ -254,7 +257,7 @@ kept_placed text from to (p ∷ ps) u b h =
     let k = kept_placed text (line_end p) to ps u (place_end text p u h.1) h.2 in
     kept_by text from to p (is_blank_rest p.rest) (without_blanks ps) refl h.0 h.1 b k.0 k.1
 
--- the last of them is not after the others
+-- the end of the last of them is not after the others
 kept_last_by : (text : List ℕ) (from to : ℕ) (p : Place) (t : Bool) (qs : List Place)
     → is_blank_rest p.rest ≡ t → from ≤ to → last_end (line_end p) qs ≤ to → last_end from (unless_blank p qs) ≤ to
 unfolding last_end
@@ -323,7 +326,7 @@ metadata_fits d start byte e items u is b placed from to behind before =
     raw_fits range_text text_range d from to start e.«end»
     (MetadataBlock (metadata_kind byte)) e.places is.chain items u is.items_are is.lines b placed.boundary placed.places placed.few behind before
 
--- where columns are owed counts nothing
+-- the lines do not move if columns are owed at the first
 owing_placed : (text : List ℕ) (columns from to : ℕ) (ps : List Place) → ArePlaced text from ps to → ArePlaced text from (first_owing columns ps) to
 unfolding ArePlaced
 owing_placed text columns from to [] placed = placed
@@ -342,7 +345,7 @@ html_fits d start columns e items u is b placed from to behind before =
     raw_fits range_html html_range d from to start e.«end» HtmlBlock (first_owing columns e.places) is.chain items u is.items_are is.lines b placed.boundary
     (owing_placed d.text columns start e.«end» e.places placed.places) (owing_few columns start e.places placed.few) behind before
 
--- Up to where the lines begin that it leaves, an HTML block has no more items than these, all of them its own.
+-- Up to the start of the first remaining line, an HTML block has at most four items for each byte, all of its own.
 pub html_few : (d : Document) (start columns stop : ℕ) (e : Lines) (items : List (ℕ × Item))
     → IsHtml d start columns e.places e.«end» items → ArePlaced d.text start e.places stop → AreFew start e.places
     → (from to : ℕ) → from ≤ start → stop ≤ to → from < to → own_nodes items ≤ 4 * (to - from)
@@ -356,7 +359,7 @@ html_few d start columns stop e items is placed few from to behind before apart 
     let most = own_at_most None items in
     omega arith
 
--- Where lines end between characters: after some of what is left at a place, where the line ends there.
+-- Between characters at the end of a line: after some bytes from a place on, if the line ends there.
 eol_small : (b : ℕ) (bs : List ℕ) (t v : Bool) → (b == 10) ≡ t → (b == 13) ≡ v → at_line_end (b ∷ bs) ≡ true → b < 128
 eol_small b bs true v e f h = (let z = eqb-true b 10 e in omega arith)
 eol_small b bs false true e f h = (let z = eqb-true b 13 f in omega arith)
@@ -384,7 +387,7 @@ ends_between text p m i within h =
       ]
     ]
 
--- what a test that was passed tells
+-- the result of a test that passed
 found_by : (t : Bool) (m n : ℕ) → (if t then Some m else None) ≡ Some n → (t ≡ true) × (m ≡ n)
 found_by true m n h = (refl, cc)
 found_by false m n h = cc
@@ -397,7 +400,7 @@ nothing_ends : (bs : List ℕ) → length bs ≡ 0 → at_line_end (drop 0 bs) �
 nothing_ends [] h = refl
 nothing_ends (b ∷ bs) h = absurd (omega arith)
 
--- After a closing fence its line ends, and after the closing line of metadata.
+-- The line ends after a closing fence, and after the closing line of metadata.
 fence_ends : (byte count : ℕ) (bs : List ℕ) (n : ℕ) → closing_fence_len byte count bs ≡ Some n → (n ≤ length bs) × (at_line_end (drop n bs) ≡ true)
 unfolding closing_fence_len
 fence_ends byte count bs n h =
@@ -438,7 +441,7 @@ metadata_ends byte bs n h =
     let l = length-drop 3 bs in
     (omega (arith, f.1), ap (λ j. at_line_end (drop j bs)) (sym f.1) ∙ a.1)
 
--- They have no byte of a line end, where the mark's byte is none.
+-- They have no byte of a line ending, if the byte of the mark is none.
 content_first : (b : ℕ) (bs : List ℕ) → is_content b ≡ true → prefix_len is_content (b ∷ bs) ≡ prefix_len is_content bs + 1
 content_first b bs h = rw h (omega arith)
 
@@ -468,7 +471,7 @@ run_behind test content zero bs h = (let f = run_first test content bs in omega 
 run_behind test content (suc k) [] h = absurd (omega arith)
 run_behind test content (suc k) (b ∷ bs) h = run_behind_by test content (is_content b) k b bs refl h (run_behind test content k bs)
 
--- The bytes of opening marks are none of a line end.
+-- No byte of the opening marks is one of a line ending.
 fence_plain_by : (t v w x : Bool) (p q r : ℕ × ℕ) → is_content p.1 ≡ true → is_content q.1 ≡ true
     → (if t then (if v then Some p else None) else (if w then (if x then Some q else None) else None)) ≡ Some r → is_content r.1 ≡ true
 fence_plain_by true true w x p q r e f h = (let same : p ≡ r = cc in ap (λ (z : ℕ × ℕ). is_content z.1) (sym same) ∙ e)
@@ -532,7 +535,7 @@ metadata_within byte bs n plain h =
     let w = content_within bs in
     omega (arith, f.1)
 
--- the first of the lines from an offset on, and the others
+-- the first of the lines from an offset on, and the other lines
 pub first_line : (text : List ℕ) (at : ℕ) (line : Place) (lines : List Place)
     → line ∷ lines ≡ lines_from text at → (at < length text) × (line ≡ line_place at (drop at text)) × (lines ≡ lines_from text (behind_line_at text at))
 first_line text at line lines is =
@@ -543,9 +546,10 @@ first_line text at line lines is =
       | inr past ↦ (let e : line ∷ lines ≡ [] = is ∙ lines_at-end text at past in cc)
     ]
 
--- Each of the lines from an offset on begins there or after another line, and a place in it stands in the text, up to the same end.
+-- Each of the lines from an offset on begins there or after another line, and a place in it is in the text, with the
+-- same end of the line.
 module _ (text : List ℕ) (u : IsUtf8 text) (path : List Container) where
-  -- a line, where it begins, and a place in it
+  -- a line, its start, and a place in it
   pub record IsIn (at : ℕ) (q : Place) : Type 0 where
     pub stands : IsPlaceOf text q
     pub here : q.line ≡ at
@@ -589,7 +593,7 @@ module _ (text : List ℕ) (u : IsUtf8 text) (path : List Container) where
     bytes = (i.some, subst (λ k. HaveBytes k e.places) (sym i.same_end) further.bytes);
   }
 
-  -- a block that has no more lines
+  -- a block without further lines
   stops_placed : (at stop : ℕ) (lines : List Place) → at ≤ stop → IsCharBoundary text stop → IsFilled text at (ends_at stop lines)
   unfolding ArePlaced HaveBytes
   stops_placed at stop lines order b = record { places = order; boundary = b; bytes = tt }
@@ -615,7 +619,7 @@ module _ (text : List ℕ) (u : IsUtf8 text) (path : List Container) where
   code_step at line lines None further start i rest = omega arith
   code_step at line lines (Some q) further start i rest = line_placed at (start_of (length text) further.1) q further.0 (i q refl) rest
 
-  -- They are placed up to those that it leaves.
+  -- They are placed before the start of the first remaining line.
   pub code_placed : (lines : List Place) (at : ℕ)
       → lines ≡ lines_from text at → IsCharBoundary text at → (let all = code_lines path lines in ArePlaced text at all.0 (start_of (length text) all.1))
   unfolding ArePlaced code_lines
@@ -626,7 +630,7 @@ module _ (text : List ℕ) (u : IsUtf8 text) (path : List Container) where
       (λ q h. code_in at q (taken path line) (λ q h. taken_in at line q f.0 b f.1 h) h)
       (code_placed lines (behind_line_at text at) f.2 (behind_is_boundary at b))
 
-  -- a verdict on the line that begins at an offset stays in it
+  -- the verdict on the line at an offset stays within that line
   abbrev pub IsWithin : ℕ → Verdict → Type 0
   IsWithin at (GoesOn p) = IsIn at p
   IsWithin at (IsLast p) = IsIn at p
@@ -661,12 +665,12 @@ module _ (text : List ℕ) (u : IsUtf8 text) (path : List Container) where
       (judged_within judge stays at line (taken path line) f.1 b (λ q h. taken_in at line q f.0 b f.1 h))
       (extent_filled judge stays lines (behind_line_at text at) f.2 (behind_is_boundary at b))
 
-  -- where the lines begin after one
+  -- the start of the lines after one
   left_start : (at : ℕ) (lines : List Place)
       → IsCharBoundary text at → lines ≡ lines_from text (behind_line_at text at) → start_of (length text) lines ≡ behind_line_at text at
   left_start at lines b is = (let w = (behind_is_boundary at b).0 in ap (start_of (length text)) is ∙ start_of-lines text (behind_line_at text at) w)
 
-  -- They are placed before the lines that the block leaves.
+  -- They are placed before the start of the remaining lines.
   verdict_left : (at : ℕ) (v : Verdict) (line : Place) (lines : List Place) (further : Lines)
       → line ≡ line_place at (drop at text) → start_of (length text) lines ≡ behind_line_at text at → IsWithin at v
       → ArePlaced text (behind_line_at text at) further.places (start_of (length text) further.left)
@@ -687,7 +691,7 @@ module _ (text : List ℕ) (u : IsUtf8 text) (path : List Container) where
       (left_start at lines b f.2) (judged_within judge stays at line (taken path line) f.1 b (λ q h. taken_in at line q f.0 b f.1 h))
       (extent_left judge stays lines (behind_line_at text at) f.2 (behind_is_boundary at b))
 
-  -- of a fenced code block
+  -- for a fenced code block
   fence_in_by : (t : Bool) (at e : ℕ) (q : Place) (o : Option ℕ)
       → ((n : ℕ) → o ≡ Some n → (n ≤ length (all_taken q.rest).left) × (at_line_end (drop n (all_taken q.rest).left) ≡ true)) → IsIn at q
       → (if t then option_map (λ n. offset (unindented q) + n) o else None) ≡ Some e → (at ≤ e) × IsCharBoundary text e
@@ -711,7 +715,7 @@ module _ (text : List ℕ) (u : IsUtf8 text) (path : List Container) where
   fence_stays : (columns byte count : ℕ) → StaysWithin (fence_judge columns byte count)
   fence_stays columns byte count at line q is b i = fence_verdict_within columns at q (closing_fence_end byte count q) i (λ e h. fence_in byte count at e q i h)
 
-  -- of a metadata block
+  -- for a metadata block
   metadata_verdict_within : (at : ℕ) (line q : Place) (o : Option ℕ) → line ≡ line_place at (drop at text) → IsCharBoundary text at → IsIn at q
       → ((n : ℕ) → o ≡ Some n → (n ≤ length line.rest.left) × (at_line_end (drop n line.rest.left) ≡ true)) → IsWithin at (metadata_verdict line q o)
   metadata_verdict_within at line q None is b i within = i
@@ -726,7 +730,7 @@ module _ (text : List ℕ) (u : IsUtf8 text) (path : List Container) where
   metadata_stays byte at line q is b i =
       metadata_verdict_within at line q (closing_metadata_len byte line.rest.left) is b i (λ n h. metadata_ends byte line.rest.left n h)
 
-  -- of an HTML block
+  -- for an HTML block
   tag_stays : (until : BlockEnd) → StaysWithin (tag_judge until)
   tag_stays until at line q is b i =
       cond_both (is_empty q.rest.left) (Closes (offset q)) (tag_verdict until q) (IsWithin at) (λ none. (in_behind at q i, i.stands.boundary))
@@ -739,7 +743,7 @@ module _ (text : List ℕ) (u : IsUtf8 text) (path : List Container) where
       (λ here. (omega arith, subst (IsCharBoundary text) (sym start) b))
       (λ other. cond_both (is_blank_rest q.rest) (Stops (offset q)) (GoesOn q) (IsWithin at) (λ blank. (in_behind at q i, i.stands.boundary)) (λ more. i))
 
-  -- a first line before them, which has a byte where another line follows
+  -- a first line before them, which has a byte if another line follows
   first_some : (p : Place) → IsPlaceOf text p → line_end p < length text → offset p < line_end p
   first_some p i w =
       let l = place_length text p i in
@@ -759,7 +763,7 @@ module _ (text : List ℕ) (u : IsUtf8 text) (path : List Container) where
       let f = extent_filled judge stays (line ∷ lines) (line_end p) is (place_end text p u i) in
       record { places = (omega arith, i, f.places); boundary = f.boundary; few = inr (first_some p i (first_line text (line_end p) line lines is).0, f.bytes) }
 
-  -- where the line of a place ends
+  -- the end of the line of a place
   place_line : (p : Place) → IsPlaceOf text p → behind_line_at text (offset p) ≡ line_end p
   place_line p i = ap (λ bs. offset p + line_len bs) (sym i.left)
 
@@ -775,7 +779,7 @@ module _ (text : List ℕ) (u : IsUtf8 text) (path : List Container) where
     few = inr (later_bytes start at e.places order filled.bytes);
   }
 
-  -- The lines of each raw leaf block are placed in the text, from where it begins.
+  -- The lines of each raw leaf block are placed in the text, from its start on.
   pub indented_behind_placed : (p : Place)
       → IsPlaceOf text p → (let all = code_behind text path (offset p) in ArePlaced text (offset p) (p ∷ all.0) (start_of (length text) all.1))
   unfolding ArePlaced
@@ -853,7 +857,7 @@ module _ (text : List ℕ) (u : IsUtf8 text) (path : List Container) where
       let end_is = i.same_end in
       omega arith
 
-  -- a verdict on the line that begins at an offset ends no block later than the first line begins that it leaves
+  -- with the verdict on the line at an offset, the block ends no later than the start of the first remaining line
   abbrev pub IsBefore : ℕ → Verdict → Type 0
   IsBefore at (GoesOn p) = Unit {0}
   IsBefore at (IsLast p) = line_end p ≤ behind_line_at text at
@@ -913,7 +917,7 @@ module _ (text : List ℕ) (u : IsUtf8 text) (path : List Container) where
       cond_both (is_empty q.rest.left) (Closes (offset q)) (tag_verdict until q) (IsBefore at) (λ none. omega arith)
       (λ some. cond_both (holds_end until (line_of q)) (IsLast q) (GoesOn q) (IsBefore at) (λ held. omega arith) (λ other. tt))
 
-  -- So do the raw leaf blocks, but for an HTML block that ends after the prefix of a blank line.
+  -- So do the raw leaf blocks, except an HTML block that ends after the prefix of a blank line.
   behind_before : (judge : Place → Place → Verdict) → StaysBefore judge → (start : ℕ) → IsCharBoundary text start
       → EndsBefore text (extent (in_containers path judge) (length text) (lines_from text (behind_line_at text start)))
   behind_before judge stays start b =

@@ -1,4 +1,4 @@
--- What the raw leaf blocks append to a tree: code, metadata and HTML.
+-- The nodes that raw leaf blocks append to a tree: code, metadata and HTML.
 use Rattle.std.specs.Prelude.{◌≡◌, ℕ, ◌+◌, Bool, List, [], length, drop, Option, Some, None, ◌==◌, if◌then◌else◌}
 use Rattle.first_pass_items.specs.declared.option_set.Options.{Options}
 use Rattle.first_pass_items.specs.declared.item.Item.{Item}
@@ -26,25 +26,26 @@ use Rattle.first_pass_lines.specs.Places.{line_rest}
 use Rattle.first_pass_grammar.specs.Containers.{has_columns, after}
 use Rattle.first_pass_open.specs.Path.{path_of}
 
--- Columns that are owed stand after the nodes of a tree, whatever more is named.
+-- Owed columns are appended after the nodes of a tree, and stay what they are if more is named later.
 pub record AppendsColumns (names : Names) (owed at : ℕ) (old new : Forest Item) : Type 0 where
   pub items : List Item
   pub tree_is : new ≡ chained old items
   pub are : (more : Names) → Extends more names → AreColumns more owed at items
 
--- what is left of the line at an offset, after its containers and four columns or fewer, where there is such a line and it continues indented code
+-- the rest of a line after its container prefixes, and after four columns or fewer, if the line continues indented
+-- code
 abbrev pub code_rest : Option Rest → Option Rest
 code_rest o = option_and_then (λ r. if has_columns 4 r then Some (after_columns 4 r) else None) o
 
 abbrev pub code_rest_at : List ℕ → List Container → ℕ → Option Rest
 code_rest_at text path start = if start == length text then None else code_rest (after path (line_rest (drop start text)))
 
--- as which items a range of a raw line's bytes is appended
+-- the items for a range of the bytes of a raw line
 abbrev pub range_of : RawKind → Ranges
 range_of Code = range_text
 range_of Html = range_html
 
--- A raw line stands after the nodes of a tree, whatever more is named.
+-- A raw line is appended after the nodes of a tree, and stays what it is if more is named later.
 pub record AppendsRaw (range : Ranges) (text : List ℕ) (names : Names) (owed from to : ℕ) (old new : Forest Item) : Type 0 where
   pub items : List Item
   pub tree_is : new ≡ with_tokens old items
@@ -55,15 +56,15 @@ pub record IsPlaceAt (text : List ℕ) (start : ℕ) (p : Place) : Type 0 where
   pub offset_is : offset p ≡ start
   pub left_is : p.rest.left ≡ drop start text
 
--- where the line ends that has something at an offset
+-- the end of the line containing an offset
 abbrev pub behind_line_at : List ℕ → ℕ → ℕ
 behind_line_at text at = at + line_len (drop at text)
 
--- the lines that continue indented code whose first line has something at an offset, and those that it leaves
+-- the lines that continue indented code whose first line contains an offset, and the remaining lines
 abbrev pub code_behind : List ℕ → List Container → ℕ → List Place × List Place
 code_behind text path start = code_lines path (lines_from text (behind_line_at text start))
 
--- Indented code is a last child of the innermost open node.
+-- Indented code is appended as a last child of the innermost open node.
 pub record AddsIndented (d : Document) (p : Place) (old new : Forest Item) (next : ℕ) (blank : Bool) : Type 0 where
   pub items : List (ℕ × Item)
   pub tree_is : new ≡ added old items
@@ -72,14 +73,14 @@ pub record AddsIndented (d : Document) (p : Place) (old new : Forest Item) (next
   pub blank_is : blank ≡ last_is_blank (code_behind d.text (path_of d.options old) (offset p)).0
   pub left_is : lines_from d.text next ≡ (code_behind d.text (path_of d.options old) (offset p)).1
 
--- what a line is to a block whose text, if it has one, is at a place
+-- the verdict of the grammar for a returned one, with the place of the text of the line if it has any
 abbrev pub said : Answer → Place → Verdict
 said GoesOn p = Judged.GoesOn p
 said IsLast p = Judged.IsLast p
 said (Closes e) p = Judged.Closes e
 said (Stops e) p = Judged.Stops e
 
--- The raw lines of an extent stand after the nodes of a tree, whatever more is named.
+-- The raw lines of an extent are appended after the nodes of a tree, and stay what they are if more is named later.
 pub record AppendsLines (range : Ranges) (d : Document) (e : Extent) (old new : Forest Item) («end» next : ℕ) : Type 0 where
   pub chain : List Item
   pub tree_is : new ≡ chained old chain
@@ -87,14 +88,15 @@ pub record AppendsLines (range : Ranges) (d : Document) (e : Extent) (old new : 
   pub end_is : «end» ≡ e.«end»
   pub left_is : lines_from d.text next ≡ e.left
 
--- A block is a last child of the innermost open node, whose items are, whatever more is named, what is said of them; and the lines from an offset on are left.
+-- A block is appended as a last child of the innermost open node. A relation holds for its items, also if more is
+-- named later. The lines from an offset on remain.
 pub record AddsRaw (d : Document) (Are : Document → List (ℕ × Item) → Type 0) (left : List Place) (old new : Forest Item) (next : ℕ) : Type 0 where
   pub items : List (ℕ × Item)
   pub tree_is : new ≡ added old items
   pub are : (more : Names) → Extends more d.names → Are (document d.text d.options more) items
   pub left_is : lines_from d.text next ≡ left
 
--- the lines after the one that has something at an offset, which are a fenced code block's, or a metadata block's
+-- the lines of a fenced code block, or of a metadata block, after the line containing an offset
 abbrev pub fenced_behind : List ℕ → List Container → ℕ → ℕ → ℕ → ℕ → Extent
 fenced_behind text path columns byte count start = fenced_lines (length text) path columns byte count (lines_from text (behind_line_at text start))
 

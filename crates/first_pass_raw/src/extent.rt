@@ -1,4 +1,4 @@
-//! The lines of a raw leaf block: each up to the first that ends it (CommonMark 4.5, 4.6).
+//! The lines of a raw leaf block: those up to the first that ends it (CommonMark 4.5, 4.6).
 
 ghost use Rattle.std.specs.Prelude.{◌≡◌, ◌≤◌, length, drop, IfOk, OnOk, IsCharBoundary};
 ghost use Rattle.first_pass_lines.specs.Places.{Place, place_at, line_place, line_end, IsPlaceOf};
@@ -24,20 +24,21 @@ use first_pass_scan::line_start::LineStart;
 use first_pass_tree::forest::Tree;
 use std::alloc::AllocError;
 
-/// A kind of raw leaf block, which judges the lines that continue the containers around it.
+/// A kind of raw leaf block, with its verdicts on the lines that continue the containers around it.
 pub trait JudgesLines {
-    // What a line is to the block, and the place after its containers.
+    // The verdict on a line, with the place after its container prefixes.
     ghost judges: { Self → Place → Place → Judgement };
 
-    // What its lines are.
+    // The kind of its raw lines.
     ghost kinds: { Self → RawKind };
 
-    /// What the lines of the block are, as which their bytes are appended.
+    /// Returns the kind of its raw lines, as which their bytes are appended.
     fn kind(&self) -> RawKind
         ensures { result ≡ kinds self.now };
 
-    /// What the line of the text is to the block that begins at the offset `start`, before the one at `next`, and of
-    /// which this is left after its containers. A line of the block's is left where its text begins.
+    /// Returns the verdict on a line of the text. `start` is the start of the line, `next` that of the following one,
+    /// and `line_start` its rest after the container prefixes. If the line belongs to the block, moves `line_start`
+    /// to the text of the line.
     fn judge(
         &self,
         text: &str,
@@ -54,8 +55,8 @@ pub trait JudgesLines {
         ensures next { next ≡ line_end (place_at start line_start.new) };
 }
 
-/// Appends the lines of a block from the one on that begins at the offset `start` into the text, as `judge` judges
-/// them.
+/// Appends the lines of a block from the line at `start` on, according to `judge`. `start` is an offset into the
+/// text. Fails only if an allocation fails.
 pub fn read_lines<'a, J: JudgesLines>(
     judge: &J,
     source: &Source<'a>,

@@ -27,7 +27,7 @@ use first_pass_scan::line_start::LineStart;
 use first_pass_tree::forest::Tree;
 use std::alloc::AllocError;
 
-/// A code fence that opens a block: the columns before it, its byte, and how many bytes it has.
+/// A code fence that opens a block: the columns before it, its byte, and its length in bytes.
 #[derive(Clone, Copy)]
 pub struct Fence {
     pub indent: usize,
@@ -35,8 +35,8 @@ pub struct Fence {
     pub count: usize,
 }
 
-/// Appends the fenced code block whose fence begins at the offset `start_ix`. Returns the offset at which the line
-/// begins that is not read, or the text's length (CommonMark 4.5).
+/// Appends the fenced code block whose fence begins at the offset `start_ix`. Returns the start of the next unread
+/// line, or the end of the text (CommonMark 4.5). Fails only if an allocation fails.
 pub fn parse_fenced_code_block<'a>(
     source: &Source<'a>,
     tree: &mut Tree<Item>,
@@ -71,8 +71,8 @@ pub fn parse_fenced_code_block<'a>(
     Ok(lines.next)
 }
 
-// The info string after a code fence that ends at the offset `start`: the rest of the line without the white space
-// at its ends.
+// The info string after a code fence that ends at the offset `start`: the rest of the line without the white space at
+// both ends.
 fn info_string(text: &str, start: usize) -> &str
     requires boundary { IsCharBoundary text.now start }
     ensures { result.now ≡ info_string (drop start text.now) }
@@ -83,7 +83,7 @@ fn info_string(text: &str, start: usize) -> &str
     &text[from..next - trailing_white(&bytes[from..next])]
 }
 
-// How many bytes of ASCII white space stand last.
+// The number of bytes of ASCII white space at the end.
 fn trailing_white(bytes: &[u8]) -> usize
     ensures value { result ≡ suffix_len is_ascii_white bytes.now }
     ensures within { result ≤ length bytes.now }
@@ -95,7 +95,7 @@ fn trailing_white(bytes: &[u8]) -> usize
         .count()
 }
 
-// Where the closing fence ends that is left of a line of the text, which begins at the offset `start`.
+// The end of the closing fence in the rest of a line of the text, if there is one; `start` is the start of the line.
 fn closing_fence(text: &str, start: usize, line_start: LineStart<'_>, fence: Fence) -> Option<usize>
     requires place { IsPlaceOf text.now (place_at start line_start) }
     ensures { result ≡ closing_fence_end fence.byte fence.count (place_at start line_start.entry) }

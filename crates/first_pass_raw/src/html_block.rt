@@ -29,17 +29,18 @@ use first_pass_scan::line_start::LineStart;
 use first_pass_tree::forest::Tree;
 use std::alloc::AllocError;
 
-/// Where an HTML block begins.
+/// The start of an HTML block.
 #[derive(Clone, Copy)]
 pub struct HtmlStart {
     /// The offset of its first byte.
     pub at: usize,
-    /// The columns before that, at most 3.
+    /// The columns before it, at most 3.
     pub columns: usize,
 }
 
-/// Appends the HTML block of the kinds 1 to 5 that begins at `start` and continues to the first line that holds its
-/// end. Returns the offset at which the line begins that is not read, or the text's length (CommonMark 4.6).
+/// Appends the HTML block of the kinds 1 to 5 that begins at `start`, up to the first line that meets its end
+/// condition. Returns the start of the next unread line, or the end of the text (CommonMark 4.6). Fails only if an
+/// allocation fails.
 pub fn parse_html_block_type_1_to_5<'a>(
     source: &Source<'a>,
     tree: &mut Tree<Item>,
@@ -68,9 +69,9 @@ pub fn parse_html_block_type_1_to_5<'a>(
     Ok(lines.next)
 }
 
-/// Appends the HTML block of the kinds 6 and 7 that begins at `start` and continues to a blank line. Returns the
-/// offset at which the line begins that is not read, or the text's length: where the block ends after what the
-/// containers take of that blank line, its end is after the answer (CommonMark 4.6).
+/// Appends the HTML block of the kinds 6 and 7 that begins at `start`, up to a blank line. Returns the start of the
+/// next unread line, or the end of the text. The block may end after the container prefixes on the blank line, past
+/// the returned offset (CommonMark 4.6). Fails only if an allocation fails.
 pub fn parse_html_block_type_6_or_7<'a>(
     source: &Source<'a>,
     tree: &mut Tree<Item>,
@@ -94,7 +95,7 @@ pub fn parse_html_block_type_6_or_7<'a>(
     Ok(lines.next)
 }
 
-// Opens the HTML block that begins at `start`, and appends its first line. Returns where that ends.
+// Opens the HTML block that begins at `start`, and appends its first line. Returns the end of that line.
 #[inline(always)]
 fn open_html_block<'a>(
     tree: &mut Tree<Item>,
@@ -126,7 +127,7 @@ fn open_html_block<'a>(
     Ok(next)
 }
 
-// Whether what ends a block of the kinds 1 to 5 stands somewhere in the line.
+// Whether the line contains the end of a block of the kinds 1 to 5.
 fn holds_end(line: &str, html_end: HtmlEnd) -> bool
     ensures { result ≡ holds_end (end_of html_end) line.now }
 {
@@ -136,7 +137,7 @@ fn holds_end(line: &str, html_end: HtmlEnd) -> bool
     }
 }
 
-// An HTML block that continues to the first line that holds its end.
+// An HTML block up to the first line that contains its end.
 #[derive(Clone, Copy)]
 struct ToEnd {
     html_end: HtmlEnd,
@@ -176,7 +177,7 @@ impl JudgesLines for ToEnd {
     }
 }
 
-// An HTML block that continues to a blank line.
+// An HTML block up to a blank line.
 #[derive(Clone, Copy)]
 struct ToBlank;
 

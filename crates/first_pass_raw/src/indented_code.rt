@@ -25,10 +25,10 @@ use first_pass_tree::forest::Tree;
 use first_pass_tree::tree_index::TreeIndex;
 use std::alloc::AllocError;
 
-/// Appends the indented code whose first line's text begins at the offset `start_ix`, after its four columns,
-/// with `remaining_space` columns, at most 3, owed there. Returns the offset at which the line begins that is not
-/// read, or the text's length, and whether the last line read is blank: such lines are no part of the block
-/// (CommonMark 4.4).
+/// Appends the indented code whose first line has its text at the offset `start_ix`, after its four columns. At most
+/// 3 columns, `remaining_space`, are owed there. Returns the start of the next unread line, or the end of the text,
+/// and whether the last line read is blank: blank lines at the end are no part of the block (CommonMark 4.4). Fails
+/// only if an allocation fails.
 pub fn parse_indented_code_block<'a>(
     source: &Source<'a>,
     tree: &mut Tree<Item>,
@@ -70,15 +70,14 @@ pub fn parse_indented_code_block<'a>(
     Ok((next, blank))
 }
 
-// What stays of the lines so far where only blank ones follow: the last node, and where it ends.
+// The part of the lines so far that stays if only blank lines follow: its last node, and its end.
 #[derive(Clone, Copy)]
 struct Kept {
     last: Option<TreeIndex>,
     end: usize,
 }
 
-// Appends the line of code from the offset `at` on, of which so many columns are owed there, and returns where it
-// ends.
+// Appends the line of code from the offset `at` on, with `owed` columns owed there, and returns the end of the line.
 fn append_line<'a>(
     tree: &mut Tree<Item>,
     allocs: &mut Allocations<'a>,
@@ -106,7 +105,7 @@ fn append_line<'a>(
     Ok(next)
 }
 
-// What stays: the same where the line that was appended last is blank, else all up to its end.
+// The part that stays: the same as before if the last appended line is blank, otherwise everything up to its end.
 fn kept_line(kept: Kept, tree: &Tree<Item>, blank: bool, end: usize) -> Kept
     ensures { result ≡ (if blank then kept else record { last = tree.now.current; «end» = end }) }
 {
@@ -119,7 +118,8 @@ fn kept_line(kept: Kept, tree: &Tree<Item>, blank: bool, end: usize) -> Kept
     }
 }
 
-// Drops what stands after the last node that stays. A blank line may have been joined to that, so it gets its end.
+// Drops the nodes after the last node that stays. A blank line may have been joined to that node, so its end is set
+// again.
 fn cut_behind(tree: &mut Tree<Item>, kept: Kept)
     requires { IfSome kept.last (λ child. IsChild tree.old child) }
     ensures { IfSome kept.last (λ child. tree.new ≡ with_end_at (kept_after tree.old child) child kept.«end») }
@@ -130,8 +130,8 @@ fn cut_behind(tree: &mut Tree<Item>, kept: Kept)
     }
 }
 
-// What is left of the line that begins at the offset `start`, after its containers and four columns or fewer, where
-// it continues indented code; no open node after the outermost `quotes_end` is a block quote.
+// The rest of the line at `start`, after its container prefixes and four columns or fewer, if it continues indented
+// code. No open node inside the outermost `quotes_end` is a block quote.
 fn indented_line<'a>(
     source: &Source<'a>,
     tree: &Tree<Item>,

@@ -1,4 +1,4 @@
-//! Which lines a raw leaf block has: indented and fenced code, metadata and HTML.
+//! The lines of raw leaf blocks: indented and fenced code, metadata and HTML.
 #![tactic(auto)]
 
 pub mod extent;

@@ -20,7 +20,7 @@ use first_pass_scan::line_start::LineStart;
 use first_pass_tree::forest::Tree;
 use std::alloc::AllocError;
 
-// The kind that the byte of a metadata block's marks gives it.
+// The kind of a metadata block, by the byte of its marks.
 fn metadata_kind(byte: u8) -> MetadataBlockKind
     ensures { result ≡ metadata_kind byte }
 {
@@ -31,8 +31,8 @@ fn metadata_kind(byte: u8) -> MetadataBlockKind
     }
 }
 
-/// Appends the metadata block whose marks have the byte `metadata_block_ch` and that begins at the offset `start_ix`.
-/// Returns the offset at which the line begins that is not read, or the text's length.
+/// Appends the metadata block that begins at the offset `start_ix`, with `metadata_block_ch` as the byte of its
+/// marks. Returns the start of the next unread line, or the end of the text. Fails only if an allocation fails.
 pub fn parse_metadata_block<'a>(
     source: &Source<'a>,
     tree: &mut Tree<Item>,
@@ -66,7 +66,7 @@ pub fn parse_metadata_block<'a>(
     Ok(lines.next)
 }
 
-// A metadata block of this byte.
+// A metadata block whose marks have this byte.
 #[derive(Clone, Copy)]
 struct Metadata {
     byte: u8,

@@ -1,4 +1,4 @@
-//! Raw lines: the lines of code, metadata and HTML, of which no markup is read (CommonMark 4.4, 4.5, 4.6).
+//! Raw lines: the lines of code, metadata and HTML, in which no markup is read (CommonMark 4.4, 4.5, 4.6).
 
 ghost use Rattle.std.specs.Prelude.{◌≡◌, ◌≤◌, length, OnOk};
 ghost use Rattle.first_pass_grammar.specs.RawLines.{ends_with_both};
@@ -12,7 +12,7 @@ use first_pass_names::items::Allocations;
 use first_pass_tree::forest::Tree;
 use std::alloc::AllocError;
 
-// Appends a text of so many spaces, at most 3, with an empty range at the offset `at`, and nothing for none.
+// Appends a text of `columns` spaces, at most 3, with an empty range at the offset `at`; nothing for no columns.
 fn append_columns<'a>(
     tree: &mut Tree<Item>,
     allocs: &mut Allocations<'a>,
@@ -45,7 +45,7 @@ fn ends_with_both(bytes: &[u8], start: usize, end: usize) -> bool
     start + 1 < end && bytes[end - 2] == b'\r' && bytes[end - 1] == b'\n'
 }
 
-/// What a raw line is of, as which its bytes are appended: as texts, or as HTML.
+/// The kind of a raw line: its bytes are appended as texts, or as HTML.
 #[derive(Clone, Copy)]
 pub enum RawKind {
     Code,
@@ -55,17 +55,17 @@ pub enum RawKind {
 /// A raw line.
 #[derive(Clone, Copy)]
 pub struct RawLine {
-    /// What it is of.
+    /// Its kind.
     pub kind: RawKind,
     /// The columns that are owed before it, at most 3.
     pub owed: usize,
-    /// The offset at which its bytes begin.
+    /// The start of its bytes, an offset into the text.
     pub start: usize,
-    /// The offset at which they end, after its line end if it has one.
+    /// The end of its bytes, after its line ending if it has one.
     pub end: usize,
 }
 
-// Appends a range of a raw line's bytes.
+// Appends a range of the bytes of a raw line.
 #[inline(always)]
 fn append_range(
     tree: &mut Tree<Item>,
@@ -90,7 +90,7 @@ fn append_range(
 }
 
 /// Appends a raw line of the text to the innermost open node: the columns that are owed before it, and its bytes,
-/// without a `\r` before a `\n` at their end.
+/// without a `\r` before a `\n` at the end. Fails only if an allocation fails.
 #[inline(always)]
 pub fn append_raw_line<'a>(
     tree: &mut Tree<Item>,

@@ -1,14 +1,14 @@
-//! What a line is to a raw leaf block whose lines are read.
+//! The verdict on a line while the lines of a raw leaf block are read.
 
-/// What a line is to a block that is open (CommonMark 4.5, 4.6).
+/// The verdict on a line while a block is open (CommonMark 4.5, 4.6).
 #[derive(Clone, Copy)]
 pub enum Verdict {
-    /// One of its lines.
+    /// The line belongs to the block.
     GoesOn,
-    /// One of its lines, and the last.
+    /// The line belongs to the block, and is its last one.
     IsLast,
-    /// The one that closes it at this offset, and has no text.
+    /// The line closes the block at this offset, and has no text.
     Closes(usize),
-    /// None of its lines: it ends at this offset.
+    /// The line does not belong to the block, which ends at this offset.
     Stops(usize),
 }

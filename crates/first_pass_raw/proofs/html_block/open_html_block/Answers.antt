@@ -13,7 +13,7 @@ use Rattle.first_pass_raw.proofs.HtmlLemmas.{first_apart, first_path}
 use Rattle.first_pass_raw.proofs.html_block.open_html_block.Goals as goal
 use Rattle.first_pass_raw.proofs.html_block.open_html_block.Goals.{In_ok-append_raw_line}
 
--- The options do not count here.
+-- The options make no difference here.
 no_options : Options
 no_options = record { 0 = 0 }
 
