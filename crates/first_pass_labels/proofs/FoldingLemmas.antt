@@ -1,4 +1,4 @@
--- The folding of a text of ASCII: its small letters, and the text itself where it has no capital letter.
+-- The folding of an ASCII text: its small letters, or the text itself if it has no capital letter.
 use Rattle.std.proofs.Common.{◌≡◌, ℕ, ◌<◌, true, List, [], ◌∷◌, map, IsAscii, refl, ap, ap₂, ◌∙◌, arith, encode_utf8_all}
 use Rattle.std.proofs.lemmas.Bool.{and_parts}
 use Rattle.std.proofs.lemmas.Bool.Decides.{nat_tests}

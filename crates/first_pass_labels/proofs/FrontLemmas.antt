@@ -1,4 +1,4 @@
--- The first bytes of two texts as numbers decide on their order, where the numbers differ.
+-- The first bytes of two texts, as numbers, decide their order if the numbers differ.
 use Rattle.std.proofs.Common.{◌≡◌, ◌≢◌, ℕ, zero, suc, ◌*◌, ◌^◌, ◌<◌, ◌≤◌, List, [], ◌∷◌, slice_index, inl, inr, refl, sym, ap, ap₂, subst, ◌∙◌, arith, suc-le-suc, zero-le, not-suc-le-zero}
 use Rattle.std.proofs.Math.Nat.{pow-le-pow_right, pow-suc}
 use Rattle.std.proofs.lemmas.Bool.{cases_lt}
@@ -9,11 +9,11 @@ use Rattle.std.specs.declared.cmp.Ordering.TheVariants.{Less, Equal, Greater}
 use Rattle.first_pass_items.specs.declared.cow_str.CowStr.{CowStr}
 use Rattle.first_pass_labels.specs.Foldings.{leading_number, folding_of, label_cmp}
 
--- the bytes are bytes
+-- each byte is below 256
 abbrev Fit : List ℕ → Type 0
 Fit bs = (k : ℕ) → slice_index bs k < 256
 
--- fronts that are the same number have the same bytes
+-- fronts with the same number have the same bytes
 alike : (n : ℕ) (xs ys : List ℕ) → Fit xs → Fit ys → leading_number n xs ≡ leading_number n ys → (k : ℕ) → k < n → slice_index xs k ≡ slice_index ys k
 alike zero xs ys f g same k lt = absurd (not-suc-le-zero lt)
 alike (suc n) xs ys f g same k lt =
@@ -60,7 +60,7 @@ fronts_decide n xs ys f g apart =
 pub front_room : (n : ℕ) → n < 16 → 256 ^ n * 256 ≤ 2 ^ 128
 front_room n h = subst (λ (k : ℕ). k ≤ 2 ^ 128) (pow-suc 256 n) (pow-le-pow_right {n = 256} (omega arith) h)
 
--- keys whose fronts differ are in the order of these numbers
+-- keys whose fronts differ have the order of these numbers
 pub front_compared : (x y label other : CowStr) (m n : ℕ) → m ≡ leading_number 16 (folding_of x) → n ≡ leading_number 16 (folding_of y)
     → Fit (folding_of x) → Fit (folding_of y) → m ≢ n → x ≡ label → y ≡ other → nat_cmp m n ≡ label_cmp label other
 front_compared x y label other m n p q f g apart same also =

@@ -1,4 +1,4 @@
--- What a table of labels returns, and what one more definition changes.
+-- The result of a look-up in a table of labels, and the change by one more definition.
 use Rattle.std.proofs.Common.{◌≡◌, ◌≢◌, ℕ, zero, suc, Bool, true, false, cond, List, [], ◌∷◌, All, Option, None, Some, is_some, nat_eq, refl, sym, ap, subst}
 use Rattle.std.proofs.Common.{◌∙◌, le_of_suc-le-suc, suc-le-suc, zero-le, not-suc-le-zero}
 use Rattle.std.proofs.lemmas.Bool.{true≢false}
@@ -19,7 +19,7 @@ use Rattle.first_pass_items.specs.CowText.{text_of}
 use Rattle.first_pass_labels.specs.Foldings.{folded, folding_of, label_cmp}
 use Rattle.first_pass_labels.specs.LabelTables.{defined_under, HoldsUnder, with_first, IsInOrder}
 
--- a look-up by order finds the label of the same folding
+-- a look-up by order finds the label with the same folding
 found_by_order : {X : Type 0} (label : CowStr) (es : List (CowStr × X)) → defined_under (folding_of label) es ≡ lookup (is_at (label_cmp label)) es
 found_by_order label es = λ i. lookup (λ l. texts_ties (folding_of label) (folding_of l) i) es
 
@@ -28,7 +28,7 @@ pub found_under : {X : Type 0} (es now : List (CowStr × X)) (key : CowStr) (lab
 found_under es now key label r is same text =
     is ∙ sym (found_by_order key es) ∙ ap (λ t. defined_under (folded t) es) text ∙ ap (defined_under (folded label)) same
 
--- ---- a definition stands beside a label of its folding
+-- ---- a definition is next to a label with its folding
 
 none_cons : {X : Type 0} (folding : List ℕ) (e : CowStr × X) (es : List (CowStr × X)) → pointwise nat_eq folding (folding_of e.0) ≡ false
     → All (λ e. folding_of e.0 ≢ folding) es → All (λ e. folding_of e.0 ≢ folding) (e ∷ es)
@@ -60,7 +60,7 @@ again_cons label v e es order Less is found rest =
 again_cons label v e es order Equal is found rest = ap (λ w. (e.0, w) ∷ es) (sym (same_Some e.1 v found))
 again_cons label v e es order Greater is found rest = ap (λ l. e ∷ l) (rest found)
 
--- what is said again changes nothing
+-- a definition that is already there changes nothing
 said_again : {X : Type 0} (label : CowStr) (v : X) (es : List (CowStr × X)) → IsInOrder es → lookup (is_at (label_cmp label)) es ≡ Some v
     → insert_entry label_cmp es label v ≡ es
 unfolding IsStrictlySortedBy

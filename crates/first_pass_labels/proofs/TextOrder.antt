@@ -1,4 +1,5 @@
--- A table that takes definitions one after the other returns as the definitions in the order of the text.
+-- A table to which definitions are added one after the other gives the same results as the definitions in the order
+-- of the text.
 use Rattle.std.proofs.Common.{◌≡◌, ℕ, Bool, true, false, cond, List, [], ◌∷◌, ◌++◌, Option, None, Some, is_some, nat_eq, refl, sym, ap, ◌∙◌}
 use Rattle.std.proofs.lemmas.Bool.{true≢false}
 use Rattle.std.specs.Cmp.{IsTotalOrder, on_total}
@@ -44,7 +45,7 @@ below_all : (l k : CowStr) (ks : List CowStr) → label_cmp l k ≡ Less → All
 below_all l k [] less all = tt
 below_all l k (y ∷ ks) less all = (label_total.trans l k y less all.0, below_all l k ks less all.1)
 
--- where k is below the new label and all others
+-- k is below the new label and all others
 module _ {X : Type 0} (l : CowStr) (x : X) where
   below_cons : (k : CowStr) (e : CowStr × X) (es : List (CowStr × X)) (o : Ordering) → label_cmp k l ≡ Less
       → AllByRecursion (λ y. label_cmp k y ≡ Less) (keys_of (e ∷ es))
@@ -91,9 +92,9 @@ unfolding with_all
 with_one_more es [] l x = refl
 with_one_more es (d ∷ ds) l x = with_one_more (with_first es d.0 d.1) ds l x
 
--- ---- what stands under a folding
+-- ---- the definition under a folding
 
--- an answer, or else another
+-- the first definition if there is one, otherwise the second
 abbrev first_of : {X : Type 0} → Option X → Option X → Option X
 first_of None o = o
 first_of (Some x) o = Some x
@@ -110,7 +111,7 @@ first_of_three (Some x) p q = refl
 abbrev has : List ℕ → CowStr → Bool
 has f l = pointwise nat_eq f (folding_of l)
 
--- two tests with one answer, and two that are never both true
+-- two tests with the same result, and two that are never both true
 one_answer : {X : Type 0} (a b : Bool) (x y : X) (o : Option X) → b ≡ a → cond b (Some x) o ≡ cond a (Some x) (cond b (Some y) o)
 one_answer true true x y o h = refl
 one_answer true false x y o h = absurd (true≢false (sym h))
@@ -124,7 +125,7 @@ either_first true false x y o h = refl
 either_first false true x y o h = refl
 either_first false false x y o h = refl
 
--- tied labels have the same foldings, and others do not
+-- tied labels have the same foldings, and others have not
 has_tied : (f : List ℕ) (k l : CowStr) → label_cmp l k ≡ Equal → has f k ≡ has f l
 has_tied f k l is = ap (pointwise nat_eq f) (sym (tied_folding l k is))
 

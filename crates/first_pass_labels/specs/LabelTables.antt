@@ -1,4 +1,5 @@
--- A table of definitions by label, as the list of its labels with what each defines (CommonMark 6.3, on matching labels).
+-- A table of definitions by label, as the list of its labels, each with its definition (CommonMark 6.3, on matching
+-- labels).
 use Rattle.std.specs.Prelude.{◌≡◌, ◌≢◌, ℕ, List, Option, None, Some, All, Contains, cond, is_some, nat_eq, [], ◌∷◌}
 use Rattle.std.specs.Cmp.Lexicographic.{pointwise}
 use Rattle.std.specs.List.Sorted.{IsStrictlySortedBy}
@@ -7,11 +8,11 @@ use Rattle.std.specs.BTreeMap.{insert_entry}
 use Rattle.first_pass_items.specs.declared.cow_str.CowStr.{CowStr}
 use Rattle.first_pass_labels.specs.Foldings.{folding_of, label_cmp}
 
--- what is defined under the first label of this folding
+-- the definition under the first label with this folding
 abbrev pub defined_under : {X : Type 0} → List ℕ → List (CowStr × X) → Option X
 defined_under folding entries = lookup (λ label. pointwise nat_eq folding (folding_of label)) entries
 
--- an answer to what stands under a folding: the definition beside a label of it, or that no label has it
+-- the result of a look-up by folding: the definition of a label that has it, or none if no label has it
 abbrev pub HoldsUnder : {X : Type 0} → List (CowStr × X) → List ℕ → Option X → Type 0
 HoldsUnder entries folding None = All (λ e. folding_of e.0 ≢ folding) entries
 HoldsUnder entries folding (Some x) = (label : CowStr) × Contains entries (label, x) × (folding_of label ≡ folding)
@@ -20,15 +21,15 @@ HoldsUnder entries folding (Some x) = (label : CowStr) × Contains entries (labe
 abbrev pub IsInOrder : {X : Type 0} → List (CowStr × X) → Type 0
 IsInOrder entries = IsStrictlySortedBy label_cmp (keys_of entries)
 
--- with one more definition, where none of its folding stands there: the first one stays
+-- the table with one more definition, unless it has one with the same folding: the first one stays
 abbrev pub with_first : {X : Type 0} → List (CowStr × X) → CowStr → X → List (CowStr × X)
 with_first entries label x = cond (is_some (defined_under (folding_of label) entries)) entries (insert_entry label_cmp entries label x)
 
--- with these definitions too, one after the other
+-- the table with these definitions added, one after the other
 unfoldable pub with_all : {X : Type 0} → List (CowStr × X) → List (CowStr × X) → List (CowStr × X)
 with_all entries [] = entries
 with_all entries (d ∷ ds) = with_all (with_first entries d.0 d.1) ds
 
--- the table of a text's definitions, in the order of the text
+-- the table of the definitions of a text, in the order of the text
 abbrev pub table_of : {X : Type 0} → List (CowStr × X) → List (CowStr × X)
 table_of definitions = with_all [] definitions

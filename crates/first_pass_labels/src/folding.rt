@@ -1,4 +1,4 @@
-//! What is kept of a label's folding.
+//! The stored folding of a label.
 
 ghost use Rattle.std.specs.Prelude.{◌≡◌, ◌≤◌, ◌<◌, ℕ, List, length, map, slice_index, string_bytes, IfOk, IsAscii};
 ghost use Rattle.std.specs.List.{list_all};
@@ -11,10 +11,11 @@ use std::alloc::{AllocError, Global};
 use std::boxed::BoxedStr;
 use std::str;
 
-// How many bytes a folding has at most that stands in the value itself.
+// The most bytes of a folding that is stored in the value itself.
 const MOST_SHORT: usize = 22;
 
-/// The full default case folding of a text: the text itself, or another one, on the heap or, up to 22 bytes, in place.
+/// The full default case folding of a text: the text itself, or another one, on the heap or (up to 22 bytes) in
+/// place.
 #[derive(Drop)]
 pub(crate) enum Folding {
     Itself,
@@ -23,8 +24,8 @@ pub(crate) enum Folding {
 }
 
 impl Folding {
-    /// The folding of a text. Memory is taken where the text has characters past ASCII, and where its folding is another
-    /// text of more than 22 bytes. The one error is that a request for memory was refused.
+    /// Returns the folding of a text. Takes memory if the text has characters past ASCII, or if its folding is
+    /// another text of more than 22 bytes. Fails only if an allocation fails.
     #[tactic(auto, using(crate::proofs::FoldingLemmas::own_folded, crate::proofs::FoldingLemmas::ascii_folded))]
     pub(crate) fn of_text(alloc: Global, text: &str) -> Result<Folding, AllocError>
         ensures { IfOk result (λ folding. kept_folding folding text.now ≡ folded text.now) }
@@ -41,7 +42,7 @@ impl Folding {
         Ok(kept(text.to_ascii_lowercase(alloc)?))
     }
 
-    /// The folding, where `text` is what is folded.
+    /// Returns the folding; `text` is the text that was folded.
     #[inline(always)]
     pub(crate) fn text_of<'f>(&'f self, text: &'f str) -> &'f str
         ensures { result.now ≡ kept_folding self.now text.now }
@@ -54,7 +55,7 @@ impl Folding {
     }
 }
 
-// A text that is folded, in place where it is short.
+// A folded text, in place if it is short.
 fn kept(folding: String) -> Folding
     ensures { (text : List ℕ) → kept_folding result text ≡ string_bytes folding }
 {
@@ -64,7 +65,7 @@ fn kept(folding: String) -> Folding
     }
 }
 
-// A text of at most 22 bytes of ASCII with small letters for capital ones.
+// An ASCII text of at most 22 bytes, with small letters for capital ones.
 fn lower_cased(text: &str) -> Folding
     requires short { length text.now ≤ 22 }
     requires ascii { IsAscii text.now }
@@ -84,7 +85,7 @@ fn lower_cased(text: &str) -> Folding
     }
 }
 
-// Whether each byte is one that folds to itself.
+// Whether each byte folds to itself.
 fn is_own_folding(bytes: &[u8]) -> bool
     ensures { result ≡ list_all folds_to_itself bytes.now }
 {
@@ -93,8 +94,8 @@ fn is_own_folding(bytes: &[u8]) -> bool
         .all(|byte| byte.is_ascii() && !byte.is_ascii_uppercase())
 }
 
-/// The first sixteen bytes as one number, the first one the greatest, with 0 for each that isn't there: what has the
-/// smaller number is before the other in the order of bytes.
+/// Returns the first sixteen bytes as one number, the first byte the most significant, with 0 for each missing byte.
+/// A text with a smaller number comes before the other in byte order.
 pub(crate) fn leading_number(bytes: &[u8]) -> u128
     ensures value { result ≡ leading_number 16 bytes.now }
     ensures fit { (at : ℕ) → slice_index bytes.now at < 256 }
@@ -106,7 +107,7 @@ pub(crate) fn leading_number(bytes: &[u8]) -> u128
     front
 }
 
-// The byte at an offset, or 0 where none is there.
+// The byte at an offset; 0 if there is none.
 fn byte_at(bytes: &[u8], at: usize) -> u8
     ensures { result ≡ slice_index bytes.now at }
 {

@@ -18,8 +18,8 @@ use std::hash::{Hash, Hasher};
 use std::marker::Model;
 use std::ops::DerefStr;
 
-/// A label as it is spelled, with its full default case folding, by which it is compared, first by the folding's first
-/// sixteen bytes. A contract sees the label alone.
+/// A label as it is spelled, with its full default case folding. Keys are compared by folding, first by its first
+/// sixteen bytes. Contracts see only the label.
 #[derive(Drop)]
 pub struct LabelKey<'a> {
     label: CowStr<'a>,
@@ -42,7 +42,7 @@ impl<'a> Model for LabelKey<'a> {
 }
 
 impl<'a> LabelKey<'a> {
-    /// The key of a label. The one error is that a request for memory was refused.
+    /// Returns the key of a label. Fails only if an allocation fails.
     pub fn new(alloc: Global, label: CowStr<'a>) -> Result<LabelKey<'a>, AllocError>
         ensures { IfOk result (λ key. key ≡ label.entry) }
     {
@@ -55,14 +55,14 @@ impl<'a> LabelKey<'a> {
         })
     }
 
-    /// The label as it is spelled.
+    /// Returns the label as it is spelled.
     pub fn label(&self) -> &str
         ensures { result.now ≡ text_of self.now }
     {
         self.label.deref()
     }
 
-    /// The label with full default case folding applied.
+    /// Returns the label after full default case folding.
     pub fn folding(&self) -> &str
         ensures { result.now ≡ folding_of self.now }
     {
@@ -75,7 +75,7 @@ impl<'a> PartialEq for LabelKey<'a> {
 
     ghost laws = { on_per folding_of (partial_equiv_from_equiv nat_list_eq_equiv) };
 
-    /// Whether the foldings are equal.
+    /// Returns whether the foldings are equal.
     fn eq(&self, other: &LabelKey<'a>) -> bool {
         self.folding() == other.folding()
     }
@@ -90,7 +90,7 @@ impl<'a> PartialOrd for LabelKey<'a> {
 
     ghost laws = { on_po folding_of texts_po };
 
-    /// The order of the foldings by bytes.
+    /// Returns the byte order of the foldings.
     fn partial_cmp(&self, other: &LabelKey<'a>) -> Option<Ordering> {
         Some(self.cmp(other))
     }
@@ -105,7 +105,7 @@ impl<'a> Ord for LabelKey<'a> {
 
     ghost matches_eq = { λ x y. texts_ties (folding_of x) (folding_of y) };
 
-    /// The order of the foldings by bytes.
+    /// Returns the byte order of the foldings.
     #[inline(always)]
     fn cmp(&self, other: &LabelKey<'a>) -> Ordering {
         if self.front != other.front {

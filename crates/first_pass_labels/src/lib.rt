@@ -1,4 +1,4 @@
-//! Labels that are equal where their case foldings are, and tables of what a text defines by label.
+//! Labels, which are equal if their case foldings are, and tables of the definitions of a text by label.
 #![tactic(auto)]
 
 mod folding;
