@@ -1,4 +1,4 @@
--- A leaf block that is added to a pass, and what is kept beside it.
+-- A leaf block that is added to a pass, and what stays the same.
 use Rattle.std.proofs.Common.{◌≡◌, ℕ, ◌≤◌, Bool, List, length, None, IsCharBoundary, ap}
 use Rattle.first_pass_items.specs.declared.item.Item.{Item}
 use Rattle.first_pass_tree.specs.Forest.{added}
@@ -14,7 +14,8 @@ use Rattle.first_pass.specs.Calls.{AddsLeafBlock, AddsLineBlock}
 use Rattle.first_pass.specs.Kept.{StayNamed, KeepsNames}
 use Rattle.first_pass.specs.Views.{allocs_of, braces_of, reading_of, source_of, source_text, tree_of}
 
--- these items were added, and nothing else changed but what nodes name, the mark of an empty item, and whether a blank line that counts is before
+-- these items were added; otherwise only the tables of entries, the mark of an empty item, and the mark of a counting
+-- blank line before may have changed
 pub record Adds (old new : FirstPass) (blank : Bool) (items : List (ℕ × Item)) : Type 0 where
   pub source : source_of new ≡ source_of old
   pub braces : braces_of new ≡ braces_of old

@@ -1,4 +1,4 @@
--- Each index that nodes keep names an entry after each call, if each did before.
+-- After each call, each index in the nodes names an entry, if each did before.
 use Rattle.std.proofs.Common.{◌≡◌, ◌⊎◌, inl, inr, ℕ, zero, suc, ◌+◌, ◌-◌, ◌<◌, ◌==◌, ◌&&◌, nat_lt, Bool, true, false, if◌then◌else◌, List, [], ◌∷◌, ◌++◌}
 use Rattle.std.proofs.Common.{length, length-append, take, drop, Option, Some, None, IfSome, IsSomeAnd, MatchOption, IsCharBoundary, sym, ap, subst, ◌∙◌, arith}
 use Rattle.std.proofs.lemmas.Bool.{cond_both}
@@ -44,7 +44,7 @@ use Rattle.first_pass_blocks.specs.declared.state.BlockPass.{BlockPass}
 use Rattle.first_pass_blocks.specs.Views as Block
 use Rattle.first_pass_order.proofs.NamedLemmas.{block_added, note_named}
 
--- Tokens stand after the nodes of a tree, the first of them joined to the last node or not.
+-- Tokens follow the nodes of a tree; the first of them may be joined to the last node.
 end_named : (names : Names) (f : Forest Item) (e : ℕ) (o : Option TreeIndex) → AreNamed names f.nodes → AreNamed names (with_end f e o).nodes
 end_named names f e None h = h
 end_named names f e (Some c) h = named_modified names f.nodes c.0 (λ y. record y { «end» = e }) (λ y k. k) h
@@ -187,7 +187,7 @@ rows_named d columns head_start body_start old new next before more r h =
     (named_both d.names old.nodes (at_depth (length old.spine + 1) items) (named_more d.names before old.nodes more h)
     (named_deeper d.names (length old.spine + 1) items own)))
 
--- A block becomes a heading, and its children are cut.
+-- A block becomes a heading, and its children are cut off at an offset.
 cut_step : (names : Names) (t u v : Bool) (n m k : ℕ × Item) (cs : List (ℕ × Item)) → IsNamed names n.1 → IsNamed names m.1 → IsNamed names k.1
     → AreNamed names cs → AreNamed names (if t then n ∷ cs else (if u then m ∷ cs else (if v then k ∷ [] else [])))
 unfolding AreNamed

@@ -1,4 +1,5 @@
--- Tokens in an open block are cut, and the block becomes a heading: a tree that is in order stays so.
+-- The tokens in an open block are cut off at an offset, and the block becomes a heading: a tree in order stays in
+-- order.
 use Rattle.std.proofs.Common.{◌≡◌, ◌⊎◌, inl, inr, ℕ, zero, suc, ◌+◌, ◌-◌, ◌<◌, ◌≤◌, ◌==◌, ◌&&◌, nat_lt, min, max, Bool, true, false, if◌then◌else◌}
 use Rattle.std.proofs.Common.{List, [], ◌∷◌, ◌++◌, append_assoc, length, take, drop, slice_get, slice_index, Option, Some, None, IsSomeAnd, IsCharBoundary}
 use Rattle.std.proofs.Common.{refl, sym, ap, subst, ◌∙◌, arith}
@@ -25,7 +26,7 @@ use Rattle.first_pass_text.specs.CutTexts.{BecomesHeading, CutsChildren}
 use Rattle.first_pass_order.proofs.OrderLemmas.{extents-body, flags_of, ordered_same}
 use Rattle.first_pass.specs.Holds.{StandsAfterBackslash, AreTokens, HoldsTokens}
 
--- the nodes before a place, with it, and those after it
+-- the nodes up to a place, and those after it
 split_places : (nodes : List (ℕ × Item)) (before : List (ℕ × Extent)) (n : ℕ × Extent) (more : List (ℕ × Extent)) (k : ℕ)
     → extents nodes ≡ before ++ n ∷ more → k ≡ length before
     → (extents (take (suc k) nodes) ≡ before ++ n ∷ []) × (extents (drop (suc k) nodes) ≡ more)
@@ -57,7 +58,7 @@ at_place (m ∷ nodes) (y ∷ before) n more (suc k) x is at e =
     let z : extents nodes ≡ before ++ n ∷ more = cc in
     at_place nodes before n more k x z (omega arith) e
 
--- no node is below a token
+-- a token has no children
 leaf_alone : (text : List ℕ) (d low : ℕ) (nodes : List (ℕ × Item)) (kids next : Siblings) → extents nodes ≡ laid (suc d) kids ++ laid d next
     → AreTokens text d low nodes → kids ≡ Empty
 unfolding laid
@@ -76,7 +77,7 @@ lead_before text InItem from x h = absurd h
 lead_before text (InText before) from x h = h.1.before
 lead_before text (InFirst before) from x h = absurd h
 
--- an offset or another, the earlier one
+-- the minimum of two character boundaries is one
 min_boundary : (text : List ℕ) (a b : ℕ) → IsCharBoundary text a → IsCharBoundary text b → IsCharBoundary text (min a b)
 min_boundary text a b h k =
     elim (cases_lt a b) [
@@ -100,7 +101,7 @@ lead_cut text (InText before) from e x less b (marker, h) = (
 )
 lead_cut text (InFirst before) from e x less b h = absurd h
 
--- a token that stays
+-- a token that remains
 end_by : (t : Bool) (e : ℕ) (y : Item) → nat_lt e y.«end» ≡ t
     → extent_of (if t then record y { «end» = e } else y) ≡ ended_at (extent_of y) (min y.«end» e)
 end_by true e y h =
@@ -111,7 +112,7 @@ end_by false e y h =
     let same : y.«end» ≡ min y.«end» e = grind (arith, nat_tests, h) in
     ap (ended_at (extent_of y)) same
 
--- such nodes are those of a row that fits as before, but ends at an offset
+-- these nodes form a row that fits as before, but ends at the earlier offset
 abbrev CutFits : List ℕ → Within → ℕ → ℕ → ℕ → ℕ → List (ℕ × Item) → Type 0
 CutFits text w from to e d nodes = (row : Siblings) × (extents nodes ≡ laid d row) × Fits text w (min from e) to row
 
@@ -184,7 +185,7 @@ module _ (text : List ℕ) (w : Within) (from to e d low : ℕ) (n : ℕ × Item
   unfolding Fits
   starts_within past = starts_by fits past
 
-  -- the backslash of the first that goes, or nothing
+  -- the backslash of the first token that is cut, or nothing
   pub goes : (v : Bool) → (is_escaped n.1.body && (n.1.start == e)) ≡ v → StandsAfterBackslash text low n.1
       → CutFits text w from to e d (if v then (n.0, record { start = e - 1; «end» = e; body = Text false }) ∷ [] else [])
   goes false is stands = none_left
@@ -208,7 +209,7 @@ module _ (text : List ℕ) (w : Within) (from to e d low : ℕ) (n : ℕ × Item
             }),
       )
 
--- by where a token starts
+-- the case of a token that starts before the cut, and of one that does not
 cut_by : (t : Bool) (text : List ℕ) (w : Within) (from to e d low : ℕ) (n : ℕ × Item) (nodes : List (ℕ × Item)) (next : Siblings)
     → IsCharBoundary text e → from ≤ low → n.0 ≡ d → Fits text w from to (Node (extent_of n.1) Empty next) → StandsAfterBackslash text low n.1
     → ((v : Within) (f : ℕ) → f ≤ max low n.1.«end» → Fits text v f to next → CutFits text v f to e d (cut_tokens e d nodes))
@@ -288,7 +289,7 @@ module _ (text : List ℕ) (f : Forest Item) (at e : ℕ) (block : TreeIndex) (r
       let (row, nodes, fits) = by_levels o.root o.levels o.row o.nodes (subst (AreAt o.root o.levels) spine o.places) o.fits in
       record { root = o.root; levels = o.levels; row = row; nodes = nodes; places = o.places; fits = fits; within = o.within; whole = o.whole }
 
--- a block with text is a heading, and its extent is as before
+-- a block with text becomes a heading, and its extent is the same
 text_flags : (level : HeadingLevel) (index : Option HeadingIndex) (body : ItemBody) → is_text_block body ≡ true → flags_of body ≡ flags_of (Heading level index)
 text_flags level index Paragraph h = refl
 text_flags level index TightParagraph h = refl
@@ -301,7 +302,7 @@ some_node : (o : Option (ℕ × Item)) (x : Item) → option_map (λ (n : ℕ ×
 some_node None x e = absurd (none-some x e)
 some_node (Some n) x e = (n, refl, same_Some n.1 x e)
 
--- the nodes up to the block are as before
+-- the nodes up to the block are the same
 block_kept : (f : Forest Item) (e : ℕ) (block : TreeIndex) (x : Item) → slice_get f.spine 0 ≡ Some block → item_at f block ≡ Some x
     → body_at (cut_siblings f e).nodes block.0 ≡ Some x.body
 block_kept f e block x spine there =
@@ -337,7 +338,7 @@ order_left text f cut block at spine h (inr (e, low, b, is)) o =
     let (rest, spine_is) = open_as f.spine block spine in
     subst (λ (g : Forest Item). IsOrderedTo text g at) (sym is) (cut_ordered text f at e block rest h.node spine_is h.there h.tokens low b o)
 
--- A block in which tokens stand becomes a heading.
+-- A block that contains tokens becomes a heading.
 pub heading_ordered : (d : Document) (level : HeadingLevel) (broken : Bool) (block : TreeIndex) (old new : Forest Item) (at : ℕ)
     → slice_get old.spine 0 ≡ Some block → BecomesHeading d level broken block old new → HoldsTokens d.text old block → IsOrderedTo d.text old at
     → IsOrderedTo d.text new at

@@ -1,4 +1,4 @@
--- A text joined to the last child of the innermost open node: order is kept.
+-- A text joined to the last child of the innermost open node keeps the tree in order.
 use Rattle.std.proofs.Common.{◌≡◌, ℕ, suc, ◌+◌, ◌≤◌, ◌==◌, ◌&&◌, Bool, true, false, List, [], ◌∷◌, ◌++◌, length}
 use Rattle.std.proofs.Common.{Option, Some, None, IfSome, IsUtf8, IsCharBoundary, refl, sym, ap, subst, ◌∙◌, arith, if◌then◌else◌, take}
 use Rattle.std.proofs.lemmas.Bool.{and_parts, eqb-true}
@@ -25,7 +25,7 @@ use Rattle.first_pass_order.specs.Ordered.{reached, IsOrderedAt}
 use Rattle.first_pass_order.proofs.OrderLemmas.{ordered_later, ordered_appended, ordered_none}
 use Rattle.first_pass_items.specs.declared.option_set.Options.{Options}
 
--- the last child of the innermost open node, no task list item marker, ends later
+-- the last child of the innermost open node ends later; it is not a task list item marker
 pub ordered_ended : (text : List ℕ) (f : Forest Item) (a e : ℕ) (c : TreeIndex) (y : Item) → IsLastAt (depths f.nodes) (length f.spine + 1) c.0
     → item_at f c ≡ Some y → is_task_marker y.body ≡ false → y.«end» ≤ e → e ≤ length text → IsCharBoundary text e
     → IsOrderedTo text f a → IsOrderedTo text (with_end_at f c e) e
@@ -83,7 +83,7 @@ token_by true text f a x is forest between high o =
     (ended_forest f x.«end» f.current forest, joined_by text f a x.start x.«end» f.current refl forest p.1 between.order high between.ends o)
 token_by false text f a x is forest between high o = (appended-is f x forest, ordered_appended text f a x.«end» x between high o)
 
--- tokens in order added, the first of them joined or not
+-- tokens in order are added; the first of them may be joined
 pub ordered_tokens : (text : List ℕ) (f : Forest Item) (from to : ℕ) (tokens : List Item)
     → IsForest f → AreInOrder text from to tokens → to ≤ length text → IsOrderedTo text f from → IsOrderedTo text (with_tokens f tokens) to
 ordered_tokens text f from to [] forest h high o = ordered_later text f from to h high o
@@ -93,7 +93,7 @@ ordered_tokens text f from to (x ∷ xs) forest h high o =
     (record { behind = h.0; order = h.1; before = omega arith; starts = h.2; ends = h.3 }) (omega arith) o in
     ordered_tokens text (with_token f x) x.«end» to xs one.0 h.4 high one.1
 
--- the tokens of a line added, which begins at an offset of a text of which nothing counts from another on, or all
+-- the tokens of a line that begins at an offset are added, of a text that may be cut at another
 pub ordered_line : {texts : List CowStr} {after : MathBraces} (d : Document) (braces : MathBraces) (start : ℕ)
     (end : Option ℕ) (old new : Forest Item) (next : ℕ) (line_break : Option Item) (from : ℕ)
     → IsUtf8 d.text → IfSome end (λ e. (start ≤ e) × IsCharBoundary d.text e) → IsCharBoundary d.text start → IsForest old
@@ -112,7 +112,7 @@ ordered_line d braces start (Some e) old new next line_break from u ends boundar
     subst (λ f. IsOrderedTo d.text f next) (sym h.tree_is) (ordered_tokens d.text old from next h.tokens forest
     (order_from d.text from start next h.tokens tokens low) (place_in_text d.text e u ends.1 next l.ends).0 o)
 
--- tokens added where something is in order: an item that they are added to is empty no more
+-- tokens are added to a state in order: the item to which they are added is no longer empty
 pub tokens_ordered : (text : List ℕ) (old new : Reading) (at start to : ℕ) (tokens : List Item)
     → IsForest old.tree → IsOrderedAt text old at → at ≤ start → AreInOrder text start to tokens → to ≤ length text → new.tree ≡ with_tokens old.tree tokens
     → new.empty_item ≡ None → IsOrderedAt text new to
@@ -124,7 +124,7 @@ tokens_ordered text old new at start to tokens forest o low order within is none
     (subst (λ f. IsOrderedTo text f to) (sym is)
     (ordered_tokens text old.tree e to tokens forest (order_from text e start to tokens order (omega arith)) within o.ordered))
 
--- the tokens of a cell added, which begins at an offset of such a text
+-- the tokens of a cell that begins at an offset are added, of such a text
 pub ordered_cell : {texts : List CowStr} {after : MathBraces} (text : List ℕ) (options : Options) (braces : MathBraces) (start : ℕ) (end : Option ℕ)
     (old new : Forest Item) (stop from : ℕ) → IsUtf8 text
     → IfSome end (λ e. (start ≤ e) × IsCharBoundary text e) → IsCharBoundary text start → IsForest old

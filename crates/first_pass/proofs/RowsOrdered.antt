@@ -1,4 +1,4 @@
--- Order is kept as the rows of a table are added, and at most four nodes are for each byte of them.
+-- The rows of a table keep the tree in order as they are added, with at most four nodes for each byte.
 use Rattle.std.proofs.Common.{◌≡◌, ℕ, ◌+◌, ◌<◌, ◌≤◌, List, ◌∷◌, ◌++◌, length, Option, Some, None, IfSome, IsCharBoundary, refl, sym, ap, subst, ◌∙◌, arith}
 use Rattle.first_pass_items.specs.declared.item.Item.{Item}
 use Rattle.first_pass_tree.specs.declared.tree_index.TreeIndex.{TreeIndex}
@@ -14,7 +14,7 @@ use Rattle.first_pass.specs.Holds.{behind_row}
 use Rattle.first_pass_order.proofs.CountLemmas.{block_count}
 use Rattle.first_pass_order.proofs.OrderLemmas.{ordered_same, ordered_later, ordered_added, ordered_closed}
 
--- a row added, or none
+-- a row is added, or none
 pub row_ordered : (text : List ℕ) (old new : Forest Item) (at ix : ℕ) (row : Option (ℕ × TreeIndex)) → at ≤ ix → ix ≤ length text → (row ≡ None → new ≡ old)
     → IfSome row (λ r. r.0 ≤ length text) → IfSome row (λ r. AddsBetween text at r.0 old new) → IsOrderedTo text old at
     → IsOrderedTo text new (behind_row row ix)
@@ -30,12 +30,12 @@ row_count text old new from ix None same adds apart =
     omega arith
 row_count text old new from ix (Some (stop, place)) same adds apart = block_count text from stop old new adds apart
 
--- the tree with nodes below the innermost open one, which is closed after them
+-- the tree with nodes added to the innermost open node, which is then closed
 closed_is : (text : List ℕ) (old new : Forest Item) (from next : ℕ) (ix : TreeIndex) (pushed : IsJustPushed old ix) (c : ClosesBetween text from next old new)
     → new ≡ closed_by (with_below old c.items) next (ix ∷ pushed.rest)
 closed_is text old new from next ix pushed c = c.tree_is ∙ ap (closed_by (with_below old c.items) next) pushed.innermost
 
--- the rows of a table added, and the table closed after them
+-- the rows of a table are added, and the table is closed after them
 pub rows_ordered : (text : List ℕ) (old new : Forest Item) (at next : ℕ) (ix : TreeIndex) → IsJustPushed old ix → IsCharBoundary text next
     → ClosesBetween text at next old new → IsOrderedTo text old at → IsOrderedTo text new next
 rows_ordered text old new at next ix pushed ends c o =

@@ -1,4 +1,4 @@
--- What stands in a paragraph whose lines were read are tokens, in order.
+-- The children of a paragraph whose lines were read are tokens, in order.
 use Rattle.std.proofs.Common.{◌≡◌, ℕ, ◌+◌, ◌<◌, ◌≤◌, max, true, List, [], ◌∷◌, ◌++◌, length, drop, slice_get, Option, Some, None, IsUtf8}
 use Rattle.std.proofs.Common.{refl, sym, ap, subst, ◌∙◌, arith}
 use Rattle.std.specs.Option.{option_map}
@@ -27,7 +27,7 @@ use Rattle.first_pass_text.proofs.OrderParagraph.{TextInOrder, text_is_in_order}
 use Rattle.first_pass_order.proofs.OrderLemmas.{ordered_appended, ordered_later}
 use Rattle.first_pass.specs.Holds.{AreTokens, HoldsText, HoldsTokens}
 
--- a chain after
+-- a chain is added
 chain_ordered : (text : List ℕ) (f : Forest Item) (from to : ℕ) (chain : List Item) → AreInOrder text from to chain → to ≤ length text → IsOrderedTo text f from
     → IsOrderedTo text (chained f chain) to
 chain_ordered text f from to [] h high o = ordered_later text f from to h high o
@@ -36,7 +36,7 @@ chain_ordered text f from to (x ∷ xs) h high o =
     let between : IsBetween text from x.«end» (extent_of x) = record { behind = h.0; order = h.1; before = omega arith; starts = h.2; ends = h.3 } in
     chain_ordered text (appended f x) x.«end» to xs h.4 high (ordered_appended text f from x.«end» x between (omega arith) o)
 
--- the items before a chain are as before it
+-- the items before an added chain are unchanged
 front_kept : (f : Forest Item) (chain : List Item) (ix : TreeIndex) → ix.0 < length f.nodes → slice_get (chained f chain).nodes ix.0 ≡ slice_get f.nodes ix.0
 front_kept f chain ix within =
     ap (λ (ns : List (ℕ × Item)). slice_get ns ix.0) (chained-nodes f chain) ∙ get_front f.nodes (at_depth (length f.spine + 1) (leaves chain)) ix.0 within
@@ -49,7 +49,7 @@ chained_spine : (f : Forest Item) (chain : List Item) → (chained f chain).spin
 chained_spine f [] = refl
 chained_spine f (x ∷ xs) = chained_spine (appended f x) xs
 
--- a chain in order, of which each escaped text stands after its backslash
+-- a chain in order, in which each escaped text follows its backslash
 chain_tokens : (text : List ℕ) (d from to : ℕ) (chain : List Item) → AreInOrder text from to chain → EscapesStand text from chain
     → AreTokens text d from (at_depth d (leaves chain))
 chain_tokens text d from to [] h e = tt
@@ -105,11 +105,11 @@ module _ (d : Document) (utf8 : IsUtf8 d.text) (f : Forest Item) (block : TreeIn
       (ordered_later d.text (chained (with_child h.before h.marker) l.chain) in_order.stop behind up.0 up.1
       (chain_ordered d.text (with_child h.before h.marker) h.start in_order.stop l.chain in_order.order (omega (arith, up.0, up.1)) h.ordered))
 
-  -- The paragraph is in order as it stands.
+  -- The open paragraph is in order.
   pub open_ordered : IsOrderedTo d.text f behind
   open_ordered = subst (λ g. IsOrderedTo d.text g behind) (sym h.tree_is) whole_ordered
 
-  -- What stands in it are tokens.
+  -- Its children are tokens.
   pub open_tokens : HoldsTokens d.text f block
   open_tokens =
       let spine : f.spine ≡ h.before.spine = ap (λ (g : Forest Item). g.spine) h.tree_is ∙ chained_spine h.before whole_chain in

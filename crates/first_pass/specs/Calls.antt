@@ -1,4 +1,4 @@
--- What the calls of a pass do, a record each.
+-- What the calls of a pass do: one record for each kind of call.
 use Rattle.std.specs.Prelude.{◌≡◌, ℕ, ◌+◌, ◌-◌, ◌≤◌, ◌<◌, Bool, List, length, Option, None, IfSome, IsCharBoundary}
 use Rattle.first_pass_items.specs.declared.item.Item.{Item}
 use Rattle.first_pass_items.specs.declared.option_set.Options.{Options}
@@ -27,8 +27,8 @@ use Rattle.first_pass.specs.declared.state.FirstPass.{FirstPass}
 use Rattle.first_pass.specs.Kept.{StayNamed, KeepsEntries, KeepsNames, KeepsTables}
 use Rattle.first_pass.specs.Views.{allocs_of, braces_of, context_in, pass_of, reading_of, source_of, source_options, source_text, tree_of, with_tree}
 
--- A pass over this text under these options has read nothing: its one node is the root, nothing is defined, no brace context is open, and the text's
--- derivation begins with it (this project).
+-- The state of a pass over this text under these options before it reads anything: the root is its only node, nothing
+-- is defined, no brace context is open, and the derivation of the text begins here (this project).
 pub record StartsPass (text : List ℕ) (options : Options) (pass : FirstPass) : Type 0 where
   pub text_is : source_text pass ≡ text
   pub options_are : source_options pass ≡ options
@@ -40,27 +40,30 @@ pub record StartsPass (text : List ℕ) (options : Options) (pass : FirstPass) :
   pub whole : HasWholeTables (names_of (allocs_of pass)) (tree_of pass)
   pub braces : braces_of pass ≡ no_braces
 
--- the block that begins in the line at an offset is read, and reading continues at another; the brace contexts are as they were (this project)
+-- the block that begins in the line at the first offset is read; reading continues at the second; the brace contexts
+-- are unchanged (this project)
 pub record ReadsBlockAt (old new : FirstPass) (start next : ℕ) : Type 0 where
   pub block : ReadsBlock (pass_of old) (pass_of new) (1 + start) (LineAt start) next
   pub braces : braces_of new ≡ braces_of old
 
--- Open nodes are closed or opened at an offset, and this is remembered then: what was in order before and could be closed is so up to the offset
--- (CommonMark 5.2, 5.3, and this project).
+-- Open nodes are closed or opened at an offset, which gives this state. If the old state was in order and its nodes
+-- could be closed, the same holds for the new one up to the offset (CommonMark 5.2, 5.3, and this project).
 pub record RemembersAt (old new : FirstPass) (ix : ℕ) (r : Reading) : Type 0 where
   pub kept : KeepsTables old new
   pub reading : reading_of new ≡ r
   pub order : (at : ℕ) → at ≤ ix → ix ≤ length (source_text old) → IsCharBoundary (source_text old) ix → IsReadTo (source_text old) (reading_of old) at
       → IsReadTo (source_text old) (reading_of new) ix
 
--- an empty item is finished where one is innermost, and what was in order before and could be closed is so (CommonMark 5.2, and this project)
+-- an empty item, if there is one, is finished; what was in order and could be closed remains so (CommonMark 5.2,
+-- and this project)
 pub record FinishesItem (old new : FirstPass) : Type 0 where
   pub kept : KeepsTables old new
   pub reading : reading_of new ≡ item_finished (reading_of old)
   pub order : (at : ℕ) → IsReadTo (source_text old) (reading_of old) at → IsReadTo (source_text old) (reading_of new) at
 
--- A leaf block is added that begins at an offset, and reading continues at another; no item is empty then, and this says whether a blank line that counts is
--- directly before. Its nodes lie between the two, and what is remembered is in order up to the second, if a character begins at the first (this project).
+-- A leaf block that begins at an offset is added, and reading continues at another. No item is empty after it, and
+-- `blank` is true if a counting blank line is directly before the next line. The new nodes lie between the two
+-- offsets. The state is in order up to the second offset if the first is a character boundary (this project).
 pub record AddsLeafBlock (old new : FirstPass) (start next : ℕ) (blank : Bool) : Type 0 where
   pub kept : KeepsNames old new
   pub reading : reading_of new ≡ remembered (tree_of new) None blank
@@ -68,15 +71,16 @@ pub record AddsLeafBlock (old new : FirstPass) (start next : ℕ) (blank : Bool)
   pub order : (at : ℕ) → at ≤ start → IsCharBoundary (source_text old) start → IsOrderedAt (source_text old) (reading_of old) at
       → IsOrderedAt (source_text old) (reading_of new) next
 
--- the same of a block that is whole lines from its first character on: reading continues between two characters, after its first line at the earliest
--- (CommonMark 4.4 to 4.6, and this project)
+-- the same for a block of whole lines, counted from its first character: reading continues at a character boundary,
+-- after the block's first line or later (CommonMark 4.4 to 4.6, and this project)
 pub record AddsLineBlock (old new : FirstPass) (start next : ℕ) (blank : Bool) : Type 0 where
   pub leaf : AddsLeafBlock old new start next blank
   pub later : line_end_at (source_text old) start ≤ next
   pub boundary : IsCharBoundary (source_text old) next
 
--- An HTML block is added that ends before a blank line. Its nodes lie between an offset and its end, which may be after what the containers take of that line;
--- reading continues at the line's start, and what is remembered is in order up to there, or the line is handed on (CommonMark 4.6, and this project).
+-- An HTML block is added that ends before a blank line. Its nodes lie between an offset and the block's end, which may
+-- be after the container prefixes of the blank line. Reading continues at the start of that line. The state is in
+-- order up to there, or the tree is in order up to after these prefixes (CommonMark 4.6, and this project).
 pub record AddsHtmlToBlank (old new : FirstPass) (start next : ℕ) : Type 0 where
   pub kept : KeepsNames old new
   pub reading : reading_of new ≡ with_block (reading_of old) (tree_of new)
@@ -88,8 +92,8 @@ pub record AddsHtmlToBlank (old new : FirstPass) (start next : ℕ) : Type 0 whe
       → IsOrderedFrom (source_options old) (source_text old) (reading_of new) next
   pub few : (from : ℕ) → from ≤ start → from < next → GrowsBy from next (tree_of old).nodes (tree_of new).nodes
 
--- The thematic break of so many bytes is added that begins at an offset, and reading continues after it. It is in order if a character begins at both ends
--- (CommonMark 4.1, and this project).
+-- A thematic break of `size` bytes that begins at an offset is added, and reading continues after it. It is in order
+-- if both of its ends are character boundaries (CommonMark 4.1, and this project).
 pub record AddsRule (old new : FirstPass) (ix size next : ℕ) : Type 0 where
   pub kept : KeepsTables old new
   pub reading : reading_of new ≡ with_block (reading_of old) (tree_of new)
@@ -100,8 +104,9 @@ pub record AddsRule (old new : FirstPass) (ix size next : ℕ) : Type 0 where
       → IsOrderedAt (source_text old) (reading_of old) at → IsOrderedAt (source_text old) (reading_of new) next
   pub behind : next ≡ ix + size
 
--- What stands for a text is added, after the marker of its task list item, if it has one. Its nodes lie between an offset before both and that at which
--- reading continues, and each index names an entry, if the marker's does, where it has one (CommonMark 4.8, GFM 5.3, and this project).
+-- A paragraph, setext heading or table is added, after the marker of its task list item if it has one. Its nodes lie
+-- between the start of the text, or of that marker, and the offset at which reading continues. If the marker has no
+-- index, each index names an entry if each did before (CommonMark 4.8, GFM 5.3, and this project).
 pub record AddsParagraph (old new : FirstPass) (start : ℕ) (marker : Option Item) (next : ℕ) : Type 0 where
   pub source : source_of new ≡ source_of old
   pub more : NamesMore (allocs_of old) (allocs_of new)
@@ -113,15 +118,16 @@ pub record AddsParagraph (old new : FirstPass) (start : ℕ) (marker : Option It
   pub order : IsInItem (tree_of old) marker → (at : ℕ) → StandsBefore (source_text old) at start marker
       → IsOrderedAt (source_text old) (reading_of old) at → IsOrderedAt (source_text old) (reading_of new) next
 
--- A raw line from an offset up to another is appended, and what is remembered is in order up to its end, if a character begins at both (this project).
+-- A raw line between two offsets is appended. The state is in order up to the line's end if both offsets are character
+-- boundaries (this project).
 pub record AppendsBytes (old new : FirstPass) (start «end» : ℕ) : Type 0 where
   pub kept : KeepsNames old new
   pub reading : reading_of new ≡ with_block (reading_of old) (tree_of new)
   pub order : (at : ℕ) → at ≤ start → IsCharBoundary (source_text old) start → IsCharBoundary (source_text old) «end»
       → IsOrderedAt (source_text old) (reading_of old) at → IsOrderedAt (source_text old) (reading_of new) «end»
 
--- Tokens are appended that are read from an offset up to another, of a text of which nothing counts from a third on: one for each byte at the most, in order,
--- and the item to which they are added is empty no more (CommonMark 2.4, GFM 4.10, and this project).
+-- The tokens between two offsets of a text, which may be cut at `end`, are appended: at most one for each byte, and in
+-- order. The item to which they are added is no longer empty (CommonMark 2.4, GFM 4.10, and this project).
 pub record AppendsTokens (old new : FirstPass) (start : ℕ) (end : Option ℕ) (stop : ℕ) : Type 0 where
   pub kept : KeepsEntries old new
   pub reading : reading_of new ≡ with_block (reading_of old) (tree_of new)
@@ -130,8 +136,9 @@ pub record AppendsTokens (old new : FirstPass) (start : ℕ) (end : Option ℕ) 
       → IsOrderedAt (source_text old) (reading_of old) at → IsOrderedAt (source_text old) (reading_of new) stop
   pub few : length (tree_of new).nodes ≤ length (tree_of old).nodes + (stop - start)
 
--- The rows of a table of so many columns are added to it, and it is closed where reading continues: they are whole, in order and few, if the header row's line
--- ends before the rows of the body may begin (GFM 4.10, and this project).
+-- The rows of a table with this many columns are added to it, and the table is closed where reading continues. They
+-- are whole, in order, and at most four nodes for each byte, if the line of the header row ends at or before
+-- `body_start` (GFM 4.10, and this project).
 pub record ClosesTable (old new : FirstPass) (columns head_start body_start next : ℕ) : Type 0 where
   pub kept : KeepsNames old new
   pub texts : AddsTexts (names_of (allocs_of new)) (names_of (allocs_of old))
@@ -144,8 +151,9 @@ pub record ClosesTable (old new : FirstPass) (columns head_start body_start next
       → GrowsBy from next (tree_of old).nodes (tree_of new).nodes
   pub whole : AddsWholeRows (document (source_text old) (source_options old) (names_of (allocs_of new))) columns head_start (tree_of old) (tree_of new) next
 
--- A row of a table is read that begins at an offset, or none is: it is in order and few, if a character begins there, and texts are named after the others
--- (GFM 4.10, and this project).
+-- A row of a table that begins at an offset is read, or there is none. It is in order and has at most four nodes for
+-- each byte, if the offset is a character boundary. Its texts are appended to the named texts (GFM 4.10,
+-- and this project).
 pub record ReadsRowFrom (old new : FirstPass) (ix next : ℕ) : Type 0 where
   pub kept : KeepsEntries old new
   pub texts : AddsTexts (names_of (allocs_of new)) (names_of (allocs_of old))
@@ -154,8 +162,9 @@ pub record ReadsRowFrom (old new : FirstPass) (ix next : ℕ) : Type 0 where
       → IsOrderedTo (source_text old) (tree_of new) next
   pub few : IsCharBoundary (source_text old) ix → (from : ℕ) → from ≤ ix → from < next → GrowsBy from next (tree_of old).nodes (tree_of new).nodes
 
--- The head of a footnote definition is sought at an offset, by how many bytes are read with it: where one begins there, its definition is open and in order;
--- the brace contexts are as they were, and each index names an entry if each did before (this project).
+-- The head of a footnote definition is sought at an offset; `size` is the number of bytes of the head, if one begins
+-- there. Then its definition is open and in order. The brace contexts are unchanged, and each index names an entry if
+-- each did before (this project).
 pub record SeeksFootnote (old new : FirstPass) (start : ℕ) (size : Option ℕ) : Type 0 where
   pub source : source_of new ≡ source_of old
   pub braces : braces_of new ≡ braces_of old

@@ -1,4 +1,5 @@
--- What an open paragraph holds, what becomes of it where it is underlined, and where reading continues after the row of a table.
+-- The contents of an open paragraph, the heading that an underline makes of it, and where reading continues after a
+-- row of a table.
 use Rattle.std.specs.Prelude.{◌≡◌, ℕ, ◌+◌, ◌-◌, ◌<◌, ◌≤◌, true, Bool, List, [], ◌∷◌, ◌++◌, length, drop, max, slice_index, Option, Some, None, MatchOption}
 use Rattle.std.specs.Prelude.{IsCharBoundary}
 use Rattle.std.specs.Option.{option_map}
@@ -24,31 +25,32 @@ use Rattle.first_pass.specs.declared.state.FirstPass.{FirstPass}
 use Rattle.first_pass.specs.Kept.{KeepsNames}
 use Rattle.first_pass.specs.Views.{allocs_of, reading_of, source_options, source_text, tree_of, with_tree}
 
--- where reading continues after the row of a table: at its end, or at an offset where there is none (this project)
+-- where reading continues after a row of a table: at its end, or at the given offset if there is no row (this project)
 abbrev pub behind_row : Option (ℕ × TreeIndex) → ℕ → ℕ
 behind_row None at = at
 behind_row (Some row) at = row.0
 
--- a text that is marked as after a backslash stands directly after one, and that after an offset (CommonMark 2.4)
+-- a text marked as escaped is directly after a backslash, and that backslash is at or after an offset (CommonMark 2.4)
 abbrev pub StandsAfterBackslash : List ℕ → ℕ → Item → Type 0
 StandsAfterBackslash text from x = is_escaped x.body ≡ true → (from < x.start) × (slice_index text (x.start - 1) ≡ backslash)
 
--- These nodes are tokens of a depth: no node is below one of them, and a backslash before a text is in none of them, nor before an offset (CommonMark 2.4, and
--- this project).
+-- These nodes are tokens at one depth: none has children. No backslash that escapes a text is inside an earlier token
+-- or before an offset (CommonMark 2.4, and this project).
 abbrev pub AreTokens : List ℕ → ℕ → ℕ → List (ℕ × Item) → Type 0
 AreTokens text depth from [] = Unit {0}
 AreTokens text depth from (n ∷ nodes) =
     (n.0 ≡ depth) × StandsAfterBackslash text from n.1 × AreTokens text depth (max from n.1.«end») nodes
 
--- A paragraph, or another block that has a text, is innermost, and what stands in it are tokens (CommonMark 4.8, and this project).
+-- The innermost open node is a paragraph, or another block with text, and its children are tokens (CommonMark 4.8,
+-- and this project).
 pub record HoldsTokens (text : List ℕ) (f : Forest Item) (block : TreeIndex) : Type 0 where
   pub node : Item
   pub there : item_at f block ≡ Some node
   pub has_text : is_text_block node.body ≡ true
   pub tokens : AreTokens text (length f.spine + 1) node.start (drop (block.0 + 1) f.nodes)
 
--- The chain of a text's lines stands in a paragraph that is open, after the marker of its task list item, if it has one, and the tree is in order up to the
--- text (CommonMark 4.8, GFM 5.3).
+-- An open paragraph contains the chain of a text's lines, after the marker of its task list item if it has one. The
+-- tree is in order up to the text (CommonMark 4.8, GFM 5.3).
 pub record HoldsText (d : Document) (f : Forest Item) (block : TreeIndex) (l : TextLines) : Type 0 where
   pub before : Forest Item
   pub start : ℕ
@@ -62,8 +64,8 @@ pub record HoldsText (d : Document) (f : Forest Item) (block : TreeIndex) (l : T
   pub tree_is : f ≡ chained before (marker_items marker ++ l.chain)
   pub ordered : IsOrderedTo d.text (with_child before marker) start
 
--- A block that is innermost becomes a heading where an underline begins at an offset; nothing changes where none does. No node is added, and a tree that is in
--- order stays so, if tokens stand in the block (CommonMark 4.3, and this project).
+-- The innermost block becomes a heading if a setext heading underline begins at an offset; otherwise nothing changes.
+-- No node is added. If the block contains tokens, a tree in order stays in order (CommonMark 4.3, and this project).
 pub record MakesHeading (old new : FirstPass) (ix : ℕ) (block : TreeIndex) (broken : Bool) (next : Option ℕ) : Type 0 where
   pub kept : KeepsNames old new
   pub reading : reading_of new ≡ with_tree (reading_of old) (tree_of new)

@@ -1,4 +1,4 @@
--- When a `:` interrupts what is read, as the calls of the pass have it.
+-- When a `:` interrupts, for the calls of the pass.
 use Rattle.std.specs.Prelude.{ℕ, ◌&&◌, ◌||◌, Bool, true, false, List, Option, Some}
 use Rattle.first_pass_items.specs.Bytes.{colon}
 use Rattle.first_pass_items.specs.declared.item.Item.{Item}
@@ -10,14 +10,14 @@ use Rattle.first_pass_lines.specs.Lines.{begins}
 use Rattle.first_pass_lists.specs.Closing.{top_body}
 use Rattle.first_pass_open.specs.Path.{definition_after}
 
--- a text is read: a paragraph, tight or not, or a possible title (this project)
+-- the innermost open node holds text: it is a paragraph, tight or not, or a possible title (this project)
 abbrev pub is_open_text : Option ItemBody → Bool
 is_open_text (Some Paragraph) = true
 is_open_text (Some TightParagraph) = true
 is_open_text (Some MaybeDefinitionListTitle) = true
 is_open_text _ = false
 
--- A `:` interrupts what is read where its line continues all open nodes and a text is innermost, or where the open node after the outermost so many, the first
--- that the line doesn't continue, is a definition (this project).
+-- A `:` interrupts in two cases: the line continues all open nodes and the innermost holds text; or the first open
+-- node that the line doesn't continue, the one after the outermost `kept`, is a definition (this project).
 abbrev pub colon_interrupts : Options → Bool → Forest Item → ℕ → List ℕ → Bool
 colon_interrupts options whole f kept bs = begins colon bs && ((whole && is_open_text (top_body f)) || definition_after options f kept)

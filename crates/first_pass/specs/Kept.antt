@@ -1,28 +1,28 @@
--- What calls of a pass keep.
+-- What calls of a pass keep unchanged.
 use Rattle.std.specs.Prelude.{◌≡◌}
 use Rattle.first_pass_grammar.specs.Names.{AreNamed}
 use Rattle.first_pass_names.specs.TableEntries.{names_of, NamesMore}
 use Rattle.first_pass.specs.declared.state.FirstPass.{FirstPass}
 use Rattle.first_pass.specs.Views.{allocs_of, braces_of, source_of, tree_of}
 
--- each index that nodes keep names an entry, if each did before (this project)
+-- each index in the nodes names an entry, if each did before (this project)
 abbrev pub StayNamed : FirstPass → FirstPass → Type 0
 StayNamed old new = AreNamed (names_of (allocs_of old)) (tree_of old).nodes → AreNamed (names_of (allocs_of new)) (tree_of new).nodes
 
--- The same text is read under the same options; what was named keeps its name, each index names an entry if each did before, and no entry of a table changed
--- (this project).
+-- The text and the options are the same. Names and table entries from before are unchanged, and each index names an
+-- entry if each did before (this project).
 pub record KeepsEntries (old new : FirstPass) : Type 0 where
   pub source : source_of new ≡ source_of old
   pub more : NamesMore (allocs_of old) (allocs_of new)
   pub named : StayNamed old new
 
--- the same, and the brace contexts that a line begins with which is read by itself (this project)
+-- the same, and the brace contexts for a line that is read on its own are unchanged (this project)
 pub record KeepsNames (old new : FirstPass) : Type 0 where
   pub entries : KeepsEntries old new
   pub braces : braces_of new ≡ braces_of old
 
--- The same text is read under the same options, and the tables and those brace contexts are the same; each index names an entry if each did before
--- (this project).
+-- The text, the options, the tables of entries and the brace contexts are the same, and each index names an entry if
+-- each did before (this project).
 pub record KeepsTables (old new : FirstPass) : Type 0 where
   pub source : source_of new ≡ source_of old
   pub tables : allocs_of new ≡ allocs_of old

@@ -1,4 +1,4 @@
--- What a line, or a cell of a table's row, adds to a pass that reads it by itself.
+-- What reading one line, or one cell of a table row, adds to a pass.
 use Rattle.std.specs.Prelude.{◌≡◌, ℕ, ◌+◌, Bool, true, false, List, length, drop, Option, Some, None, MatchOption}
 use Rattle.std.specs.List.{prefix_len}
 use Rattle.first_pass_items.specs.declared.item.Alignment.{Alignment}
@@ -17,8 +17,7 @@ use Rattle.first_pass_open.specs.Between.{line_end_at}
 use Rattle.first_pass.specs.declared.state.FirstPass.{FirstPass}
 use Rattle.first_pass.specs.Views.{allocs_of, braces_of, context_in, source_options, source_text, tree_of}
 
--- the content that begins at an offset, of a text of which nothing counts from another offset on, with the pass's brace contexts before it; a cell's or a
--- line's
+-- the content of a line or cell from `start`, of a text that is cut at `end`, under the brace contexts of the pass
 abbrev pub content_upto : FirstPass → ℕ → Option ℕ → Bool → Inline
 content_upto pass start end row = record {
   options = source_options pass;
@@ -29,26 +28,27 @@ content_upto pass start end row = record {
   braces = braces_of pass;
 }
 
--- the tokens of the line are appended, texts that they name are named after the others, and the call returns where it ends and its break
--- (CommonMark 2.4, 2.5, 6.7, 6.8)
+-- the tokens of the line are appended and the texts that they name are added; the call returns the end of the line and
+-- its line break (CommonMark 2.4, 2.5, 6.7, 6.8)
 pub record ReadsLine (old new : FirstPass) (start : ℕ) (end : Option ℕ) (answer : ℕ × Option Item) : Type 0 where
   pub line : AppendsLine (names_of (allocs_of new)).texts (content_upto old start end false) (tree_of old) (tree_of new) answer (braces_of new)
   pub ends : EndsLine (content_upto old start end false) answer
   pub names : AddsTexts (names_of (allocs_of new)) (names_of (allocs_of old))
 
--- the tokens of the cell are appended, texts that they name are named after the others, and the call returns where its content ends (GFM 4.10)
+-- the tokens of the cell are appended and the texts that they name are added; the call returns the end of the cell's
+-- content (GFM 4.10)
 pub record ReadsCell (old new : FirstPass) (start : ℕ) (end : Option ℕ) (stop : ℕ) : Type 0 where
   pub cell : AppendsCell (names_of (allocs_of new)).texts (content_upto old start end true) (tree_of old) (tree_of new) stop (braces_of new)
   pub ends : EndsCell (content_upto old start end true) stop
   pub names : AddsTexts (names_of (allocs_of new)) (names_of (allocs_of old))
 
--- a table's node from the end of its header row's content up to after its delimiter row (GFM 4.10)
+-- a table's node, from the end of the header row's content to the end of the delimiter row (GFM 4.10)
 abbrev pub table_between : List ℕ → ℕ → AlignmentIndex → Item
 table_between text start ix =
     record { start = start + prefix_len is_content (drop start text); «end» = line_end_at text (line_end_at text start); body = Table ix }
 
--- The tokens of a table's header row are appended, as a line's; the alignments of its columns are named, and the texts that its tokens name, and it is
--- returned where its delimiter row ends, and the table (GFM 4.10).
+-- The tokens of a table's header row are appended like those of a line. The alignments of its columns and the texts of
+-- its tokens are named. The call returns the end of the delimiter row, and the table (GFM 4.10).
 pub record ReadsHead (old new : FirstPass) (start : ℕ) (end : Option ℕ) (alignments : List Alignment) (answer : ℕ × Option Item) : Type 0 where
   pub index : AlignmentIndex
   pub index_is : index.0 ≡ length (names_of (allocs_of old)).alignments
@@ -58,13 +58,13 @@ pub record ReadsHead (old new : FirstPass) (start : ℕ) (end : Option ℕ) (ali
   pub answer_is : answer
       ≡ ((table_between (text_upto (source_text old) end) start index).«end», Some (table_between (text_upto (source_text old) end) start index))
 
--- a line is read that is the header row of a table, or none (GFM 4.10)
+-- a line is read; it may be the header row of a table (GFM 4.10)
 abbrev pub ReadsPossibleHead : FirstPass → FirstPass → ℕ → Option ℕ → ℕ × Option Item → Type 0
 ReadsPossibleHead old new start end answer =
     MatchOption (headed_table (context_in old) (drop start (text_upto (source_text old) end)))
     (ReadsLine old new start end answer) (λ alignments. ReadsHead old new start end alignments answer)
 
--- A line is read, a cell of a row, or a line that may be the header row of a table (CommonMark 2.4, GFM 4.10).
+-- A line, a cell of a row, or a possible header row is read, depending on the mode (CommonMark 2.4, GFM 4.10).
 abbrev pub ReadsInMode : TableParseMode → FirstPass → FirstPass → ℕ → Option ℕ → ℕ × Option Item → Type 0
 ReadsInMode Disabled old new start end answer = ReadsLine old new start end answer
 ReadsInMode Active old new start end answer = ReadsCell old new start end answer.0 × (answer.1 ≡ None)

@@ -1,4 +1,4 @@
--- What is seen of a pass: the text and the options that it reads under, what it remembers between two lines, the tree in that, and what nodes name.
+-- The parts of a pass: its text and options, its state between two lines with the tree, and its tables of entries.
 use Rattle.std.specs.Prelude.{ℕ, List}
 use Rattle.first_pass_items.specs.declared.item.Item.{Item}
 use Rattle.first_pass_items.specs.declared.option_set.Options.{Options}
@@ -12,7 +12,7 @@ use Rattle.first_pass_open.specs.Path.{context_of}
 use Rattle.first_pass_blocks.specs.declared.state.BlockPass.{BlockPass}
 use Rattle.first_pass.specs.declared.state.FirstPass.{FirstPass}
 
--- the pass over blocks in it
+-- the pass over blocks
 abbrev pub pass_of : FirstPass → BlockPass
 pass_of pass = pass.pass
 
@@ -34,14 +34,14 @@ tree_of pass = pass.pass.reading.tree
 abbrev pub allocs_of : FirstPass → Allocations
 allocs_of pass = pass.pass.allocs
 
--- the brace contexts that a line which is read by itself begins with (this project)
+-- the brace contexts at the start of a line that is read on its own (this project)
 abbrev pub braces_of : FirstPass → MathBraces
 braces_of pass = pass.braces
 
--- what a line is read in by it
+-- the context in which the pass reads a line
 abbrev pub context_in : FirstPass → Context
 context_in pass = context_of pass.pass.source.options pass.pass.reading.tree
 
--- what is remembered with another tree
+-- the state with another tree
 abbrev pub with_tree : Reading → Forest Item → Reading
 with_tree r tree = record r { tree = tree }

@@ -1,4 +1,4 @@
-//! Headings that are underlined, and the attributes of a heading, as calls of the pass.
+//! Setext headings, and the attributes of a heading, as calls of the pass.
 
 ghost use Rattle.std.specs.Prelude.{◌≡◌, ◌+◌, ◌≤◌, length, slice_get, Some, IfOk, IfSome};
 ghost use Rattle.std.specs.List.{slice_range};
@@ -18,10 +18,11 @@ use first_pass_tree::tree_index::TreeIndex;
 use std::alloc::AllocError;
 
 impl<'a> FirstPass<'a> {
-    /// Where the content of a heading ends whose text goes from the offset `header_start` into the text up to
-    /// `header_end`, and its attributes: before its attribute block, after the white space there, and what the
-    /// block gives. Without such a block, or where headings have none, the text's end and `None`; a text whose end
-    /// lies before its start is empty. The pass stays as it is. The error is want of memory (this project).
+    /// Returns the end of the content of a heading, and its attributes. The heading's text extends from the offset
+    /// `header_start` to `header_end`. With an attribute block, the content ends before the block and the white space
+    /// before it. Without one, or if the options have no heading attributes, returns the text's end and `None`. If
+    /// `header_end` is before `header_start`, the text is empty. The pass is unchanged. Fails only if an allocation
+    /// fails (this project).
     pub fn extract_and_parse_heading_attribute_block(
         &self,
         header_start: usize,
@@ -42,15 +43,15 @@ impl<'a> FirstPass<'a> {
         Ok(answer)
     }
 
-    /// Makes the paragraph `node_ix`, the innermost open node, in which the chain of its lines stands, a heading of
-    /// the level of the underline that begins at the offset `ix` into the text: the attribute block is cut off the
-    /// chain, up to the white space before it, or only up to its brace where a backslash breaks the last line
+    /// Makes the paragraph `node_ix` a heading if a setext heading underline begins at the offset `ix`. `node_ix` is
+    /// the innermost open node and contains the chain of its lines. The attribute block is cut off the chain together
+    /// with the white space before it, or from its brace on if a backslash breaks the last line
     /// (`has_trailing_content`). The heading stays open, and the break after its last line is not closed. Returns the
-    /// offset after the underline's line; `None`, and nothing changes, where no underline begins at `ix`
+    /// offset after the line of the underline. Returns `None` and changes nothing if no underline begins at `ix`
     /// (CommonMark 4.3, and this project).
     ///
-    /// No node is added. Where tokens stand in the paragraph, a tree that is in order stays so. The error is want of
-    /// memory.
+    /// No node is added. If the paragraph contains tokens, a tree in order stays in order. Fails only if an allocation
+    /// fails.
     pub fn parse_setext_heading(
         &mut self,
         ix: usize,

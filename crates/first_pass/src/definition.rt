@@ -22,10 +22,10 @@ use first_pass_labels::label_table::LinkDef;
 use std::alloc::AllocError;
 
 impl<'a> FirstPass<'a> {
-    /// The link reference definition that begins at the offset `start` into the text: how many bytes it has, its label
-    /// and what it says. `None` where none begins. Nothing is read or changed: who takes it puts it into the table.
-    /// The error is want of memory, where its label or what is after its colon asks for it as the calls below say, or
-    /// where a definition stands here: its label is folded (CommonMark 4.7).
+    /// Returns the link reference definition that begins at the offset `start`: its number of bytes, its label, and
+    /// its destination and title. Returns `None` if none begins there. Changes nothing: the caller adds the definition
+    /// to the table. Fails only if an allocation fails. That can happen only if a definition begins here, because its
+    /// label is folded, or in the cases of the calls below (CommonMark 4.7).
     #[inline(always)]
     pub fn parse_refdef_total(
         &mut self,
@@ -50,11 +50,12 @@ impl<'a> FirstPass<'a> {
         reference::parse_refdef_total(&pass.source, &pass.reading.tree, start)
     }
 
-    /// The label after the `[` that stands before the offset `start` into the text: how many bytes it has from there
-    /// on, its `]` too, and its text, in which each run of white space is one space. It continues over the lines that
-    /// a definition crosses, without what they have of the prefixes of the open containers. `None` where there is no
-    /// label; the error is want of memory, where the label has to be written since it is read otherwise than it
-    /// stands, or where no bracket ends it and some later line of the text may head a table (CommonMark 4.7).
+    /// Returns the label after the `[` that is directly before the offset `start`. The result is its number of bytes
+    /// from `start` on, with its `]`, and its text, in which each run of white space is one space. The label continues
+    /// over the lines of a definition, without the container prefixes of these lines. Returns `None` if there is no
+    /// label. Fails only if an allocation fails. That can happen only in two cases: the label's text differs from its
+    /// bytes; or no bracket ends the label and a later line of the text may be the header row of a table
+    /// (CommonMark 4.7).
     pub fn parse_refdef_label(
         &self,
         start: usize,
@@ -75,11 +76,12 @@ impl<'a> FirstPass<'a> {
         label::parse_refdef_label(&self.pass.source, &self.pass.reading.tree, start)
     }
 
-    /// What a definition has after its colon, before the offset `start` into the text: white space, a destination, and
-    /// white space and a title or none. Returns how many bytes it has from `start` on, and the definition with its
-    /// destination and title unescaped, whose span begins at `span_start`. `None` where none stands there; the error
-    /// is want of memory, where the destination or the title is read otherwise than it stands, where a title has a
-    /// line end, or where after a line end a line begins that may head a table (CommonMark 4.7).
+    /// Reads the part of a definition after its colon, which is directly before the offset `start`: white space, a
+    /// destination, and optionally white space and a title. Returns its number of bytes from `start` on, and the
+    /// definition, whose destination and title are unescaped and whose span begins at `span_start`. Returns `None` if
+    /// there is no destination. Fails only if an allocation fails. That can happen only in three cases: the unescaped
+    /// destination or title differs from its bytes; a title has a line ending; or a line after a line ending may be
+    /// the header row of a table (CommonMark 4.7).
     pub fn scan_refdef(
         &self,
         span_start: usize,
@@ -104,10 +106,11 @@ impl<'a> FirstPass<'a> {
         )
     }
 
-    /// The white space of a definition at the offset `i` into `bytes`, which are those of the whole text, with at most
-    /// one line end: the offset after it, and how many line ends it has. After a line end it continues where the
-    /// definition continues in the next line. `None` where a second line end follows, or no such line; the error is
-    /// want of memory, where the line after the first line end may head a table (CommonMark 4.7).
+    /// Reads the white space of a definition at the offset `i` into `bytes`, the whole text. It has at most one line
+    /// ending; after that, it continues where the definition continues in the next line. Returns the offset after it
+    /// and its number of line endings. Returns `None` if a second line ending follows, or if the next line does not
+    /// continue the definition. Fails only if an allocation fails. That can happen only if the line after the first
+    /// line ending may be the header row of a table (CommonMark 4.7).
     pub fn scan_refdef_space(
         &self,
         bytes: &[u8],
@@ -125,10 +128,11 @@ impl<'a> FirstPass<'a> {
         space::scan_refdef_space(&self.pass.source, &self.pass.reading.tree, i)
     }
 
-    /// The title that `text` begins with, all that the whole text has from a place on: how many bytes it has, what
-    /// begins and ends it too, and what stands between, not yet unescaped and with one `\n` for each line end. It
-    /// continues over the lines that a definition crosses. `None` where there is none; the error is want of memory,
-    /// where after the first line the title continues, or a line begins that may head a table (CommonMark 4.7).
+    /// Returns the title at the start of `text`, which is the rest of the whole text from some offset. The result is
+    /// its number of bytes, with its delimiters, and its content, not unescaped and with one `\n` for each line
+    /// ending. The title continues over the lines of a definition. Returns `None` if there is no title. Fails only if
+    /// an allocation fails. That can happen only if the title continues after the first line, or if a line after it
+    /// may be the header row of a table (CommonMark 4.7).
     pub fn scan_refdef_title<'t>(
         &self,
         text: &'t str,

@@ -8,12 +8,12 @@ use crate::state::FirstPass;
 use std::alloc::AllocError;
 
 impl<'a> FirstPass<'a> {
-    /// Opens the footnote definition that begins at the offset `start` into the text, where one does: what is innermost
-    /// ends there, a list and then another footnote definition, and the label is put into the table, unless one of its
-    /// folding stands there. Returns how many bytes its head has: up to after its colon, or as GitHub has footnotes up
-    /// to after the white space there without line ends; `None` where none begins, and then nothing changes. Whether
-    /// the options have footnotes isn't asked; without GitHub's form the head is read in the old one. The error is that
-    /// a request for memory was refused (this project).
+    /// Opens the footnote definition that begins at the offset `start`, if one does. The innermost list is closed
+    /// there, and then another footnote definition if that is innermost. The label is added to the table unless an
+    /// equal folded label is there. Returns the number of bytes of the head: up to its colon, and in GitHub's form up
+    /// to the white space after it, without line endings. Returns `None` and changes nothing if none begins. Reads a
+    /// head even if the options have no footnotes; without GitHub's form it reads the old form. Fails only if an
+    /// allocation fails (this project).
     pub fn parse_footnote(&mut self, start: usize) -> Result<Option<usize>, AllocError>
         requires { IsCharBoundary (source_text self.old) start }
         ensures source { source_of self.new ≡ source_of self.old }

@@ -1,4 +1,4 @@
-//! Which lines end a paragraph before them, as calls of the pass.
+//! Which lines interrupt a paragraph, as calls of the pass.
 
 ghost use Rattle.std.specs.Prelude.{◌≡◌, is_some, ◌&&◌, ◌||◌, not, true, false, Some, None, IfOk, IsOk, OnErr, if◌then◌else◌};
 ghost use Rattle.first_pass_lines.specs.Places.{line_rest};
@@ -27,14 +27,16 @@ use first_pass_scan::line_start::LineStart;
 use first_pass_tree::forest::Tree;
 use std::alloc::{AllocError, Global};
 
-/// Whether `text`, what is left of a line after its indentation of under four columns, interrupts a
-/// paragraph: its line ends, or a thematic break, an ATX heading, a code fence, a block quote, a list item or an HTML
-/// block of the kinds 1 to 6 begins. An item interrupts where the line doesn't continue all containers, and in a
-/// table; else only a bullet or the number 1 does, and only with a rest that isn't blank (CommonMark 4.8, 4.1, 4.2,
-/// 4.5, 5.1, 5.2, 4.6; GFM 4.10). With footnotes the head of a footnote definition interrupts whose label holds no
-/// line end. With definition lists a `:` does where the line continues all containers and a paragraph or a possible
-/// title is innermost, or where the open node after the outermost `tree_position`, the first that the line doesn't
-/// continue, is a definition (this project). There is no error: no memory is asked for.
+/// Returns whether `text`, the rest of a line after an indentation under four columns, interrupts a paragraph. It does
+/// at the end of its line, or if one of these begins: a thematic break, an ATX heading, a code fence, a block quote, a
+/// list item, or an HTML block of the kinds 1 to 6. Any item interrupts in a table, or if the line doesn't continue
+/// all containers. Otherwise only a bullet or the number 1 does, and only if the rest after it isn't blank
+/// (CommonMark 4.8, 4.1, 4.2, 4.5, 5.1, 5.2, 4.6; GFM 4.10).
+///
+/// With footnotes, the head of a footnote definition interrupts if its label has no line ending. With definition
+/// lists, a `:` interrupts in two cases: the line continues all containers and the innermost node is a paragraph or a
+/// possible title; or the first open node that the line doesn't continue, the one after the outermost `tree_position`,
+/// is a definition (this project). Never fails, because it allocates nothing.
 pub fn scan_paragraph_interrupt_no_table(
     _alloc: Global,
     text: &str,
@@ -61,8 +63,8 @@ pub fn scan_paragraph_interrupt_no_table(
     )
 }
 
-// Whether a `:` interrupts what is read, in a line that continues the outermost `kept` open nodes; `whole` says whether
-// these are all.
+// Whether a `:` interrupts, in a line that continues the outermost `kept` open nodes. `whole` is true if these are
+// all.
 fn interrupts_as_colon(bytes: &[u8], whole: bool, tree: &Tree<Item>, kept: usize) -> bool
     ensures { (options : Options) → result ≡ colon_interrupts options whole tree.now kept bytes.now }
 {
@@ -84,11 +86,11 @@ fn is_in_text(tree: &Tree<Item>) -> bool
 }
 
 impl<'a> FirstPass<'a> {
-    /// Whether `text`, what is left of a line after its indentation of under four columns and all that the whole text
-    /// has after it, interrupts a paragraph inside the open containers: as `scan_paragraph_interrupt_no_table` says
-    /// (CommonMark 4.8), or as a table does that the line heads, where it begins with a pipe (GFM 4.10).
-    /// `current_container` says whether the line continues all open containers, `tree_position` with how many. The
-    /// error is want of memory, where such a table may begin.
+    /// Returns whether `text` interrupts a paragraph inside the open containers. `text` is the rest of the whole text,
+    /// from after a line's indentation of under four columns. It interrupts as in `scan_paragraph_interrupt_no_table`
+    /// (CommonMark 4.8), or if it begins with a pipe and its line is the header row of a table (GFM 4.10).
+    /// `current_container` is true if the line continues all open containers, and `tree_position` is the number that
+    /// it continues. Fails only if an allocation fails. That can happen only if such a table may begin.
     pub fn scan_paragraph_interrupt(
         &self,
         text: &str,
@@ -120,11 +122,12 @@ impl<'a> FirstPass<'a> {
         interrupts_as_table(&self.pass.source, &self.pass.reading.tree, text.as_bytes())
     }
 
-    /// Enters the line that `bytes` begin with, all that the text has from the line on: a line that continues a
-    /// run of link reference definitions, whatever open containers it continues. Returns what is left of it after
-    /// what it has of their prefixes and after its columns. `None` where it ends the run: where after the tag of a
-    /// block quote it would be read as any other, and where what is left is blank, as at the text's end. Nothing is
-    /// read or changed. The error is want of memory, where the line may head a table (CommonMark 4.7, 4.8, 5.1).
+    /// Returns the rest of the first line of `bytes` after its container prefixes and its indentation, if that line
+    /// continues a run of link reference definitions. `bytes` is the rest of the text from the start of a line, which
+    /// may continue any number of open containers. Returns `None` if the line ends the run: if it would be read like
+    /// any other line after the tag of a block quote, or if the rest is blank (as at the end of the text). Changes
+    /// nothing. Fails only if an allocation fails. That can happen only if the line may be the header row of a table
+    /// (CommonMark 4.7, 4.8, 5.1).
     pub fn scan_next_line_or_lazy_continuation<'input>(
         &mut self,
         bytes: &'input [u8],

@@ -1,4 +1,4 @@
-//! A law of what an open paragraph holds.
+//! A law of the contents of an open paragraph.
 
 ghost use Rattle.std.specs.Prelude.{length, IsUtf8};
 ghost use Rattle.first_pass_items.specs.declared.item.Item.{Item};
@@ -9,8 +9,8 @@ ghost use Rattle.first_pass_grammar.specs.Leaves.{Document, TextLines};
 ghost use Rattle.first_pass_grammar.specs.OpenOrder.{IsOrderedTo};
 ghost use Rattle.first_pass.specs.Holds.{HoldsText, HoldsTokens};
 
-/// What stands in a paragraph whose lines were read are tokens, and the tree is in order up to the end of these lines:
-/// so it may be underlined, and `parse_setext_heading` keeps that order (CommonMark 4.3, 4.8).
+/// The children of a paragraph whose lines were read are tokens, and the tree is in order up to the end of these
+/// lines. So `parse_setext_heading` may be called, and keeps that order (CommonMark 4.3, 4.8).
 pub fn lines_are_tokens()
     ensures { (d : Document) (f : Forest Item) (block : TreeIndex) (l : TextLines) → IsUtf8 d.text
         → HoldsText d f block l

@@ -17,10 +17,10 @@ use first_pass_text::{heading, rule};
 use std::alloc::AllocError;
 
 impl<'a> FirstPass<'a> {
-    /// Appends what stands for the text that begins at the offset `start_ix` into the text: the table that its first
-    /// line heads, with tables; else a heading that is underlined, without its attribute block, or a paragraph, with
-    /// the marker of its task list item, if it has one, as its first child. Returns the offset at which the line
-    /// begins that is after it, or the text's length (CommonMark 4.3, 4.8, GFM 4.10).
+    /// Appends the paragraph, setext heading or table that begins at the offset `start_ix`. With tables, it is a table
+    /// if its first line is a header row. Otherwise it is a heading without its attribute block if an underline
+    /// follows, or a paragraph. The marker of its task list item, if there is one, is its first child. Returns the
+    /// start of the line after the block, or the end of the text (CommonMark 4.3, 4.8, GFM 4.10).
     pub fn parse_paragraph(
         &mut self,
         start_ix: usize,
@@ -45,8 +45,8 @@ impl<'a> FirstPass<'a> {
         Ok(next)
     }
 
-    /// Appends the ATX heading of this level that begins at the offset `start` into the text, without its attribute
-    /// block, and returns the offset at which its line ends (CommonMark 4.2).
+    /// Appends the ATX heading of this level that begins at the offset `start`, without its attribute block, and
+    /// returns the end of its line (CommonMark 4.2).
     pub fn parse_atx_heading(
         &mut self,
         start: usize,
@@ -71,8 +71,8 @@ impl<'a> FirstPass<'a> {
         Ok(next)
     }
 
-    /// Appends the thematic break of `hrule_size` bytes, its line end too, that begins at the offset `ix`
-    /// into the text, and returns the offset after it (CommonMark 4.1).
+    /// Appends the thematic break of `hrule_size` bytes, including its line ending, that begins at the offset `ix`,
+    /// and returns the offset after it (CommonMark 4.1).
     pub fn parse_hrule(&mut self, hrule_size: usize, ix: usize) -> Result<usize, AllocError>
         requires { ix + hrule_size ≤ length (source_text self.old) }
         ensures { IfOk result (λ next. AddsRule self.old self.new ix hrule_size next) }

@@ -1,6 +1,6 @@
-//! The block pass of CommonMark: a text goes in, the tree of its blocks comes out (`run_first_pass`). The original's
-//! calls are methods of `pass::FirstPass`, each of which reads a part of the pass's work by itself; the names of the
-//! crates below are handed out too.
+//! The block pass of CommonMark: reads a text and returns the tree of its blocks (`run_first_pass`). The original's
+//! calls are methods of `pass::FirstPass`, each of which does one part of the pass's work. The crate also re-exports
+//! the names of the crates below.
 #![tactic(auto)]
 
 mod attributes;

@@ -1,4 +1,4 @@
-//! A line of a paragraph, or a cell of a table's row, as a call of the pass (CommonMark 2.4, 4.8, GFM 4.10).
+//! A line of a paragraph, or a cell of a table row, as a call of the pass (CommonMark 2.4, 4.8, GFM 4.10).
 
 ghost use Rattle.std.specs.Prelude.{◌≤◌, length, IfOk, IfSome, OnOk, IsUtf8};
 ghost use Rattle.first_pass_tokens.specs.Pieces.{text_upto};
@@ -17,19 +17,18 @@ use first_pass_tokens::pieces::Content;
 use std::alloc::AllocError;
 
 impl<'a> FirstPass<'a> {
-    /// Appends the tokens of a line, or of a cell in a table's row, to the innermost open node: the one whose content
-    /// begins at the offset `start` into the text, of which nothing counts from the offset `end` on.
+    /// Appends the tokens of a line, or of a cell in a table row, to the innermost open node. The content begins at
+    /// the offset `start`; the text is cut at the offset `end`, if there is one.
     ///
-    /// In mode `Disabled` it is a line's: returns the offset after the line's end, and its break, which is not
-    /// appended; `None` where the text ends without a line end (CommonMark 2.4, 6.7, 6.8). In mode `Active` it is a
-    /// cell's: returns the offset at which the content ends, at a pipe that is not escaped or with its line, and
-    /// `None` (GFM 4.10). In mode `Scan` it is a line's that may be a table's header row: where it is one, returns the
-    /// offset after the delimiter row, and in the place of the break a `Table` with the columns' alignments, from
-    /// the line's end up to there, which is not appended either; else as in mode `Disabled`.
+    /// Mode `Disabled` reads a line. Returns the offset after its line ending, and its line break, which is not
+    /// appended; or `None` if the text ends without a line ending (CommonMark 2.4, 6.7, 6.8). Mode `Active` reads a
+    /// cell. Returns the end of its content, at an unescaped pipe or at the end of the line, and `None` (GFM 4.10).
+    /// Mode `Scan` reads a line that may be the header row of a table. If it is one, returns the offset after the
+    /// delimiter row, and a `Table` with the columns' alignments in place of the line break. The table is not appended
+    /// either; it extends from the end of the line's content to that offset. Otherwise it is as mode `Disabled`.
     ///
-    /// The texts that tokens name are put after those that are named. The brace contexts are those that the call
-    /// before left, none in a new pass. At most one node is added for each byte that is read. The error is want of
-    /// memory.
+    /// Texts of the tokens are added after the named texts. The brace contexts are those of the call before, or none
+    /// in a new pass. At most one node is added for each byte that is read. Fails only if an allocation fails.
     pub fn parse_line(
         &mut self,
         start: usize,
@@ -57,7 +56,7 @@ impl<'a> FirstPass<'a> {
         }
     }
 
-    // Appends the tokens of a line; returns the offset after its line end, and its break.
+    // Appends the tokens of a line; returns the offset after its line ending, and its line break.
     fn append_content(
         &mut self,
         start: usize,
@@ -89,7 +88,7 @@ impl<'a> FirstPass<'a> {
         Ok(line)
     }
 
-    // Appends the tokens of a cell; returns the offset at which its content ends.
+    // Appends the tokens of a cell; returns the end of its content.
     fn append_cell_content(&mut self, start: usize, end: Option<usize>) -> Result<usize, AllocError>
         requires start { start ≤ length (source_text self.old) }
         requires end { IfSome end (λ e. (start ≤ e) × (e ≤ length (source_text self.old))) }
@@ -114,8 +113,9 @@ impl<'a> FirstPass<'a> {
         Ok(stop)
     }
 
-    // Appends the tokens of a line that may be the header row of a table. Where it is one, returns the offset after
-    // the delimiter row, and the table from the line's end up to there; else as `append_content`.
+    // Appends the tokens of a line that may be the header row of a table. If it is one, returns the offset after the
+    // delimiter row, and the table, which extends from the end of the line's content to there. Otherwise returns as
+    // `append_content`.
     fn append_possible_head(
         &mut self,
         start: usize,

@@ -1,4 +1,4 @@
-//! The block pass as a value: the lines of a text, one block after the other.
+//! The block pass as a value: it reads a text block by block.
 
 ghost use Rattle.std.specs.Prelude.{◌<◌, length, IfOk, IsCharBoundary};
 ghost use Rattle.first_pass.specs.Calls.{ReadsBlockAt, StartsPass};
@@ -18,7 +18,8 @@ pub use first_pass_tree::tight::surgerize_tight_list;
 use std::alloc::{AllocError, Global};
 
 impl<'a> FirstPass<'a> {
-    /// A pass over `text` that has read nothing yet. No brace context is open. The error is want of memory.
+    /// Returns a pass over `text` that has read nothing yet. No brace context is open. Fails only if an allocation
+    /// fails.
     pub fn new(alloc: Global, text: &'a str, options: Options) -> Result<FirstPass<'a>, AllocError>
         ensures { IfOk result (λ pass. StartsPass text.now options pass) }
     {
@@ -29,9 +30,9 @@ impl<'a> FirstPass<'a> {
         })
     }
 
-    /// Reads the block that begins at the line's start `start_ix`, an offset into the text before its end, and returns
-    /// the offset at which the next line begins that is not read, or the text's length. What it keeps is said at
-    /// `BlockPass::parse_block`; the brace contexts are as they were.
+    /// Reads the block that begins in the line at the offset `start_ix`, which is before the end of the text. Returns
+    /// the start of the next unread line, or the end of the text. The conditions are those of
+    /// `BlockPass::parse_block`; the brace contexts are unchanged.
     pub fn parse_block(&mut self, start_ix: usize) -> Result<usize, AllocError>
         requires within { start_ix < length (source_text self.old) }
         requires boundary { IsCharBoundary (source_text self.old) start_ix }

@@ -1,4 +1,4 @@
-//! Leaf blocks whose lines are raw: code, metadata and HTML.
+//! Leaf blocks with raw lines: code, metadata and HTML.
 
 ghost use Rattle.std.specs.Prelude.{◌≡◌, ◌≤◌, Some, true, false, max, length, drop, IfOk, OnOk, IsCharBoundary};
 ghost use Rattle.first_pass_html.specs.Ends.{end_of};
@@ -24,8 +24,8 @@ use first_pass_raw::{fenced_code, html_block, indented_code, metadata_block};
 use std::alloc::AllocError;
 
 impl<'a> FirstPass<'a> {
-    /// Appends a raw line of code or metadata to the innermost open node: the columns that are owed before it, at
-    /// most 3, and its bytes from the offset `start` up to `end`, without a `\r` before a `\n` at their end.
+    /// Appends a raw line of code or metadata to the innermost open node: the columns owed before it, at most 3, and
+    /// its bytes from the offset `start` up to `end`, without the `\r` of a final `\r\n`.
     pub fn append_code_text(
         &mut self,
         remaining_space: usize,
@@ -42,8 +42,8 @@ impl<'a> FirstPass<'a> {
         self.append_line_of(RawKind::Code, remaining_space, start, end)
     }
 
-    /// Appends a raw line of HTML to the innermost open node: the columns that are owed before it, at most 3, and its
-    /// bytes from the offset `start` up to `end`, without a `\r` before a `\n` at their end.
+    /// Appends a raw line of HTML to the innermost open node: the columns owed before it, at most 3, and its bytes
+    /// from the offset `start` up to `end`, without the `\r` of a final `\r\n`.
     pub fn append_html_line(
         &mut self,
         remaining_space: usize,
@@ -94,9 +94,9 @@ impl<'a> FirstPass<'a> {
         Ok(())
     }
 
-    /// Appends the indented code whose first line's text begins at the offset `start_ix`, after its four columns,
-    /// with so many columns owed there, and returns the offset at which the line begins that is not read, or the
-    /// text's length. Blank lines at its end are read, but are no part of it; they count (CommonMark 4.4).
+    /// Appends the indented code whose first line has its content at the offset `start_ix`, after its four columns,
+    /// with `remaining_space` columns owed there. Returns the start of the next unread line, or the end of the text.
+    /// Blank lines at the end of the block are read but are not part of it; they count (CommonMark 4.4).
     pub fn parse_indented_code_block(
         &mut self,
         start_ix: usize,
@@ -125,9 +125,9 @@ impl<'a> FirstPass<'a> {
         Ok(next)
     }
 
-    /// Appends the fenced code block whose fence of `n_fence_char` bytes, each `fence_ch`, begins at the offset
-    /// `start_ix` after `indent` columns, and returns the offset at which the line begins that is not read, or the
-    /// text's length (CommonMark 4.5).
+    /// Appends the fenced code block whose opening fence begins at the offset `start_ix`, after `indent` columns. The
+    /// fence has `n_fence_char` bytes, each `fence_ch`. Returns the start of the next unread line, or the end of the
+    /// text (CommonMark 4.5).
     pub fn parse_fenced_code_block(
         &mut self,
         start_ix: usize,
@@ -162,8 +162,8 @@ impl<'a> FirstPass<'a> {
         Ok(next)
     }
 
-    /// Appends the metadata block that begins at the offset `start_ix` with three of `metadata_block_ch`, `-` or `+`,
-    /// and returns the offset at which the line begins that is not read, or the text's length.
+    /// Appends the metadata block that begins at the offset `start_ix` with three of `metadata_block_ch`, `-` or `+`.
+    /// Returns the start of the next unread line, or the end of the text (this project).
     pub fn parse_metadata_block(
         &mut self,
         start_ix: usize,
@@ -191,9 +191,9 @@ impl<'a> FirstPass<'a> {
         Ok(next)
     }
 
-    /// Appends the HTML block of the kinds 1 to 5 that begins at the offset `start_ix` after `indent` columns, or
-    /// after `remaining_space` owed ones where these are more, and continues to the first line that holds its end.
-    /// Returns the offset at which the line begins that is not read, or the text's length (CommonMark 4.6).
+    /// Appends the HTML block of the kinds 1 to 5 that begins at the offset `start_ix`, after `indent` columns or
+    /// `remaining_space` owed columns, whichever is more. It ends with the first line that has its end condition.
+    /// Returns the start of the next unread line, or the end of the text (CommonMark 4.6).
     pub fn parse_html_block_type_1_to_5(
         &mut self,
         start_ix: usize,
@@ -228,9 +228,9 @@ impl<'a> FirstPass<'a> {
         Ok(next)
     }
 
-    /// Appends the HTML block of the kinds 6 and 7 that begins at the offset `start_ix` after `indent` columns, or
-    /// after `remaining_space` owed ones where these are more, and continues to a blank line. Returns the offset at
-    /// which the line begins that is not read, or the text's length (CommonMark 4.6).
+    /// Appends the HTML block of the kinds 6 and 7 that begins at the offset `start_ix`, after `indent` columns or
+    /// `remaining_space` owed columns, whichever is more. It ends before a blank line. Returns the start of the next
+    /// unread line, or the end of the text (CommonMark 4.6).
     pub fn parse_html_block_type_6_or_7(
         &mut self,
         start_ix: usize,

@@ -19,14 +19,14 @@ use std::alloc::AllocError;
 use std::mem::replace;
 
 impl<'a> FirstPass<'a> {
-    /// Appends the rows of a table of `table_cols` columns to the table, the innermost open node, which was just
-    /// opened, and closes it after them: the header row, which begins at the offset `head_start` into the text, and
-    /// the rows among the lines from the offset `body_start` on, up to the first line that is none. Returns the offset
-    /// at which that line begins, or the text's length, and never `None` (GFM 4.10).
+    /// Appends the rows of a table with `table_cols` columns, and then closes the table. The table must be the
+    /// innermost open node, and just opened. The header row begins at the offset `head_start`. The other rows are in
+    /// the lines from the offset `body_start` on, up to the first line that is no row. Returns the start of that line,
+    /// or the end of the text; never `None` (GFM 4.10).
     ///
-    /// Each row has `table_cols` cells then. At most 262,144 of them are filled in, or those that are filled into the
-    /// header row if these are more: none are with tables, where the line at `head_start` has as many columns as a
-    /// header row (this project).
+    /// Each row gets exactly `table_cols` cells. At most 262,144 empty cells are filled in, or as many as the header
+    /// row needs if these are more. It needs none if the options have tables and the line at `head_start` has at least
+    /// `table_cols` columns (this project).
     pub fn parse_table(
         &mut self,
         table_cols: usize,
@@ -49,10 +49,10 @@ impl<'a> FirstPass<'a> {
         Ok(Some(next))
     }
 
-    /// Appends the row of a table of `row_cells` columns that is in the line which begins at the offset `ix` into the
-    /// text, to the table, the innermost open node; returns as `parse_table_row_inner`. `None` too where the line
-    /// doesn't continue all open containers, or its text would interrupt a paragraph, as any list item does here
-    /// (GFM 4.10). The brace contexts are those that the call before left, and then those after the row.
+    /// Appends the row in the line that begins at the offset `ix`, of a table with `row_cells` columns. The innermost
+    /// open node must be the table. Returns as `parse_table_row_inner`; returns `None` also if the line doesn't
+    /// continue all open containers, or if its text would interrupt a paragraph, as any list item does here
+    /// (GFM 4.10). The brace contexts are those of the call before, and after the call those at the end of the row.
     pub fn parse_table_row(
         &mut self,
         ix: usize,
@@ -90,11 +90,11 @@ impl<'a> FirstPass<'a> {
         Ok(row)
     }
 
-    /// Appends the row of a table of `row_cells` columns that begins at the offset `ix` into the text, after what the
-    /// containers take of its line, to the innermost open node, filled with empty cells where it has too few; they are
-    /// added to `missing_empty_cells`, how many are filled in so far. Returns the offset at which the row ends and the
-    /// row's index; `None`, and nothing is appended, where it has no cell and is not the table's first row, or more
-    /// than 262,144 cells would be filled in (GFM 4.10).
+    /// Appends the row that begins at the offset `ix`, after the container prefixes of its line, to the innermost open
+    /// node. A row of fewer than `row_cells` cells is filled with empty cells, which are added to the count in
+    /// `missing_empty_cells`. Returns the end of the row and the row's index. Returns `None` and appends nothing if
+    /// the row has no cell and is not the table's first row, or if more than 262,144 cells would be filled in
+    /// (GFM 4.10).
     pub fn parse_table_row_inner(
         &mut self,
         ix: usize,

@@ -11,7 +11,7 @@ use Rattle.first_pass.specs.Interrupts.{colon_interrupts}
 use Rattle.first_pass.specs.Views.{context_in, tree_of}
 use Rattle.first_pass.proofs.state.FirstPass.scan_paragraph_interrupt.Goals as goal
 
--- what holds of three holds of one more, and where it holds of none of three it holds of the fourth alone
+-- a disjunction of three that holds also holds with a fourth; if it does not hold, the fourth decides
 or_more : (a b c d : Bool) → true ≡ (a || (b || c)) → true ≡ (a || (b || (c || d)))
 or_more true b c d h = refl
 or_more false true c d h = refl
@@ -25,7 +25,7 @@ or_last false false true d h = cc
 or_last false false false d h = refl
 
 module _ (options : Options) (whole : Bool) (f : Forest Item) (kept : ℕ) (text : List ℕ) where
-  -- what interrupts before any table: a block's beginning, the head of a footnote definition, and a `:`
+  -- what interrupts before any table: the start of a block, the head of a footnote definition, or a `:`
   abbrev begins_block : Bool
   begins_block = interrupts_with (whole && not (in_table f.nodes f.spine)) text
 
