@@ -1,4 +1,4 @@
--- What is appended one after the other.
+-- Parts that are appended one after the other.
 use Rattle.std.proofs.Common.{◌≡◌, ℕ, ◌+◌, ◌<◌, Option, List, [], ◌∷◌, ◌++◌, length, map, take, get_or, sym, ap, subst, ◌∙◌, append_assoc, length-append, add-zero, unwrap_or, arith}
 use Rattle.std.specs.Prelude.{is_some}
 use Rattle.std.specs.List.{flat_map}
@@ -41,7 +41,7 @@ definitions_after at (x ∷ xs) ys =
 pub two_steps : {X : Type 0} → (a b c x y z : List X) → c ≡ b ++ y → b ≡ a ++ x → x ++ y ≡ z → c ≡ a ++ z
 two_steps a b c x y z e f g = e ∙ ap (λ l. l ++ y) f ∙ append_assoc a x y ∙ ap (λ l. a ++ l) g
 
--- the names' length after the first step
+-- the length of the names after the first step
 names_length : (a b : List ℕ) (x : List ℕ) → b ≡ a ++ x → length a + length x ≡ length b
 names_length a b x e = sym (ap length e ∙ length-append a x)
 
@@ -81,7 +81,7 @@ pub definition_one : (a c : NamedDefinitions) (x : LinkEntry) → c.definitions.
 unfolding flat_definitions
 definition_one a c x e f = record { definitions = e; names = f ∙ ap (λ l. a.names.items ++ l) (sym (append-nil (definition_bytes x))) }
 
--- Some definitions of all are appended, and these are the others.
+-- Some of all definitions are appended, and these are the others.
 pub record AreUnderWay (a b : NamedDefinitions) (others all : List LinkEntry) : Type 0 where
   pub so_far : List LinkEntry
   pub appended : AppendsDefinitions a b so_far
@@ -102,7 +102,7 @@ pub all_appended : (a b : NamedDefinitions) (others all : List LinkEntry) → ot
 all_appended a b others all e w =
     subst (AppendsDefinitions a b) (sym (append-nil w.so_far) ∙ ap (λ l. w.so_far ++ l) (sym e) ∙ w.together) w.appended
 
--- one element more of a list, mapped
+-- one more element of a list, mapped
 map_more : {X Y : Type 0} (f : X → Y) (xs : List X) (i : ℕ) (d : X) → i < length xs → map f (take i xs) ++ f (get_or xs i d) ∷ [] ≡ map f (take (i + 1) xs)
 map_more f xs i d h = sym (ap (map f) (take_more xs i d h) ∙ map-append f (take i xs) (get_or xs i d ∷ []))
 
@@ -116,7 +116,7 @@ flat_more f xs i d h =
     sym (ap (flat_map f) (take_more xs i d h) ∙ flat_map-append f (take i xs) (get_or xs i d ∷ [])
     ∙ ap (λ l. flat_map f (take i xs) ++ l) (append-nil (f (get_or xs i d))))
 
--- the record of an attribute, by what its parts are
+-- the record of an attribute, from its parts
 pub attribute_record : (a b n v : List ℕ) (o : Option (List ℕ)) (kind s sl t tl has k : ℕ) → s ≡ length a → sl ≡ length n → b ≡ a ++ n → t ≡ length b
     → tl ≡ length v → v ≡ unwrap_or o [] → has ≡ flag (is_some o) → k ≡ kind
     → ◌≡◌ {A = FlatAttribute} (record { name = s; name_length = sl; value = t; value_length = tl; has_value = has; kind = k })
@@ -126,7 +126,7 @@ attribute_record a b n v o kind s sl t tl has k s_is sl_is b_is t_is tl_is v_is 
     let v_length : tl ≡ length (unwrap_or o []) = tl_is ∙ ap length v_is in
     cc
 
--- the record of a definition, by what its parts are
+-- the record of a definition, from its parts
 pub definition_record : (a b c l d t : List ℕ) (e : LinkEntry) (s sl p pl q ql has : ℕ) → s ≡ length a → sl ≡ length l → l ≡ e.label → b ≡ a ++ l
     → p ≡ length b
     → pl ≡ length d → d ≡ e.dest → c ≡ b ++ d → q ≡ length c → ql ≡ length t → t ≡ unwrap_or e.title [] → has ≡ flag (is_some e.title)

@@ -1,4 +1,4 @@
--- What a node is, read back from numbers.
+-- The kind of a node, read back from numbers.
 use Rattle.std.proofs.Common.{◌≡◌, ℕ, ◌<◌, ◌==◌, Bool, true, false, Option, Some, None, List, [], ◌∷◌, ◌++◌, length, map, get_or, nat_lt, slice_get, unwrap_or, if◌then◌else◌, refl, ap, ◌∙◌, cond, arith}
 use Rattle.std.specs.Prelude.{is_some}
 use Rattle.std.specs.Option.{option_map, option_and_then}
@@ -91,7 +91,7 @@ unfolding index_from
 index_kept None = refl
 index_kept (Some ix) = refl
 
--- what each kind is with these values
+-- the node of each kind with these values
 bodies : FlatValues → List ItemBody
 bodies v =
     Root ∷ Paragraph ∷ TightParagraph ∷ Rule ∷ Heading (level_from v.first) (index_from v.second) ∷ FencedCodeBlock (record { 0 = 0 }) ∷ IndentCodeBlock
@@ -181,14 +181,14 @@ unfolding attributes_from id_from classes_from keys_from
 listed_kept None classes keys = given_by _ _ _ _ _ _ (no_id classes keys) (all_classes classes keys) (keys_after classes keys)
 listed_kept (Some id) classes keys = given_by _ _ _ _ _ _ refl (all_classes classes keys) (keys_after classes keys)
 
--- what a node names, by its kind, whether it has an attribute block, its bytes and its attributes
+-- the name of a node, from its kind, the mark of its attribute block, its bytes and its attributes
 pub named_from : ℕ → ℕ → List ℕ → List OneAttribute → Option Named
 named_from kind second bytes xs =
     if kind == 4 then cond (is_set second) (Some (OfHeading (attributes_from xs))) None
     else (if kind == 17 then Some (Alignments (map alignment_from bytes))
     else (if kind == 5 then Some (AText bytes) else (if kind == 11 then Some (AText bytes) else (if kind == 33 then Some (AText bytes) else None))))
 
--- an entry that is there
+-- an entry at an index within a list
 entry_at : {X : Type 0} (xs : List X) (i : ℕ) → i < length xs → (x : X) × (slice_get xs i ≡ Some x)
 entry_at (x ∷ xs) i h = (get_or (x ∷ xs) i x, slice_get-get_or (x ∷ xs) i x h)
 entry_at [] i h = absurd (omega arith)
@@ -219,7 +219,7 @@ named_kept names (Heading level (Some ix)) h = heading_kept (slice_get names.hea
 named_kept names (Heading level None) h = refl
 named_kept names _ h = refl
 
--- how many bytes and how many attributes a node names
+-- the number of bytes and of attributes that a node names
 pub bytes_named : ℕ → ℕ → ℕ
 bytes_named kind count = cond (kind == 4) 0 count
 

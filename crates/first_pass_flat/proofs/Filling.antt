@@ -1,4 +1,4 @@
--- Records that are written from the last to the first.
+-- Records written from the last to the first.
 use Rattle.std.proofs.Common.{◌≡◌, ◌≢◌, ℕ, zero, suc, inl, inr, ◌+◌, ◌-◌, ◌<◌, ◌≤◌, List, [], ◌∷◌, ◌++◌, length, take, drop, get_or, slice_get, Some, All, set, refl, sym, ap, subst, ◌∙◌, add-zero, length-append, length-set, drop-cons, arith}
 use Rattle.std.specs.List.{flat_map}
 use Rattle.std.proofs.lemmas.Bool.{cases_eq}
@@ -66,7 +66,7 @@ none_filled names nodes flat at room last name attribute =
       linked = λ k n r h e f. let inside = slice_get_within nodes k n e in absurd (omega arith);
     }
 
--- what is named before the node that is next to be written
+-- the names before the node that is written next
 pub enough_names : (names : Names) (nodes : List (ℕ × Item)) (flat : List FlatNode) (at : FlatPlace) (n : ℕ × Item) → AreFilled names nodes flat at
     → 0 < at.node → slice_get nodes (at.node - 1) ≡ Some n → length (name_by names n) ≤ at.name
 enough_names names nodes flat at n f h here =
@@ -85,7 +85,7 @@ enough_attributes names nodes flat at n f h here =
     let i = f.attribute_is in
     omega arith
 
--- an element that stands in a list where another one is set
+-- another element of a list in which one is set
 in_set : {X : Type 0} (xs : List X) (i j : ℕ) (y x : X) → slice_get (set xs i y) j ≡ Some x → j ≢ i → slice_get xs j ≡ Some x
 in_set xs i j y x e ne =
     let inside = slice_get_within (set xs i y) j x e in
@@ -99,7 +99,7 @@ at_set xs i y x h e = sym (get_or-set_same xs i y x h) ∙ get_or_from_slice_get
 same_at : (nodes : List (ℕ × Item)) (k : ℕ) (n m : ℕ × Item) → slice_get nodes k ≡ Some n → slice_get nodes k ≡ Some m → n ≡ m
 same_at nodes k n m e f = cc
 
--- the links of the records with one more written
+-- the links of the records after one more is written
 linked_more : (nodes : List (ℕ × Item)) (flat : List FlatNode) (k : ℕ) (n : ℕ × Item) (r : FlatNode) → k < length flat → slice_get nodes k ≡ Some n
     → r.next ≡ (k + 1) + deeper_before n.0 (drop (k + 1) nodes) → AreLinked nodes flat (k + 1) → AreLinked nodes (set flat k r) k
 linked_more nodes flat k n r room here next_is linked j m s low e f =
@@ -199,7 +199,7 @@ short_at names at nodes k n e all =
     let count = records_counted names at nodes in
     subst IsShort (record_at names at nodes k n other e) (all k other (omega arith))
 
--- where every record is short, so is the one that is next to be written
+-- if every record is short, so is the one that is written next
 pub short_before : (names : Names) (nodes : List (ℕ × Item)) (flat : List FlatNode) (at before : FlatPlace) (n : ℕ × Item)
     → AreFilled names nodes flat at → at ≡ place_after names n.1.body before → slice_get nodes before.node ≡ Some n
     → All IsShort (flat_nodes names first_place nodes) → IsShort (flat_node names before n (drop at.node nodes))
@@ -219,7 +219,7 @@ short_before names nodes flat at before n f at_is here all =
     subst (λ k. IsShort (flat_node names before n (drop k nodes))) last
     (subst (λ p. IsShort (flat_node names p n (drop (suc before.node) nodes))) is (short_at names first_place nodes before.node n here all))
 
--- the node that is next to be written
+-- the node that is written next
 here_before : (names : Names) (nodes : List (ℕ × Item)) (at before : FlatPlace) (n : ℕ × Item) → 0 < at.node → at.node ≤ length nodes
     → at ≡ place_after names (get_or nodes (at.node - 1) n).1.body before → slice_get nodes before.node ≡ Some (get_or nodes (at.node - 1) n)
 here_before names nodes at before n h within e =
@@ -231,7 +231,7 @@ next_is_so : (names : Names) (nodes : List (ℕ × Item)) (at before : FlatPlace
     → next ≡ at.node + deeper_before depth (drop at.node nodes) → next ≡ (before.node + 1) + deeper_before depth (drop at.node nodes)
 next_is_so names nodes at before n depth next e f = f ∙ ap (λ (p : FlatPlace). p.node + deeper_before depth (drop at.node nodes)) e
 
--- a record that is next is written
+-- the next record is written
 pub record_written : (names : Names) (nodes : List (ℕ × Item)) (flat : List FlatNode) (at before : FlatPlace) (n : ℕ × Item) (next : ℕ) (r : FlatNode)
     → AreFilled names nodes flat at → 0 < at.node → at ≡ place_after names (get_or nodes (at.node - 1) n).1.body before
     → next ≡ at.node + deeper_before (get_or nodes (at.node - 1) n).0 (drop at.node nodes)
@@ -242,7 +242,7 @@ record_written names nodes flat at before n next r f h e next_is made =
     one_filled names nodes flat at before (get_or nodes (at.node - 1) n) r f e (here_before names nodes at before n h f.within e)
     (made (drop at.node nodes) (next_is_so names nodes at before (get_or nodes (at.node - 1) n) _ next e next_is))
 
--- a record that is next isn't short
+-- the next record isn't short
 pub record_long : (names : Names) (nodes : List (ℕ × Item)) (flat : List FlatNode) (at before : FlatPlace) (n : ℕ × Item) (next : ℕ)
     → AreFilled names nodes flat at → 0 < at.node → at ≡ place_after names (get_or nodes (at.node - 1) n).1.body before
     → next ≡ at.node + deeper_before (get_or nodes (at.node - 1) n).0 (drop at.node nodes)

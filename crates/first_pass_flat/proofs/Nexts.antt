@@ -27,7 +27,7 @@ module _ {X : Type 0} (p q : X → Bool) where
       let none : prefix_len q (x ∷ xs) ≡ 0 = ap (λ b. cond b (1 + prefix_len q xs) 0) e in
       sym (zero-add _) ∙ ap (λ k. k + prefix_len p (drop k (x ∷ xs))) (sym none)
 
-  -- A run of what passes one test begins with a run of what passes a stricter one: it goes on after that.
+  -- A run of elements that pass a test begins with the run of those that pass a stricter one, and continues after it.
   pub beyond : ((x : X) → q x ≡ true → p x ≡ true) → (xs : List X) → prefix_len p xs ≡ prefix_len q xs + prefix_len p (drop (prefix_len q xs) xs)
   beyond h [] = refl
   beyond h (x ∷ xs) = beyond_one x xs (q x) refl (h x) (beyond h xs)
@@ -36,7 +36,7 @@ module _ {X : Type 0} (p q : X → Bool) where
 stricter : (d e : ℕ) → d < e → (n : ℕ × Item) → nat_lt e n.0 ≡ true → nat_lt d n.0 ≡ true
 stricter d e h n t = let less = ltb-true e n.0 t in lt-ltb d n.0 (omega arith)
 
--- The nodes from `from` on that are deeper than `depth` go up to where those from a place on go.
+-- The run of nodes deeper than `depth` that begins at `from` ends where the one that begins at a later place ends.
 pub record GoesOn (nodes : List (ℕ × Item)) (depth from at : ℕ) : Type 0 where
   pub behind : from ≤ at
   pub within : at ≤ length nodes
@@ -45,7 +45,7 @@ pub record GoesOn (nodes : List (ℕ × Item)) (depth from at : ℕ) : Type 0 wh
 pub goes_from : (nodes : List (ℕ × Item)) (depth from : ℕ) → from ≤ length nodes → GoesOn nodes depth from from
 goes_from nodes depth from h = record { behind = omega arith; within = h; same = refl }
 
--- One deeper node and those below it are passed.
+-- One deeper node and its descendants are passed.
 pub one_passed : (nodes : List (ℕ × Item)) (depth from at next : ℕ) (n : ℕ × Item) → slice_get nodes at ≡ Some n → depth < n.0
     → next ≡ (at + 1) + deeper_before n.0 (drop (at + 1) nodes) → GoesOn nodes depth from at → (at < next) × GoesOn nodes depth from next
 one_passed nodes depth from at next n here deeper next_is g =
@@ -66,7 +66,7 @@ one_passed nodes depth from at next n here deeper next_is g =
     let low = g.behind in
     (omega arith, record { behind = omega arith; within = omega arith; same = omega arith })
 
--- Where no node is left, or one is not deeper, they end.
+-- The run ends if no node is left, or if the next is not deeper.
 pub ends_here : (nodes : List (ℕ × Item)) (depth from at : ℕ) → deeper_before depth (drop at nodes) ≡ 0 → GoesOn nodes depth from at
     → at ≡ from + deeper_before depth (drop from nodes)
 ends_here nodes depth from at none g = let same = g.same in omega arith
@@ -74,7 +74,7 @@ ends_here nodes depth from at none g = let same = g.same in omega arith
 pub none_left : (nodes : List (ℕ × Item)) (depth at : ℕ) → length nodes ≤ at → deeper_before depth (drop at nodes) ≡ 0
 none_left nodes depth at h = prefix_len-drop_all (λ n. nat_lt depth n.0) nodes at h
 
--- The node at a place is deeper, and the next one of its record is known: it and those below it are passed.
+-- The node at a place is deeper, and its record has its next node: it and its descendants are passed.
 pub next_passed : (nodes : List (ℕ × Item)) (flat : List FlatNode) (depth from at : ℕ) (n : ℕ × Item) (r : FlatNode) → at < length nodes
     → length flat ≡ length nodes → depth < (get_or nodes at n).0 → AreLinked nodes flat from → GoesOn nodes depth from at
     → (at < (get_or flat at r).next) × GoesOn nodes depth from (get_or flat at r).next

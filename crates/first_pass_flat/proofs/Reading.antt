@@ -23,7 +23,7 @@ use Rattle.first_pass_flat.specs.declared.records.FlatNode.{FlatNode}
 use Rattle.first_pass_flat.proofs.Bodies.{is_set, body_from, body_kept, named_from, named_kept, bytes_named, bytes_counted, attributes_counted, attributes_kept}
 
 module _ {X : Type 0} where
-  -- what stands first of bytes that are grouped otherwise, and what comes after it
+  -- the first part of bytes that are grouped otherwise, and the rest
   front : (n : ℕ) (x y z : List X) → n ≡ length x → take n ((x ++ y) ++ z) ≡ x
   front n x y z e = ap (λ k. take k ((x ++ y) ++ z)) e ∙ ap (λ l. take (length x) l) (append_assoc x y z) ∙ take-append_seam x (y ++ z)
 
@@ -40,7 +40,7 @@ count_of r = attributes_counted r.kind r.name_length
 values_in : FlatNode → FlatValues
 values_in r = record { number = r.number; first = r.first; second = r.second; third = r.third }
 
--- a node by its record, its bytes and its attributes
+-- a node from its record, its bytes and its attributes
 node_from : FlatNode → List ℕ → List OneAttribute → ℕ × (Item × Option Named)
 node_from r bytes xs = (r.depth, (record { start = r.start; «end» = r.«end»; body = body_from r.kind (values_in r) }, named_from r.kind r.second bytes xs))
 
@@ -97,7 +97,7 @@ bytes_kept names at (n ∷ nodes) bytes =
     (after_front _ (name_of names n.1.body) (flat_map (name_by names) nodes) bytes (bytes_counted names n.1.body))
     ∙ bytes_kept names more nodes bytes
 
--- a text that may be missing, by whether it is there
+-- a text that may be missing, from its mark
 text_from : ℕ → List ℕ → Option (List ℕ)
 text_from there bytes = cond (is_set there) (Some bytes) None
 
@@ -106,7 +106,7 @@ unfolding text_from
 text_kept None = refl
 text_kept (Some bytes) = refl
 
--- an attribute by its record and its bytes
+-- an attribute from its record and its bytes
 attribute_from : FlatAttribute → List ℕ → OneAttribute
 attribute_from r bytes =
     record { kind = r.kind; name = take r.name_length bytes; value = text_from r.has_value (take r.value_length (drop r.name_length bytes)) }
@@ -161,7 +161,7 @@ after_attributes at (x ∷ xs) bytes =
     (beyond_second x.name (unwrap_or x.value []) (flat_map attribute_bytes xs) bytes)
     ∙ after_attributes (at + length (attribute_bytes x)) xs bytes
 
--- a definition by its record and its bytes
+-- a definition from its record and its bytes
 definition_from : FlatDefinition → List ℕ → LinkEntry
 definition_from r bytes = record {
   label = take r.label_length bytes;

@@ -1,4 +1,4 @@
--- What stands beside the nodes, made one after the other.
+-- The other parts of the flat form, made one after the other.
 use Rattle.std.proofs.Common.{◌≡◌, ℕ, suc, ◌+◌, false, Option, Some, None, List, [], ◌∷◌, ◌++◌, length, map, slice_get, unwrap_or, refl, sym, ap, ◌∙◌, arith}
 use Rattle.std.specs.Prelude.{is_some}
 use Rattle.std.specs.Option.{option_map}
@@ -20,12 +20,12 @@ use Rattle.first_pass_flat.specs.declared.attributes.NamedAttributes.{NamedAttri
 use Rattle.first_pass_flat.specs.declared.definitions.NamedDefinitions.{NamedDefinitions}
 use Rattle.first_pass_flat.proofs.Appending.{definitions_more}
 
--- what comes of no value is none
+-- the image of no value is none
 pub none_by : {X Y : Type 0} (f : X → Y) (o : Option X) (s : Option Y) → is_some o ≡ false → option_map f o ≡ s → s ≡ None
 none_by f None s none is = sym is
 none_by f (Some x) s none is = absurd (true≢false none)
 
--- where a list has no first element it has none
+-- a list without a first element is empty
 none_beyond : {X : Type 0} (xs : List X) (k : ℕ) → slice_get xs 0 ≡ None → slice_get xs k ≡ None
 none_beyond [] k none = slice_get_past [] k (omega arith)
 none_beyond (x ∷ xs) k none = cc
@@ -34,7 +34,7 @@ none_at : (names : Names) (ix : Option HeadingIndex) → slice_get names.heading
 none_at names None none = refl
 none_at names (Some ix) none = ap (λ o. listed (unwrap_or o no_attributes)) (none_beyond names.headings ix.0 none)
 
--- without an attribute block no node names an attribute
+-- without attribute blocks no node names an attribute
 pub no_attributes_named : (names : Names) (nodes : List (ℕ × Item)) → slice_get names.headings 0 ≡ None → flat_map (attributes_by names) nodes ≡ []
 no_attributes_named names [] none = refl
 no_attributes_named names (x ∷ nodes) none =

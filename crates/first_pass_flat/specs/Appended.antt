@@ -1,4 +1,4 @@
--- Records that are appended, with the bytes that they name (this project).
+-- Appended records, with the bytes that they name (this project).
 use Rattle.std.specs.Prelude.{◌≡◌, List, ◌++◌, length}
 use Rattle.std.specs.List.{flat_map}
 use Rattle.first_pass_grammar.specs.LinkTables.{LinkEntry}

@@ -11,7 +11,7 @@ use Rattle.first_pass_flat.specs.declared.attributes.AttributeKind.{AttributeKin
 use Rattle.first_pass_flat.specs.declared.attributes.AttributeKind.TheVariants.{Id, Class, Key}
 use Rattle.first_pass_flat.specs.declared.records.FlatAttribute.{FlatAttribute}
 
--- the number of what an attribute is (this project)
+-- the number of an attribute's kind (this project)
 abbrev pub kind_of : AttributeKind → ℕ
 kind_of Id = 0
 kind_of Class = 1
@@ -23,7 +23,7 @@ pub record OneAttribute : Type 0 where
   pub name : List ℕ
   pub value : Option (List ℕ)
 
--- an id, where there is one (this project)
+-- the id, if there is one (this project)
 abbrev pub id_attributes : Option (List ℕ) → List OneAttribute
 id_attributes None = []
 id_attributes (Some id) = record { kind = 0; name = id; value = None } ∷ []
@@ -34,7 +34,7 @@ class_attribute class = record { kind = 1; name = class; value = None }
 abbrev pub key_attribute : List ℕ × Option (List ℕ) → OneAttribute
 key_attribute pair = record { kind = 2; name = pair.0; value = pair.1 }
 
--- the attributes of a heading one after the other: the id, the classes, the keys (this project)
+-- the attributes of a heading in order: the id, the classes, the keys (this project)
 abbrev pub listed : Attributes → List OneAttribute
 listed given = id_attributes given.id ++ (map class_attribute given.classes ++ map key_attribute given.attrs)
 
@@ -43,11 +43,11 @@ abbrev pub heading_index : ItemBody → Option HeadingIndex
 heading_index (Heading level ix) = ix
 heading_index _ = None
 
--- the attributes that an index names, or none if it names none (this project)
+-- the attributes that an index names; none if there is no such entry (this project)
 abbrev pub attributes_named : Names → HeadingIndex → Attributes
 attributes_named names ix = unwrap_or (slice_get names.headings ix.0) no_attributes
 
--- the attributes that an index names, if there is one, one after the other (this project)
+-- the attributes that an index names, in order; none without an index (this project)
 abbrev pub attributes_at : Names → Option HeadingIndex → List OneAttribute
 attributes_at names None = []
 attributes_at names (Some ix) = listed (attributes_named names ix)
@@ -59,7 +59,7 @@ attributes_of names body = attributes_at names (heading_index body)
 abbrev pub attributes_by : Names → ℕ × Item → List OneAttribute
 attributes_by names node = attributes_of names node.1.body
 
--- the bytes of an attribute: its name, and after it its value (this project)
+-- the bytes of an attribute: its name, then its value (this project)
 abbrev pub attribute_bytes : OneAttribute → List ℕ
 attribute_bytes x = x.name ++ unwrap_or x.value []
 
@@ -74,7 +74,7 @@ flat_attribute at x = record {
   kind = x.kind;
 }
 
--- the records of attributes whose bytes stand one after the other from an offset on (this project)
+-- the records of attributes whose bytes follow one another from an offset on (this project)
 unfoldable pub flat_attributes : ℕ → List OneAttribute → List FlatAttribute
 flat_attributes at [] = []
 flat_attributes at (x ∷ xs) = flat_attribute at x ∷ flat_attributes (at + length (attribute_bytes x)) xs

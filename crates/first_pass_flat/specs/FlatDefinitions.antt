@@ -9,7 +9,7 @@ use Rattle.first_pass_flat.specs.declared.records.FlatDefinition.{FlatDefinition
 abbrev pub label_entry : List ℕ → LinkEntry
 label_entry label = record { label = label; dest = []; title = None; start = 0; «end» = 0 }
 
--- the link definitions of tables, and after them the labels of footnotes (this project)
+-- the link definitions of tables, then the labels of footnotes (this project)
 abbrev pub entries_of : Tables → List LinkEntry
 entries_of tables = tables.links ++ map label_entry tables.footnotes
 
@@ -31,7 +31,7 @@ flat_definition at e = record {
   has_title = flag (is_some e.title);
 }
 
--- the records of definitions whose bytes stand one after the other from an offset on (this project)
+-- the records of definitions whose bytes follow one another from an offset on (this project)
 unfoldable pub flat_definitions : ℕ → List LinkEntry → List FlatDefinition
 flat_definitions at [] = []
 flat_definitions at (e ∷ es) = flat_definition at e ∷ flat_definitions (at + length (definition_bytes e)) es

@@ -27,7 +27,7 @@ node_names names nodes = flat_map (name_by names) nodes
 abbrev pub tree_names : Names → List (ℕ × Item) → List ℕ
 tree_names names nodes = node_names names nodes ++ flat_map attribute_bytes (flat_map (attributes_by names) nodes)
 
--- the flat form of nodes, with what their indices name, and of tables (this project)
+-- the flat form of nodes, with the entries of their indices, and of tables (this project)
 abbrev pub flat_form : Names → List (ℕ × Item) → Tables → FlatForm
 flat_form names nodes tables = record {
   nodes = flat_nodes names first_place nodes;

@@ -21,21 +21,24 @@ name_of names _ = []
 abbrev pub name_by : Names → ℕ × Item → List ℕ
 name_by names node = name_of names node.1.body
 
--- where what a node names begins: of a heading its first attribute, of any other node its first byte (this project)
+-- where the name of a node begins: for a heading the index of its first attribute, for any other node its first byte
+-- in the names (this project)
 abbrev pub named_at : FlatPlace → ItemBody → ℕ
 named_at at (Heading level ix) = at.attribute
 named_at at _ = at.name
 
--- how many attributes a heading names, and how many bytes any other node (this project)
+-- the length of the name of a node: for a heading its number of attributes, for any other node its number of bytes
+-- (this project)
 abbrev pub named_length : Names → ItemBody → ℕ
 named_length names (Heading level ix) = length (attributes_of names (Heading level ix))
 named_length names body = length (name_of names body)
 
--- how many nodes come first that are deeper (this project)
+-- the number of nodes at the start of a list that are deeper than this depth (this project)
 abbrev pub deeper_before : ℕ → List (ℕ × Item) → ℕ
 deeper_before depth nodes = prefix_len (λ n. nat_lt depth n.0) nodes
 
--- the record of a node at a place, before later nodes; the next node that is not deeper comes after all that are (this project)
+-- the record of a node at a place, before later nodes; its next node is the first later one that is not deeper
+-- (this project)
 abbrev pub flat_node : Names → FlatPlace → ℕ × Item → List (ℕ × Item) → FlatNode
 flat_node names at n later = record {
   start = n.1.start;
@@ -59,7 +62,7 @@ place_after names body at = record {
   attribute = at.attribute + length (attributes_of names body);
 }
 
--- the records of nodes that stand one after the other from a place on (this project)
+-- the records of consecutive nodes from a place on (this project)
 unfoldable pub flat_nodes : Names → FlatPlace → List (ℕ × Item) → List FlatNode
 flat_nodes names at [] = []
 flat_nodes names at (n ∷ later) = flat_node names at n later ∷ flat_nodes names (place_after names n.1.body at) later
@@ -68,7 +71,7 @@ flat_nodes names at (n ∷ later) = flat_node names at n later ∷ flat_nodes na
 abbrev pub first_place : FlatPlace
 first_place = record { node = 0; name = 0; attribute = 0 }
 
--- each number of a record takes 32 bits (this project)
+-- each number of a record fits into 32 bits (this project)
 pub record IsShort (r : FlatNode) : Type 0 where
   pub start : r.start < 2 ^ 32
   pub «end» : r.«end» < 2 ^ 32

@@ -1,4 +1,4 @@
--- What a node is, as numbers (this project).
+-- The kinds of nodes, as numbers (this project).
 use Rattle.std.specs.Prelude.{ℕ, Bool, true, false, Option, Some, None}
 use Rattle.std.specs.Prelude.{is_some}
 use Rattle.first_pass_items.specs.declared.item.Alignment.{Alignment}
@@ -75,18 +75,18 @@ abbrev pub metadata_number : MetadataBlockKind → ℕ
 metadata_number YamlStyle = 0
 metadata_number PlusesStyle = 1
 
--- how a column is aligned, as a byte: `-`, `l`, `c` or `r` (GFM 4.10)
+-- the alignment of a column as a byte: `-`, `l`, `c` or `r` (GFM 4.10)
 abbrev pub alignment_byte : Alignment → ℕ
 alignment_byte Unaligned = 45
 alignment_byte Left = 108
 alignment_byte Center = 99
 alignment_byte Right = 114
 
--- a number and no other value (this project)
+-- a number without further values (this project)
 abbrev pub of_number : ℕ → FlatValues
 of_number n = record { number = n; first = 0; second = 0; third = 0 }
 
--- one small value and no other (this project)
+-- one small value without further values (this project)
 abbrev pub of_first : ℕ → FlatValues
 of_first n = record { number = 0; first = n; second = 0; third = 0 }
 

@@ -5,11 +5,12 @@ use Rattle.first_pass_grammar.specs.Names.{Names, AreNamed, read_nodes}
 use Rattle.first_pass_grammar.specs.Derivation.{Tables}
 use Rattle.first_pass_flat.specs.FlatForm.{flat_form}
 
--- Trees of the same flat form read as the same, through what their indices name: nothing is lost but how the indices are numbered (this project).
+-- Trees of the same flat form are equal up to the numbering of indices: each index names the same in both
+-- (this project).
 abbrev pub DeterminesNodes : Type 0
 DeterminesNodes = (m n : Names) (f g : List (ℕ × Item)) (t u : Tables) → AreNamed m f → AreNamed n g → flat_form m f t ≡ flat_form n g u
     → read_nodes m f ≡ read_nodes n g
 
--- Tables of the same flat form are the same (this project).
+-- Tables of the same flat form are equal (this project).
 abbrev pub DeterminesTables : Type 0
 DeterminesTables = (m n : Names) (f g : List (ℕ × Item)) (t u : Tables) → flat_form m f t ≡ flat_form n g u → t ≡ u

@@ -1,4 +1,4 @@
--- What stands beside the nodes of the flat form (this project).
+-- The parts of the flat form other than its nodes (this project).
 use Rattle.std.specs.Prelude.{◌≡◌, ℕ, List, length}
 use Rattle.first_pass_items.specs.declared.item.Item.{Item}
 use Rattle.first_pass_grammar.specs.Names.{Names}

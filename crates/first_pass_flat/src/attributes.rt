@@ -16,14 +16,14 @@ use first_pass_items::item::{HeadingIndex, Item, ItemBody};
 use first_pass_names::items::{Allocations, HeadingAttributes};
 use std::alloc::AllocError;
 
-/// Attributes, and the names to which their bytes are appended.
+/// Attributes, and the names that contain their bytes.
 #[derive(Drop)]
 pub struct NamedAttributes {
     pub attributes: Vec<FlatAttribute>,
     pub names: Vec<u8>,
 }
 
-/// What an attribute is.
+/// The kind of an attribute.
 #[derive(Clone, Copy)]
 pub enum AttributeKind {
     Id,
@@ -31,7 +31,7 @@ pub enum AttributeKind {
     Key,
 }
 
-// The number of what an attribute is.
+// The number of an attribute's kind.
 fn number_of(kind: AttributeKind) -> u32
     ensures { result ≡ kind_of kind }
 {
@@ -43,8 +43,7 @@ fn number_of(kind: AttributeKind) -> u32
 }
 
 impl NamedAttributes {
-    /// Appends the attributes of all headings, in reading order, and their bytes. The one error is that a request for
-    /// memory was refused.
+    /// Appends the attributes of all headings, in reading order, and their bytes. Fails only if an allocation fails.
     pub(crate) fn append_headings(
         &mut self,
         nodes: &[(usize, Item)],
@@ -152,7 +151,7 @@ impl NamedAttributes {
     }
 }
 
-// 1 for a text, 0 without one.
+// 1 if there is a text, otherwise 0.
 fn number_given(text: Option<&str>) -> u32
     ensures { result ≡ flag (is_some (option_map (λ text. text.now) text.entry)) }
 {
@@ -162,7 +161,7 @@ fn number_given(text: Option<&str>) -> u32
     }
 }
 
-// The text, empty without one.
+// The text, or an empty one if there is none.
 fn text_or_empty(text: Option<&str>) -> &str
     ensures { result.now ≡ unwrap_or (option_map (λ text. text.now) text.entry) [] }
 {
@@ -182,7 +181,7 @@ fn heading_index(body: ItemBody) -> Option<HeadingIndex>
     }
 }
 
-/// How many attributes a heading has that names them, and 0 of any other node.
+/// Returns the number of attributes that a heading names; 0 for any other node.
 #[inline(never)]
 pub(crate) fn attribute_count(body: &ItemBody, allocs: &Allocations<'_>) -> usize
     requires { length (attributes_of (names_of allocs.now) body.now) < 2 ^ 64 }
@@ -194,7 +193,7 @@ pub(crate) fn attribute_count(body: &ItemBody, allocs: &Allocations<'_>) -> usiz
     }
 }
 
-// How many attributes these are.
+// The number of these attributes.
 fn count_of(attributes: Option<&HeadingAttributes<'_>>) -> usize
     requires { length (listed (unwrap_or (option_map (λ h. attributes_in h.now) attributes) no_attributes)) < 2 ^ 64 }
     ensures { result

@@ -1,14 +1,14 @@
-//! Numbers of 32 bits, and records that are appended.
+//! Numbers of 32 bits, and appending of records.
 
 ghost use Rattle.std.specs.Prelude.{◌≡◌, ◌≤◌, ◌<◌, ◌^◌, ◌++◌, ◌∷◌, [], OnOk};
 
 use std::alloc::AllocError;
 
-/// A number takes more than 32 bits.
+/// The fault that a number needs more than 32 bits.
 #[derive(Clone, Copy, Debug)]
 pub struct TooLong;
 
-/// A number that takes at most 32 bits if, and only if, both numbers do.
+/// Returns a number that is at least as large as both numbers, and that fits into 32 bits if both do.
 #[inline(always)]
 pub(crate) fn as_long_as_both(one: usize, other: usize) -> usize
     ensures one { one ≤ result }
@@ -18,7 +18,7 @@ pub(crate) fn as_long_as_both(one: usize, other: usize) -> usize
     one | other
 }
 
-/// Appends a record. The one error is that a request for memory was refused; then nothing changes.
+/// Appends a record. Fails only if an allocation fails; then nothing changes.
 #[inline(always)]
 pub(crate) fn append_record<T: Copy>(records: &mut Vec<T>, one: T) -> Result<(), AllocError>
     ensures { OnOk result (records.new.items ≡ records.old.items ++ one ∷ []) }

@@ -1,4 +1,4 @@
-//! What a node is, as numbers.
+//! The kinds of nodes, as numbers.
 
 ghost use Rattle.std.specs.Prelude.{◌≡◌};
 ghost use Rattle.first_pass_flat.specs.Kinds.{alignment_byte, kind_number, metadata_number, of_first, of_flags, of_number, quote_number, values_of};
@@ -6,7 +6,7 @@ ghost use Rattle.first_pass_flat.specs.Kinds.{alignment_byte, kind_number, metad
 use bitflags::Flags;
 use first_pass_items::item::{Alignment, BlockQuoteKind, ItemBody, MetadataBlockKind};
 
-/// The values that a node's kind has, as numbers: see `FlatNode`.
+/// The values of a node's kind, as numbers: see `FlatNode`.
 #[derive(Clone, Copy)]
 pub struct FlatValues {
     pub number: u64,
@@ -61,7 +61,7 @@ impl FlatValues {
     }
 }
 
-/// The values that the kind of a node has, all 0 for a kind that has none.
+/// Returns the values of a node's kind, all 0 for a kind without values.
 #[inline(always)]
 pub fn values_of(body: &ItemBody) -> FlatValues
     ensures { result ≡ values_of body.now }
@@ -126,7 +126,7 @@ fn metadata_number(kind: MetadataBlockKind) -> u8
     }
 }
 
-/// The byte of a column's alignment: `-`, `l`, `c` or `r` (GFM 4.10).
+/// Returns the byte of a column's alignment: `-`, `l`, `c` or `r` (GFM 4.10).
 pub fn alignment_byte(alignment: Alignment) -> u8
     ensures { result ≡ alignment_byte alignment }
 {
@@ -138,7 +138,7 @@ pub fn alignment_byte(alignment: Alignment) -> u8
     }
 }
 
-/// The number of a kind: 0 for the root to 35 for the marker of a task list item.
+/// Returns the number of a kind: from 0 for the root to 35 for a task list item marker.
 pub fn kind_number(body: &ItemBody) -> u8
     ensures { result ≡ kind_number body.now }
 {

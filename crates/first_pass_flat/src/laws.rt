@@ -2,8 +2,8 @@
 
 ghost use Rattle.first_pass_flat.specs.Law.{DeterminesNodes, DeterminesTables};
 
-/// Nothing is lost in the flat form but how indices are numbered: two trees of the same flat form, whose indices all
-/// name something, read as the same through what their indices name, and their tables are the same.
+/// The flat form determines a tree up to the numbering of its indices. Two trees of the same flat form, in which every
+/// index names an entry, are equal if each index is replaced by its entry; and their tables are equal.
 pub fn flat_form_determines()
     ensures nodes { DeterminesNodes }
     ensures tables { DeterminesTables }

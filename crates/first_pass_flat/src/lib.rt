@@ -1,5 +1,5 @@
-//! The flat form of a tree and its tables, as other languages read them: records of numbers in C's layout, and the
-//! bytes that they name.
+//! The flat form of a tree and its tables, for other languages: records of numbers in C's layout, and the bytes that
+//! they name.
 #![tactic(auto)]
 
 pub mod attributes;

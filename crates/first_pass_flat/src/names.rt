@@ -18,7 +18,7 @@ pub struct NameRange {
     pub length: usize,
 }
 
-/// Appends a text to the names, and returns its range there. The one error is that a request for memory was refused.
+/// Appends a text to the names, and returns its range there. Fails only if an allocation fails.
 pub(crate) fn append_text(names: &mut Vec<u8>, text: &str) -> Result<NameRange, AllocError>
     ensures start { IfOk result (λ range. range.start ≡ length names.old.items) }
     ensures count { IfOk result (λ range. range.length ≡ length text.now) }
@@ -32,7 +32,7 @@ pub(crate) fn append_text(names: &mut Vec<u8>, text: &str) -> Result<NameRange, 
     })
 }
 
-/// Appends the bytes that nodes name, in reading order. The one error is that a request for memory was refused.
+/// Appends the bytes that nodes name, in reading order. Fails only if an allocation fails.
 pub(crate) fn append_names(
     names: &mut Vec<u8>,
     nodes: &[(usize, Item)],
@@ -64,7 +64,7 @@ fn append_name(
     }
 }
 
-// The same out of line: few nodes name bytes.
+// The same out of line, because few nodes name bytes.
 #[inline(never)]
 fn append_named(
     names: &mut Vec<u8>,
@@ -92,7 +92,7 @@ fn append_alignments(names: &mut Vec<u8>, alignments: &[Alignment]) -> Result<()
     Ok(())
 }
 
-/// How many bytes a node names.
+/// Returns the number of bytes that a node names.
 #[inline(never)]
 pub(crate) fn name_length(body: &ItemBody, allocs: &Allocations<'_>) -> usize
     ensures { result ≡ length (name_of (names_of allocs.now) body.now) }

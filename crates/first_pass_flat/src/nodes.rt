@@ -18,7 +18,7 @@ use crate::side::SideTables;
 use first_pass_items::item::{Item, ItemBody};
 use first_pass_names::items::Allocations;
 
-/// Where a node stands, and where what it names begins: the first byte in the names, or, of a heading, the first
+/// The index of a node, and where its name begins: its first byte in the names and, for a heading, its first
 /// attribute.
 #[derive(Clone, Copy)]
 pub struct FlatPlace {
@@ -27,8 +27,8 @@ pub struct FlatPlace {
     pub attribute: usize,
 }
 
-/// Writes the nodes of a tree, each in its place. `side` is what stands beside them. The one error is that a number
-/// takes more than 32 bits; then some nodes may be written.
+/// Writes the records of a tree's nodes. `side` has the other parts of the flat form. Fails only if a number needs
+/// more than 32 bits; then some records may be written.
 #[inline(never)]
 pub fn fill_nodes(
     nodes: &[(usize, Item)],
@@ -58,8 +58,8 @@ pub fn fill_nodes(
     Ok(())
 }
 
-// The first place from `from` on whose node is not deeper than `depth`, or the number of nodes. Of the nodes from
-// `from` on, the next place is known.
+// The first place, from `from` on, of a node that is not deeper than `depth`, or the number of nodes. The records from
+// `from` on must already have their next nodes.
 fn next_place(nodes: &[(usize, Item)], flat: &[FlatNode], depth: usize, from: usize) -> usize
     requires within { from ≤ length nodes.now }
     requires same { length flat.now ≡ length nodes.now }
@@ -74,7 +74,7 @@ fn next_place(nodes: &[(usize, Item)], flat: &[FlatNode], depth: usize, from: us
     at
 }
 
-// The place of a node, by the place after it.
+// The place of a node, computed from the place after it.
 #[inline(always)]
 fn place_before(after: FlatPlace, body: &ItemBody, allocs: &Allocations<'_>) -> FlatPlace
     requires node { 0 < after.node }
@@ -100,7 +100,8 @@ fn place_before(after: FlatPlace, body: &ItemBody, allocs: &Allocations<'_>) -> 
     }
 }
 
-// The record of a node, by its place and the place after it. The one error is that a number takes more than 32 bits.
+// The record of a node, computed from its place and the place after it. Fails only if a number needs more than 32
+// bits.
 #[inline(always)]
 fn flat_node(
     places: (FlatPlace, FlatPlace),
@@ -142,8 +143,8 @@ fn flat_node(
     })
 }
 
-// The range in the names of what a node names, or that in the attributes of a heading: where it begins, and its
-// length. It ends at the place after the node.
+// The start and the length of a node's name: its range in the names, or for a heading its range in the attributes. The
+// range ends at the place after the node.
 #[inline(always)]
 fn named_range(
     places: (FlatPlace, FlatPlace),

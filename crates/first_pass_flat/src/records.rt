@@ -7,18 +7,18 @@ pub struct FlatNode {
     /// The range in the text.
     pub start: u32,
     pub end: u32,
-    /// How many nodes it lies in: 0 for the root.
+    /// The number of nodes around it: 0 for the root.
     pub depth: u32,
     /// The index of the first later node that is not deeper, or the number of nodes.
     pub next: u32,
-    /// The range in the names of what the node names: an info string, a label, a text, or a byte for each column of a
-    /// table, `-`, `l`, `c` or `r`. Of a heading, the range in the attributes.
+    /// The range of the node's name in the names: an info string, a label, a text, or a byte for each column of a
+    /// table, `-`, `l`, `c` or `r`. For a heading, the range in the attributes.
     pub name: u32,
     pub name_length: u32,
-    /// A list's first number; the columns of an item or a definition; how many delimiters are left of a run; how many
+    /// A list's first number; the columns of an item or a definition; how many delimiters of a run are left; how many
     /// backquotes; the brace context of a dollar sign; a character. Otherwise 0.
     pub number: u32,
-    /// The kind: 0 for the root to 35 for the marker of a task list item, in the order of `ItemBody`.
+    /// The kind, in the order of `ItemBody`: from 0 for the root to 35 for a task list item marker.
     pub kind: u8,
     /// A heading's level; the kind of a block quote, 1 to 5; the kind of a metadata block; whether a list is tight, a
     /// text escaped, a break made by a backslash, backquotes escaped, a bracket active, a task checked; whether a
@@ -35,10 +35,10 @@ pub struct FlatNode {
 #[repr(C)]
 #[derive(Clone, Copy)]
 pub struct FlatAttribute {
-    /// The range in the names of the id, the class or the key.
+    /// The range of the id, the class or the key in the names.
     pub name: usize,
     pub name_length: usize,
-    /// The range in the names of the key's value.
+    /// The range of the key's value in the names.
     pub value: usize,
     pub value_length: usize,
     /// 1 for a key with a value, which may be empty. Otherwise 0.
@@ -47,11 +47,11 @@ pub struct FlatAttribute {
     pub kind: u32,
 }
 
-/// A link reference definition, or the label of a footnote. Each range but the first is in the names.
+/// A link reference definition, or the label of a footnote. All ranges except the first are in the names.
 #[repr(C)]
 #[derive(Clone, Copy)]
 pub struct FlatDefinition {
-    /// The range of a link definition in the text. Of a footnote's label, 0 and 0.
+    /// The range of a link definition in the text; 0 and 0 for a footnote's label.
     pub start: usize,
     pub end: usize,
     pub label: usize,

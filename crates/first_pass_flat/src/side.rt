@@ -1,4 +1,4 @@
-//! What stands beside the nodes of the flat form.
+//! The parts of the flat form other than its nodes.
 
 ghost use Rattle.std.specs.Prelude.{IfOk};
 ghost use Rattle.first_pass_names.specs.TableEntries.{names_of, tables_of};
@@ -17,18 +17,18 @@ use std::alloc::{AllocError, Global};
 pub struct SideTables {
     /// The attributes of all headings, in reading order.
     pub attributes: Vec<FlatAttribute>,
-    /// The link definitions, and after them the labels of footnotes, both in the order of their tables.
+    /// The link definitions, then the labels of footnotes, both in the order of their tables.
     pub definitions: Vec<FlatDefinition>,
-    /// How many of the definitions are link definitions.
+    /// The number of definitions that are link definitions.
     pub links: usize,
-    /// The bytes that the nodes name, then those of the attributes, then those of the definitions.
+    /// The bytes named by the nodes, then those of the attributes, then those of the definitions.
     pub names: Vec<u8>,
-    /// How many bytes the nodes name.
+    /// The number of bytes that the nodes name.
     pub node_names: usize,
 }
 
-/// What stands beside the nodes of the flat form of a tree and its tables. The one error is that a request for memory
-/// was refused.
+/// Returns the parts of the flat form of a tree and its tables other than its nodes. Fails only if an allocation
+/// fails.
 pub fn side_tables(
     alloc: Global,
     nodes: &[(usize, Item)],
