@@ -1,4 +1,4 @@
--- What a text that was read is for the caller.
+-- The result of reading a text, for the caller.
 use Rattle.std.proofs.Common.{◌≡◌, ℕ, List, All, inr, refl, ap, arith}
 use Rattle.first_pass_names.specs.TableEntries.{names_of, tables_of}
 use Rattle.first_pass_flat.specs.FlatForm.{FlatForm}
@@ -12,7 +12,7 @@ use Rattle.first_pass_c.specs.Parsed.{IsParsed, form_of}
 use Rattle.first_pass_c.specs.Reading.{HasNoRoom, IsRead, IsTooLong, IsTooSmall, IsWritten, Reading, WriteLeaves, counts_of}
 use Rattle.first_pass_c.specs.Statuses.{status_of}
 
--- its tree, its tables and what indices name
+-- its tree, its tables and the entries that indices name
 abbrev reading_of : (text : List ℕ) (bits : ℕ) (parsed : Parsed) → IsParsed text bits parsed → Reading text bits
 reading_of text bits parsed is = record { names = names_of parsed.allocs; nodes = parsed.tree.nodes; tables = tables_of parsed.allocs; tree = is.tree }
 
@@ -21,7 +21,7 @@ pub is_read : (text : List ℕ) (bits : ℕ) (parsed : Parsed) (old new : Memory
     → counts ≡ counts_of (form_of parsed) → IsWritten (form_of parsed) old new → IsRead text bits old new counts
 is_read text bits parsed old new counts is counted written = record { reading = reading_of text bits parsed is; counted = counted; written = written }
 
--- its flat form has no room
+-- its flat form does not fit into the arrays
 pub is_too_small : (text : List ℕ) (bits : ℕ) (parsed : Parsed) (arrays : Memory) (counts : FlatCounts) → IsParsed text bits parsed
     → counts ≡ counts_of (form_of parsed) → HasNoRoom (form_of parsed) arrays → IsTooSmall text bits arrays counts
 is_too_small text bits parsed arrays counts is counted no_room =
@@ -39,7 +39,7 @@ small_at_4 BadOptions status is four = absurd (omega arith)
 small_at_4 TooSmall status is four = refl
 small_at_4 TooLong status is four = absurd (omega arith)
 
--- what the fault leaves at which an array is too short
+-- after the fault of a short array, an array is too short
 pub no_room_at_4 : (fault : Fault) (form : FlatForm) (arrays : Memory) → fault ≡ TooSmall → WriteLeaves fault form arrays → HasNoRoom form arrays
 no_room_at_4 OutOfMemory form arrays is leaves = absurd leaves
 no_room_at_4 NotUtf8 form arrays is leaves = absurd leaves
@@ -47,7 +47,7 @@ no_room_at_4 BadOptions form arrays is leaves = absurd leaves
 no_room_at_4 TooSmall form arrays is leaves = leaves
 no_room_at_4 TooLong form arrays is leaves = absurd (let four : 5 ≡ 4 = ap status_of is in omega arith)
 
--- what is known at status 5
+-- the text is too long at status 5
 pub long_at_5 : (text : List ℕ) (bits : ℕ) (parsed : Parsed) (arrays : Memory) (fault : Fault) (status : ℕ) → IsParsed text bits parsed
     → WriteLeaves fault (form_of parsed) arrays → status ≡ status_of fault → status ≡ 5 → IsTooLong text bits
 long_at_5 text bits parsed arrays OutOfMemory status is leaves told five = absurd leaves

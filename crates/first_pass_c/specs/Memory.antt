@@ -14,7 +14,7 @@ pub record Memory : Type 0 where
 abbrev pub memory : List FlatNode → List FlatAttribute → List FlatDefinition → List ℕ → Memory
 memory nodes attributes definitions names = record { nodes = nodes; attributes = attributes; definitions = definitions; names = names }
 
--- an array begins with these values, and what comes after them is as before (this project)
+-- an array begins with these values, and its rest is unchanged (this project)
 pub record BeginsWith {X : Type 0} (values old new : List X) : Type 0 where
   pub front : take (length values) new ≡ values
   pub rest : drop (length values) new ≡ drop (length values) old

@@ -15,17 +15,18 @@ use Rattle.first_pass_flat.specs.FlatForm.{FlatForm, flat_form}
 use Rattle.first_pass_flat.specs.Side.{AreSideTables}
 use Rattle.first_pass_c.specs.declared.reading.Parsed.{Parsed}
 
--- the bits are those of options (this project)
+-- each bit is the bit of an option (this project)
 abbrev pub AreKnown : ℕ → Type 0
 AreKnown bits = bit_and bits known_bits ≡ bits
 
--- the bits are those of options, and the text is UTF-8 of less than 2^32 bytes (this project)
+-- each bit is the bit of an option, and the text is UTF-8 of less than 2^32 bytes (this project)
 pub record IsReadable (text : List ℕ) (bits : ℕ) : Type 0 where
   pub known : AreKnown bits
   pub utf8 : IsUtf8 text
   pub short : length text < 2 ^ 32
 
--- the tree and the tables that the block grammar derives from a text under the options with these bits, and nothing else (this project)
+-- the tree and the tables that the block grammar derives from a text under the options with these bits, and no others
+-- (this project)
 pub record IsTreeOf (text : List ℕ) (bits : ℕ) (names : Names) (nodes : List (ℕ × Item)) (tables : Tables) : Type 0 where
   pub readable : IsReadable text bits
   pub options : Options
@@ -42,7 +43,7 @@ pub record IsTreeOf (text : List ℕ) (bits : ℕ) (names : Names) (nodes : List
 abbrev pub form_of : Parsed → FlatForm
 form_of parsed = flat_form (names_of parsed.allocs) parsed.tree.nodes (tables_of parsed.allocs)
 
--- what stands beside its nodes is that of its flat form (this project)
+-- the other parts of its flat form, besides the nodes (this project)
 abbrev pub HasSides : Parsed → Type 0
 HasSides parsed = AreSideTables parsed.side (names_of parsed.allocs) parsed.tree.nodes (tables_of parsed.allocs)
 

@@ -3,7 +3,7 @@ use Rattle.std.specs.Prelude.{ℕ}
 use Rattle.first_pass_c.specs.declared.fault.Fault.{Fault}
 use Rattle.first_pass_c.specs.declared.fault.Fault.TheVariants.{OutOfMemory, NotUtf8, BadOptions, TooSmall, TooLong}
 
--- the status that a fault is for other languages; 0 is success (this project)
+-- the status of a fault in other languages; 0 is success (this project)
 abbrev pub status_of : Fault → ℕ
 status_of OutOfMemory = 1
 status_of NotUtf8 = 2

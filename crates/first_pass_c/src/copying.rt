@@ -3,7 +3,7 @@
 ghost use Rattle.std.specs.Prelude.{◌≤◌, length};
 ghost use Rattle.first_pass_c.specs.Memory.{BeginsWith};
 
-/// Copies values to the beginning of an array.
+/// Copies values to the start of an array.
 pub(crate) fn copy_into<T: Copy>(values: &[T], array: &mut [T])
     requires { length values.now ≤ length array.old }
     ensures { BeginsWith values.now array.old array.new }

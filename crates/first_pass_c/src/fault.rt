@@ -1,4 +1,4 @@
-//! Why a call ends without its whole result.
+//! The reasons for which a call fails.
 
 ghost use Rattle.std.specs.Prelude.{◌≡◌};
 ghost use Rattle.first_pass_c.specs.Statuses.{status_of};
@@ -7,18 +7,18 @@ ghost use Rattle.first_pass_c.specs.declared.fault.Fault.TheVariants.{OutOfMemor
 use first_pass_flat::fault::TooLong;
 use std::alloc::AllocError;
 
-/// Why a call ends without its whole result.
+/// The reason for which a call fails.
 #[derive(Clone, Copy, Debug, PartialEq, Eq)]
 pub enum Fault {
-    /// A request for memory was refused.
+    /// An allocation failed.
     OutOfMemory,
     /// The text is not UTF-8.
     NotUtf8,
-    /// A bit is that of no option.
+    /// A bit belongs to no option.
     BadOptions,
     /// An array of the caller is too short.
     TooSmall,
-    /// The text has 2^32 bytes or more, or a number of a node takes more than 32 bits.
+    /// The text has 2^32 bytes or more, or a number of a node needs more than 32 bits.
     TooLong,
 }
 
@@ -38,7 +38,7 @@ impl From<TooLong> for Fault {
     }
 }
 
-/// The status that a fault is for other languages.
+/// Returns the status of a fault in other languages.
 pub(crate) fn status_of(fault: Fault) -> u32
     ensures { result ≡ status_of fault }
 {

@@ -10,7 +10,7 @@ use first_pass_labels::label_key::LabelKey;
 use std::alloc::Global;
 use std::str;
 
-/// Writes the folding of a label to the beginning of an array, and its length.
+/// Writes the folding of a label to the start of an array, and its length.
 pub(crate) fn fold_into(
     alloc: Global,
     label: &[u8],

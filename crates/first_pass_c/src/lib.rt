@@ -1,4 +1,4 @@
-//! The block pass for other languages: two calls that fill memory of their caller.
+//! The block pass for other languages: two calls that write into memory of their caller.
 #![tactic(auto)]
 
 ghost use Rattle.std.specs.Prelude.{◌≡◌, ◌≢◌, ◌≤◌, IsUtf8};
@@ -19,13 +19,12 @@ use crate::reading::{FlatCounts, read_text, write_into};
 use first_pass_flat::records::{FlatAttribute, FlatDefinition, FlatNode};
 use std::alloc::Global;
 
-/// Reads the blocks of a text under the options with these bits. At status 0 the flat form of the tree and of its
-/// tables stands at the beginning of the four arrays, and `counts` says how much of each it takes. What comes after it
-/// in an array is as before.
+/// Reads the blocks of a text under the options with these bits. At status 0 the four arrays begin with the flat form
+/// of the tree and of its tables, and `counts` has the length of each part. The rest of each array is unchanged.
 ///
-/// The statuses, in the order in which they are found: 3, a bit is that of no option; 2, the text is not UTF-8; 5, the
-/// text has 2^32 bytes or more; 1, a request for memory was refused; 4, an array is too short, and `counts` says how
-/// long each has to be; 5, a number of a node takes more than 32 bits. At statuses 4 and 5 an array may be written.
+/// The statuses, in the order of the tests: 3, a bit belongs to no option; 2, the text is not UTF-8; 5, the text has
+/// 2^32 bytes or more; 1, an allocation failed; 4, an array is too short, and `counts` has the lengths that are
+/// needed; 5, a number of a node needs more than 32 bits. At statuses 4 and 5 the arrays may have been written to.
 #[unsafe(no_mangle)]
 pub extern "C" fn first_pass_read(
     alloc: Global,
@@ -66,11 +65,11 @@ pub extern "C" fn first_pass_read(
     }
 }
 
-/// Folds a label: with full default case folding applied, as labels match. At status 0 the folding stands at the
-/// beginning of `folded`, and `folded_length` is its length. What comes after it is as before.
+/// Folds a label by full default case folding, as labels are compared. At status 0 `folded` begins with the folding,
+/// and `folded_length` is its length. The rest of `folded` is unchanged.
 ///
-/// The statuses, in the order in which they are found: 2, the label is not UTF-8; 1, a request for memory was refused;
-/// 4, `folded` is too short, and `folded_length` says how long it has to be.
+/// The statuses, in the order of the tests: 2, the label is not UTF-8; 1, an allocation failed; 4, `folded` is too
+/// short, and `folded_length` is the length that is needed.
 #[unsafe(no_mangle)]
 pub extern "C" fn first_pass_fold(
     alloc: Global,

@@ -1,4 +1,4 @@
-//! A text read, and its flat form written into memory of the caller.
+//! Reads a text, and writes its flat form into memory of the caller.
 
 ghost use Rattle.std.specs.Prelude.{◌≡◌, IfErr, IfOk, IfSome, IsNone, OnOk};
 ghost use Rattle.first_pass_c.specs.Memory.{memory};
@@ -19,23 +19,23 @@ use first_pass_tree::forest::Tree;
 use std::alloc::Global;
 use std::str;
 
-// How many bytes a text has at most: each of its offsets takes 32 bits.
+// The longest text in bytes: each offset in it fits into 32 bits.
 const LONGEST_TEXT: usize = 0xffff_ffff;
 
-/// How much of each array a flat form takes, and how many of the definitions are link definitions.
+/// The length that each array needs for a flat form, and the number of definitions that are link definitions.
 #[repr(C)]
 #[derive(Clone, Copy)]
 pub struct FlatCounts {
     pub nodes: usize,
     pub attributes: usize,
-    /// The link definitions, and after them the labels of footnotes.
+    /// The link definitions, then the labels of footnotes.
     pub definitions: usize,
     pub links: usize,
-    /// Bytes.
+    /// In bytes.
     pub names: usize,
 }
 
-/// A tree with its tables, and what stands beside the nodes of their flat form.
+/// A tree with its tables, and the other parts of their flat form.
 #[derive(Drop)]
 pub(crate) struct Parsed<'a> {
     pub tree: Tree<Item>,
@@ -44,7 +44,7 @@ pub(crate) struct Parsed<'a> {
 }
 
 impl<'a> Parsed<'a> {
-    /// How much of each array the flat form takes.
+    /// Returns the length that each array needs for the flat form.
     pub(crate) fn counts(&self) -> FlatCounts
         requires { HasSides self.now }
         ensures { result ≡ counts_of (form_of self.now) }
@@ -59,7 +59,8 @@ impl<'a> Parsed<'a> {
     }
 }
 
-/// Reads the blocks of a text under the options with these bits.
+/// Reads the blocks of a text under the options with these bits. Returns the tree, its tables, and the other parts of
+/// their flat form.
 pub(crate) fn read_text(alloc: Global, text: &[u8], bits: u32) -> Result<Parsed<'_>, Fault>
     ensures ok { IfOk result (λ parsed. IsParsed text.now bits parsed) }
     ensures fault { IfErr result (λ fault. ReadLeaves fault text.now bits) }
@@ -78,7 +79,7 @@ pub(crate) fn read_text(alloc: Global, text: &[u8], bits: u32) -> Result<Parsed<
     Ok(Parsed { tree, allocs, side })
 }
 
-// The options with these bits, or `None` if a bit is that of no option.
+// The options with these bits, or `None` if a bit belongs to no option.
 fn options_of(bits: u32) -> Option<Options>
     ensures some { IfSome result (λ options. options.0 ≡ bits) }
     ensures known { IfSome result (λ options. AreKnown bits) }
@@ -87,8 +88,7 @@ fn options_of(bits: u32) -> Option<Options>
     Options::from_bits(bits)
 }
 
-/// Writes a flat form to the beginnings of four arrays. A fault is `TooSmall`, and then nothing is written, or
-/// `TooLong`.
+/// Writes a flat form to the starts of four arrays. Fails with `TooSmall`, and then writes nothing, or with `TooLong`.
 pub(crate) fn write_into(
     parsed: &Parsed<'_>,
     nodes: &mut [FlatNode],

@@ -1,4 +1,4 @@
-//! The two calls, as C makes them.
+//! The two calls, as a C program makes them.
 
 use crate::reading::FlatCounts;
 use crate::{first_pass_fold, first_pass_read};
@@ -87,7 +87,7 @@ fn a_text_is_read_whole(rt: HostRuntime) -> Result<(), Fail> {
     Ok(())
 }
 
-// The status of a reading with this room, and what its counts say.
+// Reads a text with these array lengths; returns the status and the counts.
 fn read_within(alloc: Global, text: &[u8], bits: u32, room: [usize; 4]) -> (u32, FlatCounts) {
     let mut nodes = [NODE; 9];
     let mut attributes = [ATTRIBUTE; 4];
