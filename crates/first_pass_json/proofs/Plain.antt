@@ -1,11 +1,11 @@
--- A character that stands for itself in a JSON string.
+-- A character that a JSON string has without an escape.
 use Rattle.std.proofs.Common.{◌≡◌, ℕ, ◌≤◌, [], ◌∷◌, ◌++◌, encode_utf8, sym, ap, ◌∙◌, arith}
 use Rattle.std.proofs.lemmas.Str.{encode_ascii}
 use Rattle.json.specs.Print.{quoted}
 use Rattle.first_pass_json.specs.JsonValues.{json_string}
 use Rattle.json.proofs.Printed.Strings.{escape_byte_plain}
 
--- a visible character of ASCII that is no quotation mark and no backslash
+-- a visible ASCII character other than a quotation mark and a backslash
 pub plain_character : (b : ℕ) → 33 ≤ b → b ≤ 126 → (b ≡ 34 → ⊥) → (b ≡ 92 → ⊥) → 34 ∷ b ∷ 34 ∷ [] ≡ json_string (encode_utf8 b)
 unfolding json_string
 plain_character b low high no_quote no_backslash =

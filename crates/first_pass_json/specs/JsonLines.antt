@@ -1,4 +1,4 @@
--- The lines of JSON of a tree and its tables: an object a line (this project).
+-- The JSON lines of a tree and its tables: one object a line (this project).
 use Rattle.std.specs.Prelude.{ℕ, List, ◌++◌, codes}
 use Rattle.std.specs.List.{flat_map}
 use Rattle.first_pass_items.specs.declared.item.Item.{Item}
@@ -13,21 +13,22 @@ use Rattle.first_pass_json.specs.Members.{block_members, token_members}
 unfoldable pub range_members : ℕ → ℕ → List ℕ
 range_members start e = codes ",\"start\":" ++ decimal start ++ codes ",\"end\":" ++ decimal e
 
--- what the line of each node has: its kind, its depth and its range
+-- the members that every node has: its kind, its depth and its range
 abbrev pub node_members : ℕ × Item → List ℕ
 node_members node = codes "\"kind\":" ++ word (name_of node.1.body) ++ codes ",\"depth\":" ++ decimal node.0 ++ range_members node.1.start node.1.«end»
 
--- the line of a node, with what its kind has beside these
+-- the line of a node: the members that every node has, and those of its kind
 abbrev pub node_line : Names → ℕ × Item → List ℕ
 node_line names node = codes "{" ++ node_members node ++ block_members names node.1.body ++ token_members names node.1.body ++ codes "}\n"
 
--- what a link definition says: its label as it is spelled, its destination, and its title or `null` (CommonMark 4.7)
+-- the members of a link definition: its label as it is spelled, its destination, and its title or `null`
+-- (CommonMark 4.7)
 unfoldable pub link_members : LinkEntry → List ℕ
 link_members link =
     codes "\"definition\":" ++ json_string link.label ++ codes ",\"destination\":" ++ json_string link.dest
     ++ codes ",\"title\":" ++ text_or_null link.title
 
--- the line of a link definition: what it says, and its range
+-- the line of a link definition: its own members, and its range
 abbrev pub definition_line : LinkEntry → List ℕ
 definition_line link = codes "{" ++ link_members link ++ range_members link.start link.«end» ++ codes "}\n"
 
@@ -35,10 +36,10 @@ definition_line link = codes "{" ++ link_members link ++ range_members link.star
 abbrev pub footnote_line : List ℕ → List ℕ
 footnote_line label = codes "{\"footnote\":" ++ json_string label ++ codes "}\n"
 
--- the lines of the link definitions, and after them those of the footnotes, in the order of their tables
+-- the lines of the link definitions, then those of the footnotes, in the order of their tables
 abbrev pub tables_lines : Tables → List ℕ
 tables_lines tables = flat_map definition_line tables.links ++ flat_map footnote_line tables.footnotes
 
--- the lines of a tree's nodes, and after them those of its tables
+-- the lines of a tree's nodes, then those of its tables
 abbrev pub json_lines : Names → List (ℕ × Item) → Tables → List ℕ
 json_lines names nodes tables = flat_map (node_line names) nodes ++ tables_lines tables

@@ -1,4 +1,4 @@
--- The members that a node's object has beside those of each node: what its kind has (this project).
+-- The members of a node's object that depend on its kind (this project).
 use Rattle.std.specs.Prelude.{ℕ, ◌==◌, Option, None, Some, List, [], ◌++◌, unwrap_or, slice_get, bit_and, Bool, codes}
 use Rattle.std.specs.Option.{option_and_then}
 use Rattle.first_pass_items.specs.declared.item.Alignment.{Alignment}
@@ -18,7 +18,7 @@ use Rattle.first_pass_grammar.specs.Names.{Names, text_named, alignments_named}
 use Rattle.first_pass_printed.specs.Printed.{quote_name, metadata_name}
 use Rattle.first_pass_json.specs.JsonValues.{decimal, encode_utf8, json_string, boolean, word, text_or_null, array}
 
--- a key of a heading and its value, `null` where it has none
+-- a key of a heading and its value, or `null` if it has none
 abbrev pub pair : List ℕ × Option (List ℕ) → List ℕ
 pair attribute = codes "[" ++ json_string attribute.0 ++ codes "," ++ text_or_null attribute.1 ++ codes "]"
 
@@ -28,22 +28,22 @@ attribute_members given =
     codes ",\"id\":" ++ text_or_null given.id ++ codes ",\"classes\":" ++ array json_string given.classes
     ++ codes ",\"attributes\":" ++ array pair given.attrs
 
--- the level of a heading, and its attributes
+-- the level and the attributes of a heading
 abbrev pub heading_members : HeadingLevel → Attributes → List ℕ
 heading_members level given = codes ",\"level\":" ++ decimal (level_number level) ++ attribute_members given
 
--- the attributes that a heading names by its index, or none where it has no index
+-- the attributes that a heading's index names; none without an index
 abbrev pub attributes_of_heading : Names → Option HeadingIndex → Attributes
 attributes_of_heading names ix = unwrap_or (option_and_then (λ at. slice_get names.headings at.0) ix) no_attributes
 
--- how a column is aligned (GFM 4.10)
+-- the alignment of a column as a word (GFM 4.10)
 abbrev pub alignment_word : Alignment → List ℕ
 alignment_word Unaligned = codes "\"none\""
 alignment_word Left = codes "\"left\""
 alignment_word Center = codes "\"center\""
 alignment_word Right = codes "\"right\""
 
--- the kind of a block quote, and `null` where it has no tag
+-- the kind of a block quote, or `null` if it has no tag
 abbrev pub quote_or_null : Option BlockQuoteKind → List ℕ
 quote_or_null None = codes "null"
 quote_or_null (Some kind) = word (quote_name kind)
@@ -52,7 +52,7 @@ quote_or_null (Some kind) = word (quote_name kind)
 abbrev pub is_tight : ListFlags → Bool
 is_tight flags = bit_and flags.0 1 == 1
 
--- the text of one character that a byte stands for
+-- the text of the character with this number
 abbrev pub character_of : ℕ → List ℕ
 character_of byte = json_string (encode_utf8 byte)
 

@@ -15,8 +15,8 @@ use first_pass_labels::label_table::LinkDef;
 use std::alloc::AllocError;
 use std::ops::DerefStr;
 
-/// Appends the line of a link definition: its label as it is spelled, where it leads, its title or `null`, and its
-/// range (CommonMark 4.7). The one error is that a request for memory was refused.
+/// Appends the line of a link definition: its label as it is spelled, its destination, its title or `null`, and its
+/// range (CommonMark 4.7). Fails only if an allocation fails.
 pub fn append_definition(
     line: &mut Vec<u8>,
     label: &LabelKey<'_>,
@@ -31,7 +31,7 @@ pub fn append_definition(
     line.extend_from_slice(b"}\n")
 }
 
-/// Appends what a link definition says.
+/// Appends the label, the destination and the title of a link definition.
 fn append_link(
     line: &mut Vec<u8>,
     label: &LabelKey<'_>,
@@ -44,7 +44,7 @@ fn append_link(
     append_title(line, &definition.title)
 }
 
-/// Appends a title, or `null` where there is none.
+/// Appends a title, or `null` if there is none.
 fn append_title(line: &mut Vec<u8>, title: &Option<CowStr<'_>>) -> Result<(), AllocError>
     ensures { OnOk result (line.new.items
         ≡ line.old.items ++ codes ",\"title\":" ++ text_or_null (option_map text_of title.now)) }
@@ -56,7 +56,7 @@ fn append_title(line: &mut Vec<u8>, title: &Option<CowStr<'_>>) -> Result<(), Al
     }
 }
 
-/// Appends the line of a footnote's label. The one error is that a request for memory was refused.
+/// Appends the line of a footnote's label. Fails only if an allocation fails.
 pub fn append_footnote(line: &mut Vec<u8>, label: &LabelKey<'_>) -> Result<(), AllocError>
     ensures { OnOk result (line.new.items ≡ line.old.items ++ footnote_line (text_of label.now)) }
 {

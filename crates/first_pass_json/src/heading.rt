@@ -29,7 +29,7 @@ pub fn append_heading(
     }
 }
 
-/// Appends the members of attributes where there are none.
+/// Appends the members of empty attributes.
 #[tactic(auto, unfolding(crate::specs::Members::attribute_members))]
 fn append_no_attributes(line: &mut Vec<u8>) -> Result<(), AllocError>
     ensures { OnOk result (line.new.items ≡ line.old.items ++ attribute_members no_attributes) }
@@ -60,7 +60,7 @@ fn append_classes(line: &mut Vec<u8>, classes: &[&str]) -> Result<(), AllocError
     Ok(())
 }
 
-/// Appends classes, a comma between two.
+/// Appends classes, separated by commas.
 fn append_strings(line: &mut Vec<u8>, classes: &[&str]) -> Result<(), AllocError>
     ensures { OnOk result (line.new.items
         ≡ line.old.items ++ with_commas json_string (map (λ class. class.now) classes.now)) }
@@ -74,7 +74,7 @@ fn append_strings(line: &mut Vec<u8>, classes: &[&str]) -> Result<(), AllocError
     }
 }
 
-/// Appends classes, a comma before each.
+/// Appends classes, each after a comma.
 #[tactic(auto, unfolding(crate::specs::JsonValues::after_commas))]
 fn append_further_strings(line: &mut Vec<u8>, classes: &[&str]) -> Result<(), AllocError>
     ensures { OnOk result (line.new.items
@@ -97,7 +97,7 @@ fn append_pairs(line: &mut Vec<u8>, pairs: &[(&str, Option<&str>)]) -> Result<()
     Ok(())
 }
 
-/// Appends keys with their values, a comma between two.
+/// Appends keys with their values, separated by commas.
 fn append_keys(line: &mut Vec<u8>, pairs: &[(&str, Option<&str>)]) -> Result<(), AllocError>
     ensures { OnOk result (line.new.items ≡ line.old.items ++ with_commas pair (map pair_in pairs.now)) }
 {
@@ -110,7 +110,7 @@ fn append_keys(line: &mut Vec<u8>, pairs: &[(&str, Option<&str>)]) -> Result<(),
     }
 }
 
-/// Appends keys with their values, a comma before each.
+/// Appends keys with their values, each after a comma.
 #[tactic(auto, unfolding(crate::specs::JsonValues::after_commas))]
 fn append_further_keys(line: &mut Vec<u8>, pairs: &[(&str, Option<&str>)]) -> Result<(), AllocError>
     ensures { OnOk result (line.new.items ≡ line.old.items ++ after_commas pair (map pair_in pairs.now)) }
@@ -122,7 +122,7 @@ fn append_further_keys(line: &mut Vec<u8>, pairs: &[(&str, Option<&str>)]) -> Re
     Ok(())
 }
 
-/// Appends a key with its value as an array of both, with `null` where it has no value.
+/// Appends a key and its value as an array; the value is `null` if there is none.
 fn append_pair(line: &mut Vec<u8>, attribute: (&str, Option<&str>)) -> Result<(), AllocError>
     ensures { OnOk result (line.new.items ≡ line.old.items ++ pair (pair_in attribute.entry)) }
 {

@@ -19,7 +19,7 @@ use first_pass_names::items::Allocations;
 use first_pass_printed::node::{attributes_at, body_name, metadata_name, quote_name};
 use std::alloc::AllocError;
 
-/// Appends the line of a node: what it is, its depth, its range, and what its kind has beside these.
+/// Appends the line of a node: its kind, its depth, its range, and the members of its kind.
 pub fn append_node(
     line: &mut Vec<u8>,
     depth: usize,
@@ -35,7 +35,7 @@ pub fn append_node(
     line.extend_from_slice(b"}\n")
 }
 
-/// Appends what the line of each node has: its kind, its depth and its range.
+/// Appends the members that every node has: its kind, its depth and its range.
 fn append_common(line: &mut Vec<u8>, depth: usize, item: Item) -> Result<(), AllocError>
     ensures { OnOk result (line.new.items ≡ line.old.items ++ node_members (depth, item)) }
 {
@@ -45,7 +45,7 @@ fn append_common(line: &mut Vec<u8>, depth: usize, item: Item) -> Result<(), All
     append_range(line, item.start, item.end)
 }
 
-/// Appends where a range starts and ends.
+/// Appends the start and the end of a range.
 #[tactic(auto, unfolding(crate::specs::JsonLines::range_members))]
 pub fn append_range(line: &mut Vec<u8>, start: usize, end: usize) -> Result<(), AllocError>
     ensures { OnOk result (line.new.items ≡ line.old.items ++ range_members start end) }
@@ -86,7 +86,7 @@ fn append_block(
     }
 }
 
-/// Appends the kind of a block quote, and `null` where it has no tag.
+/// Appends the kind of a block quote, or `null` if it has no tag.
 fn append_quote_kind(line: &mut Vec<u8>, kind: Option<BlockQuoteKind>) -> Result<(), AllocError>
     ensures { OnOk result (line.new.items ≡ line.old.items ++ codes ",\"quote\":" ++ quote_or_null kind) }
 {
@@ -97,7 +97,7 @@ fn append_quote_kind(line: &mut Vec<u8>, kind: Option<BlockQuoteKind>) -> Result
     }
 }
 
-/// Appends how many columns a line needs to continue an item.
+/// Appends the number of columns that a line needs to continue an item.
 fn append_columns(line: &mut Vec<u8>, columns: usize) -> Result<(), AllocError>
     ensures { OnOk result (line.new.items ≡ line.old.items ++ codes ",\"columns\":" ++ decimal columns) }
 {

@@ -17,7 +17,7 @@ pub fn append_alignments(line: &mut Vec<u8>, alignments: &[Alignment]) -> Result
     Ok(())
 }
 
-/// Appends alignments, a comma between two.
+/// Appends alignments, separated by commas.
 fn append_words(line: &mut Vec<u8>, alignments: &[Alignment]) -> Result<(), AllocError>
     ensures { OnOk result (line.new.items ≡ line.old.items ++ with_commas alignment_word alignments.now) }
 {
@@ -30,7 +30,7 @@ fn append_words(line: &mut Vec<u8>, alignments: &[Alignment]) -> Result<(), Allo
     }
 }
 
-/// Appends alignments, a comma before each.
+/// Appends alignments, each after a comma.
 #[tactic(auto, unfolding(crate::specs::JsonValues::after_commas))]
 fn append_further_words(line: &mut Vec<u8>, alignments: &[Alignment]) -> Result<(), AllocError>
     ensures { OnOk result (line.new.items ≡ line.old.items ++ after_commas alignment_word alignments.now) }

@@ -48,7 +48,7 @@ pub fn append_token(
     }
 }
 
-/// Appends whether a run can open and close.
+/// Appends whether a delimiter run can open and close.
 fn append_sides(line: &mut Vec<u8>, can_open: bool, can_close: bool) -> Result<(), AllocError>
     ensures { OnOk result (line.new.items
         ≡ line.old.items ++ codes ",\"can_open\":" ++ boolean can_open ++ codes ",\"can_close\":" ++ boolean can_close) }

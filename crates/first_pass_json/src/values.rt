@@ -1,4 +1,4 @@
-//! Values as they stand in lines of JSON.
+//! Values in lines of JSON.
 
 ghost use Rattle.std.specs.Option.{option_map};
 ghost use Rattle.std.specs.Prelude.{◌≡◌, ◌++◌, OnOk, encode_utf8};
@@ -9,8 +9,7 @@ use first_pass_printed::node::{append_number, flag_name};
 use itoa::Integer;
 use std::alloc::AllocError;
 
-/// Appends a text in quotation marks, escaped as JSON asks for. The one error is that a request for memory was
-/// refused.
+/// Appends a text in quotation marks, with the escapes of JSON. Fails only if an allocation fails.
 pub fn append_string(line: &mut Vec<u8>, text: &str) -> Result<(), AllocError>
     ensures { OnOk result (line.new.items ≡ line.old.items ++ json_string text.now) }
 {
@@ -21,7 +20,7 @@ pub fn append_string(line: &mut Vec<u8>, text: &str) -> Result<(), AllocError>
     }
 }
 
-/// Appends a text so, or `null` where there is none.
+/// Appends a text as a string, or `null` if there is none.
 pub fn append_string_or_null(line: &mut Vec<u8>, text: Option<&str>) -> Result<(), AllocError>
     ensures { OnOk result (line.new.items ≡ line.old.items ++ text_or_null (option_map (λ t. t.now) text.entry)) }
 {
@@ -31,7 +30,7 @@ pub fn append_string_or_null(line: &mut Vec<u8>, text: Option<&str>) -> Result<(
     }
 }
 
-/// Appends a character so.
+/// Appends a character as a string.
 pub fn append_character(line: &mut Vec<u8>, character: char) -> Result<(), AllocError>
     ensures { OnOk result (line.new.items ≡ line.old.items ++ json_string (encode_utf8 character)) }
 {
@@ -39,7 +38,7 @@ pub fn append_character(line: &mut Vec<u8>, character: char) -> Result<(), Alloc
     append_string(line, character.encode_utf8(&mut buffer))
 }
 
-/// Appends the character so that a byte stands for.
+/// Appends the character with this number as a string.
 #[tactic(auto, using(crate::proofs::Plain::plain_character))]
 pub fn append_byte(line: &mut Vec<u8>, byte: u8) -> Result<(), AllocError>
     ensures { OnOk result (line.new.items ≡ line.old.items ++ character_of byte) }
@@ -61,7 +60,7 @@ pub fn append_word(line: &mut Vec<u8>, letters: &str) -> Result<(), AllocError>
     Ok(())
 }
 
-/// Appends the name of a member, as it stands before its value, and a number.
+/// Appends the name of a member, in the form that precedes its value, and a number.
 pub fn append_number_after<I: Integer>(
     line: &mut Vec<u8>,
     name: &[u8],
@@ -73,7 +72,7 @@ pub fn append_number_after<I: Integer>(
     append_number(line, number)
 }
 
-/// Appends the name of a member so, and a truth value.
+/// Appends the name of a member, and a truth value.
 pub fn append_flag_after(line: &mut Vec<u8>, name: &[u8], flag: bool) -> Result<(), AllocError>
     ensures { OnOk result (line.new.items ≡ line.old.items ++ name.now ++ boolean flag) }
 {
@@ -81,7 +80,7 @@ pub fn append_flag_after(line: &mut Vec<u8>, name: &[u8], flag: bool) -> Result<
     line.extend_from_slice(flag_name(flag).as_bytes())
 }
 
-/// Appends the name of a member so, and a text.
+/// Appends the name of a member, and a text as a string.
 pub fn append_string_after(line: &mut Vec<u8>, name: &[u8], text: &str) -> Result<(), AllocError>
     ensures { OnOk result (line.new.items ≡ line.old.items ++ name.now ++ json_string text.now) }
 {

@@ -1,4 +1,4 @@
-//! The lines of a tree and of its tables, written.
+//! Writes the lines of a tree and of its tables.
 
 ghost use Rattle.first_pass_names.specs.TableEntries.{names_of, tables_of};
 ghost use Rattle.first_pass_host.specs.Streams.{WritesText, stream_between};
@@ -13,9 +13,9 @@ use first_pass_names::items::Allocations;
 use std::alloc::Global;
 use std::io::Write;
 
-/// Writes the lines of all nodes, after them those of the link definitions, and then those of the footnotes' labels,
-/// both in the byte order of the foldings of their labels. A fault is `WriteFailed`, or `OutOfMemory` if a request was
-/// refused; a beginning of the lines may be written then.
+/// Writes the lines of all nodes, then those of the link definitions, and then those of the footnotes' labels, both in
+/// the byte order of their folded labels. Fails with `WriteFailed`, or with `OutOfMemory` if an allocation fails; then
+/// a beginning of the lines may be written.
 pub fn write_json<W: Write>(
     alloc: Global,
     nodes: &[(usize, Item)],

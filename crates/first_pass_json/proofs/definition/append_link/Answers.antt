@@ -5,7 +5,7 @@ use Rattle.first_pass_json.specs.JsonLines.{link_members}
 use Rattle.first_pass_json.specs.JsonValues.{json_string}
 use Rattle.first_pass_json.proofs.definition.append_link.Goals as goal
 
--- three names with their values, appended one after the other, where the values are equal to others
+-- three names with their values, appended one after the other; each value is equal to another
 three_members : (start first second last a s b t c u s' t' : List ℕ) → first ≡ start ++ a ++ s' → second ≡ first ++ b ++ t' → last ≡ second ++ c ++ u
     → s' ≡ s → t' ≡ t → last ≡ start ++ (a ++ s ++ b ++ t ++ c ++ u)
 three_members start first second last a s b t c u s' t' first_is second_is last_is s_is t_is =
