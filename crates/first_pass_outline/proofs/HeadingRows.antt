@@ -1,4 +1,4 @@
--- In a derived tree no heading stands below a heading.
+-- In a derived tree no heading is inside a heading.
 use Rattle.std.proofs.Common.{◌≡◌, ◌⊎◌, inl, inr, ℕ, suc, ◌+◌, ◌<◌, ◌≤◌, Bool, true, false, List, [], ◌∷◌, ◌++◌, length, map, None, refl}
 use Rattle.std.proofs.Common.{sym, ap, subst, ◌∙◌, if◌then◌else◌, arith, append_assoc, append-nil}
 use Rattle.std.proofs.lemmas.Bool.{true≢false}
@@ -24,11 +24,11 @@ use Rattle.first_pass_outline.specs.Outline.{level_of}
 abbrev pub IsNoHeading : ItemBody → Type 0
 IsNoHeading body = level_of body ≡ None
 
--- the first of a block's items stands at the block's own depth, and none after it is a heading
+-- the first of a block's items is at the block's own depth, and no later one is a heading
 abbrev HasOneHeading : List (ℕ × Item) → Type 0
 HasOneHeading items = IsBlockOf (λ body. Unit {0}) IsNoHeading items
 
--- no token of a line is a heading, nor is anything in a leaf block
+-- no token of a line is a heading, and neither is anything in a leaf block
 markup_no_heading : (texts : List CowStr) (body : ItemBody) → is_markup body ≡ true → NamesWithin texts body → IsNoHeading body
 markup_no_heading texts (Heading level index) h k = absurd (true≢false (sym h))
 markup_no_heading texts body h k = refl
@@ -56,17 +56,17 @@ any_block = record {
   task = λ checked. tt;
 }
 
--- of these nodes the first that stand below a depth are no headings
+-- none of the leading nodes that are deeper than this depth is a heading
 abbrev pub NoneBelow : ℕ → List (ℕ × Item) → Type 0
 NoneBelow depth [] = Unit {0}
 NoneBelow depth (n ∷ nodes) = depth < n.0 → IsNoHeading n.1.body × NoneBelow depth nodes
 
--- no heading stands below a heading
+-- no heading is inside a heading
 abbrev pub NoneInside : List (ℕ × Item) → Type 0
 NoneInside [] = Unit {0}
 NoneInside (n ∷ nodes) = (IsNoHeading n.1.body ⊎ NoneBelow n.0 nodes) × NoneInside nodes
 
--- nodes that begin no deeper than this, and nodes that begin so deep
+-- nodes of which the first is no deeper than this depth, and nodes of which the first is at least this deep
 abbrev BeginsBy : ℕ → List (ℕ × Item) → Type 0
 BeginsBy depth [] = Unit {0}
 BeginsBy depth (n ∷ nodes) = n.0 ≤ depth
@@ -91,7 +91,7 @@ inside_both : (nodes more : List (ℕ × Item)) → AreEachNode IsNoHeading node
 inside_both [] more h k = k
 inside_both (n ∷ nodes) more h k = (inl h.0, inside_both nodes more h.1 k)
 
--- a block at a depth, before nodes that begin no deeper
+-- a block at a depth, before nodes of which the first is no deeper
 block_inside : (depth : ℕ) (items more : List (ℕ × Item)) → BeginsFrom depth items → (n : ℕ × Item) (kids : List (ℕ × Item)) → items ≡ n ∷ kids
     → AreEachNode IsNoHeading kids → BeginsBy depth more → NoneInside more → NoneInside ((n ∷ kids) ++ more)
 block_inside depth items more from n kids is h by k =
@@ -134,7 +134,7 @@ row_inside depth tight loose t start (ATitle block) inner more own by k =
     title_inside depth block.items (items_of (suc depth) t inner ++ more) own.0 k
 row_inside depth tight loose t start (ADefinition columns e) inner more own by k = (inl refl, k)
 
--- rows begin at their depth
+-- rows begin at their own depth
 items_begin : (depth : ℕ) (items more : List (ℕ × Item)) → HasOneHeading items → BeginsBy depth more → BeginsBy depth (at_depth depth items ++ more)
 items_begin depth [] more h k = k
 items_begin depth (x ∷ items) more h k = omega (arith, h.0)
@@ -178,7 +178,7 @@ rows_begin depth tight (OneOf row inner next) more h by =
     (regrouped (row_items depth tight loose row.start row.what) (items_of (suc depth) t inner) (items_of depth tight next) more)
     (row_begins depth tight loose t row.start row.what inner (items_of depth tight next ++ more) h.0 (rows_begin depth tight next more h.2 by))
 
--- no heading of rows stands below a heading
+-- no heading of rows is inside a heading
 rows_inside : (depth : ℕ) (tight : Bool) (rows : Rows) (more : List (ℕ × Item)) → HoldsOfEachRow HasOneHeading rows → BeginsBy depth more → NoneInside more
     → NoneInside (items_of depth tight rows ++ more)
 unfolding HoldsOfEachRow items_of
@@ -193,7 +193,7 @@ rows_inside depth tight (OneOf row inner next) more h by k =
     subst NoneInside (regrouped (row_items depth tight loose row.start row.what) (items_of (suc depth) t inner) (items_of depth tight next) more)
     (row_inside depth tight loose t row.start row.what inner after h.0 begins kids)
 
--- so it is in a derived tree
+-- no heading of a derived tree is inside a heading
 pub derived_inside : (d : Document) (nodes : List (ℕ × Item)) (tables : Tables) → Derives d nodes tables → NoneInside nodes
 derived_inside d nodes tables h =
     let rows : Rows = rows_of false nothing (length d.text) h.skeleton in

@@ -18,7 +18,7 @@ use Rattle.first_pass_outline.specs.TextOutline.{IsRangeFrom, LieBetween}
 use Rattle.first_pass_outline.proofs.HeadingRows.{IsNoHeading, NoneBelow, NoneInside, derived_inside}
 use Rattle.first_pass_outline.proofs.Outlines.{entries_of, entries_of-append}
 
--- entries that lie after an earlier offset, and entries after others
+-- entries that lie after an offset also lie after an earlier one; and entries follow other entries
 between_from : (text : List ℕ) (a b to : ℕ) (entries : List Entry) → a ≤ b → LieBetween text b to entries → LieBetween text a to entries
 unfolding LieBetween
 between_from text a b to [] le h = omega arith
@@ -31,13 +31,13 @@ unfolding LieBetween
 between_both text from mid to [] more h k = between_from text from mid to more h k
 between_both text from mid to (e ∷ entries) more h k = (h.0, between_both text e.«end» mid to entries more h.1 k)
 
--- a node is read as what it is
+-- a node's level does not depend on its index
 kind_level : (b : ItemBody) → level_of (kind_alone b) ≡ level_of b
 kind_level (Heading level ix) = refl
 kind_level b = refl
 
 module _ (names : Names) where
-  -- the entry of a node whose level is this
+  -- the entry of a node with this level
   abbrev entry_with : Item → Option HeadingLevel → Option Entry
   entry_with x o =
       option_map (λ level. record { level = level; id = option_and_then id_in (read names x).1; start = x.start; «end» = x.«end» }) o
@@ -51,7 +51,7 @@ module _ (names : Names) where
   no_entries (n ∷ nodes) h = entries_first n nodes None h.0 ∙ no_entries nodes h.1
 
   module _ (text : List ℕ) where
-    -- the entries of a node, of those below it and of those after it
+    -- the entries of a node, of its descendants and of the nodes after it
     node_by : (o : Option HeadingLevel) (from to : ℕ) (n : ℕ × Item) (kids next : List (ℕ × Item)) → level_of n.1.body ≡ o
         → IsRangeFrom text from (n.1.start) (n.1.«end») → LieBetween text from n.1.«end» (entries_of names kids)
         → LieBetween text n.1.«end» to (entries_of names next) → IsNoHeading n.1.body ⊎ AreEachNode IsNoHeading kids
@@ -68,7 +68,7 @@ module _ (names : Names) where
         (sym (entries_first n (kids ++ next) (Some level) is ∙ ap (λ (z : List Entry). cons_option (entry_with n.1 (Some level)) z) after))
         (range, k)
 
--- nodes that stand below a depth
+-- nodes that are all at least this deep
 abbrev AreDeep : {T : Type 0} → ℕ → List (ℕ × T) → Type 0
 AreDeep depth [] = Unit {0}
 AreDeep depth (n ∷ nodes) = (depth ≤ n.0) × AreDeep depth nodes
@@ -109,7 +109,7 @@ leaf_kids : (n : ℕ × Item) (kids next : List (ℕ × Item)) → AreDeep (suc 
 leaf_kids n kids next deep (inl other) = inl other
 leaf_kids n kids next deep (inr none) = inr (none_deep n.0 kids next deep none)
 
--- nodes whose extents are those of two rows
+-- nodes whose extents form two rows
 split_nodes : (nodes : List (ℕ × Item)) (xs ys : List (ℕ × Extent)) → extents nodes ≡ xs ++ ys
     → (kids : List (ℕ × Item)) × (next : List (ℕ × Item)) × (nodes ≡ kids ++ next) × (extents kids ≡ xs) × (extents next ≡ ys)
 split_nodes nodes [] ys e = ([], nodes, refl, refl, e)
@@ -120,7 +120,7 @@ split_nodes (n ∷ nodes) (x ∷ xs) ys e =
     let (kids, next, is, a, b) = split_nodes nodes xs ys rest in
     (n ∷ kids, next, ap (λ z. n ∷ z) is, ap (λ z. z ∷ extents kids) first ∙ ap (λ z. x ∷ z) a, b)
 
--- the offset from which a row reaches that stands so
+-- the earliest offset that a row with this context may reach
 abbrev reach : Within → ℕ → ℕ
 reach Elsewhere from = from
 reach InItem from = from
@@ -134,7 +134,7 @@ unless_reaches : (least from : ℕ) (t : Bool) (u v : Within) → Reaches least 
 unless_reaches least from true u v h k = h
 unless_reaches least from false u v h k = k
 
--- what is below a node reaches no further back than the node's own row
+-- the descendants of a node reach no earlier offset than the node's own row
 below_reaches : (within : Within) (from : ℕ) (x : Extent) → reach within from ≤ from → from ≤ x.start
     → Reaches (reach within from) (below within from x) x.start
 below_reaches Elsewhere from x h le = unless_reaches from x.start x.item InItem Elsewhere (omega arith, omega arith) (omega arith, omega arith)
@@ -155,7 +155,7 @@ beyond_reach InItem from = refl
 beyond_reach (InText before) from = refl
 beyond_reach (InFirst before) from = refl
 
--- where a row's first node lies, with those below it, and where those after it do
+-- the ranges of a row's first node, of its descendants and of the nodes after it
 pub record NodeFits (text : List ℕ) (least to : ℕ) (x : Extent) (kids next : List Entry) : Type 0 where
   pub range : IsRangeFrom text least x.start x.«end»
   pub inner : LieBetween text least x.«end» kids

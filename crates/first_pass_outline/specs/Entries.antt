@@ -1,4 +1,4 @@
--- What a contract sees of the entries of an outline.
+-- The view of the entries of an outline in contracts.
 use Rattle.std.specs.Option.{option_map}
 use Rattle.first_pass_outline.specs.Outline.{Entry}
 use Rattle.first_pass_outline.specs.declared.outline.OutlineEntry.{OutlineEntry}

@@ -1,4 +1,4 @@
--- How an outline is printed (this project).
+-- The printed form of an outline (this project).
 use Rattle.std.specs.Prelude.{◌≡◌, ℕ, List, [], ◌++◌, Option, None, Some, codes, decimal}
 use Rattle.std.specs.List.{flat_map}
 use Rattle.first_pass_items.specs.declared.option_set.Options.{Options}
@@ -6,12 +6,12 @@ use Rattle.first_pass_lines.specs.Lines.{level_number}
 use Rattle.first_pass_outline.specs.Outline.{Entry}
 use Rattle.first_pass_outline.specs.TextOutline.{IsOutline}
 
--- an id after a space and `#`, where there is one (this project)
+-- an id after a space and `#`, if there is one (this project)
 abbrev pub id_text : Option (List ℕ) → List ℕ
 id_text None = []
 id_text (Some id) = codes " #" ++ id
 
--- the line of an entry: the level of its heading, its range, and its id where it has one (this project)
+-- the line of an entry: the level of its heading, its range, and its id if it has one (this project)
 abbrev pub entry_line : Entry → List ℕ
 entry_line e =
     decimal (level_number e.level) ++ codes " " ++ decimal e.start ++ codes ".." ++ decimal e.«end» ++ id_text e.id ++ codes "\n"

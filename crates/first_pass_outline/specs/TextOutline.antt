@@ -7,7 +7,7 @@ use Rattle.first_pass_grammar.specs.Leaves.{document}
 use Rattle.first_pass_grammar.specs.Names.{Names, read_nodes}
 use Rattle.first_pass_outline.specs.Outline.{Entry, outline_of}
 
--- the outline of a forest that the block grammar derives from a text under options
+-- the outline of a tree that the block grammar derives from a text under options
 pub record IsOutline (options : Options) (text : List ℕ) (entries : List Entry) : Type 0 where
   pub names : Names
   pub forest : List (ℕ × Item)
@@ -15,13 +15,13 @@ pub record IsOutline (options : Options) (text : List ℕ) (entries : List Entry
   pub derived : Derives (document text options names) forest tables
   pub entries_are : entries ≡ outline_of (read_nodes names forest)
 
--- the outline of each forest that the block grammar derives from a text under options, whatever is named then
+-- the outline of every tree that the block grammar derives from a text under options, under any numbering of indices
 abbrev pub IsOnlyOutline : Options → List ℕ → List Entry → Type 0
 IsOnlyOutline options text entries =
     (names : Names) (forest : List (ℕ × Item)) (tables : Tables) → Derives (document text options names) forest tables
     → entries ≡ outline_of (read_nodes names forest)
 
--- a range that begins at an offset or after it, and begins and ends between two characters of a text
+-- a range that starts at or after an offset, and whose ends are character boundaries of a text
 pub record IsRangeFrom (text : List ℕ) (from start «end» : ℕ) : Type 0 where
   pub behind : from ≤ start
   pub order : start ≤ «end»

@@ -1,4 +1,4 @@
-//! The outline of a text: its headings, each with its level, its id and its range; and the work of the program
+//! The outline of a text: its headings, each with its level, its id and its range. Also the work of the program
 //! `outline`, which lists them.
 #![tactic(auto)]
 

@@ -1,4 +1,4 @@
-//! The lines of an outline, written.
+//! Writes the lines of an outline.
 
 ghost use Rattle.std.specs.Option.{option_map};
 ghost use Rattle.std.specs.Prelude.{◌≡◌, ◌++◌, map, OnOk};
@@ -16,10 +16,10 @@ use std::alloc::{AllocError, Global};
 use std::io::Write;
 
 /// Appends the line of an entry: its level as a digit, its range after a space, and its id, if it has one, after a
-/// space and `#`. The one error is that a request for memory was refused.
+/// space and `#`. Fails only if an allocation fails.
 ///
-/// The id stands as it does in the text, and can be read back: it is one word of an attribute block, in which no
-/// space, tab, form feed or line end stands, so all between the `#` and the end of the line is the id.
+/// The id has the same bytes as in the text, and can be read back. It is one word of an attribute block, without
+/// space, tab, form feed or line ending. So everything between the `#` and the end of the line is the id.
 pub fn append_entry(line: &mut Vec<u8>, entry: &OutlineEntry<'_>) -> Result<(), AllocError>
     ensures { OnOk result (line.new.items ≡ line.old.items ++ entry_line (entry_in entry.now)) }
 {
@@ -47,8 +47,8 @@ fn append_id(line: &mut Vec<u8>, id: Option<&str>) -> Result<(), AllocError>
     }
 }
 
-/// Writes the lines of entries, in their order. A fault is `WriteFailed`, or `OutOfMemory` if a request was refused; a
-/// beginning of the lines may be written then.
+/// Writes the lines of entries, in their order. Fails with `WriteFailed`, or with `OutOfMemory` if an allocation
+/// fails; then a beginning of the lines may be written.
 pub fn write_entries<W: Write>(
     alloc: Global,
     entries: &[OutlineEntry<'_>],

@@ -16,8 +16,8 @@ use first_pass_tree::forest::Tree;
 use std::alloc::{AllocError, Global};
 use std::ops::Range;
 
-/// An entry of an outline: a heading, with its level, its id if its attributes give one, which is borrowed from the
-/// text, and its range in bytes of the text.
+/// An entry of an outline: a heading, with its level, its id if its attributes have one, and its range in bytes of the
+/// text. The id is borrowed from the text.
 #[derive(Drop)]
 pub struct OutlineEntry<'a> {
     pub level: HeadingLevel,
@@ -25,9 +25,9 @@ pub struct OutlineEntry<'a> {
     pub range: Range<usize>,
 }
 
-/// The outline of a tree: an entry for each heading, wherever it stands, in reading order. A heading has no id where
-/// it has no attributes, where these give none, and where `allocs` has no entry for its index. The one error is that a
-/// request for memory was refused.
+/// Returns the outline of a tree: an entry for each heading, at any depth, in reading order. A heading has no id if it
+/// has no attributes, if these have no id, or if `allocs` has no entry for its index. Fails only if an allocation
+/// fails.
 pub fn outline<'a>(
     alloc: Global,
     tree: &Tree<Item>,
@@ -45,9 +45,9 @@ pub fn outline<'a>(
     Ok(entries)
 }
 
-/// The outline of a text under options: that of the one tree that the block grammar derives from it, as nodes are
-/// read through their indices. The entries lie one after the other, and each begins and ends between two characters.
-/// The one error is that a request for memory was refused.
+/// Returns the outline of a text under options. It is that of the only tree that the block grammar derives from the
+/// text, up to the numbering of indices. The entries lie one after the other, and both ends of each are character
+/// boundaries. Fails only if an allocation fails.
 pub fn outline_text<'a>(
     alloc: Global,
     text: &'a str,
@@ -77,7 +77,7 @@ fn entry_of<'a>(item: Item, allocs: &Allocations<'a>) -> Option<OutlineEntry<'a>
     }
 }
 
-// The id of a heading, if its index names attributes that give one.
+// The id of a heading, if its index names attributes with an id.
 fn id_of<'a>(index: Option<HeadingIndex>, allocs: &Allocations<'a>) -> Option<&'a str>
     ensures { option_map (λ id. id.now) result
         ≡ option_and_then id_in (option_and_then (named (names_of allocs.now)) (option_map AttributesAt index)) }

@@ -12,7 +12,7 @@ use first_pass_run::report::{Report, run_report};
 use std::alloc::Global;
 use std::io::{Read, Write};
 
-/// The outline of a text, a heading a line in reading order.
+/// The report of the program `outline`: a line for each heading, in reading order.
 pub struct ListedOutline;
 
 impl Report for ListedOutline {
@@ -33,10 +33,10 @@ impl Report for ListedOutline {
 /// Reads the input to its end and writes the outline of its text, a line for each heading in reading order (see
 /// `append_entry`). `words` are those after the program's name (see `parse_options`).
 ///
-/// Faults are found in this order: the options, before the first read and without memory; the reads;
-/// UTF-8 of the whole input; the pass; the writes. `OutOfMemory` comes at the request that was refused.
-/// What was written at a fault is nothing, or a beginning of the whole output. Reader and writer are lent,
-/// so that what they hold at the end can be said.
+/// Faults are found in this order: the options, before the first read and without an allocation; the reads; UTF-8 of
+/// the whole input; the pass; the writes. `OutOfMemory` is found at the allocation that fails. After a fault, nothing
+/// or a beginning of the whole output was written. Reader and writer are borrowed, so that the contract can describe
+/// their final state.
 pub fn outline_run<R: Read, W: Write>(
     alloc: Global,
     words: &[String],
