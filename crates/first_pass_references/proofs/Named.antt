@@ -1,4 +1,4 @@
--- The link definition that a label names, of the entries of a table and as contracts see them.
+-- The link definition of a label, among the entries of a table and among their views in contracts.
 use Rattle.std.proofs.Common.{◌≡◌, ℕ, ◌==◌, Bool, true, false, cond, List, [], ◌∷◌, map, length, Option, Some, None, refl, sym, ap, ◌∙◌, nat_eq}
 use Rattle.std.specs.Prelude.{IsUtf8, if◌then◌else◌}
 use Rattle.std.specs.Option.{option_map, option_and_then}
@@ -15,17 +15,17 @@ use Rattle.first_pass_grammar.specs.LinkTables.{LinkEntry, link_under}
 use Rattle.first_pass_names.specs.TableEntries.{link_entry, link_at}
 use Rattle.first_pass_references.specs.References.{link_named}
 
--- where a link definition leads
+-- the destination of a link definition
 abbrev pub dest_of : LinkDef → List ℕ
 dest_of link = text_of link.dest
 
--- a choice that is seen alike on both sides
+-- equal choices have equal images
 chosen_alike : {X Y Z : Type 0} (f : X → Z) (g : Y → Z) (b : Bool) (x : X) (y : Y) (r : Option X) (s : Option Y) → f x ≡ g y
     → option_map f r ≡ option_map g s → option_map f (cond b (Some x) r) ≡ option_map g (cond b (Some y) s)
 chosen_alike f g true x y r s here rest = ap Some here
 chosen_alike f g false x y r s here rest = rest
 
--- where the definition of a folding leads, of the entries and as they are seen
+-- the destination of a folded label's definition, among the entries and among their views
 dest_under : (folding : List ℕ) (es : List (CowStr × LinkDef))
     → option_map dest_of (defined_under folding es) ≡ option_map (λ l. l.dest) (link_under folding (map link_entry es))
 unfolding link_under
@@ -34,12 +34,12 @@ dest_under folding (e ∷ es) =
     chosen_alike dest_of (λ (l : LinkEntry). l.dest) (pointwise nat_eq folding (folding_of e.0)) e.1 (link_entry e) (defined_under folding es)
     (link_under folding (map link_entry es)) refl (dest_under folding es)
 
--- what is found, if its label has so many bytes
+-- the definition that was found, if its label has this many bytes
 abbrev pub if_whole : ℕ → Option (ℕ × LinkDef) → Option LinkDef
 if_whole n None = None
 if_whole n (Some found) = if found.0 == n then Some found.1 else None
 
--- of a label with so many bytes
+-- the case of a label with this many bytes
 whole_label : (b : Bool) (k n : ℕ) → (k == n) ≡ b → (d : Option LinkDef) (u : Option LinkEntry) → option_map dest_of d ≡ option_map (λ l. l.dest) u
     → option_map dest_of (if_whole n (option_map (λ x. (k, x)) d)) ≡ option_map (λ l. l.dest) (if k == n then u else None)
 whole_label true k n e None u same = rw e same
@@ -53,7 +53,7 @@ label_named : (es : List (CowStr × LinkDef)) (n : ℕ) (label : Option (ℕ × 
 label_named es n None = refl
 label_named es n (Some l) = whole_label (l.0 == n) l.0 n refl _ _ (dest_under (folded l.1) es)
 
--- of bytes that are a text
+-- the case of bytes that are UTF-8
 pub text_named : (es : List (CowStr × LinkDef)) (bytes : List ℕ) (found : Option (ℕ × LinkDef)) → IsUtf8 bytes → found ≡ link_at es bytes
     → option_map dest_of (if_whole (length bytes) found) ≡ option_map (λ l. l.dest) (link_named (map link_entry es) bytes)
 unfolding link_at
@@ -61,7 +61,7 @@ text_named es bytes found utf8 is =
     ap (λ o. option_map dest_of (if_whole (length bytes) o)) is ∙ label_named es (length bytes) (label_at (λ further. Some 0) false bytes)
     ∙ rw (is_utf8-from_IsUtf8 bytes utf8) refl
 
--- bytes that are no text name nothing
+-- bytes that are not UTF-8 name nothing
 none_named : (links : List LinkEntry) (bytes : List ℕ) → (IsUtf8 bytes → ⊥) → (t : Bool) → is_utf8 bytes ≡ t → link_named links bytes ≡ None
 none_named links bytes broken true e = absurd (broken (IsUtf8-from_is_utf8 bytes e))
 none_named links bytes broken false e = rw e refl

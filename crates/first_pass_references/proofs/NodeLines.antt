@@ -1,4 +1,4 @@
--- The lines of nodes, one node after the other.
+-- The lines of nodes, node by node.
 use Rattle.std.proofs.Common.{◌≡◌, ℕ, zero, suc, ◌+◌, ◌-◌, ◌<◌, List, [], ◌∷◌, ◌++◌, length, drop, arith, refl, sym, ap, ◌∙◌}
 use Rattle.std.proofs.lemmas.List.{drop-drop}
 use Rattle.std.specs.Range.{range_steps}
@@ -8,7 +8,7 @@ use Rattle.first_pass_grammar.specs.LinkTables.{LinkEntry}
 use Rattle.first_pass_host.specs.Held.{Calls, AppendsLine, AreLines}
 use Rattle.first_pass_references.specs.Lines.{first_lines, node_lines}
 
--- the lines of as many numbers, from one on
+-- the lines of consecutive numbers from a first one on
 pub lines_from : (ℕ → List ℕ) → ℕ → ℕ → List ℕ
 lines_from line first zero = []
 lines_from line first (suc count) = line first ++ lines_from line (first + 1) count

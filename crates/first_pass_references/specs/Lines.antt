@@ -1,4 +1,5 @@
--- What the program `links` writes of a tree: a line for each link definition, each footnote definition and each reference (this project).
+-- The lines that the program `links` writes for a tree: one for each link definition, each footnote definition and
+-- each reference (this project).
 use Rattle.std.specs.Prelude.{ℕ, List, [], ◌∷◌, ◌++◌, codes}
 use Rattle.std.specs.Option.{option_to_list}
 use Rattle.std.specs.List.{flat_map}
@@ -11,24 +12,24 @@ use Rattle.first_pass_grammar.specs.Derivation.{Tables}
 use Rattle.first_pass_printed.specs.Printed.{visible, link_line, range_text}
 use Rattle.first_pass_references.specs.References.{Reference, reference_at}
 
--- the line of a link definition: its label, its destination, its title where it has one, and its range (CommonMark 4.7)
+-- the line of a link definition: its label, its destination, its title if it has one, and its range (CommonMark 4.7)
 abbrev pub definition_line : LinkEntry → List ℕ
 definition_line link = codes "definition " ++ link_line link
 
--- what the line of a footnote definition says before its range; nothing for another node
+-- the line of a footnote definition, which ends with this range; nothing for another node
 abbrev pub footnote_text : Names → ItemBody → List ℕ → List ℕ
 footnote_text names (FootnoteDefinition ix) range = codes "footnote [^" ++ visible (text_named names ix) ++ codes "]" ++ range
 footnote_text names _ range = []
 
--- the line of a footnote definition: its label and its range; none for another node
+-- the line of a footnote definition, with its label and its range; none for another node
 abbrev pub footnote_line : Names → Item → List ℕ
 footnote_line names node = footnote_text names node.body (range_text node.start node.«end»)
 
--- the line of a reference: where it leads, and its range
+-- the line of a reference: its destination and its range
 abbrev pub reference_line : Reference → List ℕ
 reference_line reference = codes "reference " ++ visible reference.dest ++ range_text reference.start reference.«end»
 
--- the line of the first of these nodes, where it is a footnote definition or begins a reference
+-- the line of the first of these nodes, if it is a footnote definition or begins a reference
 abbrev pub first_lines : List ℕ → Names → List LinkEntry → List (ℕ × Item) → List ℕ
 first_lines text names links [] = []
 first_lines text names links (first ∷ nodes) =
@@ -39,6 +40,7 @@ unfoldable pub node_lines : List ℕ → Names → List LinkEntry → List (ℕ 
 node_lines text names links [] = []
 node_lines text names links (first ∷ nodes) = first_lines text names links (first ∷ nodes) ++ node_lines text names links nodes
 
--- the lines of a tree and its tables: those of the link definitions, in the order of their table, and those of the nodes
+-- the lines of a tree and its tables: those of the link definitions, in the order of their table, then those of the
+-- nodes
 abbrev pub links_lines : List ℕ → Names → List (ℕ × Item) → Tables → List ℕ
 links_lines text names nodes tables = flat_map definition_line tables.links ++ node_lines text names tables.links nodes

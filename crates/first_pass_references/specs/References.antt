@@ -1,4 +1,5 @@
--- References: pairs of brackets whose label a link definition has. Which of them are links or images is not said (this project).
+-- References: pairs of brackets whose label has a link definition. Whether one becomes a link or an image is not
+-- decided here (this project).
 use Rattle.std.specs.Prelude.{ℕ, ◌==◌, false, List, [], ◌∷◌, ◌++◌, length, Option, Some, None, if◌then◌else◌}
 use Rattle.std.specs.Option.{option_map, option_and_then}
 use Rattle.std.specs.Str.{is_utf8}
@@ -10,7 +11,8 @@ use Rattle.first_pass_grammar.specs.LinkTables.{LinkEntry, link_under}
 use Rattle.first_pass_references.specs.Pairs.{opens, pair_after, label_of}
 use Rattle.first_pass_references.specs.declared.reference.LinkReference.{LinkReference}
 
--- a reference: the range of a pair, brackets included, and the destination of the definition that has its label (CommonMark 6.3)
+-- a reference: the range of a pair with its brackets, and the destination of the definition of its label
+-- (CommonMark 6.3)
 pub record Reference : Type 0 where
   pub start : ℕ
   pub «end» : ℕ
@@ -20,8 +22,9 @@ pub record Reference : Type 0 where
 abbrev pub reference_of : LinkReference → Reference
 reference_of r = record { start = r.start; «end» = r.«end»; dest = r.dest.now }
 
--- The link definition of a label, which these bytes are with the `]` that ends it: it ends at no earlier bracket, has at most 999 characters, and isn't blank.
--- Each run of white space is one space, and case is ignored (CommonMark 4.7, 6.3). Bytes that are no UTF-8 are no label.
+-- The link definition of a label. The bytes are the label and the `]` that ends it: no earlier bracket ends it, it has
+-- at most 999 characters, and it isn't blank. Each run of white space is one space, and case is ignored
+-- (CommonMark 4.7, 6.3). Bytes that are not UTF-8 are no label.
 abbrev pub link_named : List LinkEntry → List ℕ → Option LinkEntry
 link_named links bytes =
     if is_utf8 bytes
@@ -29,7 +32,8 @@ link_named links bytes =
     (label_at (λ further. Some 0) false bytes)
     else None
 
--- the reference that the first of these nodes of a text begins, in a tree's reading order, with these link definitions (CommonMark 6.3)
+-- the reference that begins with the first of these nodes, which are in reading order, under these link definitions
+-- (CommonMark 6.3)
 abbrev pub reference_at : List ℕ → List LinkEntry → List (ℕ × Item) → Option Reference
 reference_at text links [] = None
 reference_at text links (first ∷ nodes) =

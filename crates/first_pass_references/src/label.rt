@@ -7,8 +7,8 @@ ghost use Rattle.first_pass_references.specs.Pairs.{is_escaped, label_of, label_
 use first_pass_items::item::{Item, ItemBody};
 use std::alloc::{AllocError, Global};
 
-/// The bytes of the label that tokens of a text are: those of each token, with a backslash that was dropped before it.
-/// A line break, with the prefix of the line after it, is a newline.
+/// Returns the bytes of the label that consists of these tokens: those of each token, with a backslash that was
+/// dropped before it. A line break, with the prefix of the next line, is a newline.
 #[tactic(auto, unfolding(crate::specs::Pairs::label_of))]
 pub fn label_of(alloc: Global, text: &[u8], tokens: &[(usize, Item)]) -> Result<Vec<u8>, AllocError>
     ensures { IfOk result (λ label. label.items ≡ label_of text.now tokens.now) }
@@ -20,7 +20,7 @@ pub fn label_of(alloc: Global, text: &[u8], tokens: &[(usize, Item)]) -> Result<
     Ok(label)
 }
 
-// Appends what a token is in a label (CommonMark 6.7, 6.8).
+// Appends the form of a token in a label (CommonMark 6.7, 6.8).
 fn append_part(label: &mut Vec<u8>, text: &[u8], token: Item) -> Result<(), AllocError>
     ensures { OnOk result (label.new.items ≡ label.old.items ++ label_part text.now token) }
 {
@@ -32,7 +32,7 @@ fn append_part(label: &mut Vec<u8>, text: &[u8], token: Item) -> Result<(), Allo
     }
 }
 
-// Where a token begins, with the backslash that was dropped before it (CommonMark 2.4).
+// The start of a token, including the backslash that was dropped before it (CommonMark 2.4).
 fn whole_start(token: Item) -> usize
     ensures { result ≡ whole_start token }
 {
@@ -54,7 +54,7 @@ fn is_escaped(body: ItemBody) -> bool
     }
 }
 
-// The bytes from one offset up to another, those that there are.
+// The bytes between two offsets, as far as the text has them.
 fn bytes_between(text: &[u8], from: usize, to: usize) -> &[u8]
     ensures { result.now ≡ slice_range text.now from to }
 {

@@ -1,5 +1,5 @@
-//! The references of a text by label, as a documentation checker needs them: pairs of brackets whose label a link
-//! definition has, listed beside the link definitions and the footnotes.
+//! The references of a text by label, for documentation checkers: pairs of brackets whose label has a link definition.
+//! Also lists the link definitions and the footnotes.
 #![tactic(auto)]
 
 pub mod label;

@@ -14,7 +14,7 @@ use first_pass_printed::links::append_link;
 use first_pass_printed::node::{append_range, append_visible};
 use std::alloc::{AllocError, Global};
 
-/// Appends the line of a link definition: its label, its destination, its title where it has one, and its range.
+/// Appends the line of a link definition: its label, its destination, its title if it has one, and its range.
 pub fn append_definition(
     line: &mut Vec<u8>,
     label: &LabelKey<'_>,
@@ -27,7 +27,7 @@ pub fn append_definition(
     append_link(line, label, definition)
 }
 
-/// Appends the line of a footnote definition, its label and its range; nothing for another node.
+/// Appends the line of a footnote definition, with its label and its range; nothing for another node.
 pub fn append_footnote(
     line: &mut Vec<u8>,
     node: Item,
@@ -45,7 +45,7 @@ pub fn append_footnote(
     append_range(line, node.start, node.end)
 }
 
-/// Appends the line of a reference: where it leads, and its range.
+/// Appends the line of a reference: its destination and its range.
 pub fn append_reference(line: &mut Vec<u8>, reference: &LinkReference<'_>) -> Result<(), AllocError>
     ensures { OnOk result (line.new.items ≡ line.old.items ++ reference_line (reference_of reference.now)) }
 {

@@ -1,4 +1,4 @@
-//! The pairs of brackets whose label a link definition has.
+//! The pairs of brackets whose label has a link definition.
 
 ghost use Rattle.std.specs.Prelude.{◌≡◌, ◌≤◌, length, IfOk};
 ghost use Rattle.std.specs.List.{prefix_len};
@@ -15,8 +15,8 @@ use std::alloc::{AllocError, Global};
 use std::ops::DerefStr;
 use std::str;
 
-/// A pair of brackets whose label a link definition has: its range, as offsets into the text, brackets and the `!` of
-/// an image included, and the destination of the first definition of that label.
+/// A pair of brackets whose label has a link definition: its range as offsets into the text, with its brackets and the
+/// `!` of an image, and the destination of the first definition of that label.
 #[derive(Clone, Copy)]
 pub struct LinkReference<'d> {
     pub start: usize,
@@ -24,10 +24,10 @@ pub struct LinkReference<'d> {
     pub dest: &'d str,
 }
 
-/// The reference that the first of these nodes begins: those of the text's tree in reading order, each with its depth,
-/// from some node on, as `Tree::nodes` lends them. `None` where that node is no opening bracket, where the next
-/// bracket in its block doesn't close, or where no link definition has the label between the two. The one error is
-/// that a request for memory was refused (CommonMark 6.3).
+/// Returns the reference that begins with the first of these nodes. `nodes` is a suffix of the text's nodes in reading
+/// order, each with its depth, as `Tree::nodes` returns them. Returns `None` if that node is no opening bracket, or if
+/// the next bracket in its block is no closing one. Also returns `None` if the label between the two has no link
+/// definition. Fails only if an allocation fails (CommonMark 6.3).
 pub fn reference_at<'d>(
     alloc: Global,
     text: &str,
@@ -65,15 +65,15 @@ fn opens(body: ItemBody) -> bool
     matches!(body, ItemBody::MaybeLinkOpen | ItemBody::MaybeImage)
 }
 
-// Whether a token is a bracket that may close one.
+// Whether a token is a bracket that may close a link or an image.
 fn closes(body: ItemBody) -> bool
     ensures { result ≡ closes body }
 {
     matches!(body, ItemBody::MaybeLinkClose(_))
 }
 
-// What an opening bracket of this depth makes a pair with, of the nodes after it: the tokens of its block up to the
-// next bracket there, and that bracket, where it closes.
+// The rest of the pair that begins with an opening bracket at this depth, among the nodes after it: the tokens of its
+// block up to the next bracket, and that bracket, if it is a closing one.
 fn pair_after(depth: usize, nodes: &[(usize, Item)]) -> Option<(&[(usize, Item)], Item)>
     ensures { option_map (λ pair. (pair.0.now, pair.1)) result ≡ pair_after depth nodes.now }
 {
@@ -81,7 +81,7 @@ fn pair_after(depth: usize, nodes: &[(usize, Item)]) -> Option<(&[(usize, Item)]
     closed_by(depth, &nodes[..count], nodes.get(count))
 }
 
-// How many of the nodes stand before the first that isn't a token of the chain at this depth, or is a bracket of it.
+// The number of nodes before the first that isn't a token of the chain at this depth, or is a bracket in it.
 fn inside_count(depth: usize, nodes: &[(usize, Item)]) -> usize
     ensures value { result ≡ prefix_len (is_inside depth) nodes.now }
     ensures within { result ≤ length nodes.now }
@@ -92,7 +92,7 @@ fn inside_count(depth: usize, nodes: &[(usize, Item)]) -> usize
         .count()
 }
 
-// These tokens and the node after them, where that is a closing bracket of the chain at this depth.
+// These tokens and the node after them, if that is a closing bracket of the chain at this depth.
 fn closed_by<'n>(
     depth: usize,
     tokens: &'n [(usize, Item)],
@@ -111,14 +111,14 @@ fn closed_by<'n>(
     }
 }
 
-// Whether a node is a token of the chain at this depth, and no bracket of it.
+// Whether a node is a token of the chain at this depth other than a bracket.
 fn is_inside(depth: usize, node: (usize, Item)) -> bool
     ensures { result ≡ is_inside depth node }
 {
     node.0 == depth && !opens(node.1.body) && !closes(node.1.body)
 }
 
-// The link definition of a label, given with the `]` that ends it (CommonMark 4.7, 6.3).
+// The link definition of a label, which is given with the `]` that ends it (CommonMark 4.7, 6.3).
 fn link_named<'d, 'a>(
     alloc: Global,
     label: &[u8],

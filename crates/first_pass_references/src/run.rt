@@ -12,7 +12,7 @@ use first_pass_run::report::{Report, run_report};
 use std::alloc::Global;
 use std::io::{Read, Write};
 
-/// The link definitions of a text, its footnote definitions and its references.
+/// The report of the program `links`: the link definitions, footnote definitions and references of a text.
 pub struct ListedLinks;
 
 impl Report for ListedLinks {
@@ -30,15 +30,15 @@ impl Report for ListedLinks {
     }
 }
 
-/// Reads the input to its end and writes a line for each link definition of the text, in the byte order of the
-/// foldings of their labels, and then one for each footnote definition and each reference, in reading order: a pair of
-/// brackets whose label a link definition has. Which references are links or images is not told.
-/// `words` are those after the program's name (see `parse_options`).
+/// Reads the input to its end and writes a line for each link definition of the text, in the byte order of their
+/// folded labels. Then writes one for each footnote definition and each reference, in reading order. A reference is a
+/// pair of brackets whose label has a link definition; it may be neither a link nor an image. `words` are those after
+/// the program's name (see `parse_options`).
 ///
-/// Faults are found in this order: the options, before the first read and without memory; the reads;
-/// UTF-8 of the whole input; the pass; the labels and the writes. `OutOfMemory` comes at the request that was refused.
-/// What was written at a fault is nothing, or a beginning of the whole output. Reader and writer are lent,
-/// so that what they hold at the end can be said.
+/// Faults are found in this order: the options, before the first read and without an allocation; the reads; UTF-8 of
+/// the whole input; the pass; the labels and the writes. `OutOfMemory` is found at the allocation that fails. After a
+/// fault, nothing or a beginning of the whole output was written. Reader and writer are borrowed, so that the contract
+/// can describe their final state.
 pub fn links_run<R: Read, W: Write>(
     alloc: Global,
     words: &[String],

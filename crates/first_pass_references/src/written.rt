@@ -1,4 +1,4 @@
-//! The lines of a text's link definitions, footnote definitions and references, written.
+//! Writes the lines of a text's link definitions, footnote definitions and references.
 
 ghost use Rattle.std.specs.Prelude.{◌≡◌, ◌++◌, drop, OnOk};
 ghost use Rattle.first_pass_host.specs.Streams.{WritesText, stream_between};
@@ -14,9 +14,9 @@ use first_pass_names::items::Allocations;
 use std::alloc::{AllocError, Global};
 use std::io::Write;
 
-/// Writes a line for each link definition, in the order of their table, and one for each footnote definition and each
-/// reference among the nodes of the text's tree, in reading order. A fault is `WriteFailed`, or `OutOfMemory` if a
-/// request was refused; a beginning of the lines may be written then.
+/// Writes a line for each link definition, in the order of their table. Then writes one for each footnote definition
+/// and each reference among the nodes of the text's tree, in reading order. Fails with `WriteFailed`, or with
+/// `OutOfMemory` if an allocation fails; then a beginning of the lines may be written.
 pub fn write_links<W: Write>(
     alloc: Global,
     text: &str,
@@ -41,14 +41,14 @@ pub fn write_links<W: Write>(
     )
 }
 
-// The nodes from a place on.
+// The nodes from an index on.
 fn nodes_from(nodes: &[(usize, Item)], first: usize) -> &[(usize, Item)]
     ensures { result.now ≡ drop first nodes.now }
 {
     nodes.get(first..).unwrap_or(&[])
 }
 
-// Appends the line of the first of these nodes, where it is a footnote definition or begins a reference.
+// Appends the line of the first of these nodes, if it is a footnote definition or begins a reference.
 fn append_first(
     alloc: Global,
     line: &mut Vec<u8>,

@@ -6,7 +6,7 @@ use Rattle.first_pass_items.specs.declared.item.Item.{Item}
 use Rattle.first_pass_references.specs.Pairs.{closed_by}
 use Rattle.first_pass_references.proofs.reference.pair_after.Goals as goal
 
--- what `get` gives is what stands there
+-- `get` returns the element at the index
 got : (nodes : List (ℕ × Item)) (i : ℕ) (r : Option (Bor (ℕ × Item))) → IfSome r (λ x. x.now ≡ get_or nodes i x.now)
     → MatchOption r (length nodes ≤ i) (λ x. (i < length nodes) × HoldsAt (λ y. x.now ≡ y) nodes i) → option_copied r ≡ slice_get nodes i
 got nodes i None read beyond = sym (slice_get_past nodes i beyond)
