@@ -1,4 +1,4 @@
--- How the level and the attributes of a heading are printed (this project).
+-- The printed form of the level and the attributes of a heading (this project).
 use Rattle.std.specs.Prelude.{ℕ, Option, None, Some, List, [], ◌++◌, codes, decimal}
 use Rattle.std.specs.List.{flat_map}
 use Rattle.first_pass_items.specs.declared.item.HeadingLevel.{HeadingLevel}
@@ -6,37 +6,37 @@ use Rattle.first_pass_lines.specs.Lines.{level_number}
 use Rattle.first_pass_attributes.specs.Attributes.{Attributes}
 use Rattle.first_pass_printed.specs.Visible.{enclosed, visible}
 
--- an id after `#`, where there is one, with a comma before it (this project)
+-- an id after a comma and `#`, if there is one (this project)
 abbrev pub id_value : Option (List ℕ) → List ℕ
 id_value None = []
 id_value (Some id) = codes ",#" ++ visible id
 
--- a class after `.`, with a comma before it (this project)
+-- a class after a comma and `.` (this project)
 abbrev pub class_value : List ℕ → List ℕ
 class_value class = codes ",." ++ visible class
 
--- classes so, in their order
+-- classes in this form, in their order
 unfoldable pub class_values : List (List ℕ) → List ℕ
 class_values classes = flat_map class_value classes
 
--- the value of a key after `=`, where it has one (this project)
+-- the value of a key after `=`, if it has one (this project)
 abbrev pub value_behind_key : Option (List ℕ) → List ℕ
 value_behind_key None = []
 value_behind_key (Some value) = codes "=" ++ visible value
 
--- a key and its value, with a comma before them (this project)
+-- a key and its value, after a comma (this project)
 abbrev pub key_value : List ℕ × Option (List ℕ) → List ℕ
 key_value pair = codes "," ++ visible pair.0 ++ value_behind_key pair.1
 
--- keys so, in their order
+-- keys in this form, in their order
 unfoldable pub key_values : List (List ℕ × Option (List ℕ)) → List ℕ
 key_values pairs = flat_map key_value pairs
 
--- the attributes of a heading: its id, then its classes, then its keys, each with a comma before it (this project)
+-- the attributes of a heading: its id, then its classes, then its keys, each after a comma (this project)
 abbrev pub attribute_values : Option Attributes → List ℕ
 attribute_values None = []
 attribute_values (Some given) = id_value given.id ++ class_values given.classes ++ key_values given.attrs
 
--- the values of a heading in parentheses: its level, and its attributes after it (this project)
+-- the values of a heading in parentheses: its level, then its attributes (this project)
 abbrev pub heading_values : HeadingLevel → Option Attributes → List ℕ
 heading_values level attributes = enclosed (decimal (level_number level) ++ attribute_values attributes)

@@ -1,4 +1,4 @@
--- How the nodes of a tree and the link definitions of a text are printed (this project).
+-- The printed form of a tree's nodes and of a text's link definitions (this project).
 use Rattle.std.specs.Prelude.{ℕ, zero, suc, ◌==◌, slice_get, Bool, true, false, Option, None, Some, List, [], ◌∷◌, ◌++◌, codes, decimal, encode_utf8, bit_and}
 use Rattle.std.specs.Prelude.{if◌then◌else◌}
 use Rattle.std.specs.List.{flat_map}
@@ -24,7 +24,7 @@ pub use Rattle.first_pass_printed.specs.Visible.{enclosed, visible_byte, visible
 use Rattle.first_pass_printed.specs.HeadingValues.{heading_values}
 use Rattle.std.specs.Option.{option_and_then}
 
--- the name of what a node is
+-- the name of a node's kind
 abbrev pub name_of : ItemBody → List ℕ
 name_of Root = codes "Root"
 name_of Paragraph = codes "Paragraph"
@@ -85,7 +85,7 @@ abbrev pub metadata_name : MetadataBlockKind → List ℕ
 metadata_name YamlStyle = codes "YamlStyle"
 metadata_name PlusesStyle = codes "PlusesStyle"
 
--- the values of a block other than a heading, in parentheses where it has any
+-- the values of a block other than a heading, in parentheses; nothing if it has none
 abbrev pub block_values : ItemBody → List ℕ
 block_values (BlockQuote (Some kind)) = enclosed (quote_name kind)
 block_values (ListBody flags byte number) = enclosed (list_name flags ++ codes "," ++ (byte ∷ []) ++ codes "," ++ decimal number)
@@ -95,7 +95,7 @@ block_values (DefinitionList flags) = enclosed (list_name flags)
 block_values (DefinitionListDefinition indent) = enclosed (decimal indent)
 block_values _ = []
 
--- the values of a token, in parentheses where it has any
+-- the values of a token, in parentheses; nothing if it has none
 abbrev pub token_values : ItemBody → List ℕ
 token_values (Text true) = enclosed (codes "escaped")
 token_values (HardBreak by_backslash) = enclosed (flag_name by_backslash)
@@ -120,16 +120,17 @@ alignment_sign Left = codes "l"
 alignment_sign Center = codes "c"
 alignment_sign Right = codes "r"
 
--- the signs of columns, a comma before each
+-- the signs of columns, each after a comma
 unfoldable pub signs_behind : List Alignment → List ℕ
 signs_behind columns = flat_map (λ column. codes "," ++ alignment_sign column) columns
 
--- the signs of a table's columns, a comma between two
+-- the signs of a table's columns, separated by commas
 abbrev pub alignment_signs : List Alignment → List ℕ
 alignment_signs [] = []
 alignment_signs (first ∷ others) = alignment_sign first ++ signs_behind others
 
--- what an item names by its index, in parentheses where it has one: a text, the signs of a table's columns, or the attributes of a heading, after its level
+-- the entry of a node's index, in parentheses: a text, the signs of a table's columns, or the level of a heading and
+-- its attributes; nothing for other nodes
 abbrev pub named_values : Names → ItemBody → List ℕ
 named_values names (FencedCodeBlock ix) = enclosed (visible (text_named names ix))
 named_values names (FootnoteDefinition ix) = enclosed (visible (text_named names ix))
@@ -138,27 +139,28 @@ named_values names (Table ix) = enclosed (alignment_signs (alignments_named name
 named_values names (Heading level ix) = heading_values level (option_and_then (λ at. slice_get names.headings at.0) ix)
 named_values names _ = []
 
--- what a node is: its name, its values and what it names
+-- the kind of a node: its name, its values and the entry of its index
 abbrev pub body_text : Names → ItemBody → List ℕ
 body_text names body = name_of body ++ block_values body ++ token_values body ++ named_values names body
 
--- a range after a space, and the end of its line
+-- a range after a space, and a newline
 abbrev pub range_text : ℕ → ℕ → List ℕ
 range_text start e = codes " " ++ decimal start ++ codes ".." ++ decimal e ++ codes "\n"
 
--- the line of a node: two spaces a level of depth, what it is, and its range
+-- the line of a node: two spaces for each level of depth, its kind, and its range
 abbrev pub node_line : Names → ℕ × Item → List ℕ
 node_line names node = indentation node.0 ++ body_text names node.1.body ++ range_text node.1.start node.1.«end»
 
--- a title in quotation marks after a space, where there is one
+-- a title in quotation marks after a space, if there is one
 abbrev pub title_text : Option (List ℕ) → List ℕ
 title_text None = []
 title_text (Some title) = codes " \"" ++ visible title ++ codes "\""
 
--- the line of a link definition: its label as it is spelled, its destination, its title where it has one, and its range (CommonMark 4.7)
+-- the line of a link definition: its label as it is spelled, its destination, its title if it has one, and its range
+-- (CommonMark 4.7)
 abbrev pub link_line : LinkEntry → List ℕ
 link_line link = codes "[" ++ link.label ++ codes "]: " ++ visible link.dest ++ title_text link.title ++ range_text link.start link.«end»
 
--- the lines of a tree's nodes, and after them those of the link definitions, in the order of their table
+-- the lines of a tree's nodes, then those of the link definitions, in the order of their table
 abbrev pub printed_lines : Names → List (ℕ × Item) → Tables → List ℕ
 printed_lines names nodes tables = flat_map (node_line names) nodes ++ flat_map link_line tables.links

@@ -1,4 +1,4 @@
-//! How the level and the attributes of a heading are printed.
+//! The printed form of the level and the attributes of a heading.
 
 ghost use Rattle.std.specs.Prelude.{◌≡◌, ◌++◌, OnOk, map};
 ghost use Rattle.std.specs.Option.{option_map};
@@ -12,7 +12,7 @@ use first_pass_items::item::HeadingLevel;
 use first_pass_lines::lines::level_number;
 use std::alloc::AllocError;
 
-/// Appends the values of a heading in parentheses: its level, and after it its attributes, if it has any.
+/// Appends the values of a heading in parentheses: its level, then its attributes, if it has any.
 pub fn append_heading(
     line: &mut Vec<u8>,
     level: HeadingLevel,
@@ -98,7 +98,7 @@ fn append_value(line: &mut Vec<u8>, value: Option<&str>) -> Result<(), AllocErro
     }
 }
 
-/// Appends the bytes of a sign, and after them a text.
+/// Appends the bytes of a sign, then a text.
 fn append_behind(line: &mut Vec<u8>, sign: &[u8], text: &str) -> Result<(), AllocError>
     ensures { OnOk result (line.new.items ≡ line.old.items ++ sign.now ++ visible text.now) }
 {

@@ -1,4 +1,4 @@
-//! How a link definition is printed.
+//! The printed form of a link definition.
 
 ghost use Rattle.std.specs.Prelude.{◌≡◌, ◌++◌, OnOk, codes};
 ghost use Rattle.first_pass_items.specs.CowText.{text_of};
@@ -13,8 +13,8 @@ use first_pass_labels::label_table::LinkDef;
 use std::alloc::AllocError;
 use std::ops::DerefStr;
 
-/// Appends the line of a link definition: its label, where it leads, its title where it has one, and its range
-/// (CommonMark 4.7). The one error is that a request for memory was refused.
+/// Appends the line of a link definition: its label, its destination, its title if it has one, and its range
+/// (CommonMark 4.7). Fails only if an allocation fails.
 pub fn append_link(
     line: &mut Vec<u8>,
     label: &LabelKey<'_>,

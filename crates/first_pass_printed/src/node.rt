@@ -1,4 +1,4 @@
-//! How a node of a tree is printed.
+//! The printed form of a node.
 
 ghost use Rattle.std.specs.Option.{option_map, option_and_then};
 ghost use Rattle.std.specs.Prelude.{◌≡◌, ◌++◌, ◌∷◌, [], OnOk, codes, decimal, encode_utf8, slice_get};
@@ -18,7 +18,7 @@ use first_pass_names::items::Allocations;
 use itoa::{Buffer, Integer};
 use std::alloc::AllocError;
 
-/// Appends the line of a node: two spaces for each level of its depth, what it is, and its range.
+/// Appends the line of a node: two spaces for each level of its depth, its kind, and its range.
 pub fn append_node(
     line: &mut Vec<u8>,
     depth: usize,
@@ -32,7 +32,7 @@ pub fn append_node(
     append_range(line, item.start, item.end)
 }
 
-/// Appends a space, a range and the end of its line.
+/// Appends a space, a range and a newline.
 pub fn append_range(line: &mut Vec<u8>, start: usize, end: usize) -> Result<(), AllocError>
     ensures { OnOk result (line.new.items ≡ line.old.items ++ range_text start end) }
 {
@@ -63,7 +63,7 @@ pub fn append_number<I: Integer>(line: &mut Vec<u8>, number: I) -> Result<(), Al
     line.extend_from_slice(digits.format(number).as_bytes())
 }
 
-/// Appends what a node is: its name, its values and what it names.
+/// Appends the kind of a node: its name, its values and the entry of its index.
 fn append_body(
     line: &mut Vec<u8>,
     body: ItemBody,
@@ -77,7 +77,7 @@ fn append_body(
     append_named(line, body, allocs)
 }
 
-/// Appends in parentheses what a node names by its index, if it has one.
+/// Appends the entry of a node's index in parentheses, if it has one.
 fn append_named(
     line: &mut Vec<u8>,
     body: ItemBody,
@@ -95,7 +95,7 @@ fn append_named(
     }
 }
 
-/// The attributes of a heading that it names by this index; `None` where it has no index, or one that names none.
+/// Returns the attributes of a heading with this index; `None` if there is no index, or no entry for it.
 pub fn attributes_at<'a, 'b>(
     allocs: &'b Allocations<'a>,
     ix: Option<HeadingIndex>,
@@ -109,7 +109,7 @@ pub fn attributes_at<'a, 'b>(
     }
 }
 
-/// Appends a text in parentheses, a backslash, a newline and a carriage return in it as `\\`, `\n` and `\r`.
+/// Appends a text in parentheses, with a backslash, a newline and a carriage return escaped as `\\`, `\n` and `\r`.
 fn append_text(line: &mut Vec<u8>, text: &str) -> Result<(), AllocError>
     ensures { OnOk result (line.new.items ≡ line.old.items ++ enclosed (visible text.now)) }
 {
@@ -119,7 +119,7 @@ fn append_text(line: &mut Vec<u8>, text: &str) -> Result<(), AllocError>
     Ok(())
 }
 
-/// Appends bytes, a backslash, a newline and a carriage return among them as `\\`, `\n` and `\r`.
+/// Appends bytes, with a backslash, a newline and a carriage return escaped as `\\`, `\n` and `\r`.
 #[tactic(auto, unfolding(crate::specs::Visible::visible))]
 pub fn append_visible(line: &mut Vec<u8>, bytes: &[u8]) -> Result<(), AllocError>
     ensures { OnOk result (line.new.items ≡ line.old.items ++ visible bytes.now) }
@@ -130,7 +130,7 @@ pub fn append_visible(line: &mut Vec<u8>, bytes: &[u8]) -> Result<(), AllocError
     Ok(())
 }
 
-/// Appends a byte so.
+/// Appends a byte in this form.
 fn append_byte(line: &mut Vec<u8>, byte: u8) -> Result<(), AllocError>
     ensures { OnOk result (line.new.items ≡ line.old.items ++ visible_byte byte) }
 {
@@ -222,7 +222,7 @@ fn append_list(
     Ok(())
 }
 
-/// Appends whether a run can open and close, after other values.
+/// Appends whether a delimiter run can open and close, after other values.
 fn append_sides(line: &mut Vec<u8>, can_open: bool, can_close: bool) -> Result<(), AllocError>
     ensures { OnOk result (line.new.items
         ≡ line.old.items ++ codes "," ++ flag_name can_open ++ codes "," ++ flag_name can_close ++ codes ")") }
@@ -302,7 +302,7 @@ fn append_character(line: &mut Vec<u8>, character: char) -> Result<(), AllocErro
     append_word(line, character.encode_utf8(&mut buffer))
 }
 
-/// `true` or `false`.
+/// Returns `true` or `false` as a word.
 pub fn flag_name(flag: bool) -> &'static str
     ensures { result.now ≡ flag_name flag }
 {
@@ -320,7 +320,7 @@ fn list_name(flags: ListFlags) -> &'static str
     }
 }
 
-/// The kind of a block quote, as `Note` or `Caution`.
+/// Returns the kind of a block quote as a word, for example `Note`.
 pub fn quote_name(kind: BlockQuoteKind) -> &'static str
     ensures { result.now ≡ quote_name kind }
 {
@@ -333,7 +333,7 @@ pub fn quote_name(kind: BlockQuoteKind) -> &'static str
     }
 }
 
-/// The kind of a metadata block: `YamlStyle` or `PlusesStyle`.
+/// Returns the kind of a metadata block: `YamlStyle` or `PlusesStyle`.
 pub fn metadata_name(kind: MetadataBlockKind) -> &'static str
     ensures { result.now ≡ metadata_name kind }
 {
@@ -343,7 +343,7 @@ pub fn metadata_name(kind: MetadataBlockKind) -> &'static str
     }
 }
 
-/// The name of what a node is, as `blocks` prints it.
+/// Returns the name of a node's kind, as `blocks` prints it.
 pub fn body_name(body: ItemBody) -> &'static str
     ensures { result.now ≡ name_of body }
 {

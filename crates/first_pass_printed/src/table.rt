@@ -1,4 +1,4 @@
-//! How the alignments of a table's columns are printed.
+//! The printed form of the alignments of a table's columns.
 
 ghost use Rattle.std.specs.Prelude.{◌≡◌, ◌++◌, OnOk};
 ghost use Rattle.first_pass_printed.specs.Printed.{alignment_sign, signs_behind, alignment_signs, enclosed};
@@ -6,7 +6,7 @@ ghost use Rattle.first_pass_printed.specs.Printed.{alignment_sign, signs_behind,
 use first_pass_items::item::Alignment;
 use std::alloc::AllocError;
 
-/// Appends the signs of a table's columns in parentheses, a comma between two (GFM 4.10).
+/// Appends the signs of a table's columns in parentheses, separated by commas (GFM 4.10).
 pub fn append_alignments(line: &mut Vec<u8>, alignments: &[Alignment]) -> Result<(), AllocError>
     ensures { OnOk result (line.new.items ≡ line.old.items ++ enclosed (alignment_signs alignments.now)) }
 {
@@ -16,7 +16,7 @@ pub fn append_alignments(line: &mut Vec<u8>, alignments: &[Alignment]) -> Result
     Ok(())
 }
 
-/// Appends the signs of columns, a comma between two.
+/// Appends the signs of columns, separated by commas.
 fn append_signs(line: &mut Vec<u8>, alignments: &[Alignment]) -> Result<(), AllocError>
     ensures { OnOk result (line.new.items ≡ line.old.items ++ alignment_signs alignments.now) }
 {
@@ -29,7 +29,7 @@ fn append_signs(line: &mut Vec<u8>, alignments: &[Alignment]) -> Result<(), Allo
     }
 }
 
-/// Appends the signs of columns, a comma before each.
+/// Appends the signs of columns, each after a comma.
 #[tactic(auto, unfolding(crate::specs::Printed::signs_behind))]
 fn append_signs_behind(line: &mut Vec<u8>, alignments: &[Alignment]) -> Result<(), AllocError>
     ensures { OnOk result (line.new.items ≡ line.old.items ++ signs_behind alignments.now) }

@@ -1,4 +1,4 @@
-//! The lines of a tree and of its link definitions, written.
+//! Writes the lines of a tree and of its link definitions.
 
 ghost use Rattle.first_pass_names.specs.TableEntries.{names_of, tables_of};
 ghost use Rattle.first_pass_printed.specs.Printed.{printed_lines};
@@ -14,9 +14,8 @@ use first_pass_tree::forest::Tree;
 use std::alloc::Global;
 use std::io::Write;
 
-/// Writes the lines of all nodes and, after them, those of the link definitions, in the byte order of the foldings of
-/// their labels. A fault is `WriteFailed`, or `OutOfMemory` if a request was refused; a beginning of the lines may be
-/// written then.
+/// Writes the lines of all nodes, then those of the link definitions, in the byte order of their folded labels. Fails
+/// with `WriteFailed`, or with `OutOfMemory` if an allocation fails; then a beginning of the lines may be written.
 pub fn write_lines<W: Write>(
     alloc: Global,
     nodes: &[(usize, Item)],
