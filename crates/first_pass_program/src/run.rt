@@ -12,8 +12,8 @@ use first_pass_run::report::{Report, run_report};
 use std::alloc::Global;
 use std::io::{Read, Write};
 
-/// The tree of a text's blocks, one node a line in reading order, and then each of its link definitions, one a line in
-/// the byte order of the foldings of their labels.
+/// The report of the program `blocks`: a line for each node of a text's tree of blocks, in reading order, then one for
+/// each link definition, in the byte order of their folded labels.
 pub struct PrintedBlocks;
 
 impl Report for PrintedBlocks {
@@ -31,14 +31,14 @@ impl Report for PrintedBlocks {
     }
 }
 
-/// Reads the input to its end and writes the tree of its blocks, one node a line in reading order, and then each of
-/// its link definitions, one a line in the byte order of the foldings of their labels.
-/// `words` are those after the program's name (see `parse_options`).
+/// Reads the input to its end and writes a line for each node of the tree of its blocks, in reading order. Then writes
+/// one for each link definition, in the byte order of their folded labels. `words` are those after the program's name
+/// (see `parse_options`).
 ///
-/// Faults are found in this order: the options, before the first read and without memory; the reads;
-/// UTF-8 of the whole input; the pass; the writes. `OutOfMemory` comes at the request that was refused.
-/// What was written at a fault is nothing, or a beginning of the whole output. Reader and writer are lent,
-/// so that what they hold at the end can be said.
+/// Faults are found in this order: the options, before the first read and without an allocation; the reads; UTF-8 of
+/// the whole input; the pass; the writes. `OutOfMemory` is found at the allocation that fails. After a fault, nothing
+/// or a beginning of the whole output was written. Reader and writer are borrowed, so that the contract can describe
+/// their final state.
 pub fn blocks_run<R: Read, W: Write>(
     alloc: Global,
     words: &[String],
