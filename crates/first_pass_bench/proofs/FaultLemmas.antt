@@ -1,4 +1,4 @@
--- What faults leave.
+-- The states after faults.
 use Rattle.std.proofs.Common.{ℕ, List, String, Result, Ok, Err, IfErr, inr}
 use Rattle.first_pass_host.specs.declared.fault.BlocksFault.{BlocksFault}
 use Rattle.first_pass_host.specs.declared.fault.BlocksFault.TheVariants.{OutOfMemory, NotUtf8, BadOptions, ReadFailed, WriteFailed}
@@ -7,7 +7,7 @@ use Rattle.first_pass_timing.specs.declared.task.Task.{Task}
 use Rattle.first_pass_timing.specs.Task.{AskFor}
 use Rattle.first_pass_bench.specs.Bench.{Leaves, LeavesText}
 
--- what a fault leaves of a text that was read to its end
+-- the state after a fault if the text was read to its end
 leaves_read : {A : Type 0} (words : List (String A)) (input clock output : Stream) (task : Task)
     → AskFor words task → (text : List ℕ) → ReadsWhole input.old input.new text
     → (fault : BlocksFault) → LeavesText fault task text clock output → Leaves fault words input clock output
@@ -25,7 +25,7 @@ leaves_read words input clock output task asked text whole WriteFailed leaves = 
   leaves = leaves;
 }
 
--- so does a result
+-- the same for a result
 pub if_leaves_read : {A V : Type 0} (words : List (String A)) (input clock output : Stream) (task : Task)
     → AskFor words task → (text : List ℕ) → ReadsWhole input.old input.new text
     → (result : Result V BlocksFault) → IfErr result (λ fault. LeavesText fault task text clock output)

@@ -1,4 +1,4 @@
--- What a run of the program `bench` reads and writes (this project).
+-- The input and the output of a run of the program `bench` (this project).
 use Rattle.std.specs.Prelude.{◌≡◌, ◌⊎◌, ℕ, List, Option, String, IsUtf8, length}
 use Rattle.std.specs.Io.KnownBytes.{Appends}
 use Rattle.first_pass_items.specs.declared.option_set.Options.{Options}
@@ -14,7 +14,7 @@ use Rattle.first_pass_timing.specs.Task.{AskFor}
 use Rattle.first_pass_timing.specs.Timing.{IsTimed}
 use Rattle.first_pass_timing.specs.Report.{report_line}
 
--- how many nodes the tree has that the block grammar derives from a text under options
+-- the number of nodes of the tree that the block grammar derives from a text under options
 pub record CountsNodes (options : Options) (text : List ℕ) (count : ℕ) : Type 0 where
   pub names : Names
   pub nodes : List (ℕ × Item)
@@ -22,7 +22,7 @@ pub record CountsNodes (options : Options) (text : List ℕ) (count : ℕ) : Typ
   pub derived : Derives (document text options names) nodes tables
   pub counted : count ≡ length nodes
 
--- the line for a task over a UTF-8 text, timed between two states of a clock
+-- the line for a task on a UTF-8 text, timed between two states of a clock
 pub record IsReported (task : Task) (text : List ℕ) (before after : Option (List ℕ)) (line : List ℕ) : Type 0 where
   pub utf8 : IsUtf8 text
   pub nodes : ℕ
@@ -32,7 +32,8 @@ pub record IsReported (task : Task) (text : List ℕ) (before after : Option (Li
   pub timed : IsTimed task.runs before after runs nanos
   pub line_is : line ≡ report_line (length text) nodes runs nanos
 
--- What a fault leaves of a text, a clock and a writer: nothing is written before the runs are made; else a beginning of the line is.
+-- The state of a text, a clock and a writer after a fault: nothing is written until the runs are done; after that, a
+-- beginning of the line.
 abbrev pub LeavesText : BlocksFault → Task → List ℕ → Stream → Stream → Type 0
 LeavesText NotUtf8 task text clock output = (IsUtf8 text → ⊥) × IsUntouched clock × IsUntouched output
 LeavesText ReadFailed task text clock output = IsUtf8 text × IsUntouched output
@@ -41,7 +42,7 @@ LeavesText WriteFailed task text clock output =
     (line : List ℕ) × IsReported task text clock.old clock.new line × AppendsFront output.old output.new line
 LeavesText BadOptions task text clock output = ⊥
 
--- the whole line of a run with these words over a reader, a clock and a writer was written
+-- a run with these words on a reader, a clock and a writer wrote the whole line
 pub record WritesReport {A : Type 0} (words : List (String A)) (input clock output : Stream) : Type 0 where
   pub task : Task
   pub asked : AskFor words task
@@ -51,7 +52,7 @@ pub record WritesReport {A : Type 0} (words : List (String A)) (input clock outp
   pub reported : IsReported task text clock.old clock.new line
   pub appended : Appends output.old output.new line
 
--- what a fault leaves of a text that was read to its end, with the task that the words ask for
+-- the state after a fault if the text was read to its end, with the task that the words request
 pub record LeavesRead {A : Type 0} (fault : BlocksFault) (words : List (String A)) (input clock output : Stream) : Type 0 where
   pub task : Task
   pub asked : AskFor words task
@@ -59,15 +60,15 @@ pub record LeavesRead {A : Type 0} (fault : BlocksFault) (words : List (String A
   pub whole : ReadsWhole input.old input.new text
   pub leaves : LeavesText fault task text clock output
 
--- a fault of the reads: the words ask for a task, and nothing is timed or written
+-- the state after a fault of the reads: the words request a task, and nothing is timed or written
 pub record LeavesUnread {A : Type 0} (words : List (String A)) (clock output : Stream) : Type 0 where
   pub task : Task
   pub asked : AskFor words task
   pub untimed : IsUntouched clock
   pub unwritten : IsUntouched output
 
--- What a fault leaves of a reader, a clock and a writer: nothing is read where the words ask for no task, and nothing timed or written before the whole text
--- is read.
+-- The state of a reader, a clock and a writer after a fault: nothing is read if the words request no task, and nothing
+-- is timed or written before the whole text is read.
 abbrev pub Leaves : {A : Type 0} → BlocksFault → List (String A) → Stream → Stream → Stream → Type 0
 Leaves BadOptions words input clock output =
     ((task : Task) → AskFor words task → ⊥) × IsUntouched input × IsUntouched clock × IsUntouched output

@@ -16,12 +16,12 @@ use std::alloc::Global;
 use std::io::{Read, Write};
 use std::str;
 
-/// Reads the input to its end, runs the pass over it as the words ask (see `parse_task`), timed by the
-/// clock, and writes the line of the least time (see `append_report`).
+/// Reads the input to its end and runs the pass on it, timed by the clock, as `words` request (see `parse_task`).
+/// Writes the line of the shortest time (see `append_report`).
 ///
-/// Faults are found in this order: the options, before the first read and without memory; the reads;
-/// UTF-8 of the whole input; the pass and the clock, which is `ReadFailed` where it can't be read; the
-/// writes. `OutOfMemory` comes at the request that was refused.
+/// Faults are found in this order: the options, before the first read and without an allocation; the reads; UTF-8 of
+/// the whole input; the pass and the clock, with `ReadFailed` if it can't be read; the writes. `OutOfMemory` is found
+/// at the allocation that fails.
 pub fn bench_run<T: TimeSource, R: Read, W: Write>(
     clock: &mut T,
     alloc: Global,
@@ -45,7 +45,7 @@ pub fn bench_run<T: TimeSource, R: Read, W: Write>(
     report_text(clock, alloc, bytes.as_slice(), task, output)
 }
 
-/// Writes the line for a text that has still to be found to be UTF-8.
+/// Writes the line for a text, after checking that the text is UTF-8.
 fn report_text<T: TimeSource, W: Write>(
     clock: &mut T,
     alloc: Global,

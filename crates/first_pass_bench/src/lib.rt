@@ -1,4 +1,4 @@
-//! The work of the program `bench`: timed runs of the pass over a text, and the line that tells of them.
+//! The work of the program `bench`: timed runs of the pass on a text, and the line that reports them.
 #![tactic(auto)]
 
 pub mod bench;

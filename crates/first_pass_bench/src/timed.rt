@@ -1,4 +1,4 @@
-//! Runs of the pass, timed.
+//! Timed runs of the pass.
 
 ghost use Rattle.std.specs.Prelude.{◌∷◌, [], IfOk, IfErr};
 ghost use Rattle.std.specs.Io.KnownBytes.{Consumes};
@@ -13,11 +13,11 @@ use first_pass_timing::clock::TimeSource;
 use first_pass_timing::timing::{Run, Timing, is_enough, read_clock};
 use std::alloc::Global;
 
-/// Runs the pass over a text as often as is asked for, and once at least; where no number is asked for,
-/// until a second has gone by and five times at least. What a run made is dropped before the next one
-/// begins. The fault is `ReadFailed` where the clock could not be read, else `OutOfMemory`.
+/// Runs the pass on a text the number of times in `asked`, and at least once. Without a number, runs it at least five
+/// times, and until one second has passed. The tree and tables of each run are dropped before the next one begins.
+/// Fails with `ReadFailed` if the clock can't be read, otherwise with `OutOfMemory`.
 ///
-/// That the pass runs between the two readings of a run, and is all that does, is not part of the contract.
+/// The contract does not state that the pass runs between the two readings of a run, or that nothing else does.
 pub fn time_runs<T: TimeSource>(
     clock: &mut T,
     alloc: Global,
@@ -45,7 +45,7 @@ pub fn time_runs<T: TimeSource>(
     Ok(timing)
 }
 
-/// Runs the pass over a text once. The tree and the tables are dropped after the second reading.
+/// Runs the pass on a text once. The tree and the tables are dropped after the second reading of the clock.
 fn run_once<T: TimeSource>(
     clock: &mut T,
     alloc: Global,
