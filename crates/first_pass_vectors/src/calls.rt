@@ -1,4 +1,4 @@
-//! Each call of the pass that may be refused memory, once with memory.
+//! Each call of the pass that allocates, once without a failing allocation.
 
 use bitflags::Flags;
 use first_pass::below::{Item, ItemBody, TreeIndex};
@@ -14,13 +14,13 @@ use std::test::Fail;
 
 const TEXT: &str = "# a\nb\\\nc";
 
-// Whether a line that doesn't continue all containers interrupts a paragraph, asked of a pass that has read nothing.
+// Whether a line that doesn't continue all containers interrupts a paragraph, for a pass that has read nothing.
 fn interrupts_lazily(alloc: Global, text: &str, line: &str) -> Result<bool, AllocError> {
     let pass = FirstPass::new(alloc, text, Options::empty())?;
     pass.scan_paragraph_interrupt(line, false, 0)
 }
 
-// How many bytes of a text that is one line stand before what continues a run of link reference definitions.
+// The number of bytes in a one-line text before its rest as the continuation of a run of link reference definitions.
 fn bytes_before_rest(alloc: Global, text: &str) -> Result<Option<usize>, AllocError> {
     let mut pass = FirstPass::new(alloc, text, Options::empty())?;
     match pass.scan_next_line_or_lazy_continuation(text.as_bytes())? {
@@ -29,26 +29,26 @@ fn bytes_before_rest(alloc: Global, text: &str) -> Result<Option<usize>, AllocEr
     }
 }
 
-// Where the first block ends.
+// The end of the first block.
 fn block_end(alloc: Global) -> Result<usize, AllocError> {
     let mut pass = FirstPass::new(alloc, TEXT, Options::empty())?;
     pass.parse_block(0)
 }
 
-// How many nodes the tree of a pass has after the first block.
+// The number of nodes in the tree after the first block.
 fn nodes_after_block(alloc: Global) -> Result<usize, AllocError> {
     let mut pass = FirstPass::new(alloc, TEXT, Options::empty())?;
     pass.parse_block(0)?;
     Ok(pass.pass.reading.tree.nodes().len())
 }
 
-// How many bytes the head of a footnote definition has that a text of one line begins with.
+// The number of bytes of the head of a footnote definition at the start of a one-line text.
 fn head_size(alloc: Global, text: &str, options: Options) -> Result<Option<usize>, AllocError> {
     let mut pass = FirstPass::new(alloc, text, options)?;
     pass.parse_footnote(0)
 }
 
-// The labels of the footnotes that a text defines, as GitHub has footnotes.
+// The labels of the footnotes that a text defines, in GitHub's form.
 fn footnote_labels(alloc: Global, text: &str) -> Result<String, AllocError> {
     let (_tree, allocs) = run_first_pass(alloc, text, Options::ENABLE_FOOTNOTES)?;
     let mut labels = String::new(alloc);
@@ -89,7 +89,7 @@ fn blocks_of_a_text(rt: HostRuntime) -> Result<(), Fail> {
     Ok(())
 }
 
-// How many paragraphs of a text that is one list are tight once all of them are made so.
+// The number of tight paragraphs in a text that is one list, after all of them are made tight.
 fn count_tightened(alloc: Global, text: &str) -> Result<usize, AllocError> {
     let (mut tree, _allocs) = run_first_pass(alloc, text, Options::empty())?;
     let list = TreeIndex(1);
@@ -120,14 +120,14 @@ fn paragraph_end(alloc: Global) -> Result<usize, AllocError> {
     pass.parse_paragraph(4, None)
 }
 
-// Where a line of a paragraph ends, and whether a break stands there.
+// The end of a line of a paragraph, and whether it has a line break.
 fn line_end(alloc: Global) -> Result<(usize, bool), AllocError> {
     let mut pass = FirstPass::new(alloc, TEXT, Options::empty())?;
     let (next, line_break) = pass.parse_line(4, Some(8), TableParseMode::Disabled)?;
     Ok((next, line_break.is_some()))
 }
 
-// How far a line with a pipe is read in a mode, and whether a break or a table is returned.
+// Where reading a line with a pipe ends in a mode, and whether it returns a line break or a table.
 fn line_read(alloc: Global, mode: TableParseMode) -> Result<(usize, bool), AllocError> {
     let mut pass = FirstPass::new(alloc, "a|b\n-|-\n", Options::ENABLE_TABLES)?;
     let (next, item) = pass.parse_line(0, None, mode)?;
@@ -142,8 +142,8 @@ fn a_line_in_each_mode(rt: HostRuntime) -> Result<(), Fail> {
     Ok(())
 }
 
-// Where reading continues after a paragraph that is added to an empty item by a call of its own, and after the
-// blank line there: the item is empty no more.
+// Where reading continues after a paragraph that its own call adds to an empty item, and after the blank line there.
+// The item is no longer empty.
 fn ends_in_an_empty_item(alloc: Global) -> Result<(usize, usize), AllocError> {
     let text = "-\n  a\n\n\nb";
     let mut pass = FirstPass::new(alloc, text, Options::empty())?;
@@ -160,7 +160,7 @@ fn rule_end(alloc: Global) -> Result<usize, AllocError> {
     pass.parse_hrule(4, 0)
 }
 
-// Where the content of a heading's text ends, and whether an id is given after it.
+// The end of the content of a heading's text, and whether its attributes have the id `x`.
 fn content_end(alloc: Global, options: Options) -> Result<(usize, bool), AllocError> {
     let pass = FirstPass::new(alloc, "a {#x}\n", options)?;
     let (end, given) = pass.extract_and_parse_heading_attribute_block(0, 6)?;

@@ -1,4 +1,4 @@
-//! What a line start takes, one call after the other, and the columns of a header row.
+//! What a line start consumes, call after call, and the columns of a header row.
 
 use first_pass_scan::line_start::LineStart;
 use first_pass_table_scan::table_scan::count_header_cols;

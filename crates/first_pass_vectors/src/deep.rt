@@ -1,4 +1,4 @@
-//! Deep texts, and how many nodes texts have.
+//! Deep texts, and the number of nodes of texts.
 
 use bitflags::Flags;
 use first_pass::below::{Item, ItemBody, Tree};
@@ -7,7 +7,7 @@ use first_pass_items::option_set::Options;
 use std::alloc::{AllocError, Global};
 use std::test::Fail;
 
-// The tree of a text that is so many times a marker, and then `a`.
+// The tree of a text that consists of a marker, repeated, and then `a`.
 fn nested(alloc: Global, marker: &str, times: usize) -> Result<Tree<Item>, AllocError> {
     let mut text = String::new(alloc);
     for _ in 0..times {
@@ -34,7 +34,7 @@ fn containers_are_nested(rt: HostRuntime) -> Result<(), Fail> {
         let item = Item { start, end, body };
         assert!(rt; nodes.get(start + 1) == Some(&(start + 1, item)), "{start}");
     }
-    // The root, the lists with an item each, the paragraph and its text.
+    // The root, the lists with one item each, the paragraph and its text.
     assert_eq!(rt; nested(rt.alloc(), "- ", 2000)?.node_count(), 4003);
     Ok(())
 }
@@ -43,7 +43,8 @@ fn containers_are_nested(rt: HostRuntime) -> Result<(), Fail> {
 fn nodes_are_counted(rt: HostRuntime) -> Result<(), Fail> {
     let (tree, _allocs) = run_first_pass(rt.alloc(), "", Options::empty())?;
     assert_eq!(rt; tree.node_count(), 1);
-    // The root, the table, the head with two cells, the row with two, and a text in each but the one that is filled in.
+    // The root, the table, the head with two cells, the row with two, and a text in each cell except the filled-in
+    // one.
     let (tree, _allocs) = run_first_pass(rt.alloc(), "a|b\n-|-\n1", Options::ENABLE_TABLES)?;
     assert_eq!(rt; tree.node_count(), 11);
     Ok(())

@@ -1,10 +1,10 @@
-//! Labels of as many characters as they may have, and of one more.
+//! Labels with the greatest permitted number of characters, and with one more.
 
 use first_pass_links::label::scan_link_label_rest;
 use std::alloc::{AllocError, Global};
 use std::test::Fail;
 
-// Whether a text of so many characters, the last of them white space, is a label.
+// Whether a text of this many characters, the last of which is white space, is a label.
 fn fits(alloc: Global, characters: usize) -> Result<bool, AllocError> {
     let mut text = String::new(alloc);
     for _ in 1..characters {

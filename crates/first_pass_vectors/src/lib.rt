@@ -1,6 +1,6 @@
-//! Each public name, each call of the pass, and deep and long texts; and what the parts below the pass give for calls
-//! one after the other, or for texts that are made by a loop: columns, long labels, what is defined under labels,
-//! walks. What is a text and its answer is a case of `scan_cases`.
+//! Each public name, each call of the pass, and deep and long texts. Also the parts below the pass, if a case needs
+//! several calls or a text built in a loop: columns, long labels, definitions under labels, walks. A case with one
+//! text and one result is in `scan_cases`.
 #![tactic(auto)]
 
 #[cfg(test)]

@@ -1,4 +1,4 @@
-//! Long texts: each is read without an error, and has so many nodes and link definitions.
+//! Long texts: each is read without an error, and has this many nodes and link definitions.
 
 use bitflags::Flags;
 use first_pass::below::{AlignmentIndex, Item, ItemBody, Tree};
@@ -8,7 +8,7 @@ use std::alloc::{AllocError, Global};
 use std::process::Abort;
 use std::test::Fail;
 
-// The pieces one after the other, each so many times.
+// The pieces one after the other, each repeated.
 fn repeated(alloc: Global, pieces: &[(&str, usize)]) -> Result<String, AllocError> {
     let mut text = String::new(alloc);
     for (piece, times) in pieces {
@@ -19,7 +19,7 @@ fn repeated(alloc: Global, pieces: &[(&str, usize)]) -> Result<String, AllocErro
     Ok(text)
 }
 
-// How many nodes such a text has, and how many link definitions.
+// The number of nodes and of link definitions of such a text.
 fn count(
     alloc: Global,
     pieces: &[(&str, usize)],
@@ -30,7 +30,7 @@ fn count(
     Ok((tree.node_count(), allocs.refdefs().iter().count()))
 }
 
-// Asserts how many nodes and link definitions texts have.
+// Asserts the number of nodes and of link definitions of texts.
 fn assert_counted(
     rt: &impl Abort,
     alloc: Global,
@@ -55,10 +55,10 @@ fn long_definitions(rt: HostRuntime) -> Result<(), Fail> {
     let cases: &[(&[(&str, usize)], usize, usize)] = &[
         // A destination of 100,000 bytes.
         (&[("[a]: ", 1), ("b", 100_000)], 1, 1),
-        // A title of as many, on one line and on many.
+        // A title of the same length, on one line and on many.
         (&[("[a]: b '", 1), ("c", 100_000), ("'", 1)], 1, 1),
         (&[("[a]: b '", 1), ("c\n", 50_000), ("'", 1)], 1, 1),
-        // A definition of as many, with both.
+        // A definition of the same length, with both.
         (definition, 1, 1),
     ];
     assert_counted(&rt, rt.alloc(), cases)
@@ -67,15 +67,15 @@ fn long_definitions(rt: HostRuntime) -> Result<(), Fail> {
 #[test]
 fn labels_of_999_characters(rt: HostRuntime) -> Result<(), Fail> {
     let cases: &[(&[(&str, usize)], usize, usize)] = &[
-        // Of several bytes; of the least and the greatest byte after a first one.
+        // Characters of several bytes; the least and the greatest byte after a first one.
         (&[("[", 1), ("a", 999), ("]: b", 1)], 1, 1),
         (&[("[", 1), ("\u{100}", 999), ("]: b", 1)], 1, 1),
         (&[("[", 1), ("\u{bf}", 999), ("]: b", 1)], 1, 1),
-        // An escape has two characters, `\r\n` too, and white space as many as it is written with.
+        // An escape is two characters, and so is `\r\n`. White space counts each character as written.
         (&[("[", 1), ("\\]", 499), ("a", 1), ("]: b", 1)], 1, 1),
         (&[("[", 1), ("a\r\n", 333), ("]: b", 1)], 1, 1),
         (&[("[a", 1), (" ", 998), ("]: b", 1)], 1, 1),
-        // Four columns before a line are a prefix, and no part of it.
+        // Four columns before a line are a prefix, and not part of the label.
         (&[("[", 1), ("a", 997), ("\n    b]: c", 1)], 1, 1),
     ];
     assert_counted(&rt, rt.alloc(), cases)
@@ -84,7 +84,7 @@ fn labels_of_999_characters(rt: HostRuntime) -> Result<(), Fail> {
 #[test]
 fn labels_of_1000_characters(rt: HostRuntime) -> Result<(), Fail> {
     let cases: &[(&[(&str, usize)], usize, usize)] = &[
-        // The root, a paragraph, the bracket, a text, the other bracket, a text.
+        // The root, a paragraph, a bracket, a text, the other bracket, a text.
         (&[("[", 1), ("a", 1000), ("]: b", 1)], 6, 0),
         (&[("[", 1), ("\u{bf}", 1000), ("]: b", 1)], 6, 0),
         (&[("[", 1), ("\u{7f}", 1000), ("]: b", 1)], 6, 0),
@@ -99,10 +99,10 @@ fn labels_of_1000_characters(rt: HostRuntime) -> Result<(), Fail> {
 
 #[test]
 fn long_paragraphs_and_tables(rt: HostRuntime) -> Result<(), Fail> {
-    // The root, the paragraph, a text each line, and a break between two.
+    // The root, the paragraph, a text for each line, and a break between two lines.
     let lines: &[(&str, usize)] = &[("a\n", 100_000)];
     assert!(rt; count(rt.alloc(), lines, Options::empty())? == (200_001, 0));
-    // The root, the table, the head and a row, each of its cells with a text.
+    // The root, the table, the head and a row, with a text in each of their cells.
     let columns: &[(&str, usize)] = &[
         ("a|", 100_000),
         ("\n", 1),
@@ -111,8 +111,8 @@ fn long_paragraphs_and_tables(rt: HostRuntime) -> Result<(), Fail> {
         ("a|", 100_000),
     ];
     assert!(rt; count(rt.alloc(), columns, Options::ENABLE_TABLES)? == (400_004, 0));
-    // The root, the table, the head, its 513 cells with a text each, 512 rows of 513 cells and a text, which is all
-    // that may be filled in, and the last line, which lacks one cell, as a paragraph with a text.
+    // The root, the table, the head, and its 513 cells with a text each. Then 512 rows of 513 cells and one text,
+    // which fill in as many cells as are permitted. The last line lacks one cell, and is a paragraph with a text.
     let filled: &[(&str, usize)] = &[
         ("a|", 513),
         ("\n", 1),
@@ -139,7 +139,7 @@ fn raw_text_without_its_end(rt: HostRuntime) -> Result<(), Fail> {
     assert_counted(&rt, rt.alloc(), cases)
 }
 
-// The tree of a table of so many columns, and of lines after its delimiter row.
+// The tree of a table with this many columns, with lines after its delimiter row.
 fn wide(alloc: Global, columns: usize, lines: &[(&str, usize)]) -> Result<Tree<Item>, AllocError> {
     let head = &[("a|", columns), ("\n", 1), ("-|", columns), ("\n", 1)];
     let mut text = repeated(alloc, head)?;
@@ -148,7 +148,7 @@ fn wide(alloc: Global, columns: usize, lines: &[(&str, usize)]) -> Result<Tree<I
     Ok(tree)
 }
 
-// How many nodes are cells that are filled in.
+// The number of filled-in cells.
 fn count_filled(tree: &Tree<Item>) -> usize {
     let is_filled = |node: &&(usize, Item)| {
         node.1.body == ItemBody::TableCell && node.1.start == node.1.end
@@ -160,22 +160,22 @@ fn item(start: usize, end: usize, body: ItemBody) -> Item {
     Item { start, end, body }
 }
 
-// Whether the node at a place is of a depth, and is this item.
+// Whether the node at an index has this depth and is this item.
 fn is_node(tree: &Tree<Item>, place: usize, depth: usize, item: Item) -> bool {
     tree.nodes().get(place) == Some(&(depth, item))
 }
 
 #[test]
 fn tables_of_1025_columns(rt: HostRuntime) -> Result<(), Fail> {
-    // The root, the table, the head, its cells with a text each, the rows with a text each, the paragraph and its text.
-    // Of 256 rows each has one cell that is not filled in, and they fill in all that may be.
+    // The root, the table, the head, its cells with a text each, the rows with a text each, the paragraph and its
+    // text. Each of the 256 rows has one cell that is not filled in, and they fill in as many as are permitted.
     let tree = wide(rt.alloc(), 1025, &[("a\n", 257)])?;
     assert_eq!(rt; tree.node_count(), 264_967);
     assert_eq!(rt; count_filled(&tree), 262_144);
     let table = ItemBody::Table(AlignmentIndex(0));
     assert!(rt; is_node(&tree, 1, 1, item(0, 4614, table)));
     assert!(rt; is_node(&tree, 264_965, 1, item(4614, 4616, ItemBody::Paragraph)));
-    // A row of all cells in the place of the paragraph.
+    // A row with all its cells in place of the paragraph.
     let tree = wide(rt.alloc(), 1025, &[("a\n", 256), ("a|", 1025), ("\n", 1)])?;
     assert_eq!(rt; tree.node_count(), 267_016);
     assert_eq!(rt; count_filled(&tree), 262_144);
@@ -184,8 +184,8 @@ fn tables_of_1025_columns(rt: HostRuntime) -> Result<(), Fail> {
     Ok(())
 }
 
-// Of 300 lines the first 262 are rows, and fill in 999 cells each; the next one would fill in more than may be. The
-// others are a paragraph of 38 texts and the breaks between them.
+// The first 262 of 300 lines are rows, and fill in 999 cells each; the next one would exceed the limit. The others are
+// a paragraph of 38 texts with breaks between them.
 #[test]
 fn a_table_of_1000_columns(rt: HostRuntime) -> Result<(), Fail> {
     let tree = wide(rt.alloc(), 1000, &[("a\n", 300)])?;
@@ -197,7 +197,7 @@ fn a_table_of_1000_columns(rt: HostRuntime) -> Result<(), Fail> {
     Ok(())
 }
 
-// In a head that interrupts a paragraph too.
+// Also in a head that interrupts a paragraph.
 #[test]
 fn footnote_labels_of_so_many_characters(rt: HostRuntime) -> Result<(), Fail> {
     let options = Options::ENABLE_FOOTNOTES;

@@ -1,5 +1,4 @@
-//! Every public name of the two library crates, by the module that hands it out: one that is missing is an error of
-//! the compiler.
+//! Every public name of the two library crates, by the module that exports it. A missing name is a compiler error.
 
 pub use first_pass::attrs::{
     extract_attribute_block_content_from_header_text, parse_inside_attribute_block,
@@ -24,12 +23,12 @@ pub use first_pass::pass::{
 };
 pub use first_pass::walk::{LoopInstruction, iterate_special_bytes, next_special, special_bytes};
 
-/// The names that a program needs first, which the root of `first_pass` hands out.
+/// The names that a program needs first, which the root of `first_pass` exports.
 pub mod root {
     pub use first_pass::{Item, ItemBody, Options, Tree, run_first_pass};
 }
 
-/// Some names of the lower crate, by its own modules: `first_pass` hands out these modules whole.
+/// Some names of the lower crate, by its own modules; `first_pass` re-exports these modules.
 pub mod lower {
     pub use first_pass_below::below::{CowStr, LineStart, Options, Tree, unescape};
     pub use first_pass_below::flank::{TableParseMode, delim_run_can_close, delim_run_can_open};

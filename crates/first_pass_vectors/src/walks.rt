@@ -1,11 +1,11 @@
-//! The walk over special bytes: where it calls.
+//! The walk over special bytes: the bytes for which it makes a call.
 
 use bitflags::Flags;
 use first_pass_items::option_set::Options;
 use first_pass_walk::walk::{LoopInstruction, iterate_special_bytes, special_bytes};
 use std::test::Fail;
 
-// The places of the calls of a walk over a text, and its answer.
+// The offsets of the calls of a walk over a text, and its result.
 fn walk(lut: &[bool; 256], bytes: &[u8], calls: &mut Vec<usize>) -> (usize, Option<usize>) {
     calls.clear();
     iterate_special_bytes(lut, bytes, 0, |at, byte| {
