@@ -1,4 +1,4 @@
-//! What the calls of a tree give one after the other, and what is said of nodes whose ranges are in order, or not.
+//! Calls of a tree in sequence, and checks of nodes whose ranges are in order or not.
 #![tactic(auto)]
 
 #[cfg(test)]

@@ -1,10 +1,10 @@
-//! The fewest pieces of which something is true.
+//! The fewest pieces for which a property holds.
 
 use first_pass_ranges::pieces::{joined, remove_pieces};
 use std::alloc::{AllocError, Global};
 use std::test::Fail;
 
-// What is left of some pieces where the text has to keep two signs, one before the other.
+// The remaining pieces, if the text has to keep two signs, one before the other.
 fn rest_of(alloc: Global, given: &[&str]) -> Result<String, AllocError> {
     let mut pieces = Vec::new(alloc);
     pieces.extend_from_slice(given)?;

@@ -1,4 +1,4 @@
-//! Nodes that are made without a text, most of them as no text gives them: whether their ranges are in order.
+//! Nodes made without a text, most of which no text has, and whether their ranges are in order.
 
 use first_pass_items::item::{AlignmentIndex, Item, ItemBody, ListFlags};
 use first_pass_ranges::breach::{Breach, Flaw};
@@ -32,11 +32,11 @@ fn markers_before_titles(rt: HostRuntime) -> Result<(), Fail> {
     let text = "- [ ] <\n  : b";
     assert!(rt; find_breach(rt.alloc(), text, titled().as_slice())? == None);
     let mut nodes = titled();
-    // It ends in its title.
+    // The marker ends in its title.
     nodes[5].1.end = 7;
     assert!(rt; find_breach(rt.alloc(), text, nodes.as_slice())? == breach(5, Flaw::TaskMarker));
     nodes = titled();
-    // It is first in no title.
+    // The marker is first, but not in a title.
     nodes[4].1.body = ItemBody::BlockQuote(None);
     assert!(rt; find_breach(rt.alloc(), text, nodes.as_slice())? == breach(5, Flaw::Outside));
     nodes = titled();
@@ -73,7 +73,7 @@ fn nodes_are_few(rt: HostRuntime) -> Result<(), Fail> {
     nodes[0] = node(0, 0, 1, ItemBody::Root);
     assert!(rt; find_breach(rt.alloc(), "a", &nodes[..5])? == None);
     assert!(rt; find_breach(rt.alloc(), "a", &nodes)? == breach(0, Flaw::TooMany));
-    // A cell that is filled into a row doesn't count, and an empty one of the head does.
+    // A cell that is filled into a row doesn't count; an empty cell of the head does.
     nodes[3] = node(1, 0, 1, ItemBody::Table(AlignmentIndex(0)));
     nodes[4] = node(2, 0, 1, ItemBody::TableRow);
     nodes[5] = node(3, 1, 1, ItemBody::TableCell);

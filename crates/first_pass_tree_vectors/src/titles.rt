@@ -1,4 +1,4 @@
-//! What follows the titles and definitions of a definition list, as a call.
+//! The call that removes what follows the titles and definitions of a definition list.
 
 use first_pass_items::item::{Item, ItemBody, ListFlags};
 use first_pass_lists::titles::fixup_end_of_definition_list;
@@ -10,7 +10,7 @@ fn item(start: usize, end: usize, body: ItemBody) -> Item {
     Item { start, end, body }
 }
 
-// A definition list up to the offset 9 with these children, each with a rule in it, after the call.
+// A definition list that ends at the offset 9 with these children, each with a rule in it, after the call.
 fn fixed_up(alloc: Global, children: &[Item]) -> Result<Tree<Item>, AllocError> {
     let mut tree = Tree::with_capacity(alloc, 8)?;
     tree.append(item(0, 9, ItemBody::DefinitionList(ListFlags::IS_TIGHT)))?;

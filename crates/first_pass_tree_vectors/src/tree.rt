@@ -1,4 +1,4 @@
-//! The calls of a tree, one after the other.
+//! The calls of a tree, in sequence.
 
 use first_pass_items::item::{AlignmentIndex, Item, ItemBody, ListFlags};
 use first_pass_tree::forest::Tree;
@@ -20,7 +20,7 @@ fn check(rt: &impl Abort, tree: &Tree<Item>, want: &[(usize, Item)], call: &str)
     assert!(rt; tree.node_count() == want.len(), "after {call}");
 }
 
-// A quote with a paragraph of two texts: the paragraph is open, and the second text is current.
+// A quote with a paragraph of two texts. The paragraph is open, and the second text is current.
 fn quote(alloc: Global) -> Result<Tree<Item>, AllocError> {
     let mut tree = Tree::with_capacity(alloc, 5)?;
     tree.append(item(0, 9, ItemBody::BlockQuote(None)))?;
@@ -128,7 +128,7 @@ fn knows_tables(rt: HostRuntime) -> Result<(), Fail> {
     Ok(())
 }
 
-// An open paragraph of three tokens, cut at the offset 6: a backslash is left of the last one.
+// An open paragraph of three tokens, cut at the offset 6. Only a backslash remains of the last one.
 fn cut_paragraph(alloc: Global) -> Result<Tree<Item>, AllocError> {
     let mut tree = Tree::with_capacity(alloc, 5)?;
     tree.append(item(0, 9, ItemBody::Paragraph))?;
