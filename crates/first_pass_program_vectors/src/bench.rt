@@ -1,4 +1,4 @@
-//! Runs under a clock that is told what to say, and each fault.
+//! Runs with a clock that has given readings, and each fault.
 
 use crate::fakes::{FailingReader, FailingWriter, Odd, Told, time};
 use first_pass_host::fault::BlocksFault;
@@ -6,10 +6,10 @@ use std::alloc::Global;
 use std::process::Abort;
 use std::test::Fail;
 
-/// A text of eight bytes, the tree of which has seven nodes.
+/// A text of eight bytes, whose tree has seven nodes.
 const TEXT: &[u8] = b"# a\nb\\\nc";
 
-/// Asserts what is written for a text by a clock that says this.
+/// Asserts the output for a text, with a clock that has these readings.
 fn assert_printed(
     rt: &(impl Abort + AllocGlobal),
     words: &[&str],
@@ -78,7 +78,7 @@ fn as_many_runs_as_are_asked_for(rt: HostRuntime) -> Result<(), Fail> {
             &[9_000_000, 8_000_000, 8_000_000, 9_234_567],
             "8 bytes, 7 nodes, best of 2 runs: 0.000 ms, 8000.0 MB/s\n",
         ),
-        // A second goes by in the first run.
+        // One second passes in the first run.
         (
             "2",
             &[0, 5_000_000_000, 5_000_000_000, 6_001_500_000],
@@ -93,7 +93,7 @@ fn as_many_runs_as_are_asked_for(rt: HostRuntime) -> Result<(), Fail> {
 
 #[test]
 fn five_runs_and_a_second(rt: HostRuntime) -> Result<(), Fail> {
-    // A second goes by in the third run.
+    // One second passes in the third run.
     let five: &[u128] = &[
         5,
         400_000_005,
@@ -108,7 +108,7 @@ fn five_runs_and_a_second(rt: HostRuntime) -> Result<(), Fail> {
         0,
         0,
     ];
-    // It has gone by just as the sixth run ends.
+    // One second has passed exactly at the end of the sixth run.
     let six: &[u128] = &[
         5,
         100_000_005,
@@ -153,7 +153,7 @@ fn input_is_utf8(rt: HostRuntime) -> Result<(), Fail> {
     Ok(())
 }
 
-// The four reads of a text of eight bytes, the last of which finds its end.
+// The four reads of a text of eight bytes; the last one finds its end.
 #[test]
 fn each_read_fails_in_turn(rt: HostRuntime) -> Result<(), Fail> {
     for fails_at in 1..6 {

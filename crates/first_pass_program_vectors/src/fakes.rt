@@ -1,4 +1,4 @@
-//! A clock, a reader and a writer over memory that can fail.
+//! A clock, a reader and a writer in memory that can fail.
 
 use first_pass_bench::bench::bench_run;
 use first_pass_host::fault::BlocksFault;
@@ -11,7 +11,7 @@ use std::alloc::{AllocError, Global};
 use std::io;
 use std::io::{ErrorKind, Read, Write};
 
-/// A clock that says what it is told to, and fails after that.
+/// A clock with given readings, which fails after them.
 #[derive(Drop)]
 pub struct Told<'a> {
     pub left: &'a [u128],
@@ -34,17 +34,17 @@ impl TimeSource for Told<'_> {
     }
 }
 
-/// What the one read or write does that is unlike the others.
+/// What the one odd read or write does.
 #[derive(Clone, Copy, PartialEq, Eq, Debug)]
 pub enum Odd {
     Fails,
-    /// It moves one byte where there are more.
+    /// It moves one byte although there are more.
     IsShort,
-    /// It takes no byte. A read that gives none has found the end.
+    /// It moves no byte. A read of no bytes means the end.
     TakesNothing,
 }
 
-/// A reader of bytes that gives at most `step` of them at a time, and is odd at the read of that number.
+/// A reader that returns at most `step` bytes at a time, and is odd at the read with the number `odd_at`.
 #[derive(Drop)]
 pub struct FailingReader<'a> {
     pub rest: &'a [u8],
@@ -55,7 +55,7 @@ pub struct FailingReader<'a> {
 }
 
 impl FailingReader<'_> {
-    /// One whose odd read fails.
+    /// A reader whose odd read fails.
     pub fn new(rest: &[u8], step: usize, odd_at: usize) -> FailingReader<'_> {
         FailingReader {
             rest,
@@ -84,7 +84,7 @@ impl Read for FailingReader<'_> {
     }
 }
 
-/// A writer that takes at most `step` bytes at a time, and is odd at the write of that number.
+/// A writer that takes at most `step` bytes at a time, and is odd at the write with the number `odd_at`.
 #[derive(Drop)]
 pub struct FailingWriter {
     pub bytes: Vec<u8>,
@@ -95,7 +95,7 @@ pub struct FailingWriter {
 }
 
 impl FailingWriter {
-    /// One whose odd write fails.
+    /// A writer whose odd write fails.
     pub fn new(alloc: Global, step: usize, odd_at: usize) -> FailingWriter {
         FailingWriter {
             bytes: Vec::new(alloc),
@@ -121,13 +121,13 @@ impl Write for FailingWriter {
         Ok(count)
     }
 
-    // Nothing is held back here, so a run that asks for a flush would fail for no reason.
+    // This writer has no buffer, so a run that flushes it fails although nothing is wrong.
     fn flush(&mut self) -> io::Result<()> {
         Err(io::Error::from(ErrorKind::Other))
     }
 }
 
-// The words as a program has them.
+// The words in the form that a program receives.
 fn words_of(alloc: Global, words: &[&str]) -> Result<Vec<String>, AllocError> {
     let mut list = Vec::new(alloc);
     for word in words {
@@ -136,7 +136,7 @@ fn words_of(alloc: Global, words: &[&str]) -> Result<Vec<String>, AllocError> {
     Ok(list)
 }
 
-/// A program that writes what it says of a text.
+/// A program that writes a report of a text.
 #[derive(Clone, Copy)]
 pub enum Program {
     Blocks,
@@ -145,7 +145,7 @@ pub enum Program {
     Tree,
 }
 
-/// Runs the work of a program on these words. An error where memory for the words is refused.
+/// Runs the work of a program with these words. Fails if the allocation of the words fails.
 pub fn run(
     alloc: Global,
     program: Program,
@@ -163,7 +163,7 @@ pub fn run(
     })
 }
 
-/// Runs the work of `bench` on these words. An error where memory for the words is refused.
+/// Runs the work of `bench` with these words. Fails if the allocation of the words fails.
 pub fn time(
     alloc: Global,
     words: &[&str],

@@ -1,4 +1,4 @@
-//! Each fault of a run, and what is written before it.
+//! Each fault of a run, and the output before it.
 
 use crate::fakes::{FailingReader, FailingWriter, Odd, Program, run};
 use first_pass_host::fault::BlocksFault;
@@ -17,7 +17,7 @@ fn long_text(alloc: Global) -> Result<Vec<u8>, AllocError> {
     Ok(text)
 }
 
-// What a run without options writes for a text that is read so many bytes at a time.
+// The output of a run without options for a text that is read `step` bytes at a time.
 fn write(
     alloc: Global,
     text: &[u8],
@@ -97,8 +97,8 @@ fn each_read_fails_in_turn(rt: HostRuntime) -> Result<(), Fail> {
     Ok(())
 }
 
-// Has each write in turn be odd of what a run without options writes for a text, so many bytes at a time, until no
-// write is: how many writes there are.
+// Makes each write in turn odd in a run without options, until no write is. Writes have at most `step` bytes. Returns
+// the number of writes.
 fn odd_at_each_write(
     rt: &impl Abort,
     alloc: Global,
@@ -149,7 +149,7 @@ fn each_write_fails_in_turn(rt: HostRuntime) -> Result<(), Fail> {
     Ok(())
 }
 
-/// Three definitions, the second of which is longer than what is held between two writes.
+/// Three definitions, the second of which is longer than the output buffer.
 fn long_definitions(alloc: Global) -> Result<Vec<u8>, AllocError> {
     let mut text = Vec::new(alloc);
     text.extend_from_slice(b"[a]: x\n[b]: ")?;
@@ -163,10 +163,10 @@ fn long_definitions(alloc: Global) -> Result<Vec<u8>, AllocError> {
 // The lines of the definitions are written after those of the nodes.
 #[test]
 fn each_write_of_definitions_fails_in_turn(rt: HostRuntime) -> Result<(), Fail> {
-    // The line of the root has 11 bytes, and those of the three definitions have 44.
+    // The line of the root has 11 bytes, and the lines of the three definitions have 44.
     let short = b"[b]: y 'c'\n[a]: x\n\n[c]: <>".as_slice();
     assert_eq!(rt; fail_each_write(&rt, rt.alloc(), short, 5)?, 12);
-    // The line of the root; those of the first two definitions; that of the third.
+    // The line of the root, the lines of the first two definitions, and the line of the third.
     let long = long_definitions(rt.alloc())?;
     assert_eq!(rt;
         fail_each_write(&rt, rt.alloc(), long.as_slice(), WHOLE)?,
@@ -187,7 +187,7 @@ fn steps_make_no_difference(rt: HostRuntime) -> Result<(), Fail> {
     Ok(())
 }
 
-// Ten reads of a text of 9,000 bytes, each of which gives one byte in turn, and the whole is read all the same.
+// Ten reads of a text of 9,000 bytes. Each in turn returns one byte, and the whole text is read nevertheless.
 #[test]
 fn each_read_is_short_in_turn(rt: HostRuntime) -> Result<(), Fail> {
     let text = long_text(rt.alloc())?;

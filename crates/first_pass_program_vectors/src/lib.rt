@@ -1,4 +1,4 @@
-//! The work of the programs, each fault of a run, and the printed form of nodes that are made without a text.
+//! The work of the programs, each fault of a run, and the printed form of nodes made without a text.
 #![tactic(auto)]
 
 #[cfg(test)]

@@ -1,4 +1,4 @@
-//! What `links` writes of texts, and its faults.
+//! The output of `links` for texts, and its faults.
 
 use crate::fakes::{FailingReader, FailingWriter, Program, run};
 use first_pass_host::fault::BlocksFault;
@@ -6,7 +6,7 @@ use std::alloc::Global;
 use std::process::Abort;
 use std::test::Fail;
 
-/// Asserts what is written of texts under options.
+/// Asserts the output for texts under options.
 fn assert_listed(
     rt: &impl Abort,
     alloc: Global,
@@ -33,7 +33,7 @@ fn assert_listed(
 #[test]
 fn references_are_listed(rt: HostRuntime) -> Result<(), Fail> {
     let cases: &[(&[u8], &[u8])] = &[
-        // The label of the first of two definitions, in another case.
+        // The label of two definitions in another case; the first definition counts.
         (
             b"[a]: /1 \"b\"\n[A]: /2\n\n[A] [b]\n",
             b"definition [a]: /1 \"b\" 0..11\nreference /1 21..24\n",
@@ -43,7 +43,7 @@ fn references_are_listed(rt: HostRuntime) -> Result<(), Fail> {
             b"![a] [t][A]\n\n[a]: /x\n",
             b"definition [a]: /x 13..20\nreference /x 0..4\nreference /x 8..11\n",
         ),
-        // Brackets around others.
+        // Brackets around other brackets.
         (
             b"[[a] ]\n\n[a]: /x\n",
             b"definition [a]: /x 8..15\nreference /x 1..4\n",
@@ -57,7 +57,7 @@ fn references_are_listed(rt: HostRuntime) -> Result<(), Fail> {
 #[test]
 fn labels_are_read(rt: HostRuntime) -> Result<(), Fail> {
     let cases: &[(&[u8], &[u8])] = &[
-        // Over two lines of a quote, and with an escaped bracket first in the second one.
+        // A label over two lines of a quote; then one with an escaped bracket at the start of its second line.
         (
             b"> [a\n> b]\n\n[a b]: /x\n",
             b"definition [a b]: /x 11..20\nreference /x 2..9\n",

@@ -1,4 +1,4 @@
-//! The lines that `outline` writes, and each fault of its work.
+//! The lines that `outline` writes, and each fault of its run.
 
 use crate::fakes::{FailingReader, FailingWriter, Odd, Program, run};
 use first_pass_host::fault::BlocksFault;
@@ -17,10 +17,10 @@ fn headings_are_listed(rt: HostRuntime) -> Result<(), Fail> {
         (&[], b"", ""),
         (&[], TEXT, "1 0..4\n2 7..12\n"),
         (&["64"], b"# a {#x .c k=v #y}", "1 0..18 #y\n"),
-        // Without an id, and without the option that has attributes read.
+        // Without an id, and without the option for attributes.
         (&["64"], b"# a {.c}\n", "1 0..9\n"),
         (&["0"], b"# a {#x}\n", "1 0..9\n"),
-        // A code block has no heading in it, and a list item has two.
+        // A code block with no heading in it, and a list item with two.
         (
             &[],
             b"    # a\n\n- # b\n\n  ###### c",
@@ -74,7 +74,7 @@ fn input_is_utf8(rt: HostRuntime) -> Result<(), Fail> {
     Ok(())
 }
 
-// Three reads give the text, five bytes at a time, and a fourth finds its end.
+// Three reads return the text, five bytes at a time, and a fourth finds its end.
 #[test]
 fn each_read_fails_in_turn(rt: HostRuntime) -> Result<(), Fail> {
     for fails_at in 1..6 {
@@ -91,7 +91,7 @@ fn each_read_fails_in_turn(rt: HostRuntime) -> Result<(), Fail> {
     Ok(())
 }
 
-// The lines of 2,000 headings are written in four pieces. Nothing asks for a flush, which would fail.
+// The lines of 2,000 headings are written in four pieces. Nothing flushes the writer, which would fail.
 fn odd_at_each_write(rt: &impl Abort, alloc: Global, odd: Odd) -> Result<(), Fail> {
     let mut text = Vec::new(alloc);
     for _ in 0..2000 {

@@ -1,4 +1,4 @@
-//! How the node of a table is printed, and what its index names; and how nodes are printed that come of no text.
+//! The printed form of a table's node with the entry of its index, and of nodes that no text has.
 
 use bitflags::Flags;
 use first_pass::below::{Alignment, AlignmentIndex, Item, ItemBody};
@@ -36,7 +36,7 @@ fn tables_are_printed(rt: HostRuntime) -> Result<(), Fail> {
     Ok(())
 }
 
-// Asserts how nodes from the offset 1 to 2 are printed.
+// Asserts the printed form of nodes from the offset 1 to 2.
 fn assert_printed(
     rt: &impl Abort,
     alloc: Global,

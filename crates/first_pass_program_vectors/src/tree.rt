@@ -1,4 +1,4 @@
-//! What `tree` writes of texts, and each fault of a run of it.
+//! The output of `tree` for texts, and each fault of its run.
 
 use crate::fakes::{FailingReader, FailingWriter, Program, run};
 use first_pass_host::fault::BlocksFault;
@@ -8,7 +8,7 @@ use std::test::Fail;
 
 const WHOLE: usize = usize::MAX;
 
-/// Asserts which lines are written of a text.
+/// Asserts the lines that are written for a text.
 fn assert_lines(
     rt: &impl Abort,
     alloc: Global,
@@ -24,7 +24,7 @@ fn assert_lines(
     Ok(())
 }
 
-// An info string with a quotation mark, a backslash, a control character and one that is not ASCII.
+// An info string with a quotation mark, a backslash, a control character and a character that is not ASCII.
 #[test]
 fn texts_are_escaped(rt: HostRuntime) -> Result<(), Fail> {
     let want = "{\"kind\":\"Root\",\"depth\":0,\"start\":0,\"end\":16}\n\
@@ -52,7 +52,7 @@ fn a_heading_without_attributes_has_their_members(rt: HostRuntime) -> Result<(),
     )
 }
 
-// Two definitions that `blocks` prints alike, and a footnote after them.
+// Two definitions that `blocks` prints in the same way, and a footnote after them.
 #[test]
 fn definitions_and_footnotes_come_last(rt: HostRuntime) -> Result<(), Fail> {
     let text = "[a]: </b \"x\">\n[b]: /b \"x\"\n\n[^F]: - c\n";
