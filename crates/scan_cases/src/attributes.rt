@@ -7,8 +7,7 @@ use first_pass_attributes::attrs::{
 use first_pass_cases::answer::Answer;
 use std::alloc::{AllocError, Global};
 
-/// Returns a call for a heading's attribute block, or for the attributes that one gives, or tells that it is another
-/// one.
+/// Makes a call for a heading's attribute block or for its attributes. Returns `false` for any other call.
 pub fn answer_attributes(
     alloc: Global,
     call: &str,
@@ -29,8 +28,8 @@ pub fn answer_attributes(
     Ok(true)
 }
 
-/// How many bytes stand before a heading's attribute block, and the offsets at which what its braces enclose begins
-/// and ends.
+/// The number of bytes before a heading's attribute block, and the offsets of the start and end of the content of its
+/// braces.
 fn append_block(heading: &[u8], answer: &mut Answer) -> Result<(), AllocError> {
     let (len, inside) = extract_attribute_block_content_from_header_text(heading);
     answer.number(len)?;
@@ -59,7 +58,7 @@ fn append_attributes(
     Ok(())
 }
 
-/// A name, and a text or `none`.
+/// A name, then a text or `none`.
 fn append_named(name: &str, text: Option<&str>, answer: &mut Answer) -> Result<(), AllocError> {
     answer.word(name)?;
     match text {

@@ -1,5 +1,5 @@
-//! Calls of `first_pass_open` and `first_pass_kinds` with open containers, and the tree and the options that such
-//! calls are given.
+//! Calls of `first_pass_open` and `first_pass_kinds` with open containers, and the tree and the options for such
+//! calls.
 
 use bitflags::Flags;
 use first_pass_cases::answer::Answer;
@@ -12,7 +12,7 @@ use first_pass_scan::line_start::LineStart;
 use first_pass_tree::forest::Tree;
 use std::alloc::{AllocError, Global};
 
-/// Returns a call for open containers, or tells that it is another one.
+/// Makes a call for open containers. Returns `false` for any other call.
 pub fn answer_containers(
     alloc: Global,
     call: &str,
@@ -30,8 +30,8 @@ pub fn answer_containers(
     Ok(true)
 }
 
-/// How many of the open nodes a line continues, and how many bytes of it they take. The first value is the path of
-/// the open containers (see `open_path`), the second one the options.
+/// The number of open nodes that a line continues, and the number of bytes of their prefixes. The first argument is
+/// the path of the open containers (see `open_path`), the second one the options.
 fn append_containers(
     alloc: Global,
     text: &str,
@@ -45,13 +45,13 @@ fn append_containers(
     answer.number(line_start.bytes_scanned())
 }
 
-/// The options with these bits; those that name none are left out.
+/// Returns the options with these bits; bits that belong to no option are dropped.
 pub fn options_of(bits: usize) -> Options {
     Options::from_bits_truncate(u32::try_from(bits).unwrap_or(0))
 }
 
-/// A tree in which these containers are open, the outermost first: a digit 1 is a block quote, 9 a footnote
-/// definition, any other a list item of so many columns.
+/// Returns a tree in which these containers are open, the outermost first. A digit 1 is a block quote, 9 a footnote
+/// definition, and any other a list item with this number of columns.
 pub fn open_path(alloc: Global, path: usize) -> Result<Tree<Item>, AllocError> {
     let mut tree = Tree::with_capacity(alloc, 8)?;
     for place in [1000, 100, 10, 1] {

@@ -7,7 +7,7 @@ use first_pass_html::starts::{get_html_end_tag, is_raw_name, starts_html_block_t
 use first_pass_html::tags::scan_html_type_7;
 use std::alloc::AllocError;
 
-/// Returns a call for the start of an HTML block, or tells that it is another one.
+/// Makes a call for the start of an HTML block. Returns `false` for any other call.
 pub fn answer_html(call: &str, bytes: &[u8], answer: &mut Answer) -> Result<bool, AllocError> {
     match call {
         "get_html_end_tag" => match get_html_end_tag(bytes) {

@@ -1,4 +1,4 @@
-//! Calls of `first_pass_scan` and `first_pass_metadata` for the lines that open or close a leaf block.
+//! Calls of `first_pass_scan` and `first_pass_metadata` for lines that open or close a leaf block.
 
 use first_pass_cases::answer::Answer;
 use first_pass_cases::given::Given;
@@ -11,7 +11,7 @@ use first_pass_scan::leaf_scan::{
 };
 use std::alloc::AllocError;
 
-/// Returns a call for a thematic break, an underline, a fence or an indent, or tells that it is another one.
+/// Makes a call for a thematic break, an underline, a fence or an indent. Returns `false` for any other call.
 pub fn answer_leaves(
     call: &str,
     given: &Given,
@@ -47,8 +47,8 @@ pub fn answer_leaves(
     Ok(true)
 }
 
-/// Returns a call for a metadata block, or tells that it is another one. The flags that are given turn on `---` and
-/// `+++`; then places may follow.
+/// Makes a call for a metadata block. Returns `false` for any other call. The first two arguments are flags for `---`
+/// and `+++`; offsets may follow.
 pub fn answer_metadata(
     call: &str,
     given: &Given,
@@ -69,7 +69,7 @@ pub fn answer_metadata(
     Ok(true)
 }
 
-/// What `metadata_at` finds at each of the places that are given, one after the other.
+/// The result of `metadata_at` at each of the offsets, in order.
 fn append_metadata(given: &Given, bytes: &[u8], answer: &mut Answer) -> Result<(), AllocError> {
     let mut ends = MetadataEnds::new();
     for place in 2..given.count() {

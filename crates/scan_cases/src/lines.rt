@@ -9,7 +9,7 @@ use first_pass_lines::lines::{
 use first_pass_lines::places::{next_line, rest_of};
 use std::alloc::AllocError;
 
-/// Returns a call of a line's scanners, or tells that it is another one.
+/// Makes a call of a line's scanners. Returns `false` for any other call.
 pub fn answer_lines(
     call: &str,
     given: &Given,
@@ -31,7 +31,7 @@ pub fn answer_lines(
     Ok(true)
 }
 
-/// Returns a test of the first byte, or tells that it is another call.
+/// Makes a test of the first byte. Returns `false` for any other call.
 pub fn answer_bytes(
     call: &str,
     given: &Given,

@@ -12,7 +12,7 @@ use first_pass_links::label::scan_link_label_rest;
 use std::alloc::{AllocError, Global};
 use std::ops::DerefStr;
 
-/// Returns a call for a reference, an escape, a destination or a label, or tells that it is another one.
+/// Makes a call for a reference, an escape, a destination or a label. Returns `false` for any other call.
 pub fn answer_links(
     alloc: Global,
     call: &str,
@@ -30,7 +30,7 @@ pub fn answer_links(
     Ok(true)
 }
 
-/// How many bytes a reference has, and the number of each character that it stands for.
+/// The number of bytes of a character reference, and the number of each of its characters.
 fn append_reference(bytes: &[u8], answer: &mut Answer) -> Result<(), AllocError> {
     let (len, found) = scan_entity(bytes);
     answer.number(len)?;
@@ -45,7 +45,7 @@ fn append_reference(bytes: &[u8], answer: &mut Answer) -> Result<(), AllocError>
     }
 }
 
-/// A text, and whether it is borrowed.
+/// Appends a text, and whether it is borrowed.
 pub fn append_cow(cow: &CowStr<'_>, answer: &mut Answer) -> Result<(), AllocError> {
     answer.word(match cow {
         CowStr::Borrowed(_) => "borrowed",
@@ -54,7 +54,8 @@ pub fn append_cow(cow: &CowStr<'_>, answer: &mut Answer) -> Result<(), AllocErro
     answer.text(cow.deref())
 }
 
-/// How many bytes a destination has at the place that is given, parentheses nested as deep at most, and its text.
+/// The number of bytes of a destination, and its text. The arguments are its offset and the greatest nesting of its
+/// parentheses.
 fn append_destination(text: &str, given: &Given, answer: &mut Answer) -> Result<(), AllocError> {
     let start = given.number(0);
     if !text.is_char_boundary(start) {
@@ -69,8 +70,8 @@ fn append_destination(text: &str, given: &Given, answer: &mut Answer) -> Result<
     }
 }
 
-/// How many bytes a label has after its bracket, and its text: in a cell, where the first flag says so, and in a block
-/// quote, where the second one does.
+/// The number of bytes of a label after its bracket, and its text. The label is in a cell if the first flag is set,
+/// and in a block quote if the second one is.
 fn append_label(
     alloc: Global,
     text: &str,
@@ -90,7 +91,7 @@ fn append_label(
     }
 }
 
-/// A label each further line of which has the marker of a block quote.
+/// A label in which each further line has the marker of a block quote.
 fn quoted_label<'t>(
     alloc: Global,
     text: &'t str,

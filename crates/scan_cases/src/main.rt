@@ -1,21 +1,22 @@
 //! `scan_cases`: reads a table of calls of the parts below the pass, and of the words and the line of the programs,
-//! and tells whose answers differ.
+//! and prints the cases whose results differ.
 //!
-//! A line is a case: the name of a call, what it is given beside its text, the text between `‹` and `›`, and the
-//! answer as it is printed.
+//! A line is a case: the name of a call, its arguments other than the text, the text between `‹` and `›`, and the
+//! printed result.
 //!
 //! ```text
 //! scan_closing_code_fence ` 3 ‹```` ␉␊› 6
 //! ```
 //!
-//! - What is given is a number, `true` or `false`, or one character that stands for its byte.
-//! - In a text a control character stands as its picture (see `first_pass_cases::pictures`).
-//! - An answer is printed word by word: numbers, bytes as characters, `none`, and texts between `‹` and `›`.
+//! - An argument is a number, `true` or `false`, or one character that represents its byte.
+//! - In a text a control character is written as its picture (see `first_pass_cases::pictures`).
+//! - A result is printed word by word: numbers, bytes as characters, `none`, and texts between `‹` and `›`.
 //!
-//! Lines that begin with a number sign are headings; empty lines count for nothing.
+//! Lines that begin with a number sign are headings; empty lines are ignored.
 //!
-//! Each case that differs is told with its line and what came; the last line is `N cases, M differ`. The status is 1
-//! where any differs, and 2 for a table that isn't one, which is told on standard error by its line.
+//! Each case that differs is printed with its line and its actual result; the last line is `N cases, M differ`. The
+//! status is 1 if any case differs. It is 2 if the table is malformed; the faulty line is then reported on standard
+//! error.
 #![tactic(auto)]
 
 mod attributes;

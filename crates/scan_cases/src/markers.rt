@@ -1,4 +1,4 @@
-//! Calls of `first_pass_scan` for markers of containers, and of a line's start.
+//! Calls of `first_pass_scan` for markers of containers, and for the start of a line.
 
 use first_pass_cases::answer::Answer;
 use first_pass_cases::given::Given;
@@ -6,7 +6,8 @@ use first_pass_items::item::BlockQuoteKind;
 use first_pass_scan::line_start::{LineStart, scan_listitem};
 use std::alloc::AllocError;
 
-/// Returns a call for a marker or a line end, and after that how many bytes it took, or tells that it is another one.
+/// Makes a call for a marker or a line ending, and appends the number of bytes that it consumed. Returns `false` for
+/// any other call.
 pub fn answer_markers(
     call: &str,
     given: &Given,

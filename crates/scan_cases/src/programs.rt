@@ -1,5 +1,4 @@
-//! Calls of `first_pass_host` and `first_pass_timing`: the words that the programs are given, and the line that
-//! `bench` writes.
+//! Calls of `first_pass_host` and `first_pass_timing`: the words of the programs, and the line that `bench` writes.
 
 use crate::walks::append_bits;
 use bitflags::Flags;
@@ -10,8 +9,8 @@ use first_pass_timing::task::parse_task;
 use first_pass_timing::timing::Timing;
 use std::alloc::{AllocError, Global};
 
-/// Returns a call for words or for a line of `bench`, or tells that it is another one. Of a task these are the bits of
-/// the options, and how many runs are asked for.
+/// Makes a call for words or for a line of `bench`. Returns `false` for any other call. The result for a task is the
+/// bits of its options and its number of runs.
 pub fn answer_programs(
     alloc: Global,
     call: &str,
@@ -33,7 +32,7 @@ pub fn answer_programs(
     Ok(true)
 }
 
-/// The lines of a text as the words of a program.
+/// The lines of a text, as the words of a program.
 fn words_of(alloc: Global, text: &str) -> Result<Vec<String>, AllocError> {
     let mut words = Vec::new(alloc);
     for line in text.lines() {

@@ -8,7 +8,7 @@ use first_pass_table_scan::table_scan::scan_table_head;
 use first_pass_table_scan::table_start::{scan_delimiter_row, scan_head_columns};
 use std::alloc::{AllocError, Global};
 
-/// Returns a call for a header row or a delimiter row, or tells that it is another one.
+/// Makes a call for a header row or a delimiter row. Returns `false` for any other call.
 pub fn answer_rows(
     alloc: Global,
     call: &str,
@@ -29,7 +29,7 @@ pub fn answer_rows(
     Ok(true)
 }
 
-/// The alignments of a delimiter row's columns; where it is in a block quote, after the marker of that.
+/// The alignments of a delimiter row's columns. In a block quote the row is after the marker of the quote.
 fn append_delimiters(
     alloc: Global,
     bytes: &[u8],

@@ -1,4 +1,4 @@
-//! The table: its lines, one after the other.
+//! The table and its lines, in order.
 
 use crate::attributes::answer_attributes;
 use crate::containers::answer_containers;
@@ -20,7 +20,7 @@ use first_pass_cases::pictures::read_shown;
 use first_pass_cases::tally::{Tally, append_place};
 use std::alloc::{AllocError, Global};
 
-/// A line of the table: a call with what it is given, its text, and the answer that is wanted.
+/// A line of the table: a call with its arguments, its text, and the expected result.
 #[derive(Drop)]
 struct Case<'t> {
     call: &'t str,
@@ -29,7 +29,7 @@ struct Case<'t> {
     want: &'t str,
 }
 
-/// Asks for the answer of each line, and appends to the report each that differs.
+/// Makes the call of each line, and appends each line that differs to the report.
 pub fn compare(alloc: Global, table: &str, report: &mut String) -> Result<Tally, CasesFault> {
     let mut tally = Tally::new();
     let mut number: usize = 0;
@@ -43,7 +43,7 @@ pub fn compare(alloc: Global, table: &str, report: &mut String) -> Result<Tally,
     Ok(tally)
 }
 
-/// Asks for the answer of the line of this number, and tells whether it differs.
+/// Makes the call of the line with this number, and returns whether its result differs.
 fn compare_line(
     alloc: Global,
     line: &str,
@@ -78,7 +78,7 @@ fn read_case(line: &str) -> Option<Case<'_>> {
     })
 }
 
-/// Appends a line that differs and the answer that came.
+/// Appends a line that differs and its actual result.
 fn append_difference(report: &mut String, line: &str, came: &str) -> Result<(), AllocError> {
     report.push_str(line)?;
     report.push_str("\nbut this came: ")?;
@@ -86,7 +86,7 @@ fn append_difference(report: &mut String, line: &str, came: &str) -> Result<(), 
     report.push('\n')
 }
 
-/// Appends the answer of a call, or tells that there is none of this name.
+/// Makes a call and appends its result. Returns `false` if no call has this name.
 fn ask(alloc: Global, case: &Case<'_>, answer: &mut Answer) -> Result<bool, AllocError> {
     let read = read_shown(alloc, case.shown)?;
     let (call, given, text) = (case.call, &case.given, read.as_str());

@@ -6,7 +6,7 @@ use std::alloc::{AllocError, Global};
 use std::boxed::BoxedStr;
 use std::ops::DerefStr;
 
-/// Returns a call of a text, or tells that it is another one.
+/// Makes a call of a text. Returns `false` for any other call.
 pub fn answer_texts(
     alloc: Global,
     call: &str,

@@ -12,7 +12,7 @@ use first_pass_tree::forest::Tree;
 use first_pass_walk::walk::special_bytes;
 use std::alloc::{AllocError, Global};
 
-/// Returns a call for tokens under the options whose bits are given, or tells that it is another one.
+/// Makes a call for tokens under the options with the given bits. Returns `false` for any other call.
 pub fn answer_tokens(
     alloc: Global,
     call: &str,
@@ -29,7 +29,7 @@ pub fn answer_tokens(
     Ok(true)
 }
 
-/// A paragraph of the lines of a text, each with its break.
+/// A paragraph with the lines of a text, each with its line break.
 fn paragraph(alloc: Global, text: &str, options: Options) -> Result<Tree<Item>, AllocError> {
     let special = special_bytes(&options);
     let mut tree = opened(alloc, ItemBody::Paragraph)?;
@@ -54,8 +54,8 @@ fn paragraph(alloc: Global, text: &str, options: Options) -> Result<Tree<Item>, 
     Ok(tree)
 }
 
-/// The cells of a row: a text without the pipe after which its first cell begins. Each begins after the pipe that ends
-/// the one before it, and a node `end` stands where each ends.
+/// The cells of a row. The text begins after the pipe before the first cell, and each further cell begins after the
+/// pipe that ends the one before. A node `end` marks the end of each.
 fn row(alloc: Global, text: &str, options: Options) -> Result<Tree<Item>, AllocError> {
     let special = special_bytes(&options);
     let mut tree = opened(alloc, ItemBody::TableRow)?;
@@ -94,7 +94,7 @@ fn opened(alloc: Global, body: ItemBody) -> Result<Tree<Item>, AllocError> {
     Ok(tree)
 }
 
-/// Each node in the open block: its name, and where it begins and ends.
+/// Each node in the open block: its name, its start and its end.
 fn append_tokens(tree: &Tree<Item>, answer: &mut Answer) -> Result<(), AllocError> {
     for node in tree.nodes().iter().skip(2) {
         answer.word(name(&node.1.body))?;

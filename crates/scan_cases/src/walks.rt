@@ -9,7 +9,7 @@ use first_pass_items::option_set::Options;
 use first_pass_walk::walk::{LoopInstruction, iterate_special_bytes, next_special, special_bytes};
 use std::alloc::{AllocError, Global};
 
-/// Returns a call of the options or of the bytes that these make special, or tells that it is another one.
+/// Makes a call of the options, or of the bytes that they make special. Returns `false` for any other call.
 pub fn answer_walks(
     alloc: Global,
     call: &str,
@@ -30,8 +30,8 @@ pub fn answer_walks(
     Ok(true)
 }
 
-/// The place and the byte of each call of a walk, and where it ends. Given are the bits of options, and how many bytes
-/// are left out after each call.
+/// The offset and the byte of each call of a walk, and its end. The arguments are the bits of options, and the number
+/// of bytes that are skipped after each call.
 fn append_calls(bytes: &[u8], given: &Given, answer: &mut Answer) -> Result<(), AllocError> {
     let lut = special_bytes(&options_of(given.number(0)));
     let skip = given.number(1);
@@ -55,7 +55,7 @@ fn append_call(at: usize, byte: u8, answer: &mut Answer) -> Result<(), AllocErro
     answer.byte(byte)
 }
 
-/// The bits of options, or `none`.
+/// Appends the bits of options, or `none`.
 pub fn append_bits(found: Option<Options>, answer: &mut Answer) -> Result<(), AllocError> {
     match found {
         Some(options) => answer.number(options.bits() as usize),
@@ -63,7 +63,7 @@ pub fn append_bits(found: Option<Options>, answer: &mut Answer) -> Result<(), Al
     }
 }
 
-/// The bytes that the options of these bits make special, in their order.
+/// The bytes that the options with these bits make special, in their order.
 fn append_special(alloc: Global, bits: usize, answer: &mut Answer) -> Result<(), AllocError> {
     let lut = special_bytes(&options_of(bits));
     let mut special = String::new(alloc);
@@ -75,8 +75,9 @@ fn append_special(alloc: Global, bits: usize, answer: &mut Answer) -> Result<(),
     answer.text(special.as_str())
 }
 
-/// Returns whether a run can open or close, or tells that it is another call. Given are the mode (0 for no table, 1
-/// for a line that may be a row, 2 for a cell), the run's place, and how many bytes it has.
+/// Makes a call for whether a delimiter run can open or close. Returns `false` for any other call. The arguments are
+/// the mode, the offset of the run, and its number of bytes. Mode 0 is no table, 1 a line that may be a row, and 2 a
+/// cell.
 pub fn answer_flanks(
     call: &str,
     given: &Given,
