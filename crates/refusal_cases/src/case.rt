@@ -1,17 +1,17 @@
-//! One case: how it is read. That takes as many requests for memory for each case with as many words.
+//! One case, and how it is read. Cases with equally many words take equally many memory requests to read.
 
 use std::alloc::{AllocError, Global};
 
-/// How many words there is room for.
+/// The greatest number of words.
 const ROOM: usize = 4;
 
-/// A call, with what it is given and what is wanted.
+/// A call, with its arguments and the expected result.
 #[derive(Drop)]
 pub struct Case<'t> {
-    /// How many requests are made before it, if that is said.
+    /// The number of requests before the call, if it is given.
     pub after: Option<usize>,
     pub call: &'t str,
-    /// The words behind its name.
+    /// The words after its name.
     pub words: Vec<String>,
     pub text: String,
     pub wanted: String,
@@ -38,7 +38,7 @@ pub fn read_case(alloc: Global, group: &str) -> Result<Case<'_>, AllocError> {
     Ok(case)
 }
 
-/// The number of the first line, if it has one, and the lines after it.
+/// The number in the first line, if it has one, and the lines after it.
 fn read_after(group: &str) -> (Option<usize>, &str) {
     match group.strip_prefix("after ") {
         Some(behind) => match behind.split_once('\n') {
@@ -49,7 +49,7 @@ fn read_after(group: &str) -> (Option<usize>, &str) {
     }
 }
 
-/// Reads the lines of the text, each after a bar, and then those that are wanted.
+/// Reads the lines of the text, each after a bar, and then the expected lines.
 fn read_lines(lines: &str, case: &mut Case<'_>) -> Result<(), AllocError> {
     let mut is_first = true;
     for line in lines.lines() {
@@ -70,7 +70,7 @@ fn read_lines(lines: &str, case: &mut Case<'_>) -> Result<(), AllocError> {
     Ok(())
 }
 
-/// Appends the text that a line shows, in which a tab stands as its picture.
+/// Appends the text of a line, in which a tab is written as its picture.
 fn push_shown(text: &mut String, shown: &str) -> Result<(), AllocError> {
     for character in shown.chars() {
         text.push(if character == '␉' { '\t' } else { character })?;

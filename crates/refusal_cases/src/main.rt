@@ -1,4 +1,4 @@
-//! `refusal_cases`: makes calls in a run in which one request for memory may be refused, and tells what each came to.
+//! `refusal_cases`: makes calls in a run in which one memory request may be refused, and prints the outcome of each.
 //!
 //! A case is a group of lines, and an empty line ends it:
 //!
@@ -11,19 +11,19 @@
 //!   ..
 //! ```
 //!
-//! - The first line, if it is there, says how many requests are made before the call. Where one request of a run is
-//!   refused, a different number makes it a different request of the call.
-//! - The next line has the call, and what it is given: `parse` (`run_first_pass`) the value of the options; `blocks` and
-//!   `bench` the words of that program; `words` nothing, since it takes those of this program; a call of a tree, of
-//!   tables or of a table nothing.
-//! - The text follows, each line after a bar, and then what is wanted, as the program prints it. In both a tab stands as
-//!   its picture, `␉`.
+//! - The first line, if there is one, is the number of requests before the call. If one request of a run is refused,
+//!   another number makes it another request of the call.
+//! - The next line has the call and its arguments: for `parse` (`run_first_pass`) the value of the options; for
+//!   `blocks`, `tree` and `bench` the words of that program; for `words` nothing, since it takes those of this
+//!   program; for a call of a tree, of tables or of a table nothing.
+//! - The text follows, each line after a bar, and then the expected output of the program. In both, a tab is written
+//!   as its picture, `␉`.
 //!
 //! A group whose lines begin with a number sign is a heading.
 //!
-//! Without a first line as above a case is one of any table: where it differs it is told with its line. With one, what
-//! it came to is told in a word (see `Outcome`). The last line is `N cases, M differ`. The status is 1 where any
-//! differs, and 2 for a table that isn't one, which is told on standard error by its line.
+//! A case without a first line as above is like one of any table: if it differs, it is printed with its line. With
+//! one, its outcome is printed as a word (see `Outcome`). The last line is `N cases, M differ`. The status is 1 if any
+//! case differs. It is 2 if the table is malformed; the faulty line is then reported on standard error.
 #![tactic(auto)]
 
 mod case;
@@ -41,7 +41,7 @@ use std::alloc::Global;
 use std::process::ExitCode;
 
 fn run(rt: &HostRuntime) -> Result<Tally, CasesFault> {
-    // A run that asks for its words is made by compiled code alone (`rt try`), which is what counts here.
+    // Only compiled code (`rt try`) runs a program that reads its words, and compiled code is what counts here.
     words_of(rt)?;
     let whole = read_table(rt)?;
     let mut report = String::new(rt.alloc());

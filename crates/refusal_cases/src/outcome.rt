@@ -1,32 +1,33 @@
-//! What a call came to, and whether a request was refused in it.
+//! The outcome of a call, and whether a request was refused in it.
 
 use std::alloc::{AllocError, Global};
 
-/// How many requests are made to find whether one is still to be refused, more than there are in a run before.
+/// The number of requests made to find whether one is still to be refused; it is greater than the number of requests
+/// in a run before.
 const MOST: usize = 100;
 
-/// What a call came to.
+/// The outcome of a call.
 #[derive(Clone, Copy, PartialEq, Eq)]
 pub enum Outcome {
-    /// It returned what is wanted.
+    /// It returned the expected result.
     Usual,
-    /// It was refused and changed nothing, and made again it returned what is wanted.
+    /// It was refused and changed nothing, and returned the expected result when it was made again.
     Refused,
-    /// What was refused is a request of the test and none of the call.
+    /// The refused request was one of the test, not of the call.
     Elsewhere,
-    /// A request was refused, and it returned what is wanted all the same.
+    /// A request was refused, but it returned the expected result nevertheless.
     Swallowed,
-    /// It returned that a request was refused, and none was.
+    /// It returned that a request was refused, but none was.
     Invented,
-    /// It was refused, and something was changed or handed out.
+    /// It was refused, and changed or returned something.
     Changed,
-    /// It returned something else than is wanted, or another fault.
+    /// It returned another result than expected, or another fault.
     Differs,
 }
 
 impl Outcome {
-    /// What calls came to when one more is refused, by whether all is as before. One request of a run is refused, so a
-    /// second call that is refused has invented that.
+    /// Returns the outcome of calls after one more is refused; `is_kept` is true if everything is unchanged. Only one
+    /// request of a run is refused, so a second refused call has invented it.
     pub fn refused(self, is_kept: bool) -> Outcome {
         match self {
             Outcome::Usual if is_kept => Outcome::Refused,
@@ -35,7 +36,7 @@ impl Outcome {
         }
     }
 
-    /// The word by which it is told.
+    /// Returns the word for it in the report.
     pub fn word(self) -> &'static str {
         match self {
             Outcome::Usual => "usual",
@@ -49,8 +50,8 @@ impl Outcome {
     }
 }
 
-/// The outcome of a call in a run in which one request is refused, by what it returned: that request was one of the
-/// call where none of those after it is refused.
+/// Returns the outcome of a call, from what it returned, in a run in which one request is refused. That request was
+/// one of the call if none after it is refused.
 pub fn told(alloc: Global, returned: Outcome) -> Outcome {
     let is_behind = !is_one_refused(alloc, MOST);
     match returned {
@@ -60,7 +61,7 @@ pub fn told(alloc: Global, returned: Outcome) -> Outcome {
     }
 }
 
-/// Makes so many requests, or as many as go well, and tells whether one was refused.
+/// Makes `count` requests, or fewer if one is refused; returns whether one was refused.
 pub fn is_one_refused(alloc: Global, count: usize) -> bool {
     for _ in 0..count {
         if request(alloc).is_err() {

@@ -1,4 +1,4 @@
-//! The pass over a text, and the work of the programs.
+//! The pass on a text, and the work of the programs.
 
 use crate::case::Case;
 use crate::outcome::Outcome;
@@ -16,10 +16,10 @@ use std::alloc::{AllocError, Global};
 use std::io;
 use std::io::Write;
 
-/// How many bytes are written at most, so that writing takes no memory.
+/// The greatest number of bytes written; writing them takes no memory request.
 const ROOM: usize = 8192;
 
-/// A writer that asks for its memory before it is written to.
+/// A writer that requests its memory before it is written to.
 #[derive(Drop)]
 struct Page {
     bytes: Vec<u8>,
@@ -37,7 +37,7 @@ impl Write for Page {
     }
 }
 
-/// A clock by which ten nanoseconds go by between two readings.
+/// A clock on which ten nanoseconds pass between two readings.
 #[derive(Drop)]
 struct Ticks {
     nanos: u128,
@@ -50,7 +50,7 @@ impl TimeSource for Ticks {
     }
 }
 
-/// Makes a call of this name, and once more where it is refused; `None` where it is another call.
+/// Makes a call of this name, and makes it again if it is refused. Returns `None` if no call has this name.
 pub fn call_program(rt: &HostRuntime, case: &Case<'_>) -> Option<Outcome> {
     match call_once(rt, case)? {
         Outcome::Refused => match call_once(rt, case)? {
@@ -70,7 +70,7 @@ fn call_once(rt: &HostRuntime, case: &Case<'_>) -> Option<Outcome> {
     }
 }
 
-/// The pass over the text: it hands out a tree and tables, or neither.
+/// The pass on the text: it returns a tree and tables, or neither.
 fn parse(alloc: Global, case: &Case<'_>) -> Result<Outcome, AllocError> {
     let mut lines = Vec::with_capacity(alloc, ROOM)?;
     let Some(options) = parse_options(case.words.as_slice()) else {
@@ -92,7 +92,7 @@ fn parse(alloc: Global, case: &Case<'_>) -> Result<Outcome, AllocError> {
     }
 }
 
-/// The words that this program is given.
+/// The words of this program.
 fn take_words(rt: &HostRuntime, case: &Case<'_>) -> Outcome {
     match words_of(rt) {
         Ok(words) if words.is_empty() => Outcome::Usual,
@@ -101,7 +101,7 @@ fn take_words(rt: &HostRuntime, case: &Case<'_>) -> Outcome {
     }
 }
 
-/// The work of a program: where it is refused, what was written is a beginning of the whole.
+/// The work of a program: if it is refused, a beginning of the whole output was written.
 fn run(alloc: Global, case: &Case<'_>) -> Result<Outcome, AllocError> {
     let mut page = Page {
         bytes: Vec::with_capacity(alloc, ROOM)?,

@@ -1,4 +1,4 @@
-//! The table: its groups of lines, one after the other.
+//! The table and its groups of lines, in order.
 
 use crate::case::{Case, read_case};
 use crate::outcome::{Outcome, is_one_refused, told};
@@ -10,8 +10,7 @@ use first_pass_cases::tally::{Tally, append_place};
 use first_pass_cases::texts::is_heading;
 use std::alloc::{AllocError, Global};
 
-/// Makes the call of each case, and appends to the report what it came to, where that is asked for, and each case that
-/// differs.
+/// Makes the call of each case. Appends its outcome to the report if the case requests it, and each case that differs.
 pub fn compare(rt: &HostRuntime, table: &str, report: &mut String) -> Result<Tally, CasesFault> {
     let mut tally = Tally::new();
     let mut line: usize = 1;
@@ -25,7 +24,7 @@ pub fn compare(rt: &HostRuntime, table: &str, report: &mut String) -> Result<Tal
     Ok(tally)
 }
 
-/// Makes the call of the case whose first line has this number, and tells whether it differs.
+/// Makes the call of the case whose first line has this number, and returns whether it differs.
 fn compare_case(
     rt: &HostRuntime,
     group: &str,
@@ -47,7 +46,7 @@ fn compare_case(
     Ok(outcome != Outcome::Usual)
 }
 
-/// What the call of a case comes to, or `None` where there is no such call.
+/// The outcome of a case's call, or `None` if there is no such call.
 fn outcome_of(rt: &HostRuntime, case: &Case<'_>) -> Option<Outcome> {
     let Some(count) = case.after else {
         return call(rt, case);

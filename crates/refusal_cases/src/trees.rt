@@ -1,4 +1,4 @@
-//! The calls of a tree that ask for memory, each made many times.
+//! The calls of a tree that request memory, each made many times.
 
 use crate::outcome::Outcome;
 use first_pass_items::item::{Item, ItemBody};
@@ -6,10 +6,10 @@ use first_pass_tree::forest::Tree;
 use first_pass_tree::tree_index::TreeIndex;
 use std::alloc::{AllocError, Global};
 
-/// How often a call is made on one tree.
+/// The number of calls made on one tree.
 const TIMES: usize = 12;
 
-/// What is seen of a tree: its nodes, those that are open, and the one that is current.
+/// The observed state of a tree: its nodes, its open nodes, and its current node.
 #[derive(Drop)]
 struct Seen {
     nodes: Vec<(usize, Item)>,
@@ -18,7 +18,7 @@ struct Seen {
 }
 
 impl Seen {
-    /// Nothing, with room for all that is seen here.
+    /// Returns an empty state, with room for every state observed here.
     fn new(alloc: Global) -> Result<Seen, AllocError> {
         Ok(Seen {
             nodes: Vec::with_capacity(alloc, 2 * TIMES + 2)?,
@@ -36,14 +36,14 @@ impl Seen {
         Ok(())
     }
 
-    /// Whether a tree is as it was seen.
+    /// Whether a tree is unchanged.
     fn is_kept(&self, tree: &Tree<Item>) -> bool {
         self.nodes.as_slice() == tree.nodes()
             && self.open.as_slice() == tree.walk_spine()
             && self.current == tree.cur()
     }
 
-    /// Whether a tree is as it was seen, but for a last node below the root, which is current.
+    /// Whether a tree is unchanged except for a new last child of the root, which is current.
     fn has_appended(&self, tree: &Tree<Item>, item: Item) -> bool {
         let count = self.nodes.len();
         tree.node_count() == count.saturating_add(1)
@@ -53,7 +53,7 @@ impl Seen {
             && tree.cur() == Some(TreeIndex(count))
     }
 
-    /// Whether a tree is as it was seen, but for the current node, this one, which is open.
+    /// Whether a tree is unchanged except that its current node, this one, is now open.
     fn has_pushed(&self, tree: &Tree<Item>, opened: TreeIndex) -> bool {
         tree.nodes() == self.nodes.as_slice()
             && tree.spine_len() == self.open.len().saturating_add(1)
@@ -62,7 +62,7 @@ impl Seen {
             && tree.cur().is_none()
     }
 
-    /// Whether a tree is as it was seen, but for a node below the first, and the others below that one.
+    /// Whether a tree is unchanged except for a new child of its first node, which contains the others.
     fn has_created(&self, tree: &Tree<Item>, item: Item) -> bool {
         if tree.node_count() != self.nodes.len().saturating_add(1)
             || tree.nodes().get(2) != Some(&(2, item))
@@ -83,7 +83,7 @@ impl Seen {
     }
 }
 
-/// Makes a call of this name; `None` where it is another one. An error where a request of the test was refused.
+/// Makes a call of this name; returns `None` if no call has it. Fails if a request of the test was refused.
 pub fn call_tree(alloc: Global, call: &str) -> Option<Result<Outcome, AllocError>> {
     match call {
         "append" => Some(append(alloc)),
@@ -124,7 +124,7 @@ fn append(alloc: Global) -> Result<Outcome, AllocError> {
     Ok(outcome)
 }
 
-// No text touches the one before it.
+// No text adjoins the one before it.
 fn append_text(alloc: Global) -> Result<Outcome, AllocError> {
     let mut tree = Tree::with_capacity(alloc, 1)?;
     let mut seen = Seen::new(alloc)?;
@@ -174,7 +174,7 @@ fn push(alloc: Global) -> Result<Outcome, AllocError> {
     Ok(outcome)
 }
 
-// Each node that is created is put around those before it, below the first.
+// Each new node is put around the earlier ones, below the first.
 fn create_node(alloc: Global) -> Result<Outcome, AllocError> {
     let mut tree = Tree::with_capacity(alloc, 1)?;
     tree.append(block(0))?;
