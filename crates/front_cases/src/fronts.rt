@@ -1,4 +1,4 @@
-//! The fronts of one text.
+//! The fronts (prefixes) of one text.
 
 use crate::sums::Sums;
 use bitflags::Flags;
@@ -8,8 +8,8 @@ use first_pass_ranges::breach::Breach;
 use first_pass_ranges::ranges::find_breach;
 use std::alloc::{AllocError, Global};
 
-/// Checks each front of a text that ends at a character boundary, and appends to the report each whose tree is not in
-/// order.
+/// Checks each front of a text that ends at a character boundary, and appends each whose tree is not in order to the
+/// report.
 pub fn check_fronts(
     alloc: Global,
     text: &str,
@@ -28,13 +28,14 @@ pub fn check_fronts(
     Ok(())
 }
 
-/// What is wrong with the tree of a text under all options together.
+/// What is wrong with the tree of a text under all options.
 fn breach_of(alloc: Global, text: &str) -> Result<Option<Breach>, AllocError> {
     let (tree, _allocs) = run_first_pass(alloc, text, Options::all())?;
     find_breach(alloc, text, tree.nodes())
 }
 
-/// Appends what is wrong with the tree of the front of so many bytes of a text, which is told by its number.
+/// Appends what is wrong with the tree of a front; `text` is the number of the text and `length` that of the front's
+/// bytes.
 fn append_breach(
     report: &mut String,
     text: usize,

@@ -1,16 +1,17 @@
-//! `front_cases`: reads a table of texts, and checks that the ranges of the tree of each of their fronts are in order.
+//! `front_cases`: reads a table of texts, and checks for each of their fronts (prefixes) that the ranges of its tree
+//! are in order.
 //!
-//! A text is a group of lines, and an empty line ends it: each line of the text stands after a bar, as in the table of
-//! `block_cases`, and a control character as its picture (see `first_pass_cases::pictures`). Groups of lines that begin
-//! with a number sign are headings.
+//! A text is a group of lines, and an empty line ends it. Each line of the text is after a bar, as in the table of
+//! `block_cases`, and a control character is written as its picture (see `first_pass_cases::pictures`). Groups of
+//! lines that begin with a number sign are headings.
 //!
-//! Each front of a text that ends at a character boundary, the empty one and the whole text too, is read under all
-//! options together. What is in order is told by `first_pass_ranges`, which knows nothing of the pass. That it tells
-//! what is not is tried on trees that are made wrong.
+//! Each front of a text that ends at a character boundary, including the empty one and the whole text, is read under
+//! all options together. `first_pass_ranges` checks the order; it does not depend on the pass. Trees that are made
+//! wrong test that it finds what is not in order.
 //!
-//! Each front whose tree is not in order is told, and each wrong tree that isn't told for what is wrong with it; the
-//! last line counts all of them. The status is 1 where there is any, and 2 for a table that isn't one, which is told
-//! on standard error by its line.
+//! Prints each front whose tree is not in order, and each wrong tree that is not reported for its own fault; the last
+//! line counts all of them. The status is 1 if there is any. It is 2 if the table is malformed; the faulty line is
+//! then reported on standard error.
 #![tactic(auto)]
 
 mod fronts;

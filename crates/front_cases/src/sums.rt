@@ -1,9 +1,9 @@
-//! What was checked, and what it came to.
+//! The number of checks, and their results.
 
 use first_pass_cases::tally::Tally;
 use std::alloc::AllocError;
 
-/// How many texts and fronts were read, how many trees of them were not in order, and how many wrong trees were told.
+/// The numbers of texts and fronts read, of trees not in order, and of wrong trees made and reported.
 #[derive(Clone, Copy)]
 pub struct Sums {
     pub texts: usize,
@@ -52,7 +52,7 @@ impl Sums {
         write!(report, "{told} of {wrong} wrong trees told\n")
     }
 
-    /// The trees as cases, of which those differ that are told wrongly.
+    /// Returns the trees as cases; those that are reported wrongly differ.
     pub fn tally(&self) -> Tally {
         let untold = self.wrong.saturating_sub(self.told);
         Tally {

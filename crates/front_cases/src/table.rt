@@ -1,4 +1,4 @@
-//! The table: its texts, one after the other.
+//! The table and its texts, in order.
 
 use crate::fronts::check_fronts;
 use crate::sums::Sums;
@@ -6,7 +6,7 @@ use first_pass_cases::fault::CasesFault;
 use first_pass_cases::texts::{is_heading, read_text};
 use std::alloc::Global;
 
-/// Checks the fronts of each text of the table, and appends to the report each whose tree is not in order.
+/// Checks the fronts of each text of the table, and appends each whose tree is not in order to the report.
 pub fn check(
     alloc: Global,
     table: &str,

@@ -1,4 +1,4 @@
-//! Trees that are not in order: each is that of a text with one node changed.
+//! Trees that are not in order: each is the tree of a text with one node changed.
 
 use crate::sums::Sums;
 use bitflags::Flags;
@@ -11,12 +11,12 @@ use first_pass_tree::forest::Tree;
 use first_pass_tree::tree_index::TreeIndex;
 use std::alloc::{AllocError, Global};
 
-/// The text whose tree is changed, of 13 bytes. Its nodes by their places: 0 the root, 1 a list, 2 an item 0..4 with
-/// 3 a paragraph 2..4 of 4 a text, 5 an item 4..13 with 6 a paragraph 10..13 of 7 the marker of a task 6..9 and
-/// 8 a text.
+/// The text whose tree is changed, of 13 bytes. Its nodes by index: 0 the root; 1 a list; 2 an item 0..4 with 3 a
+/// paragraph 2..4 that has 4 a text; 5 an item 4..13 with 6 a paragraph 10..13 that has 7 a task list item marker 6..9
+/// and 8 a text.
 const TEXT: &str = "- b\n- [x] a\u{e9}";
 
-/// Another range of a node, and how it has to be told.
+/// Another range for a node, and the fault that must be reported.
 #[derive(Clone, Copy)]
 struct Moved {
     place: usize,
@@ -34,13 +34,13 @@ const fn move_to(place: usize, start: usize, end: usize, flaw: Flaw) -> Moved {
     }
 }
 
-/// Checks each wrong tree, and appends to the report each that isn't told for what is wrong with it.
+/// Checks each wrong tree, and appends each that is not reported for its own fault to the report.
 pub fn check(alloc: Global, sums: &mut Sums, report: &mut String) -> Result<(), AllocError> {
     check_ranges(alloc, sums, report)?;
     check_bodies(alloc, sums, report)
 }
 
-/// Checks trees with another range of one node.
+/// Checks trees in which one node has another range.
 fn check_ranges(alloc: Global, sums: &mut Sums, report: &mut String) -> Result<(), AllocError> {
     for Moved {
         place,
@@ -48,7 +48,7 @@ fn check_ranges(alloc: Global, sums: &mut Sums, report: &mut String) -> Result<(
         end,
         flaw,
     } in [
-        // The root ends before the text, or starts in it.
+        // The root ends before the end of the text, or starts in the text.
         move_to(0, 0, 12, Flaw::Root),
         move_to(0, 1, 13, Flaw::Root),
         // An end before the start, after the text, and inside a character; a start inside one.
@@ -56,12 +56,12 @@ fn check_ranges(alloc: Global, sums: &mut Sums, report: &mut String) -> Result<(
         move_to(8, 10, 14, Flaw::PastText),
         move_to(8, 10, 12, Flaw::InCharacter),
         move_to(8, 12, 13, Flaw::InCharacter),
-        // A child past its parent, and one before it.
+        // A child past its parent's end, and one before its start.
         move_to(3, 2, 5, Flaw::Outside),
         move_to(4, 1, 3, Flaw::Outside),
-        // An item that starts in the one before it.
+        // An item that starts within the one before it.
         move_to(5, 3, 13, Flaw::Overlap),
-        // The marker of a task before its item, and one that ends in its paragraph.
+        // A task list item marker before its item, and one that ends in its paragraph.
         move_to(7, 3, 9, Flaw::TaskMarker),
         move_to(7, 6, 11, Flaw::TaskMarker),
     ] {
@@ -74,7 +74,7 @@ fn check_ranges(alloc: Global, sums: &mut Sums, report: &mut String) -> Result<(
     Ok(())
 }
 
-/// Checks trees with another body of one node.
+/// Checks trees in which one node has another body.
 fn check_bodies(alloc: Global, sums: &mut Sums, report: &mut String) -> Result<(), AllocError> {
     for (place, body, told, flaw) in [
         // A title that is still only a possible one.
@@ -84,10 +84,10 @@ fn check_bodies(alloc: Global, sums: &mut Sums, report: &mut String) -> Result<(
             3,
             Flaw::PossibleTitle,
         ),
-        // The marker of a task in a paragraph that is not directly in an item, and in a node that is none.
+        // A task list item marker in a paragraph that is not directly in an item, and in a node that is no paragraph.
         (5, ItemBody::BlockQuote(None), 7, Flaw::TaskMarker),
         (6, ItemBody::HtmlBlock, 7, Flaw::Outside),
-        // Before a paragraph another node than the marker of a task.
+        // Another node than a task list item marker before a paragraph.
         (7, ItemBody::SoftBreak, 7, Flaw::Outside),
     ] {
         let mut tree = read(alloc)?;
@@ -99,20 +99,20 @@ fn check_bodies(alloc: Global, sums: &mut Sums, report: &mut String) -> Result<(
     Ok(())
 }
 
-/// The tree of the text, under all options together.
+/// The tree of the text, under all options.
 fn read(alloc: Global) -> Result<Tree<Item>, AllocError> {
     let (tree, _allocs) = run_first_pass(alloc, TEXT, Options::all())?;
     Ok(tree)
 }
 
-/// Puts another item at a place, if there is one.
+/// Replaces the node at an index, if there is one.
 fn put(tree: &mut Tree<Item>, place: usize, item: Item) {
     if place < tree.node_count() {
         tree.set_item(TreeIndex(place), item);
     }
 }
 
-/// Counts a wrong tree, and appends it to the report where it isn't told as it has to be.
+/// Counts a wrong tree, and appends it to the report if it is not reported as it must be.
 fn count_told(
     alloc: Global,
     tree: &Tree<Item>,
