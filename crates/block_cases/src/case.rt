@@ -1,4 +1,4 @@
-//! One case: how it is read, run and told.
+//! One case: how it is read, run and reported.
 
 use first_pass_cases::pictures::{append_shown, read_shown};
 use first_pass_cases::texts::read_text;
@@ -6,7 +6,7 @@ use first_pass_host::fault::BlocksFault;
 use first_pass_program::run::blocks_run;
 use std::alloc::{AllocError, Global};
 
-/// A text with its options and the tree that is wanted.
+/// A text with its options and the expected tree.
 #[derive(Drop)]
 pub struct Case<'t> {
     /// The word of the options, if there is one.
@@ -15,7 +15,7 @@ pub struct Case<'t> {
     pub tree: String,
 }
 
-/// Reads a case from its lines, or says what they lack.
+/// Reads a case from its lines, or returns what they lack.
 pub fn read_case(alloc: Global, group: &str) -> Result<Result<Case<'_>, &'static str>, AllocError> {
     let (options, lines) = read_options(group);
     let (above, below) = match lines.split_once("\nRoot ") {
@@ -46,7 +46,7 @@ fn read_options(group: &str) -> (Option<&str>, &str) {
     }
 }
 
-/// What `blocks` prints for the case, or `None` where its word is not that of options.
+/// Returns what `blocks` prints for the case, or `None` if its word does not represent options.
 pub fn printed(alloc: Global, case: &Case<'_>) -> Result<Option<String>, BlocksFault> {
     let words = words_of(alloc, case)?;
     let mut input = case.text.as_bytes();
@@ -58,7 +58,7 @@ pub fn printed(alloc: Global, case: &Case<'_>) -> Result<Option<String>, BlocksF
     }
 }
 
-/// The words that `blocks` is given.
+/// The words for `blocks`.
 fn words_of(alloc: Global, case: &Case<'_>) -> Result<Vec<String>, AllocError> {
     let mut words = Vec::new(alloc);
     if let Some(word) = case.options {
@@ -67,7 +67,7 @@ fn words_of(alloc: Global, case: &Case<'_>) -> Result<Vec<String>, AllocError> {
     Ok(words)
 }
 
-/// Appends a case that differs: its lines with the tree that was wanted, and the tree that came.
+/// Appends a case that differs: its lines with the expected tree, and the actual tree.
 pub fn append_difference(report: &mut String, group: &str, came: &str) -> Result<(), AllocError> {
     report.push_str(group)?;
     report.push_str("\nbut this came:\n")?;

@@ -1,4 +1,4 @@
-//! `block_cases`: reads a table of texts and the trees that are printed for them, and tells which differ.
+//! `block_cases`: reads a table of texts and of the trees printed for them, and prints the cases that differ.
 //!
 //! A case is a group of lines, and an empty line ends it:
 //!
@@ -11,19 +11,20 @@
 //!   ..
 //! ```
 //!
-//! - The first line has the word that `blocks` is given, the decimal value of the option bits. Without one there is no
-//!   such line.
-//! - The text follows, each line after a bar. A text that ends with a line end has a last line with nothing but the
-//!   bar; `|` alone is the empty text.
+//! - The first line has the word for `blocks`, the decimal value of the option bits. Without a word there is no such
+//!   line.
+//! - The text follows, each line after a bar. If the text ends with a line ending, its last line is only a bar. A
+//!   single `|` is the empty text.
 //! - The tree follows as `blocks` prints it.
-//! - In text and tree a control character stands as its picture (see `first_pass_cases::pictures`), and so does a
-//!   space at a line's end.
+//! - In text and tree a control character is written as its picture (see `first_pass_cases::pictures`), and so is a
+//!   space at the end of a line.
 //!
-//! Groups of lines that begin with a number sign are headings: `#` names what the cases below it are about, `##` says
-//! what the next ones show.
+//! Groups of lines that begin with a number sign are headings: `#` is the subject of the cases below it, `##` is what
+//! the next ones show.
 //!
-//! Each case that differs is told with what was wanted and what came; the last line is `N cases, M differ`. The status
-//! is 1 where any differs, and 2 for a table that isn't one, which is told on standard error by its line.
+//! Each case that differs is printed with the expected and the actual tree; the last line is `N cases, M differ`. The
+//! status is 1 if any case differs. It is 2 if the table is malformed; the faulty line is then reported on standard
+//! error.
 #![tactic(auto)]
 
 mod case;

@@ -1,4 +1,4 @@
-//! The table: its groups of lines, one after the other.
+//! The table and its groups of lines, in order.
 
 use crate::case::{append_difference, printed, read_case};
 use first_pass_cases::fault::CasesFault;
@@ -6,7 +6,7 @@ use first_pass_cases::tally::{Tally, append_place};
 use first_pass_cases::texts::is_heading;
 use std::alloc::Global;
 
-/// Runs each case of the table, and appends to the report each that differs.
+/// Runs each case of the table, and appends each that differs to the report.
 pub fn compare(alloc: Global, table: &str, report: &mut String) -> Result<Tally, CasesFault> {
     let mut tally = Tally::new();
     let mut line: usize = 1;
@@ -20,7 +20,7 @@ pub fn compare(alloc: Global, table: &str, report: &mut String) -> Result<Tally,
     Ok(tally)
 }
 
-/// Runs the case whose first line has this number, and tells whether it differs.
+/// Runs the case whose first line has this number, and returns whether it differs.
 fn compare_case(
     alloc: Global,
     group: &str,
