@@ -14,13 +14,13 @@ use first_pass_timing::timing::read_clock;
 use rand_pcg::Pcg32;
 use std::alloc::{AllocError, Global};
 
-/// How many texts are read between two looks at the clock.
+/// The number of texts that are read before the clock is read again.
 const BATCH: u32 = 1000;
 
-/// The nanoseconds of a second.
+/// One second in nanoseconds.
 const SECOND: u128 = 1_000_000_000;
 
-/// Reads random texts as the words ask, appends to the report what came of it, and returns the status to end with.
+/// Reads random texts as the words request, appends the result to the report, and returns the exit status.
 pub fn soak<T: TimeSource>(
     clock: &mut T,
     alloc: Global,
@@ -47,7 +47,7 @@ pub fn soak<T: TimeSource>(
     Ok(0)
 }
 
-/// Reads a batch of texts. Where the tree of one is not in order, appends that to the report, and returns its number.
+/// Reads a batch of texts. If the tree of one is not in order, appends that to the report and returns its number.
 fn read_batch(
     alloc: Global,
     rng: &mut Pcg32,
@@ -71,7 +71,7 @@ fn breach_of(alloc: Global, text: &str, options: Options) -> Result<Option<Breac
     find_breach(alloc, text, tree.nodes())
 }
 
-/// Appends to the report the smallest text found of these pieces whose tree is not in order.
+/// Appends to the report the smallest text that is found of these pieces with a tree that is not in order.
 fn report_smallest(
     alloc: Global,
     pieces: &mut Vec<&str>,

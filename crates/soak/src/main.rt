@@ -1,13 +1,12 @@
 //! `soak [SECONDS [SEED]]`: reads random texts, and checks that the ranges of their trees are in order.
 //!
-//! Each text is some snippets one after the other, and is read under random options. What is in order is told by
-//! `first_pass_ranges`, which knows nothing of the pass. Texts are read until so many seconds are over, 60 where that
-//! isn't said, but 1,000 at least, or until the tree of one is not in order. A seed gives the same texts each time;
-//! where none is said it is what the clock says.
+//! Each text is a sequence of snippets, and is read under random options. `first_pass_ranges` checks the order; it
+//! does not depend on the pass. Texts are read for SECONDS seconds, by default 60, but at least 1,000 texts, or until
+//! the tree of one is not in order. The same SEED gives the same texts; the default is the reading of the clock.
 //!
-//! What is printed is the seed and how many texts were read. A text whose tree is not in order is told with its options
-//! and what is wrong, as the smallest that is found by removing snippets: each of its lines after a bar, control
-//! characters as pictures (see `first_pass_cases::pictures`). The status is 1 then, and 2 for other words.
+//! Prints the seed and the number of texts that were read. If the tree of a text is not in order, prints its options,
+//! what is wrong, and the smallest such text that is found by removing snippets: each line after a bar, control
+//! characters as pictures (see `first_pass_cases::pictures`). The status is then 1; it is 2 for other words.
 #![tactic(auto)]
 
 mod batches;

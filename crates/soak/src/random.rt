@@ -7,10 +7,10 @@ use rand_core::Rng;
 use rand_pcg::Pcg32;
 use std::alloc::{AllocError, Global};
 
-/// How many snippets a text has at most.
+/// The greatest number of snippets in a text.
 const MOST: u32 = 30;
 
-/// One or more random snippets.
+/// Returns one or more random snippets.
 pub fn random_pieces(alloc: Global, rng: &mut Pcg32) -> Result<Vec<&'static str>, AllocError> {
     let mut pieces = Vec::new(alloc);
     for _ in 0..=rng.next_u32() % MOST {
@@ -20,7 +20,7 @@ pub fn random_pieces(alloc: Global, rng: &mut Pcg32) -> Result<Vec<&'static str>
     Ok(pieces)
 }
 
-/// All options, all but footnotes in the old form, or any.
+/// Returns all options, all except footnotes in the old form, or any.
 pub fn random_options(rng: &mut Pcg32) -> Options {
     match rng.next_u32() % 4 {
         0 => Options::all(),

@@ -1,4 +1,4 @@
-//! What is printed.
+//! The printed report.
 
 use bitflags::Flags;
 use first_pass_cases::pictures::append_shown;
@@ -6,7 +6,7 @@ use first_pass_items::option_set::Options;
 use first_pass_ranges::breach::Breach;
 use std::alloc::AllocError;
 
-/// Appends what is wrong with the tree of a text, and the text, each line after a bar.
+/// Appends what is wrong with the tree of a text, and the text, with a bar before each line.
 pub fn append_breach(
     report: &mut String,
     text: &str,

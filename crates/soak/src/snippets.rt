@@ -1,8 +1,8 @@
-//! What random texts are made of.
+//! The snippets of which random texts consist.
 
 /// Markers, lines and parts of them.
 pub const SNIPPETS: [&str; 141] = [
-    // Line ends and white space, some of which stand more than once, as texts have more of them.
+    // Line endings and white space. Some occur more than once, because texts have more of them.
     "\n",
     "\n",
     "\n",

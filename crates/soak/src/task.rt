@@ -1,18 +1,19 @@
-//! What the words after the program's name ask for.
+//! The words after the program's name.
 
 use first_pass_host::option_word::begins_with_plus;
 
-/// How many seconds texts are read where it isn't said.
+/// The default number of seconds.
 const SECONDS: u64 = 60;
 
-/// For how many seconds texts are read, and from which seed they are made, if that is said.
+/// The number of seconds for which texts are read, and the seed, if one is given.
 #[derive(Clone, Copy)]
 pub struct Task {
     pub seconds: u64,
     pub seed: Option<u64>,
 }
 
-/// The task that the words ask for: `[SECONDS [SEED]]`, each one or more ASCII digits. `None` for other words.
+/// Returns the task that the words request: `[SECONDS [SEED]]`, each one or more ASCII digits. Returns `None` for
+/// other words.
 pub fn parse_task(words: &[String]) -> Option<Task> {
     let (seconds, seed) = match words {
         [] => (SECONDS, None),
@@ -26,7 +27,7 @@ pub fn parse_task(words: &[String]) -> Option<Task> {
     Some(Task { seconds, seed })
 }
 
-/// The number that a word stands for.
+/// The number that a word represents.
 fn number_of(word: &str) -> Option<u64> {
     if begins_with_plus(word) {
         return None;
