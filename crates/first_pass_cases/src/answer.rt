@@ -1,29 +1,29 @@
-//! An answer as it is printed.
+//! The printed form of a result.
 
 use crate::pictures::append_shown;
 use itoa::Buffer;
 use std::alloc::{AllocError, Global};
 
-/// The words of an answer so far, with a space between two.
+/// The words of a result so far, separated by spaces.
 #[derive(Drop)]
 pub struct Answer {
     words: String,
 }
 
 impl Answer {
-    /// An answer without a word.
+    /// Returns a result without words.
     pub fn new(alloc: Global) -> Answer {
         Answer {
             words: String::new(alloc),
         }
     }
 
-    /// The words so far.
+    /// Returns the words so far.
     pub fn as_str(&self) -> &str {
         self.words.as_str()
     }
 
-    /// A word as it is.
+    /// Appends a word as it is.
     pub fn word(&mut self, word: &str) -> Result<(), AllocError> {
         if !self.words.is_empty() {
             self.words.push(' ')?;
@@ -31,36 +31,36 @@ impl Answer {
         self.words.push_str(word)
     }
 
-    /// A number in decimal digits.
+    /// Appends a number in decimal digits.
     pub fn number(&mut self, number: usize) -> Result<(), AllocError> {
         let mut digits = Buffer::new();
         self.word(digits.format(number))
     }
 
-    /// `true` or `false`.
+    /// Appends `true` or `false`.
     pub fn flag(&mut self, flag: bool) -> Result<(), AllocError> {
         self.word(if flag { "true" } else { "false" })
     }
 
-    /// A byte as its character.
+    /// Appends a byte as its character.
     pub fn byte(&mut self, byte: u8) -> Result<(), AllocError> {
         self.word("")?;
         self.words.push(char::from(byte))
     }
 
-    /// A text between `‹` and `›`.
+    /// Appends a text between `‹` and `›`.
     pub fn text(&mut self, text: &str) -> Result<(), AllocError> {
         self.word("‹")?;
         append_shown(&mut self.words, text)?;
         self.words.push('›')
     }
 
-    /// The word `none`.
+    /// Appends the word `none`.
     pub fn none(&mut self) -> Result<(), AllocError> {
         self.word("none")
     }
 
-    /// A number, or `none`.
+    /// Appends a number, or `none`.
     pub fn length(&mut self, found: Option<usize>) -> Result<(), AllocError> {
         match found {
             Some(number) => self.number(number),
@@ -68,14 +68,14 @@ impl Answer {
         }
     }
 
-    /// A byte, or `none`.
+    /// Appends a byte, or `none`.
     pub fn maybe_byte(&mut self, found: Option<u8>) -> Result<(), AllocError> {
         match found {
             Some(byte) => self.byte(byte),
             None => self.none(),
         }
     }
-    /// `true` or `false`, or `none`.
+    /// Appends `true`, `false` or `none`.
     pub fn maybe_flag(&mut self, found: Option<bool>) -> Result<(), AllocError> {
         match found {
             Some(flag) => self.flag(flag),

@@ -1,19 +1,19 @@
-//! Why a run over a table of cases ended before the table's end.
+//! The fault that ends a run over a table of cases before the table's end.
 
 use first_pass_host::fault::BlocksFault;
 use std::alloc::{AllocError, Global};
 
-/// Why a run over a table of cases ended before the table's end.
+/// The fault that ended a run over a table of cases before the table's end.
 #[derive(Clone, Copy, Debug, PartialEq, Eq)]
 pub enum CasesFault {
-    /// The table couldn't be read, or the report not written, or memory was refused.
+    /// The table couldn't be read, the report couldn't be written, or an allocation failed.
     Run(BlocksFault),
-    /// The table has something else than a case at this line: what it has or lacks there.
+    /// This line of the table is not part of a case: what it has or lacks.
     Malformed(usize, &'static str),
 }
 
 impl CasesFault {
-    /// What a program says of it on standard error.
+    /// Returns the message for standard error.
     pub fn message(self, alloc: Global) -> Result<String, AllocError> {
         match self {
             CasesFault::Run(fault) => String::from_str(alloc, fault.message()),

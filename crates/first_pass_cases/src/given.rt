@@ -1,9 +1,9 @@
-//! What a call is given beside its text.
+//! The arguments of a call other than its text.
 
-/// How many values a call may be given.
+/// The greatest number of arguments of a call.
 const MOST: usize = 5;
 
-/// The values that a call is given, and how many there are.
+/// The arguments of a call, and their number.
 #[derive(Drop)]
 pub struct Given {
     values: [usize; MOST],
@@ -11,28 +11,28 @@ pub struct Given {
 }
 
 impl Given {
-    /// The value at a place, or 0 where there are fewer.
+    /// Returns the argument with this index, or 0 if there are fewer.
     pub fn number(&self, place: usize) -> usize {
         self.values.get(place).copied().unwrap_or(0)
     }
 
-    /// The value at a place as a byte, or 0 where it is none.
+    /// Returns the argument with this index as a byte, or 0 if it is not one.
     pub fn byte(&self, place: usize) -> u8 {
         u8::try_from(self.number(place)).unwrap_or(0)
     }
 
-    /// Whether the value at a place is not 0.
+    /// Returns whether the argument with this index is not 0.
     pub fn flag(&self, place: usize) -> bool {
         self.number(place) != 0
     }
 
-    /// How many values there are.
+    /// Returns the number of arguments.
     pub fn count(&self) -> usize {
         self.count
     }
 }
 
-/// Reads values with spaces between them.
+/// Reads arguments that are separated by spaces.
 pub fn read_given(words: &str) -> Given {
     let mut given = Given {
         values: [0; MOST],
@@ -47,7 +47,7 @@ pub fn read_given(words: &str) -> Given {
     given
 }
 
-/// The value that a word stands for: a number, a flag, or the first byte of a character.
+/// The value of a word: a number, a flag, or the first byte of a character.
 fn value_of(word: &str) -> usize {
     match word {
         "true" => 1,

@@ -1,6 +1,6 @@
-//! What the programs of tables of cases have in common: the table and the report, texts and control characters as they
-//! stand there, what a call is given and its answer as it is printed, the fault that ends a run, and how many cases
-//! differ.
+//! The common parts of the programs for tables of cases: the table and the report; the form of texts and control
+//! characters; the arguments of a call and the printed form of its result; the fault that ends a run; the number of
+//! cases that differ.
 #![tactic(auto)]
 
 pub mod answer;

@@ -1,12 +1,12 @@
-//! Control characters as they stand in a table: each as its picture.
+//! Control characters in a table: each is written as its picture.
 //!
-//! The characters U+0000 to U+0020 have the pictures U+2400 to U+2420, so `␉` is a tab, `␊` a line end, `␍` a carriage
-//! return, `␋` a vertical tab, `␌` a form feed, and `␠` a space, which is written so only where a line or a text ends.
-//! No text of a table has a picture that stands for itself.
+//! The characters U+0000 to U+0020 have the pictures U+2400 to U+2420: `␉` is a tab, `␊` a newline, `␍` a carriage
+//! return, `␋` a vertical tab, `␌` a form feed. `␠` is a space; it is used only at the end of a line or of a text. No
+//! text of a table contains a picture that means itself.
 
 use std::alloc::{AllocError, Global};
 
-/// The text that a table shows so.
+/// Returns the text for its form in a table.
 pub fn read_shown(alloc: Global, shown: &str) -> Result<String, AllocError> {
     let mut text = String::new(alloc);
     for character in shown.chars() {
@@ -15,7 +15,7 @@ pub fn read_shown(alloc: Global, shown: &str) -> Result<String, AllocError> {
     Ok(text)
 }
 
-/// The character that a picture stands for; any other stands for itself.
+/// The character of a picture; any other character is unchanged.
 fn behind_picture(character: char) -> char {
     match character {
         '\u{2400}'..='\u{2420}' => char::from_u32(character as u32 - 0x2400).unwrap_or(character),
@@ -31,7 +31,7 @@ pub fn append_shown(shown: &mut String, text: &str) -> Result<(), AllocError> {
     Ok(())
 }
 
-/// The picture of a control character; any other stands for itself.
+/// The picture of a control character; any other character is unchanged.
 fn picture_of(character: char) -> char {
     match character {
         '\0'..='\u{1f}' => char::from_u32(character as u32 + 0x2400).unwrap_or(character),

@@ -7,7 +7,7 @@ use first_pass_host::input::read_whole;
 use first_pass_host::output::write_whole;
 use std::str;
 
-/// The whole table, from standard input.
+/// Reads the whole table from standard input.
 pub fn read_table(rt: &HostRuntime) -> Result<String, CasesFault> {
     let bytes = read_whole(rt.alloc(), &mut rt.stdin())?;
     match str::from_utf8(bytes.as_slice()) {

@@ -1,10 +1,10 @@
-//! How many cases a table has, and how many of them differ.
+//! The number of cases in a table, and how many of them differ.
 
 use crate::fault::CasesFault;
 use std::alloc::{AllocError, Global};
 use std::process::ExitCode;
 
-/// How many cases there were, and how many of them differed.
+/// The number of cases, and how many of them differed.
 #[derive(Clone, Copy, Debug, PartialEq, Eq)]
 pub struct Tally {
     pub cases: usize,
@@ -25,24 +25,24 @@ impl Tally {
         self.differ = self.differ.saturating_add(usize::from(differs));
     }
 
-    /// The line that ends a report.
+    /// Returns the line that ends a report.
     pub fn line(self, alloc: Global) -> Result<String, AllocError> {
         let (cases, differ) = (self.cases, self.differ);
         format!(in alloc; "{cases} cases, {differ} differ\n")
     }
 
-    /// The status that a program ends with: 0 where no case differs, else 1.
+    /// Returns the exit status of a program: 0 if no case differs, otherwise 1.
     pub fn status(self) -> u8 {
         u8::from(self.differ != 0)
     }
 }
 
-/// Appends where a case that differs stands.
+/// Appends the place of a case that differs.
 pub fn append_place(report: &mut String, line: usize) -> Result<(), AllocError> {
     write!(report, "line {line} differs:\n")
 }
 
-/// Says what a run came to: the fault on standard error, with status 2, or the status of the tally.
+/// Ends a run: writes a fault to standard error and returns status 2, or returns the status of the tally.
 pub fn end_with(rt: &HostRuntime, answer: Result<Tally, CasesFault>) -> ExitCode {
     match answer {
         Ok(tally) => ExitCode::from(tally.status()),

@@ -1,9 +1,9 @@
-//! Texts as they stand in a table, each line of a text after a bar, and the headings between them.
+//! Texts in a table, with a bar before each line, and the headings between them.
 
 use crate::pictures::read_shown;
 use std::alloc::{AllocError, Global};
 
-/// The text that lines after bars show, joined by line ends, or `None` where one has no bar.
+/// Returns the text of lines with bars, joined by newlines, or `None` if one has no bar.
 pub fn read_text(alloc: Global, lines: &str) -> Result<Option<String>, AllocError> {
     let mut text = String::new(alloc);
     let mut is_first = true;
@@ -20,7 +20,7 @@ pub fn read_text(alloc: Global, lines: &str) -> Result<Option<String>, AllocErro
     Ok(Some(text))
 }
 
-/// Whether all lines of a group begin with a number sign.
+/// Returns whether all lines of a group begin with a number sign.
 pub fn is_heading(group: &str) -> bool {
     for line in group.lines() {
         if !line.starts_with('#') {
