@@ -1,11 +1,11 @@
-//! What can be wrong with the nodes of a tree.
+//! The ways in which the nodes of a tree can be wrong.
 
 /// What is wrong with a node, or with all of them.
 #[derive(Clone, Copy, Debug, PartialEq, Eq)]
 pub enum Flaw {
-    /// The first node is not the root over the whole text.
+    /// The first node is not a root over the whole text.
     Root,
-    /// No node stands around it, or its depth is not one more than that of its parent.
+    /// It has no parent, or its depth is not one more than that of its parent.
     Depth,
     /// It ends before it starts.
     Turned,
@@ -19,14 +19,14 @@ pub enum Flaw {
     Outside,
     /// It starts before its last sibling ends.
     Overlap,
-    /// It is the marker of a task before its paragraph, heading or title, where none may stand.
+    /// It is a task list item marker before its paragraph, heading or title, at a place where none is permitted.
     TaskMarker,
-    /// There are more nodes than the text may have.
+    /// There are more nodes than the text permits.
     TooMany,
 }
 
 impl Flaw {
-    /// What a program says of it.
+    /// Returns the message for a report.
     pub fn message(self) -> &'static str {
         match self {
             Flaw::Root => "the root is not the whole text",
@@ -43,7 +43,7 @@ impl Flaw {
     }
 }
 
-/// A node that is wrong, by its place in reading order, and what is wrong with it.
+/// A wrong node, by its index in reading order, and what is wrong with it.
 #[derive(Clone, Copy, Debug, PartialEq, Eq)]
 pub struct Breach {
     pub place: usize,

@@ -1,5 +1,5 @@
-//! Whether the ranges of a tree are in order, found from its nodes and the text alone; and the fewest pieces of a text
-//! that something is still true of. The programs `front_cases` and `soak` stand on both.
+//! Checks whether the ranges of a tree are in order, from its nodes and the text only, and finds the fewest pieces of
+//! a text for which a property holds. The programs `front_cases` and `soak` use both.
 #![tactic(auto)]
 
 pub mod breach;

@@ -1,22 +1,22 @@
-//! A node while those below it are looked at.
+//! A node while its descendants are checked.
 
 use crate::breach::Flaw;
 use first_pass_items::item::{Item, ItemBody};
 
-/// A node, and what is known of it before its next child.
+/// A node, and its state before its next child.
 #[derive(Clone, Copy)]
 pub(crate) struct Open {
     item: Item,
-    // Where the next child may start: where the last one ends, else where the node starts.
+    // The least start of the next child: the end of the last one, otherwise the start of the node.
     from: usize,
-    // Whether a child was met.
+    // Whether a child has been checked.
     has_child: bool,
-    // From where on the marker of a task may stand before the node, if one may.
+    // The least start of a task list item marker before the node, if one is permitted.
     room: Option<usize>,
 }
 
 impl Open {
-    /// A node before its first child, with the room for the marker of a task before it.
+    /// Returns a node before its first child, with the room for a task list item marker before it.
     pub(crate) fn new(item: Item, room: Option<usize>) -> Open {
         Open {
             item,
@@ -26,7 +26,7 @@ impl Open {
         }
     }
 
-    /// What is wrong with the place of the next child.
+    /// Returns what is wrong with the range of the next child.
     pub(crate) fn flaw_of(&self, child: Item) -> Option<Flaw> {
         if self.is_marker_before(child) {
             return match self.room {
@@ -43,7 +43,7 @@ impl Open {
         None
     }
 
-    /// Takes the next child, and returns it as a node whose children come next.
+    /// Adds the next child, and returns it as a node before its first child.
     pub(crate) fn enter(&mut self, child: Item) -> Open {
         let room = self.room_before(child.body);
         if !self.is_marker_before(child) {
@@ -53,8 +53,8 @@ impl Open {
         Open::new(child, room)
     }
 
-    /// Whether a child is the marker of a task that is first in a paragraph, a heading or a title, and starts before
-    /// that.
+    /// Whether a child is a task list item marker that is first in a paragraph, a heading or a title, and starts
+    /// before it.
     fn is_marker_before(&self, child: Item) -> bool {
         matches!(child.body, ItemBody::TaskListMarker(_))
             && !self.has_child
@@ -62,9 +62,9 @@ impl Open {
             && child.start < self.item.start
     }
 
-    /// From where on the marker of a task may stand before the next child, if one may: before a paragraph, a heading or
-    /// a definition list directly in a list item, from the end of the sibling before that on; and before the title that
-    /// is first in such a list, as before the list.
+    /// The least start of a task list item marker before the next child, if one is permitted. Before a paragraph, a
+    /// heading or a definition list directly in a list item, it is the end of the sibling before. Before the title
+    /// that is first in such a definition list, it is that before the list.
     fn room_before(&self, child: ItemBody) -> Option<usize> {
         match (self.item.body, child) {
             (ItemBody::ListItem(_), ItemBody::DefinitionList(_)) => Some(self.from),

@@ -1,8 +1,8 @@
-//! Texts of pieces, and the fewest pieces of which something is still true.
+//! Texts made of pieces, and the fewest pieces for which a property still holds.
 
 use std::alloc::{AllocError, Global};
 
-/// The pieces one after the other.
+/// Returns the pieces joined.
 pub fn joined(alloc: Global, pieces: &[&str]) -> Result<String, AllocError> {
     let mut text = String::new(alloc);
     for piece in pieces {
@@ -11,7 +11,7 @@ pub fn joined(alloc: Global, pieces: &[&str]) -> Result<String, AllocError> {
     Ok(text)
 }
 
-/// Removes pieces as long as something stays true of the text that is left, and no piece more can be removed by itself.
+/// Removes pieces while the property holds for the rest, until no single piece can be removed.
 pub fn remove_pieces<F>(alloc: Global, pieces: &mut Vec<&str>, is_true: F) -> Result<(), AllocError>
 where
     F: Fn(&str) -> Result<bool, AllocError> + Drop,
@@ -25,7 +25,7 @@ where
     Ok(())
 }
 
-/// Tries each piece once, the last one first, and tells whether any was removed.
+/// Tries each piece once, the last one first; returns whether any was removed.
 fn remove_some<F>(alloc: Global, pieces: &mut Vec<&str>, is_true: &F) -> Result<bool, AllocError>
 where
     F: Fn(&str) -> Result<bool, AllocError> + Drop,

@@ -1,16 +1,16 @@
-//! The nodes of a finished tree, held against the text.
+//! Checks the nodes of a finished tree against the text.
 
 use crate::breach::{Breach, Flaw};
 use crate::open::Open;
 use first_pass_items::item::{Item, ItemBody};
 use std::alloc::{AllocError, Global};
 
-/// The first node in reading order that is wrong for a text, or `None` where none is: each range stands between two
-/// characters of the text, within its parent, and after the sibling before it. The nodes are those that `Tree::nodes`
-/// lends of a finished tree.
+/// Returns the first node in reading order that is wrong for a text, or `None` if all are right. `nodes` are those of
+/// a finished tree, as `Tree::nodes` returns them. Both ends of each range must be character boundaries, and each
+/// range must lie within its parent and after the sibling before it.
 ///
-/// Only the marker of a task that is first in a paragraph, a heading or a title may stand before that, within the list
-/// item around it, after what stands there before.
+/// Only a task list item marker that is first in a paragraph, a heading or a title may start before that block. It
+/// must lie within the list item around it, after the sibling before that block.
 pub fn find_breach(
     alloc: Global,
     text: &str,
@@ -37,12 +37,12 @@ pub fn find_breach(
     Ok(None)
 }
 
-/// A breach as an answer.
+/// A breach as a result.
 fn breach_at(place: usize, flaw: Flaw) -> Result<Option<Breach>, AllocError> {
     Ok(Some(Breach { place, flaw }))
 }
 
-/// Goes on to a node of a depth, of which as many stand around it, or tells what is wrong with it.
+/// Enters a node at a depth, or returns what is wrong with it. `around` has the nodes around it.
 fn enter(
     around: &mut Vec<Open>,
     text: &str,
@@ -67,7 +67,7 @@ fn enter(
     Ok(flaw)
 }
 
-/// What is wrong with a node by itself.
+/// What is wrong with a node on its own.
 fn own_flaw(text: &str, item: Item) -> Option<Flaw> {
     if item.end < item.start {
         Some(Flaw::Turned)
@@ -82,13 +82,13 @@ fn own_flaw(text: &str, item: Item) -> Option<Flaw> {
     }
 }
 
-/// Whether there are more nodes than the root, four for each byte of the text, and the cells that are filled in.
+/// Whether there are more nodes than the root, four for each byte of the text, and the filled-in cells.
 fn has_too_many(text: &str, nodes: &[(usize, Item)]) -> bool {
     let most = text.len().saturating_mul(4).saturating_add(1);
     most.saturating_add(count_filled(nodes)) < nodes.len()
 }
 
-/// How many cells are filled in: those of a row that are empty at its end.
+/// The number of filled-in cells: the empty cells at the end of a row.
 fn count_filled(nodes: &[(usize, Item)]) -> usize {
     let mut filled: usize = 0;
     let mut row_end = None;
