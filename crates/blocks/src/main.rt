@@ -1,5 +1,5 @@
-//! `blocks [BITS]`: prints the tree of the blocks of a Markdown text on standard input. BITS is the
-//! decimal value of the options, 0 if absent.
+//! `blocks [BITS]`: prints the tree of the blocks of a Markdown text on standard input. BITS is the decimal value of
+//! the options, by default 0.
 #![tactic(auto)]
 
 use first_pass_program::run::PrintedBlocks;
