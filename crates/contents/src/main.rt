@@ -1,5 +1,5 @@
 //! Prints the headings of a Markdown text on standard input, each with its level, range, id and text, and then the
-//! text's link definitions: an example of how a program uses the library.
+//! text's link definitions. An example of a program that uses the library.
 #![tactic(auto)]
 
 use anyhow::Result;
