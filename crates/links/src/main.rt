@@ -1,5 +1,5 @@
 //! `links [BITS]`: lists the link definitions and the footnote definitions of a Markdown text on standard input, and
-//! each pair of brackets whose label a link definition has. BITS is the decimal value of the options, 0 if absent.
+//! each pair of brackets whose label has a link definition. BITS is the decimal value of the options, by default 0.
 #![tactic(auto)]
 
 use first_pass_references::run::ListedLinks;
