@@ -1,5 +1,5 @@
-//! `outline [BITS]`: prints the outline of a Markdown text on standard input, its headings. BITS is the
-//! decimal value of the options, 0 if absent.
+//! `outline [BITS]`: prints the outline of a Markdown text on standard input, that is, its headings. BITS is the
+//! decimal value of the options, by default 0.
 #![tactic(auto)]
 
 use first_pass_outline::run::ListedOutline;
