@@ -1,5 +1,5 @@
-//! `tree [BITS]`: writes the tree of the blocks of a Markdown text on standard input, and its tables, as lines of JSON.
-//! BITS is the decimal value of the options, 0 if absent.
+//! `tree [BITS]`: writes the tree of the blocks of a Markdown text on standard input, and its tables, as lines of
+//! JSON. BITS is the decimal value of the options, by default 0.
 #![tactic(auto)]
 
 use first_pass_json::run::JsonTree;
