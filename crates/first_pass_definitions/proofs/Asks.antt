@@ -1,4 +1,4 @@
--- What asks for memory as a definition is read.
+-- When reading a definition needs memory.
 use Rattle.std.proofs.Common.{◌≡◌, ◌⊎◌, inl, inr, ℕ, zero, suc, ◌+◌, ◌<◌, ◌==◌, ◌||◌, Bool, true, false, List, drop, Option}
 use Rattle.std.proofs.Common.{Some, None, Ok, Err, Result, OnErr, is_some, IsSomeAnd, IsCharBoundary, refl, sym, ap, subst, ◌∙◌, arith}
 use Rattle.std.specs.Borrow.{Bor}
@@ -62,7 +62,7 @@ first_stop close from stop bs z e =
     ap (λ n. n + unescaped_upto (stops_title close) 0 (drop n bs)) z in
     omega arith
 
--- after its first line the title continues
+-- the title continues after its first line
 pub goes_asks : (around : Context) (close from stop next : ℕ) (bs : List ℕ)
     → (0 < from → text_asks around close bs ≡ true) → stop ≡ from + unescaped_upto (stops_title close) 0 (drop from bs)
     → goes_on_at (title_prefix around) bs stop ≡ Some next → (from ≡ 0) ⊎ (0 < from) → text_asks around close bs ≡ true
@@ -139,7 +139,7 @@ alone_none bs n len title (Some t) h k =
     let e : is_some (blank_len (drop (n + t.0) bs)) ≡ false = ap (λ m. is_some (blank_len (drop (n + m) bs))) (sym h.0) ∙ k in
     rw e refl
 
--- a title after which its line isn't blank is none
+-- a title is none if its line is not blank after it
 pub title_crowded : (around : Context) (text : List ℕ) (at start k len : ℕ) (title : CowStr) → Some (start, k) ≡ shifted at (space_at around (drop at text))
     → IsTitleRead (title_at around (drop start text)) (read_to len title) → is_some (blank_len (drop (start + len) text)) ≡ false
     → title_behind around (drop at text) ≡ None

@@ -1,4 +1,4 @@
--- Places in what is left of a text.
+-- Places in the rest of a text.
 use Rattle.std.proofs.Common.{◌≡◌, ℕ, ◌+◌, ◌-◌, ◌<◌, ◌≤◌, ◌==◌, Bool, true, false, List, ◌∷◌, length, drop, Option, Some, None, Result, Ok, Err, IfOk, []}
 use Rattle.std.proofs.Common.{IfSome, IsCharBoundary, refl, sym, ap, subst, ◌∙◌, arith, length-drop, if◌then◌else◌}
 use Rattle.std.specs.declared.alloc.AllocError.{AllocError}
@@ -17,7 +17,7 @@ part_boundary text a n l b =
     let g = get_or-drop a text n 0 in
     (omega arith, λ h k. let z = b.1 (omega arith) (omega arith) in omega arith)
 
--- further on in what is left
+-- further on in the rest
 pub rest_further : (text bytes xs : List ℕ) (k : ℕ) → IsRestOf text bytes → xs ≡ drop k bytes → IsCharBoundary bytes k → IsRestOf text xs
 rest_further text bytes xs k r e b =
     let s : ℕ = length text - length bytes in
@@ -32,14 +32,14 @@ rest_further text bytes xs k r e b =
       boundary = subst (IsCharBoundary text) (sym n) (place_behind text s k (omega arith) (subst (λ ys. IsCharBoundary ys k) r.are b));
     }
 
--- a place in a line of what is left
+-- a place in a line of the rest
 pub rest_place : (text bytes : List ℕ) (s : ℕ) (r : Rest) → s ≤ length text → bytes ≡ drop s text → IsPlaceOf text (place_at s r)
     → (r.left ≡ drop r.taken bytes) × IsCharBoundary bytes r.taken
 rest_place text bytes s r l e i =
     let d : drop r.taken bytes ≡ drop (s + r.taken) text = ap (drop r.taken) e ∙ drop-drop r.taken s text in
     (i.left ∙ sym d, subst (λ xs. IsCharBoundary xs r.taken) (sym e) (part_boundary text s r.taken l i.boundary))
 
--- what isn't blank
+-- a line that is not blank
 feed_by : (t : Bool) (b : ℕ) (bs : List ℕ) → (b == 10) ≡ t → blank_len (b ∷ bs) ≡ None → t ≡ false
 feed_by false b bs h f = refl
 feed_by true b bs h f = let d : b ≡ 10 = eqb-true b 10 h in let z : blank_len (10 ∷ bs) ≡ None = subst (λ x. blank_len (x ∷ bs) ≡ None) d f in cc
@@ -65,7 +65,7 @@ eol_some : (xs : List ℕ) (e : ℕ) → eol_len xs ≡ Some e → 0 < length xs
 eol_some [] e h l = absurd (omega arith)
 eol_some (b ∷ bs) e h l = eol_some_by (b == 10) (b == 13) (begins 10 bs) e h
 
--- A line end has a byte where something is left after it.
+-- A line ending has a byte if something follows it.
 pub later_by : (bytes : List ℕ) (at e n : ℕ) → 0 < length (drop (at + e + n) bytes) → eol_len (drop at bytes) ≡ Some e → at < at + e + n
 later_by bytes at e n l h =
     let d = length-drop (at + e + n) bytes in
@@ -73,7 +73,7 @@ later_by bytes at e n l h =
     let z = eol_some (drop at bytes) e h (omega arith) in
     omega arith
 
--- an answer about what is left, in the text
+-- a result for the rest, in the text
 pub label_fits : {X : Type 0} (r : Result (Option (ℕ × X)) AllocError) (text bytes : List ℕ) (s : ℕ) → IsCharBoundary text s → bytes ≡ drop s text
     → IfOk r (λ answer. IfSome answer (λ (found : ℕ × X). (0 < found.0) × (found.0 ≤ length bytes)))
     → IfOk r (λ answer. IfSome answer (λ (found : ℕ × X). IsCharBoundary bytes found.0))

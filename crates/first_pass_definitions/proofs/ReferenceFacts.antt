@@ -1,4 +1,4 @@
--- Where definitions end.
+-- The ends of definitions.
 use Rattle.std.proofs.Common.{◌≡◌, ◌⊎◌, inl, inr, ℕ, zero, suc, ◌+◌, ◌-◌, ◌<◌, ◌==◌, nat_lt, Bool, true, false, List, [], ◌∷◌, take, drop, slice_index, Option}
 use Rattle.std.proofs.Common.{Some, None, is_some, refl, sym, ap, subst, ◌∙◌, arith, if◌then◌else◌}
 use Rattle.std.specs.Bool.{⊤}
@@ -19,7 +19,7 @@ use Rattle.first_pass_grammar.specs.Definitions.{prefix_crossed, space_at, with_
 use Rattle.first_pass_grammar.specs.Definitions.{alone_behind, title_beyond, title_behind, behind_destination, deepest_nesting, Target, target_of, target_from}
 use Rattle.first_pass_grammar.specs.Definitions.{target_beyond, target_at, LinkReference, reference_of, reference_behind, reference_at}
 
--- what an answer was made of
+-- the parts of a result
 and_some : {A B : Type 0} (k : A → Option B) (o : Option A) (r : B) → option_and_then k o ≡ Some r → (a : A) × (o ≡ Some a) × (k a ≡ Some r)
 and_some k None r h = cc
 and_some k (Some a) r h = (a, refl, h)
@@ -100,7 +100,7 @@ reference_blank in_table around bs r h = reference_by (begins 91 bs) in_table ar
 abbrev Plain : List ℕ → ℕ → Type 0
 Plain bs i = is_line_end (slice_index bs i) ≡ false
 
--- what is known of a byte that is aside: a backslash escapes it
+-- a byte that is aside: a backslash escapes it
 abbrev Inside : ℕ → List ℕ → Type 0
 Inside zero bs = ⊤
 Inside (suc zero) bs = is_line_end (slice_index bs 0) ≡ false
@@ -190,7 +190,7 @@ dest_last : (deepest : ℕ) (bs : List ℕ) (d : ℕ × List ℕ) → destinatio
 unfolding destination_at
 dest_last deepest bs d h = dest_by (begins 60 bs) deepest bs d refl h
 
--- each byte stands at its offset, line feeds aside
+-- each byte is at its offset, except line feeds
 abbrev EachOf : (ℕ × ℕ → Type 0) → List (ℕ × ℕ) → Type 0
 EachOf p [] = ⊤
 EachOf p (c ∷ cs) = p c × EachOf p cs
@@ -294,7 +294,7 @@ title_last around (b ∷ bs) t h =
     let i : t.0 - 1 ≡ suc (x.0.0 - 1) = omega arith in
     (omega arith, rw i (ap is_line_end l.1 ∙ p))
 
--- the last byte of what stands after a destination, if anything does
+-- the last byte after a destination, if there is one
 part_plain : (bs : List ℕ) (n k m : ℕ) → m ≡ n + k → (0 < k) × Plain (drop n bs) (k - 1) → Plain bs (m - 1)
 part_plain bs n k m e p =
     let l = p.0 in
@@ -368,7 +368,7 @@ reference_last_by true in_table around bs r h =
     let l = and_some (reference_behind around (drop 1 bs)) (label_at (prefix_crossed true around) in_table (drop 1 bs)) r h in
     behind_last_by (begins 58 (drop l.0.0 (drop 1 bs))) around (drop 1 bs) l.0 r l.2 bs refl
 
--- A definition has a byte, and its last one ends no line (CommonMark 4.7).
+-- A definition has a byte, and its last one is no line ending (CommonMark 4.7).
 pub reference_last : (in_table : Bool) (around : Context) (bs : List ℕ) (r : LinkReference) → reference_at in_table around bs ≡ Some r
     → (0 < r.size) × (is_line_end (slice_index bs (r.size - 1)) ≡ false)
 unfolding reference_at

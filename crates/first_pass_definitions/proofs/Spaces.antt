@@ -13,7 +13,7 @@ use Rattle.first_pass_lines.proofs.PlaceFacts.{line_is_place, white_keeps, line_
 use Rattle.first_pass_grammar.specs.Containers.{Context}
 use Rattle.first_pass_grammar.specs.Definitions.{crossed, prefix_crossed, space_beyond, space_behind, space_at}
 
--- After white space, and after a line end, a character begins.
+-- A character begins after white space, and after a line ending.
 pub white_behind : (text : List ℕ) (s : ℕ) → IsUtf8 text → IsCharBoundary text s → IsCharBoundary text (s + prefix_len is_white (drop s text))
 white_behind text s u b =
     let p = white_keeps text (line_place s (drop s text)) u (line_is_place text s b) in
@@ -48,7 +48,7 @@ pub space_plain : (around : Context) (text : List ℕ) (s n : ℕ) → n ≡ pre
     → Some (s + n, 0) ≡ shifted s (space_at around (drop s text))
 space_plain around text s n e f = ap (shifted s) (sym (space_is around (drop s text) n None (sym e) (ap eol_len (drop-drop n s text) ∙ f)))
 
--- after a line end
+-- after a line ending
 crossed_space : (around : Context) (text : List ℕ) (s n e : ℕ) (o : Option Rest) → n ≡ prefix_len is_white (drop s text)
     → eol_len (drop (s + n) text) ≡ Some e → o ≡ crossed false around (line_rest (drop (s + n + e) text))
     → space_at around (drop s text) ≡ option_and_then (space_beyond (n + e) (drop (s + n + e) text)) (option_map (λ (r : Rest). r.taken) o)

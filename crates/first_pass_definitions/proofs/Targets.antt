@@ -1,4 +1,4 @@
--- What a definition has after its colon, and the definition.
+-- The parts of a definition after its colon, and the definition.
 use Rattle.std.proofs.Common.{◌≡◌, ℕ, zero, suc, ◌+◌, ◌-◌, ◌==◌, ◌<◌, Bool, true, false, List, drop, Option, Some, None, is_some, MatchOption, IsSomeAnd}
 use Rattle.std.proofs.Common.{IsUtf8, IsCharBoundary, refl, sym, ap, subst, ◌∙◌, arith, if◌then◌else◌}
 use Rattle.std.specs.Borrow.{Bor}
@@ -22,14 +22,14 @@ use Rattle.first_pass_grammar.specs.Definitions.{reference_at}
 use Rattle.first_pass_definitions.specs.Reading.{IsReadText, IsReadTitle}
 use Rattle.first_pass_definitions.specs.Found.{IsUnescaped, HasTitle, IsDefinition, IsTarget, IsReference}
 
--- answers about what stands after a destination
+-- results for the text after a destination
 abbrev pub IsTitleBehind : ℕ → Option (ℕ × List ℕ) → Option (ℕ × CowStr) → Type 0
 IsTitleBehind at o answer = MatchOption o (answer ≡ None) (λ title. IsSomeAnd answer (λ found. (found.0 ≡ at + title.0) × IsReadText title.1 found.1))
 
 abbrev pub IsFurther : ℕ → Option (ℕ × Option (List ℕ)) → Option (ℕ × Option CowStr) → Type 0
 IsFurther at o answer = MatchOption o (answer ≡ None) (λ further. IsSomeAnd answer (λ found. (found.0 ≡ at + further.0) × IsReadTitle further.1 found.1))
 
--- answers about the title at a place
+-- results for the title at a place
 abbrev pub IsTitleRead : Option (ℕ × List ℕ) → Option (ℕ × CowStr) → Type 0
 IsTitleRead o answer = MatchOption o (answer ≡ None) (λ t. IsSomeAnd answer (λ found. (found.0 ≡ t.0) × (text_of found.1 ≡ t.1)))
 
@@ -78,7 +78,7 @@ space_read_by around text at start k len title (Some s) is apart read borrows bl
     rw some (subst (λ e. IsTitleBehind at (option_and_then (alone_behind s.0 (drop at text)) (title_at around (drop s.0 (drop at text)))) (Some (e, title))) far
     (read_by (drop at text) at s.0 len title (title_at around (drop s.0 (drop at text))) behind borrows rest))
 
--- the title after a destination, which white space parts from it and after which the rest of its line is blank
+-- the title after a destination and white space, with a blank rest of its line after it
 pub title_read : (around : Context) (text : List ℕ) (at start k len : ℕ) (title : CowStr)
     → space_to start k ≡ option_map (λ s. (at + s.0, s.1)) (space_at around (drop at text)) → (start ≡ at → ⊥)
     → IsTitleRead (title_at around (drop start text)) (read_to len title)
@@ -119,7 +119,7 @@ further_none : (o : Option (ℕ × Option (List ℕ))) (at : ℕ) → IsFurther 
 further_none None at h = refl
 further_none (Some f) at h = absurd h
 
--- answers about destinations
+-- results for destinations
 abbrev pub IsDest : Option (ℕ × List ℕ) → Option (ℕ × Bor (List ℕ)) → Type 0
 IsDest o answer = MatchOption o (answer ≡ None) (λ dest. IsSomeAnd answer (λ found. (found.0 ≡ dest.0) × (found.1.now ≡ dest.1)))
 
@@ -132,7 +132,7 @@ dest_none : (o : Option (ℕ × List ℕ)) → IsDest o None → o ≡ None
 dest_none None h = refl
 dest_none (Some d) h = absurd h
 
--- answers about white space
+-- results for white space
 abbrev pub shifted : ℕ → Option (ℕ × ℕ) → Option (ℕ × ℕ)
 shifted start o = option_map (λ (s : ℕ × ℕ). (start + s.0, s.1)) o
 
@@ -239,7 +239,7 @@ unfolding reference_at
 at_label in_table around text start h =
     rw h (ap (λ xs. option_and_then (reference_behind around xs) (label_at (prefix_crossed true around) in_table xs)) (drop-drop 1 start text))
 
--- answers about labels
+-- results for labels
 abbrev pub IsLabelAnswer : Option (ℕ × List ℕ) → Option (ℕ × CowStr) → Type 0
 IsLabelAnswer o answer = MatchOption o (answer ≡ None) (λ label. IsSomeAnd answer (λ found. (found.0 ≡ label.0) × (text_of found.1 ≡ label.1)))
 

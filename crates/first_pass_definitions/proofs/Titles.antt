@@ -82,7 +82,7 @@ title-stop : (close o b : ℕ) (cs : List (ℕ × ℕ)) → begins_escape (b ∷
 unfolding title_of
 title-stop close o b cs e f = let u = upto-stop (ends_title close) b (bytes_of cs) e f in rw u refl
 
--- what the byte is that ends a title
+-- the byte that ends a title
 pub closes-plain : (close : ℕ) → ClosesTitle close → is_line_end close ≡ false
 closes-plain close (inl h) = rw h refl
 closes-plain close (inr (inl h)) = rw h refl
@@ -123,7 +123,7 @@ left-nil : (prefix : List ℕ → Option ℕ) (at : ℕ) → left_of prefix at [
 unfolding left_of joined with_line_feeds
 left-nil prefix at = refl
 
--- a line feed for a line end
+-- a line feed for a line ending
 feed_by : (t u : Bool) (o b : ℕ) (cs : List (ℕ × ℕ)) → (b == 13) ≡ t → begins 10 (bytes_of cs) ≡ u → is_line_end b ≡ true
     → slice_index (bytes_of (with_line_feeds ((o, b) ∷ cs))) 0 ≡ 10
 unfolding with_line_feeds
@@ -139,7 +139,7 @@ feeds-nil : with_line_feeds [] ≡ []
 unfolding with_line_feeds
 feeds-nil = refl
 
--- a line end comes first, or nothing
+-- a line ending comes first, or nothing
 end_by : (t : Bool) (o : Option ℕ) (prefix : List ℕ → Option ℕ) (at b : ℕ) (bs : List ℕ) → ends_line b bs ≡ t → prefix bs ≡ o → is_line_end b ≡ true
     → is_ascii_punctuation (slice_index (bytes_of (left_of prefix at (b ∷ bs))) 0) ≡ false
 unfolding left_of joined
@@ -150,7 +150,7 @@ end_by true None prefix at b bs h k e = rw h (rw k (ap (λ cs. is_ascii_punctuat
 end_punctuation : (b : ℕ) → is_line_end b ≡ true → is_ascii_punctuation b ≡ false
 end_punctuation b h = grind (arith, nat_tests, h)
 
--- what a backslash can escape is the same where lines are joined
+-- a backslash can escape the same bytes if lines are joined
 punctuation_by : (t : Bool) (prefix : List ℕ → Option ℕ) (at b : ℕ) (bs : List ℕ) → is_line_end b ≡ t
     → is_ascii_punctuation (slice_index (bytes_of (left_of prefix at (b ∷ bs))) 0) ≡ is_ascii_punctuation b
 punctuation_by false prefix at b bs h = ap (λ cs. is_ascii_punctuation (slice_index (bytes_of cs) 0)) (left-byte prefix at b bs h)
@@ -172,7 +172,7 @@ last_by : (t : Bool) → (t && is_ascii_punctuation 0) ≡ false
 last_by true = refl
 last_by false = refl
 
--- Up to what stops it, or its line's end, a title is as it stands.
+-- Up to the byte that stops it, or the end of its line, a title is unchanged.
 abbrev line_upto : ℕ → List ℕ → ℕ
 line_upto close bs = unescaped_upto (stops_title close) 0 bs
 
@@ -245,7 +245,7 @@ joined_behind h at zero bs = let e : at + zero ≡ at = omega arith in rw e
 joined_behind h at (suc n) [] = refl
 joined_behind h at (suc n) (b ∷ bs) = let e : at + suc n ≡ at + 1 + n = omega arith in rw e (joined_behind h (at + 1) n bs)
 
--- no line feed comes first where none is first in the bytes
+-- no line feed comes first if none is first in the bytes
 no_feed_by : (t : Bool) (o : Option ℕ) (h : List ℕ → Option ℕ) (at b : ℕ) (bs : List ℕ) → ends_line b bs ≡ t → h bs ≡ o → (b == 10) ≡ false
     → begins 10 (bytes_of (joined h at 0 (b ∷ bs))) ≡ false
 unfolding joined
@@ -261,7 +261,7 @@ no_feed : (h : List ℕ → Option ℕ) (at : ℕ) (bs : List ℕ) → begins 10
 no_feed h at [] g = refl_nil h at
 no_feed h at (b ∷ bs) g = no_feed_by (ends_line b bs) (h bs) h at b bs refl refl g
 
--- at a line end
+-- at a line ending
 fed_10 : (prefix : List ℕ → Option ℕ) (at n : ℕ) (bs : List ℕ) → prefix bs ≡ Some n
     → left_of prefix at (10 ∷ bs) ≡ (at, 10) ∷ left_of prefix (at + 1 + n) (drop n bs)
 unfolding left_of joined with_line_feeds
@@ -312,7 +312,7 @@ goes_on : (prefix : List ℕ → Option ℕ) (close at n e : ℕ) (bs : List ℕ
 goes_on prefix close at n e [] c h l = absurd (omega arith)
 goes_on prefix close at n e (b ∷ bs) c h l = goes_on_by (b == 10) (b == 13) (begins 10 bs) prefix close at n e b bs c refl refl refl h
 
--- where the title doesn't continue
+-- the title does not continue
 abbrev StopsThere : (List ℕ → Option ℕ) → ℕ → ℕ → List ℕ → ℕ → Type 0
 StopsThere prefix close at bs e = prefix (drop e bs) ≡ None → title_of close (left_of prefix at bs) ≡ None
 
@@ -351,7 +351,7 @@ stops_there : (prefix : List ℕ → Option ℕ) (close at e : ℕ) (bs : List �
 stops_there prefix close at e [] c h = λ p. ap (title_of close) (left-nil prefix at) ∙ title-nil close
 stops_there prefix close at e (b ∷ bs) c h = stops_by (b == 10) (b == 13) (begins 10 bs) prefix close at e b bs c refl refl refl h
 
--- what stands where a line of a title stops, if anything does
+-- the first byte where a line of a title stops, if there is one
 abbrev FirstStops : ℕ → List ℕ → Type 0
 FirstStops close [] = ⊤
 FirstStops close (b ∷ bs) = stops_title close b ≡ true
@@ -407,7 +407,7 @@ none_mapped : (o : Option ℕ) (k : ℕ) → option_map (λ n. k + n) o ≡ None
 none_mapped None k h = refl
 none_mapped (Some n) k h = cc
 
--- neither a line end nor what ends the title stands there
+-- neither a line ending nor the end of the title is there
 other_stops : (prefix : List ℕ → Option ℕ) (close at : ℕ) (xs : List ℕ) → ClosesTitle close → FirstStops close xs → begins close xs ≡ false
     → eol_len xs ≡ None → title_of close (left_of prefix at xs) ≡ None
 other_stops prefix close at [] c f g h = ap (title_of close) (left-nil prefix at) ∙ title-nil close
@@ -483,7 +483,7 @@ line_is prefix close from at text c is =
     ∙ ap (λ m. behind_text (take k (drop from text)) (title_of close (left_of prefix m (drop m text)))) (sym is)
     ∙ ap (λ m. behind_text (take m (drop from text)) (title_of close (left_of prefix at (drop at text)))) (sym n)
 
--- A line of a title stops where a character begins.
+-- A line of a title stops at a character boundary.
 low_39 : (b : ℕ) → stops_title 39 b ≡ true → b < 128
 low_39 b h = grind (arith, nat_tests, h)
 
@@ -561,7 +561,7 @@ unfolding title_at
 title_some around [] close h = cc
 title_some around (b ∷ bs) close h = rw (← h) refl
 
--- what begins a title is an ASCII byte
+-- the byte that begins a title is an ASCII byte
 begin_by : (t u v : Bool) (b close : ℕ) → (b == 39) ≡ t → (b == 34) ≡ u → (b == 40) ≡ v → title_end b ≡ Some close → b < 128
 begin_by true u v b close h k l f = let e = eqb-true b 39 h in omega arith
 begin_by false true v b close h k l f = let e = eqb-true b 34 k in omega arith
@@ -572,7 +572,7 @@ pub behind_first : (bs : List ℕ) (close : ℕ) → IsUtf8 bs → Some close �
 behind_first [] close u h = cc
 behind_first (b ∷ bs) close u h = IsCharBoundary-after_ascii (b ∷ bs) 0 u (omega arith) (begin_by (b == 39) (b == 34) (b == 40) b close refl refl refl (sym h))
 
--- an answer about the text after what begins a title, as one about the title
+-- a result for the text after a title's first byte, as one for the title
 abbrev IsAnswer : Option (ℕ × List ℕ) → Option (ℕ × CowStr) → Type 0
 IsAnswer o answer = MatchOption o (answer ≡ None) (λ title. IsSomeAnd answer (λ found. (found.0 ≡ title.0) × (text_of found.1 ≡ title.1)))
 

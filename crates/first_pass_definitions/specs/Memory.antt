@@ -1,4 +1,4 @@
--- What asks for memory as a link reference definition is read (CommonMark 4.7).
+-- When reading a link reference definition needs memory (CommonMark 4.7).
 use Rattle.std.specs.Prelude.{◌≡◌, ◌≢◌, ◌⊎◌, ◌<◌, ◌+◌, ◌==◌, ◌&&◌, ◌||◌, not, ℕ, Bool, true, false, List, length, drop, slice_get, slice_index, Some}
 use Rattle.std.specs.Prelude.{IsSomeAnd, is_some}
 use Rattle.std.specs.List.{list_any, prefix_len}
@@ -17,24 +17,24 @@ use Rattle.first_pass_grammar.specs.Definitions.{Target, title_end, title_prefix
 use Rattle.first_pass_kinds.specs.Memory.{line_may_head}
 use Rattle.first_pass_definitions.specs.Reading.{stops_title}
 
--- some line after a line end of the text may head a table (this project)
+-- some line after a line ending of the text may head a table (this project)
 abbrev pub MeetsTable : Context → List ℕ → Type 0
 MeetsTable around bs =
     (at : ℕ) × (at < length bs) × (ends_line (slice_index bs at) (drop (at + 1) bs) ≡ true) × (line_may_head around (line_rest (drop (at + 1) bs)) ≡ true)
 
--- A label has to be written, since it is read otherwise than it stands; or no bracket ends it, and some line after a line end of the text may head a table
--- (CommonMark 4.7, GFM 4.10).
+-- A label has to be copied, since reading changes it; or no bracket ends it, and some line after a line ending of the
+-- text may head a table (CommonMark 4.7, GFM 4.10).
 abbrev pub LabelAsks : Context → Bool → List ℕ → Type 0
 LabelAsks around in_table bs =
     IsRewritten (prefix_crossed true around) in_table bs ⊎ (HasNoBracket (prefix_crossed true around) bs × MeetsTable around bs)
 
--- the same of the label of a footnote after its `[^`, which as GitHub has footnotes crosses no line end (this project)
+-- the same for the label of a footnote after its `[^`, which in GitHub's form crosses no line ending (this project)
 abbrev pub FootnoteAsks : Context → Bool → List ℕ → Type 0
 FootnoteAsks around in_table bs =
     (begins_footnote bs ≡ true) × (IsRewritten (footnote_prefix around) in_table (drop 2 bs)
     ⊎ (HasNoBracket (footnote_prefix around) (drop 2 bs) × (gfm_footnotes around.options ≡ false) × MeetsTable around (drop 2 bs)))
 
--- white space has a line end before a line that may head a table (CommonMark 4.7, GFM 4.10)
+-- white space has a line ending before a line that may head a table (CommonMark 4.7, GFM 4.10)
 abbrev pub space_asks : Context → List ℕ → Bool
 space_asks around bs =
     let n = prefix_len is_white bs in option_map_or (λ e. line_may_head around (line_rest (drop (n + e) bs))) (eol_len (drop n bs)) false
@@ -43,30 +43,30 @@ space_asks around bs =
 abbrev pub line_asks : Context → List ℕ → Bool
 line_asks around bs = is_some (title_prefix around bs) || line_may_head around (line_rest bs)
 
--- a title with this end has a line end before it, after which this is so (CommonMark 4.7, GFM 4.10)
+-- a title with this end has a line ending before it, after which the same holds (CommonMark 4.7, GFM 4.10)
 unfoldable pub text_asks : Context → ℕ → List ℕ → Bool
 text_asks around close bs =
     let n = unescaped_upto (stops_title close) 0 bs in option_map_or (λ e. line_asks around (drop (n + e) bs)) (eol_len (drop n bs)) false
 
--- the same of the title that begins here (CommonMark 4.7)
+-- the same for the title that begins here (CommonMark 4.7)
 abbrev pub title_asks : Context → List ℕ → Bool
 title_asks around bs = option_map_or (λ close. text_asks around close (drop 1 bs)) (option_and_then title_end (slice_get bs 0)) false
 
--- the white space after a destination, or the title that it parts from it (CommonMark 4.7)
+-- the white space after a destination needs memory, or the title after that white space does (CommonMark 4.7)
 abbrev pub behind_asks : Context → List ℕ → Bool
 behind_asks around bs =
     space_asks around bs || option_map_or (λ (s : ℕ × ℕ). not (s.0 == 0) && title_asks around (drop s.0 bs)) (space_at around bs) false
 
--- the text is read otherwise than it stands: it has an escape or a reference (CommonMark 2.4, 2.5)
+-- reading changes the text: it has an escape or a reference (CommonMark 2.4, 2.5)
 abbrev pub IsEscaped : Bool → List ℕ → Type 0
 IsEscaped in_table text = unescaped in_table text ≢ text
 
--- the destination is read otherwise than it stands, or the title is, or has a line end (CommonMark 4.7)
+-- reading changes the destination or the title, or the title has a line ending (CommonMark 4.7)
 abbrev pub PartsAsk : Bool → Target → Type 0
 PartsAsk in_table target =
     IsEscaped in_table target.dest ⊎ IsSomeAnd target.title (λ title. (list_any is_line_end title ≡ true) ⊎ IsEscaped in_table title)
 
--- What follows a destination asks for memory: the destination begins after the first of two numbers of bytes, and has so many more (CommonMark 4.7).
+-- What follows a destination needs memory; the destination is after the white space of a target (CommonMark 4.7).
 pub record BehindAsks (around : Context) (bs : List ℕ) : Type 0 where
   pub space : ℕ × ℕ
   pub space_is : space_at around bs ≡ Some space
@@ -74,18 +74,20 @@ pub record BehindAsks (around : Context) (bs : List ℕ) : Type 0 where
   pub dest_is : destination_at deepest_nesting (drop space.0 bs) ≡ Some dest
   pub asks : behind_asks around (drop (space.0 + dest.0) bs) ≡ true
 
--- a target asks for memory: its white space, what follows its destination, or where the target is whole its parts (CommonMark 4.7)
+-- a target needs memory: for its white space, for what follows its destination, or, if the target is whole, for its
+-- parts (CommonMark 4.7)
 abbrev pub TargetAsks : Bool → Context → List ℕ → Type 0
 TargetAsks in_table around bs =
     (space_asks around bs ≡ true) ⊎ BehindAsks around bs ⊎ IsSomeAnd (target_at around bs) (λ target. PartsAsk in_table target.1)
 
--- a label and a colon stand here, and the target after them asks for memory (CommonMark 4.7)
+-- a label and a colon are here, and the target after them needs memory (CommonMark 4.7)
 abbrev pub BehindLabelAsks : Bool → Context → List ℕ → Type 0
 BehindLabelAsks in_table around bs =
     (label : ℕ × List ℕ) × (label_at (prefix_crossed true around) in_table bs ≡ Some label) × (begins colon (drop label.0 bs) ≡ true)
     × TargetAsks in_table around (drop (label.0 + 1) bs)
 
--- a definition asks for memory: its label, its target, or where one stands here the folding of its label (CommonMark 4.7, 6.3)
+-- a definition needs memory: for its label, for its target, or, if one is here, for folding its label
+-- (CommonMark 4.7, 6.3)
 abbrev pub ReferenceAsks : Bool → Context → List ℕ → Type 0
 ReferenceAsks in_table around bs =
     (begins left_bracket bs ≡ true)

@@ -1,4 +1,4 @@
--- How a title is read line by line. Contracts of private functions alone cite this.
+-- How a title is read line by line. Only contracts of private functions cite this.
 use Rattle.std.specs.Prelude.{ℕ, ◌+◌, ◌||◌, Bool, List, drop, Option, Some, None, false, ⊤, ◌≡◌, ◌⊎◌}
 use Rattle.std.specs.List.{list_any}
 use Rattle.std.specs.Option.{option_map, option_and_then}
@@ -9,24 +9,24 @@ use Rattle.first_pass_items.specs.CowText.{text_of}
 use Rattle.first_pass_entities.specs.Texts.{Borrows}
 use Rattle.first_pass_grammar.specs.Definitions.{ends_title}
 
--- the byte ends titles (CommonMark 6.3, link title)
+-- the byte closes titles (CommonMark 6.3, link title)
 abbrev pub ClosesTitle : ℕ → Type 0
 ClosesTitle close = (close ≡ apostrophe) ⊎ (close ≡ quotation_mark) ⊎ (close ≡ right_parenthesis)
 
--- what can't stand in a line of a title with this end unless it is escaped (CommonMark 6.3)
+-- a byte that must be escaped in a line of a title with this end (CommonMark 6.3)
 abbrev pub stops_title : ℕ → ℕ → Bool
 stops_title close b = is_line_end b || ends_title close b
 
--- where a title continues after the line end at an offset, where it does (CommonMark 4.7)
+-- the offset at which a title continues after the line ending at an offset, if it does (CommonMark 4.7)
 abbrev pub goes_on_at : (List ℕ → Option ℕ) → List ℕ → ℕ → Option ℕ
 goes_on_at prefix bs at = option_and_then (λ e. option_map (λ n. at + e + n) (prefix (drop (at + e) bs))) (eol_len (drop at bs))
 
--- a title's text as it is read, not yet unescaped: it is borrowed where it has no line end (CommonMark 4.7)
+-- the text of a title as it is read, not yet unescaped; it is borrowed if it has no line ending (CommonMark 4.7)
 pub record IsReadText (text : List ℕ) (found : CowStr) : Type 0 where
   pub value : text_of found ≡ text
   pub borrowed : list_any is_line_end text ≡ false → Borrows text found
 
--- the same of the title that a definition has, or none (CommonMark 4.7)
+-- the same for the title of a definition, if it has one (CommonMark 4.7)
 abbrev pub IsReadTitle : Option (List ℕ) → Option CowStr → Type 0
 IsReadTitle None None = ⊤
 IsReadTitle None (Some found) = ⊥

@@ -19,12 +19,13 @@ use first_pass_open::source::Source;
 use first_pass_tree::forest::Tree;
 use std::alloc::AllocError;
 
-/// The head of the footnote definition that begins at the offset `start` into the text, up to after its colon: how
-/// many bytes it has, and its label. As GitHub has footnotes, its label holds no line end; in their old form it
-/// continues over lines as `parse_refdef_label` does. The tree is that of the open blocks.
+/// The head of the footnote definition that begins at the offset `start` into the text: its length in bytes, up to
+/// after its colon, and its label. In GitHub's form the label has no line ending; in the old form it continues over
+/// lines as in `parse_refdef_label`. `tree` has the open blocks.
 ///
-/// `None` where no head begins. The error is want of memory, where after `[^` the label has to be written, or, in the
-/// old form, where no bracket ends it and some later line of the text may head a table (this project).
+/// Returns `None` if no head begins. Fails only if an allocation fails. That can happen only in two cases: the label
+/// after `[^` has to be copied; or, in the old form, no bracket ends it and some later line of the text may head a
+/// table (this project).
 pub fn scan_footnote<'a>(
     source: &Source<'a>,
     tree: &Tree<Item>,
@@ -53,8 +54,8 @@ pub fn scan_footnote<'a>(
     )
 }
 
-// How many bytes the line that `bytes` begin with, all that the text has from the line on, has before the place
-// where the label of a footnote continues in it; `None` where it doesn't.
+// The number of bytes in the first line of `bytes` (the rest of the text) before the label of a footnote continues;
+// `None` if it does not continue.
 fn scan_footnote_prefix(
     source: &Source<'_>,
     tree: &Tree<Item>,

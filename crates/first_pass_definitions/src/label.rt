@@ -19,16 +19,15 @@ use first_pass_open::source::Source;
 use first_pass_tree::forest::Tree;
 use std::alloc::AllocError;
 
-/// The label after the `[` that stands before the offset `start` into the text: how many bytes it has from there
-/// on, its `]` too, and its text, in which each run of white space is one space and backslashes stay; in a table one
-/// directly before a pipe is dropped. It is borrowed where nothing changes. It continues over the lines that a
-/// definition crosses, without what they have of the prefixes of the open containers, and without up to four columns
-/// after these.
+/// The label after the `[` that is before the offset `start` into the text: its length in bytes from there on, with
+/// its `]`, and its text. In the text each run of white space is one space, and backslashes stay; in a table one
+/// directly before a pipe is dropped. It is borrowed if nothing changes. The label continues over the lines that a
+/// definition crosses, without their prefixes of the open containers, and without up to four columns after these.
 ///
-/// `None` where there is no label: an unescaped `[`, a line that ends the definition or the text's end comes first,
-/// all is white space, or there are more than 999 characters. The error is want of memory, where the label has to be
-/// written since it is read otherwise than it stands, or where no bracket ends it and some later line of the text may
-/// head a table (CommonMark 4.7).
+/// Returns `None` if there is no label: if an unescaped `[`, a line that ends the definition or the end of the text
+/// comes first, if all is white space, or if there are more than 999 characters. Fails only if an allocation fails.
+/// That can happen only in two cases: the label has to be copied, since reading changes it; or no bracket ends it and
+/// some later line of the text may head a table (CommonMark 4.7).
 pub fn parse_refdef_label<'a>(
     source: &Source<'a>,
     tree: &Tree<Item>,
@@ -57,8 +56,8 @@ pub fn parse_refdef_label<'a>(
     )
 }
 
-// How many bytes the line that `bytes` begin with, all that the text has from the line on, has before the place
-// where a label continues in it; `None` where it doesn't.
+// The number of bytes in the first line of `bytes` (the rest of the text) before a label continues; `None` if it does
+// not continue.
 pub(crate) fn scan_label_prefix(
     source: &Source<'_>,
     tree: &Tree<Item>,

@@ -5,7 +5,7 @@ ghost use Rattle.first_pass_lines.specs.Lines.{is_line_end, blank_len};
 ghost use Rattle.first_pass_grammar.specs.Containers.{Context};
 ghost use Rattle.first_pass_grammar.specs.Definitions.{LinkReference, reference_at};
 
-/// A definition ends after a byte that ends no line, and after it the rest of its line is blank. CommonMark 4.7.
+/// The last byte of a definition is no line ending, and the rest of its line is blank. CommonMark 4.7.
 pub fn law_of_definitions()
     ensures blank { (in_table : Bool) (around : Context) (bs : List ℕ) (reference : LinkReference)
         → reference_at in_table around bs ≡ Some reference → is_some (blank_len (drop reference.size bs)) ≡ true }

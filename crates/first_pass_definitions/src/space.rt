@@ -14,11 +14,13 @@ use first_pass_open::source::Source;
 use first_pass_tree::forest::Tree;
 use std::alloc::AllocError;
 
-/// The white space at the offset `start` into the text, with at most one line end: the offset after it, and how many
-/// line ends it has, 0 or 1. After a line end it continues where the definition continues in the next line.
+/// The white space at the offset `start` into the text, with at most one line ending: the offset after it, and the
+/// number of its line endings, 0 or 1. After a line ending it continues at the place in the next line at which the
+/// definition continues.
 ///
-/// `None` where a second line end follows, or where no line follows in which the definition continues. The error is
-/// want of memory, where the line after the first line end may head a table (CommonMark 4.7).
+/// Returns `None` if a second line ending follows, or if no line follows in which the definition continues. Fails only
+/// if an allocation fails, which can happen only if the line after the first line ending may head a table
+/// (CommonMark 4.7).
 pub fn scan_refdef_space(
     source: &Source<'_>,
     tree: &Tree<Item>,

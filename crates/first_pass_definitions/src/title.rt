@@ -28,14 +28,14 @@ use first_pass_open::source::Source;
 use first_pass_tree::forest::Tree;
 use std::alloc::AllocError;
 
-/// The title that `text` begins with, all that the whole text has from a place on: how many bytes it has, what
-/// begins and ends it too (`'..'`, `".."` or `(..)`), and what stands between, not yet unescaped. It continues over
-/// the lines that a definition crosses, each without what stands before its text, and each line end is one `\n`.
-/// Where no line is crossed it is borrowed, and no memory is taken.
+/// The title at the start of `text`, which is the rest of the whole text from a place on: its length in bytes, with
+/// its delimiters (`'..'`, `".."` or `(..)`), and the text between these, not yet unescaped. It continues over the
+/// lines that a definition crosses, each without what precedes its text, and each line ending is one `\n`. If it
+/// crosses no line, it is borrowed and needs no memory.
 ///
-/// `None` where there is no title: a blank line, a line that ends the definition or the text's end comes before what
-/// ends it, or in parentheses an unescaped `(`. The error is want of memory, where after the first line the title
-/// continues , or a line begins that may head a table (CommonMark 4.7, 6.3).
+/// Returns `None` if there is no title: if a blank line, a line that ends the definition or the end of the text comes
+/// before its end, or in parentheses an unescaped `(`. Fails only if an allocation fails, which can happen only if
+/// after the first line the title continues, or a line begins that may head a table (CommonMark 4.7, 6.3).
 pub fn scan_refdef_title<'t>(
     source: &Source<'_>,
     tree: &Tree<Item>,
@@ -60,7 +60,7 @@ pub fn scan_refdef_title<'t>(
     }
 }
 
-// What ends the title that begins here.
+// The byte that ends the title that begins here.
 fn title_end(bytes: &[u8]) -> Option<u8>
     ensures value { result ≡ option_and_then title_end (slice_get bytes.now 0) }
     ensures some { IfSome result (λ _. 0 < length bytes.now) }
@@ -74,7 +74,7 @@ fn title_end(bytes: &[u8]) -> Option<u8>
     }
 }
 
-// The title after what begins it, with the byte that ends it: how many bytes it has, its end too, and its text.
+// The title after its first byte, given the byte that ends it: its length in bytes, with its end, and its text.
 fn scan_title_text<'t>(
     source: &Source<'_>,
     tree: &Tree<Item>,
@@ -109,7 +109,7 @@ fn scan_title_text<'t>(
     }
 }
 
-// How many bytes stand before what ends the title, or the line.
+// The number of bytes before the end of the title or of the line.
 fn scan_title_line(bytes: &[u8], close: u8) -> usize
     requires { ClosesTitle close }
     ensures value { result ≡ unescaped_upto (stops_title close) 0 bytes.now }
@@ -122,15 +122,15 @@ fn scan_title_line(bytes: &[u8], close: u8) -> usize
     at
 }
 
-// Whether a byte can't stand in a line of a title with this end unless it is escaped.
+// Whether a byte must be escaped in a line of a title with this end.
 fn stops_title(byte: u8, close: u8) -> bool
     ensures { result ≡ stops_title close byte }
 {
     is_line_end(byte) || byte == close || close == b')' && byte == b'('
 }
 
-// The offset at which a title continues after the line end at the offset `at`; `None` where no line ends there, or
-// where the title doesn't continue.
+// The offset at which a title continues after the line ending at the offset `at`; `None` if no line ends there, or if
+// the title does not continue.
 fn scan_title_break(
     source: &Source<'_>,
     tree: &Tree<Item>,
@@ -157,8 +157,7 @@ fn scan_title_break(
     }
 }
 
-// How many bytes the line that `bytes` begin with, all that the text has from the line on, has before its text,
-// where a title continues in it.
+// The number of bytes in the first line of `bytes` (the rest of the text) before its text, if a title continues in it.
 fn scan_title_prefix(
     source: &Source<'_>,
     tree: &Tree<Item>,

@@ -11,7 +11,7 @@ parse_refdef_label-requires c =
     behind_byte 91 c.args.source.now.text.now c.args.start (omega arith) (subst IsUtf8 c.as_bytes-bytes.ensures.value c.as_bytes-bytes.ensures.utf8)
     c.requires.bracket
 
--- whether a colon stands after the label
+-- whether a colon is after the label
 colon_is : (c : After-begins) → begins 58 (drop (c.args.start + 1 + c.in-Some.label_len) c.args.source.now.text.now) ≡ c.begins.result
 colon_is c =
     ap (begins 58) (sym (c.rest_of.ensures.value ∙ ap (drop (c.args.start + 1 + c.in-Some.label_len)) c.as_bytes-bytes.ensures.value)) ∙ sym

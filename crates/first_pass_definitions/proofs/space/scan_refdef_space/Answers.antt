@@ -6,7 +6,7 @@ use Rattle.first_pass_definitions.proofs.Spaces.{white_behind, eol_behind, place
 use Rattle.first_pass_definitions.proofs.space.scan_refdef_space.Goals as goal
 use Rattle.first_pass_definitions.proofs.space.scan_refdef_space.Goals.{After-scan_eol, After-is_some}
 
--- what is said of the rest of a slice that is the text is said of the text's
+-- a result for the rest of a slice that is the text is one for the rest of the text
 of_text : {A : Type 0} (f : List ℕ → A) (text bytes rest : List ℕ) (s : ℕ) (x : A) → x ≡ f rest → rest ≡ drop s bytes → bytes ≡ text → x ≡ f (drop s text)
 of_text f text bytes rest s x h i j = h ∙ ap f (i ∙ ap (drop s) j)
 

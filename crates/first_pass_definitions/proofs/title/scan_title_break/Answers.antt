@@ -7,7 +7,7 @@ use Rattle.first_pass_definitions.proofs.Places.{rest_further, no_feed, some_lef
 use Rattle.first_pass_definitions.proofs.title.scan_title_break.Goals as goal
 use Rattle.first_pass_definitions.proofs.title.scan_title_break.Goals.{After-rest_of-2}
 
--- after the line end
+-- after the line ending
 line_place : (c : After-rest_of-2) → IsCharBoundary c.args.bytes.now (c.args.at + c.in-Some.line_end)
 line_place c =
     eol_behind c.args.bytes.now c.args.at c.in-Some.line_end c.requires.utf8 c.requires.at
@@ -18,7 +18,7 @@ scan_title_prefix-requires c =
     rest_further c.args.source.now.text.now c.args.bytes.now c.rest_of-2.result.now (c.args.at + c.in-Some.line_end) c.requires.rest c.rest_of-2.ensures.value
     (line_place (goal.at.scan_title_prefix-requires c).After-rest_of-2)
 
--- what is left there isn't blank
+-- the rest there is not blank
 text_is : (bytes rest : List ℕ) (k n : ℕ) → rest ≡ drop k bytes → blank_len (drop n rest) ≡ None → blank_len (drop (k + n) bytes) ≡ None
 text_is bytes rest k n e h = ap blank_len (sym (drop-drop n k bytes) ∙ ap (drop n) (sym e)) ∙ h
 

@@ -12,7 +12,7 @@ none_is : {A : Type 0} (o : Option A) → is_some o ≡ false → o ≡ None
 none_is None h = refl
 none_is (Some x) h = cc
 
--- after the columns of the line
+-- after the indentation of the line
 text_place : (c : After-bytes_scanned)
     → ((all_taken c.in-Some.rest).left ≡ drop (all_taken c.in-Some.rest).taken c.args.bytes.now) × IsCharBoundary c.args.bytes.now
     (all_taken c.in-Some.rest).taken

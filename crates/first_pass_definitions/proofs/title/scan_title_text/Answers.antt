@@ -28,7 +28,7 @@ loop-bytes-init c =
           (behind_nothing _ ∙ whole_title (title_prefix (context_of c.args.source.now.options c.args.tree.now)) c.args.close c.args.text.now);
     }
 
--- where the line stops
+-- the offset at which the line stops
 line_stops : (c : After-begins)
     → c.loop-bytes.from + c.scan_title_line.result ≡ c.loop-bytes.from + unescaped_upto (stops_title c.args.close) 0 (drop c.loop-bytes.from c.args.text.now)
 line_stops c =
@@ -110,7 +110,7 @@ loop-bytes-preserved c =
           c.requires.close c.loop-bytes.invariant.title (line_stops at) (omega arith) k plain written;
     }
 
--- the title continues over a line end, or may
+-- the title continues over a line ending, or may
 pub returns-in_err-next-clause-err : goal.returns-in_err-next-clause-err
 returns-in_err-next-clause-err c =
     let at = (goal.at.returns-in_err-next-clause-err c).After-begins in

@@ -8,7 +8,7 @@ use Rattle.first_pass_definitions.specs.Memory.{text_asks}
 use Rattle.first_pass_definitions.proofs.Titles.{left_of, title_of, behind_text}
 use Rattle.first_pass_definitions.proofs.title.scan_title_text.Given as goal
 
--- what is written is the title's text before a line, which with what is left makes the title
+-- the written bytes are the title's text before a line; with the rest, they make the title
 abbrev pub invariant-loop-bytes : goal.invariant-loop-bytes
 invariant-loop-bytes l = record {
   boundary : IsCharBoundary l.text l.from;
