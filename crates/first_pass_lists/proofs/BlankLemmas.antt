@@ -1,4 +1,4 @@
--- Where one more blank line changes nothing.
+-- One more blank line that changes nothing.
 use Rattle.std.proofs.Common.{◌≡◌, ℕ, Bool, true, false, List, [], ◌∷◌, slice_get, Option, Some, None, is_some, refl, sym, ap, ◌∙◌, if◌then◌else◌}
 use Rattle.std.specs.Option.{option_map, option_and_then}
 use Rattle.first_pass_items.specs.declared.item.Item.{Item}
@@ -26,12 +26,12 @@ none_by r (Some (DefinitionListDefinition columns)) none h =
     (ap (λ t. if t then emptied_definition r.tree r.tree.spine else r.tree) none) h
 none_by r (Some b) none h = same_blank r h
 
--- where no item is empty
+-- if no item is empty
 pub kept_none : (r : Reading) → is_some r.empty_item ≡ false → r.blank ≡ true → blank_read r ≡ r
 unfolding blank_read
 kept_none r none h = none_by r (top_body r.tree) none h
 
--- where nothing is open
+-- if nothing is open
 pub kept_closed : (r : Reading) → slice_get r.tree.spine 0 ≡ None → r.blank ≡ true → blank_read r ≡ r
 unfolding blank_read
 kept_closed r none h = ap (λ o. blank_read_by r (option_and_then (λ (ix : TreeIndex). body_at r.tree.nodes ix.0) o)) none ∙ same_blank r h
@@ -50,7 +50,7 @@ either : {A : Type 0} (t : Bool) (x y : A) → x ≡ y → (if t then x else y) 
 either true x y e = e
 either false x y e = refl
 
--- where an item or a definition takes blank lines alone
+-- if an item or a definition takes only blank lines
 pub kept_item : (r : Reading) → top_body r.tree ≡ Some (ListItemBody 0) → r.blank ≡ true → blank_read r ≡ r
 unfolding blank_read
 kept_item r e h =
@@ -72,7 +72,7 @@ other_by r (ListItemBody columns) item definition h = absurd (item columns refl)
 other_by r (DefinitionListDefinition columns) item definition h = absurd (definition columns refl)
 other_by r b item definition h = same_blank r h
 
--- where the innermost open node is neither
+-- if the innermost open node is neither
 pub kept_other : (r : Reading) (b : ItemBody) → top_body r.tree ≡ Some b → ((n : ℕ) → b ≡ ListItemBody n → ⊥) → ((n : ℕ) → b ≡ DefinitionListDefinition n → ⊥)
     → r.blank ≡ true → blank_read r ≡ r
 unfolding blank_read

@@ -1,4 +1,4 @@
--- The last child of a node that is closed is a child of the current node then, and once it is moved out it is current.
+-- After a node is closed, its last child is a child of the current node; after the child is moved out, it is current.
 use Rattle.std.proofs.Common.{◌≡◌, ℕ, zero, suc, ◌+◌, ◌-◌, ◌<◌, ◌≤◌, ◌==◌, Bool, true, false, List, [], ◌∷◌, length, map, slice_get, slice_index}
 use Rattle.std.proofs.Common.{Option, Some, None, IfSome, IsSome, if◌then◌else◌, bit_and, refl, sym, ◌∙◌, ap, subst, ⊎_elim, arith}
 use Rattle.std.specs.Prelude.{IsSomeAnd}
@@ -19,7 +19,7 @@ use Rattle.first_pass_open.specs.OpenBlock.{closed_by}
 use Rattle.first_pass_lists.specs.declared.reading.Reading.{Reading}
 use Rattle.first_pass_lists.specs.Closing.{popped_by, popped_at, current_moved, definitions_closed}
 
--- two trees are alike but for what their nodes are
+-- two trees are alike except for their items
 record IsAlike (f g : Forest Item) : Type 0 where
   depths_are : depths g.nodes ≡ depths f.nodes
   spine_is : g.spine ≡ f.spine
@@ -63,7 +63,8 @@ child_closed f e ix last rest forest spine current =
       current = last-order ds (length rest + 1) (length f.spine + 1) ix.0 last.0 opened.0 l (omega (arith, deep));
     }
 
--- the current node is the innermost open one's last child, so that it is the current one's once that is closed
+-- the current node is the last child of the innermost open one; after that is closed, it is a child of the current
+-- node
 pub child_after : (r s : Reading) (e : ℕ) (spine : List TreeIndex) (last : TreeIndex) → IsForest r.tree → r.tree.spine ≡ spine → IsSome (slice_get spine 0)
     → r.tree.current ≡ Some last → s ≡ popped_at e r spine → IsChildOfCurrent s.tree last
 child_after r s e [] last forest is some current now = cc
@@ -131,7 +132,7 @@ closed_by_parts : (r : Reading) (e : ℕ) (s : List TreeIndex) (c : Option TreeI
 unfolding definitions_closed
 closed_by_parts r e s c spine current = ap (λ s. current_moved (popped_at e r s) r.tree.current) spine ∙ ap (current_moved (popped_at e r s)) current
 
--- where the definition list that is innermost is closed, its last child is current then
+-- if the innermost definition list is closed, its last child is then current
 pub closed_current : (r : Reading) (e : ℕ) (ix last : TreeIndex) (rest : List TreeIndex) → IsForest r.tree → r.tree.spine ≡ ix ∷ rest
     → r.tree.current ≡ Some last → (definitions_closed e r).tree.current ≡ Some last
 closed_current r e ix last rest forest spine current =

@@ -1,4 +1,4 @@
--- Nothing that is closed or opened makes an item empty.
+-- Closing and opening nodes makes no item empty.
 use Rattle.std.proofs.Common.{◌≡◌, ℕ, Bool, true, false, List, ◌∷◌, Option, Some, None, []}
 use Rattle.std.proofs.Common.{refl, if◌then◌else◌}
 use Rattle.first_pass_items.specs.declared.item.Item.{Item}
@@ -20,7 +20,7 @@ none_by : (r : Reading) (o : Option ℕ) → r.empty_item ≡ o → (item_finish
 none_by r None h = h
 none_by r (Some e) h = refl
 
--- no item is empty then
+-- no item is empty after that
 pub finished_none : (r : Reading) → (item_finished r).empty_item ≡ None
 unfolding item_finished
 finished_none r = none_by r r.empty_item refl

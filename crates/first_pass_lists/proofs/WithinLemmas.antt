@@ -39,7 +39,7 @@ pub closed_within : (f g : Forest Item) (e : ℕ) (ix : TreeIndex)
 closed_within f g e ix forest h is =
     subst (λ n. ix.0 < n) (sym (ap (λ (t : Forest Item). length t.nodes) is ∙ closed_length f e f.spine)) (top_within f ix forest h)
 
--- where an item is the innermost open node, one is open
+-- if an item is the innermost open node, one is open
 item_open : (nodes : List (ℕ × Item)) (spine : List TreeIndex)
     → is_item (option_and_then (λ (ix : TreeIndex). body_at nodes ix.0) (slice_get spine 0)) ≡ true → IsSome (slice_get spine 0)
 item_open nodes [] h = cc
@@ -48,7 +48,7 @@ item_open nodes (ix ∷ spine) h = refl
 pub item_is_open : (f : Forest Item) → is_item (top_body f) ≡ true → IsSome (slice_get f.spine 0)
 item_is_open f h = item_open f.nodes f.spine h
 
--- and where a list is
+-- so is a list
 list_open : (nodes : List (ℕ × Item)) (spine : List TreeIndex)
     → is_list (option_and_then (λ (ix : TreeIndex). body_at nodes ix.0) (slice_get spine 0)) ≡ true → IsSome (slice_get spine 0)
 list_open nodes [] h = cc

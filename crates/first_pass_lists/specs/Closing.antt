@@ -1,4 +1,4 @@
--- How open items and lists are opened and closed, and what is remembered of them.
+-- How items and lists are opened and closed, and the state of the pass between two lines.
 use Rattle.std.specs.Prelude.{ℕ, ◌==◌, ◌&&◌, not, Bool, true, false, List, [], ◌∷◌, length}
 use Rattle.std.specs.Prelude.{Option, Some, None, is_some, slice_get, if◌then◌else◌}
 use Rattle.std.specs.Int.RustNames.{bit_and}
@@ -19,19 +19,19 @@ use Rattle.first_pass_tree.specs.Tight.{tight_items}
 use Rattle.first_pass_open.specs.OpenBlock.{closed_by}
 use Rattle.first_pass_lists.specs.declared.reading.Reading.{Reading}
 
--- what is remembered, part by part
+-- a state from its parts
 abbrev pub remembered : Forest Item → Option ℕ → Bool → Reading
 remembered tree empty_item blank = record { tree = tree; empty_item = empty_item; blank = blank }
 
--- the same with another tree
+-- the state with another tree
 abbrev pub with_tree : Reading → Forest Item → Reading
 with_tree r tree = record r { tree = tree }
 
--- the same where something is added to the innermost open node: an item is empty no more
+-- the state after something is added to the innermost open node: no item is empty
 abbrev pub with_block : Reading → Forest Item → Reading
 with_block r tree = record r { tree = tree; empty_item = None }
 
--- a list is loose; another node stays
+-- a list becomes loose; any other node is unchanged
 abbrev pub loosened_by : Forest Item → TreeIndex → Option ItemBody → Forest Item
 loosened_by f ix (Some (ListBody flags byte number)) = with_body_at f ix (ListBody (list_flags false) byte number)
 loosened_by f ix (Some (DefinitionList flags)) = with_body_at f ix (DefinitionList (list_flags false))
@@ -40,11 +40,11 @@ loosened_by f ix _ = f
 abbrev pub loosened_at : Forest Item → TreeIndex → Forest Item
 loosened_at f ix = loosened_by f ix (body_at f.nodes ix.0)
 
--- what the innermost open node is
+-- the body of the innermost open node
 abbrev pub top_body : Forest Item → Option ItemBody
 top_body f = option_and_then (λ ix. body_at f.nodes ix.0) (slice_get f.spine 0)
 
--- what the current node is
+-- the body of the current node
 abbrev pub current_body : Forest Item → Option ItemBody
 current_body f = option_and_then (λ ix. body_at f.nodes ix.0) f.current
 
@@ -72,7 +72,7 @@ abbrev pub is_footnote : Option ItemBody → Bool
 is_footnote (Some (FootnoteDefinitionBody label)) = true
 is_footnote _ = false
 
--- the innermost open node is closed: the paragraphs of a tight list become tight, and no item is empty after an item
+-- the innermost open node is closed: the paragraphs of a tight list become tight, and after an item no item is empty
 abbrev pub popped_by : Reading → Forest Item → TreeIndex → Option ItemBody → Reading
 popped_by r f ix (Some (ListBody flags byte number)) = record r { tree = if bit_and flags.0 1 == 1 then tight_items f ix else f }
 popped_by r f ix (Some (DefinitionList flags)) = record r { tree = if bit_and flags.0 1 == 1 then tight_items f ix else f }
@@ -84,20 +84,21 @@ abbrev pub popped_at : ℕ → Reading → List TreeIndex → Reading
 popped_at e r [] = r
 popped_at e r (ix ∷ rest) = popped_by r (closed_by r.tree e (ix ∷ rest)) ix (body_at (closed_by r.tree e (ix ∷ rest)).nodes ix.0)
 
--- the current node is no part of the list that was just closed: it is moved out of that
+-- the current node is moved out of the list that was just closed
 abbrev pub current_moved : Reading → Option TreeIndex → Reading
 current_moved r None = r
 current_moved r (Some ix) = with_tree r (moved_from r.tree ix.0)
 
--- a definition list, the innermost open node, is closed at an offset, and its last child, which is current, is moved out of it (this project)
+-- a definition list, the innermost open node, is closed at an offset, and its last child, the current node, is moved
+-- out of it (this project)
 unfoldable pub definitions_closed : ℕ → Reading → Reading
 definitions_closed e r = current_moved (popped_at e r r.tree.spine) r.tree.current
 
--- where what is innermost ends, as far as its node says; 0 at the top
+-- the end that is recorded in the innermost open node; 0 at the top level
 abbrev pub top_end : Forest Item → ℕ
 top_end f = option_map_or (λ x. x.«end») (option_and_then (λ ix. item_at f ix) (slice_get f.spine 0)) 0
 
--- the current node, if it is a possible title in the definition list that is innermost
+-- the current node, if it is a possible title in an innermost definition list
 abbrev pub title_by : Option ItemBody → TreeIndex → Option ItemBody → Option TreeIndex
 title_by top ix (Some MaybeDefinitionListTitle) = if is_definition_list top then Some ix else None
 title_by top ix _ = None
@@ -105,8 +106,8 @@ title_by top ix _ = None
 abbrev pub possible_title : Forest Item → Option TreeIndex
 possible_title f = option_and_then (λ ix. title_by (top_body f) ix (body_at f.nodes ix.0)) f.current
 
--- A possible title, the current node, is no title: it is a paragraph after the definition list that is innermost. That is closed, at the end that its node
--- has since the possible title was read: where its last definition ends (this project).
+-- A possible title, the current node, becomes a paragraph after the innermost definition list. The list is closed at
+-- the end that its node has had since the title was read: the end of its last definition (this project).
 abbrev pub title_closed : Reading → TreeIndex → Reading
 title_closed r title = definitions_closed (top_end r.tree) (with_tree r (with_body_at r.tree title ParagraphBody))
 
@@ -114,11 +115,12 @@ abbrev pub popped_after : ℕ → Reading → Option TreeIndex → Reading
 popped_after e r None = popped_at e r r.tree.spine
 popped_after e r (Some title) = title_closed r title
 
--- the innermost open node is closed at an offset; or, where a possible title is last in it, where its last definition ends
+-- the innermost open node is closed at an offset; or, if a possible title is last in it, at the end of its last
+-- definition
 unfoldable pub popped : ℕ → Reading → Reading
 popped e r = popped_after e r (possible_title r.tree)
 
--- an item that began with two blank lines is closed after the line of its marker, and no item is empty
+-- an item that began with two blank lines is closed at the end of its marker's line, and no item is empty
 abbrev pub item_finished_by : Reading → Option ℕ → Reading
 item_finished_by r None = r
 item_finished_by r (Some e) = record (if r.blank && is_item (top_body r.tree) then popped e r else r) { empty_item = None }
@@ -126,19 +128,19 @@ item_finished_by r (Some e) = record (if r.blank && is_item (top_body r.tree) th
 unfoldable pub item_finished : Reading → Reading
 item_finished r = item_finished_by r r.empty_item
 
--- the list that is innermost, if one is, is closed
+-- the innermost open node is closed, if it is a list
 abbrev pub list_left : ℕ → Reading → Reading
 list_left e r = if is_list (top_body r.tree) then popped e r else r
 
--- the footnote definition that is innermost, if one is, is closed
+-- the innermost open node is closed, if it is a footnote definition
 abbrev pub footnote_left : ℕ → Reading → Reading
 footnote_left e r = if is_footnote (top_body r.tree) then popped e r else r
 
--- the same, where a blank line that counts is directly before (asked of footnotes in their old form alone)
+-- the same, if a counting blank line is directly before (used only for footnotes in the old form)
 abbrev pub old_footnote_finished : ℕ → Reading → Reading
 old_footnote_finished e r = if r.blank then footnote_left e r else r
 
--- a block with a blank line before it makes the list loose in whose item it stands
+-- the list whose item contains a block becomes loose if a blank line is before the block
 abbrev pub gap_tree : Forest Item → List TreeIndex → Forest Item
 gap_tree f [] = f
 gap_tree f (ix ∷ []) = f
@@ -147,12 +149,12 @@ gap_tree f (ix ∷ outer ∷ rest) = loosened_at f outer
 abbrev pub gap_noted : Reading → Reading
 gap_noted r = if r.blank then record r { tree = gap_tree r.tree r.tree.spine; blank = false } else r
 
--- What was read as a paragraph right after a definition is none, but a heading or a table: it is the current node. The definition list is closed at an
--- offset and doesn't hold it; a blank line before it makes the list loose in whose item both stand (this project).
+-- The current node, right after a definition, turned out to be a heading or a table. The definition list is closed at
+-- an offset without it. If a blank line is before it, the list whose item contains both becomes loose (this project).
 unfoldable pub definitions_left : ℕ → Reading → Reading
 definitions_left e r = gap_noted (definitions_closed e r)
 
--- before a block that ends a list at an offset
+-- the state before a block that ends a list at an offset
 unfoldable pub list_finished : ℕ → Reading → Reading
 list_finished e r = gap_noted (list_left e (item_finished r))
 
@@ -160,27 +162,28 @@ abbrev pub loosened_top : Forest Item → List TreeIndex → Forest Item
 loosened_top f [] = f
 loosened_top f (ix ∷ rest) = loosened_at f ix
 
--- the innermost list continues
+-- the state in which the innermost list continues
 abbrev pub list_kept : Reading → Reading
 list_kept r = if r.blank then record r { tree = loosened_top r.tree r.tree.spine; blank = false } else r
 
--- a container or list is opened that starts at an offset
+-- a container or a list that starts at an offset is opened
 abbrev pub begun : ℕ → ItemBody → Reading → Reading
 begun start body r =
     record r { tree = pushed (appended r.tree (record { start = start; «end» = 0; body = body })) (record { 0 = length r.tree.nodes }) }
 
--- with another body at the current place
+-- the tree with another body at the current place
 abbrev pub with_current : Forest Item → ItemBody → Option TreeIndex → Forest Item
 with_current f body None = f
 with_current f body (Some c) = with_body_at f c body
 
--- The current node, a paragraph right after a definition, is a possible title. The node of the definition list that is innermost has the offset as its end
--- where that definition ends; a blank line before the paragraph doesn't count (this project).
+-- The current node, a paragraph right after a definition, is a possible title. The end of that definition, an offset,
+-- is recorded in the innermost definition list. A blank line before the paragraph does not count (this project).
 unfoldable pub title_kept : ℕ → Reading → Reading
 title_kept e r = record r { tree = with_end (with_current r.tree MaybeDefinitionListTitle r.tree.current) e (slice_get r.tree.spine 0); blank = false }
 
--- A `:` may begin a definition here, in this, after this: after a paragraph, which is directly in a container or at the top; and in a definition list after a
--- possible title, or after a definition that doesn't take blank lines alone (this project).
+-- A `:` may begin a definition, given the bodies of the innermost open node and of the current node: after a
+-- paragraph directly in a container or at the top level; and in a definition list after a possible title, or after a
+-- definition that does not take only blank lines (this project).
 abbrev pub precedes_definition : Option ItemBody → Option ItemBody → Bool
 precedes_definition top (Some ParagraphBody) = not (is_list top)
 precedes_definition top (Some MaybeDefinitionListTitle) = is_definition_list top
@@ -190,12 +193,14 @@ precedes_definition top _ = false
 abbrev pub takes_definition : Forest Item → Bool
 takes_definition f = precedes_definition (top_body f) (current_body f)
 
--- a paragraph that begins here may become the next title: the innermost open node is a definition list in which no possible title is last (this project)
+-- a paragraph that begins here may become the next title: the innermost open node is a definition list whose last
+-- child is no possible title (this project)
 abbrev pub is_after_definition : Forest Item → Bool
 is_after_definition f = is_definition_list (top_body f) && not (is_some (possible_title f))
 
--- The definition list of a definition that begins, after the current node with these parts, is open: a possible title is its next title; a paragraph is the
--- title of a new one, which is tight so far; after a definition nothing changes (this project).
+-- The definition list for a new definition is open, given the parts of the current node. A possible title becomes its
+-- next title. A paragraph becomes the title of a new list, which is tight so far. After a definition nothing changes
+-- (this project).
 abbrev pub definitions_by : Forest Item → TreeIndex → ℕ → ℕ → ItemBody → Forest Item
 definitions_by f c start e MaybeDefinitionListTitle = with_body_at f c DefinitionListTitle
 definitions_by f c start e ParagraphBody =
@@ -210,22 +215,23 @@ abbrev pub definitions_opened : Forest Item → Option TreeIndex → Forest Item
 definitions_opened f None = f
 definitions_opened f (Some c) = definitions_at f c (item_at f c)
 
--- a definition is opened, of an indent, that starts at an offset, in the definition list that is open or in a new one; a blank line before it makes that list
--- loose (this project)
+-- a definition with an indent is opened at an offset, in the open definition list or in a new one; a blank line
+-- before it makes that list loose (this project)
 unfoldable pub definition_begun : ℕ → ℕ → Reading → Reading
 definition_begun start indent r = begun start (DefinitionListDefinition indent) (list_kept (with_tree r (definitions_opened r.tree r.tree.current)))
 
--- a footnote definition is opened, with its label, that starts at an offset: what is innermost ends there, a list, and then another footnote definition
+-- a footnote definition with its label is opened at an offset; an innermost list ends there, and then another
+-- footnote definition
 unfoldable pub footnote_begun : ℕ → CowIndex → Reading → Reading
 footnote_begun start label r = begun start (FootnoteDefinitionBody label) (gap_noted (footnote_left start (list_left start (item_finished r))))
 
--- before an item of this byte and number: in the list that continues, or in a new one
+-- the state before an item with this byte and number: in the list that continues, or in a new one
 unfoldable pub list_continued : ℕ → ℕ → ℕ → Reading → Reading
 list_continued start byte number r =
     let s = item_finished r in
     if is_list_of byte (top_body s.tree) then list_kept s else begun start (ListBody (list_flags true) byte number) (list_finished start s)
 
--- the innermost open node is an item or a definition that takes blank lines alone
+-- the innermost open node, an item or a definition, takes only blank lines
 abbrev pub emptied : Forest Item → List TreeIndex → Forest Item
 emptied f [] = f
 emptied f (ix ∷ rest) = with_body_at f ix (ListItemBody 0)
@@ -234,7 +240,8 @@ abbrev pub emptied_definition : Forest Item → List TreeIndex → Forest Item
 emptied_definition f [] = f
 emptied_definition f (ix ∷ rest) = with_body_at f ix (DefinitionListDefinition 0)
 
--- a blank line is read: it doesn't count directly in a block quote, and an item or a definition that was empty takes blank lines alone from then on
+-- a blank line is read: it does not count directly in a block quote, and an empty item or definition takes only blank
+-- lines from then on
 abbrev pub blank_read_by : Reading → Option ItemBody → Reading
 blank_read_by r (Some (BlockQuoteBody kind)) = r
 blank_read_by r (Some (ListItemBody columns)) = record r { tree = if is_some r.empty_item then emptied r.tree r.tree.spine else r.tree; blank = true }
@@ -245,6 +252,7 @@ blank_read_by r _ = record r { blank = true }
 unfoldable pub blank_read : Reading → Reading
 blank_read r = blank_read_by r (top_body r.tree)
 
--- A footnote definition in the old form that is innermost is closed at an offset where a line begins, after a blank line that counts (this project).
+-- An innermost footnote definition in the old form is closed at the start of a line, after a counting blank line
+-- (this project).
 abbrev pub footnote_ended : Options → ℕ → Reading → Reading
 footnote_ended options e r = if gfm_footnotes options then r else old_footnote_finished e r

@@ -1,4 +1,4 @@
--- What follows the titles and definitions that a definition list begins with, moved out of the list.
+-- Moving what follows the leading titles and definitions of a definition list out of the list.
 use Rattle.std.specs.Prelude.{ℕ, ◌+◌, ◌==◌, ◌&&◌, not, nat_lt, Bool, true, false, List, drop, length, Option, Some, if◌then◌else◌}
 use Rattle.std.specs.List.{position_or_len}
 use Rattle.std.specs.Option.{option_map_or}
@@ -15,7 +15,7 @@ abbrev pub is_possible_title : Option ItemBody → Bool
 is_possible_title (Some MaybeDefinitionListTitle) = true
 is_possible_title _ = false
 
--- a definition list has titles and definitions (this project)
+-- a title or a definition, which belong in a definition list (this project)
 abbrev pub is_in_group : ItemBody → Bool
 is_in_group DefinitionListTitle = true
 is_in_group (DefinitionListDefinition _) = true
@@ -25,7 +25,8 @@ is_in_group _ = false
 abbrev pub is_other_at : ℕ → (ℕ × Item) → Bool
 is_other_at d n = n.0 == d && not (is_in_group n.1.body)
 
--- where the first node of this depth from a place on stands that is neither a title nor a definition; where the nodes end, if there is none
+-- the place of the first node of this depth, from a place on, that is neither a title nor a definition; the end of
+-- the nodes if there is none
 abbrev pub first_other : ℕ → ℕ → List (ℕ × Item) → ℕ
 first_other d from ns = from + position_or_len (is_other_at d) (drop from ns)
 
@@ -36,17 +37,18 @@ child_before f n = last_before (depths f.nodes) (length f.spine + 2) n
 abbrev pub end_there : Forest Item → ℕ → ℕ
 end_there f n = option_map_or (λ x. x.«end») (item_at f (place n)) 0
 
--- a possible title at a place is a paragraph (this project)
+-- a possible title at a place becomes a paragraph (this project)
 abbrev pub left_untitled : Forest Item → ℕ → Forest Item
 left_untitled f n = if is_possible_title (body_at f.nodes n) then with_body_at f (place n) Paragraph else f
 
--- A child of the current node and what is after it are moved out of that, which ends with the child before them then; where none is before them, nothing is
--- moved.
+-- A child of the current node and everything after it are moved out of that node, which then ends with the child
+-- before them. If there is none before them, nothing is moved.
 abbrev pub left_with : Forest Item → TreeIndex → ℕ → ℕ → Forest Item
 left_with f list other kept = if nat_lt list.0 kept then moved_from (with_end_at f list (end_there f kept)) other else f
 
--- What follows the titles and definitions that the current node, a definition list, begins with is after the list, which ends with the last of them; where
--- a possible title comes first there, it is a paragraph. Where the list begins with none of them, nothing is moved (this project).
+-- Everything after the leading titles and definitions of the current node, a definition list, is moved after the
+-- list, which then ends with the last of them. A possible title that comes first there becomes a paragraph. Without
+-- leading titles or definitions, nothing is moved (this project).
 unfoldable pub fixed_up : Forest Item → TreeIndex → Forest Item
 fixed_up f list =
     let other : ℕ = first_other (length f.spine + 2) (list.0 + 1) f.nodes in

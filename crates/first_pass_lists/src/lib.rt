@@ -1,4 +1,4 @@
-//! When a list continues, becomes loose and is closed: what the pass remembers between two lines, and the calls on it.
+//! When a list continues, becomes loose and is closed: the state of the pass between two lines, and the calls on it.
 #![tactic(auto)]
 
 pub mod list;

@@ -19,16 +19,16 @@ use std::alloc::AllocError;
 /// The marker of a list item.
 #[derive(Clone, Copy)]
 pub struct ListMarker {
-    /// The byte that tells its list: a bullet, or the `.` or `)` after digits.
+    /// The byte of its list: a bullet, or the `.` or `)` after digits.
     pub byte: u8,
-    /// The number that its digits write; 0 for a bullet.
+    /// The value of its digits; 0 for a bullet.
     pub number: u64,
     /// The columns that a line needs to continue the item.
     pub indent: usize,
 }
 
-/// Makes the paragraphs tight that stand directly in the items of a list, the current node, unless it is
-/// loose (CommonMark 5.3), and notes where it ends: before its last child, if that is given.
+/// Makes the paragraphs directly in the items of a list, the current node, tight, unless the list is loose
+/// (CommonMark 5.3). Notes where the list ends: before its last child, if that is given.
 #[inline(never)]
 fn close_list(tree: &mut Tree<Item>, list_ix: TreeIndex, flags: ListFlags, left: Option<TreeIndex>)
     requires { list_ix.0 < length tree.old.nodes }
@@ -43,7 +43,7 @@ fn close_list(tree: &mut Tree<Item>, list_ix: TreeIndex, flags: ListFlags, left:
     }
 }
 
-/// Makes a list loose; another node stays.
+/// Makes a list loose; any other node is unchanged.
 fn loosen(tree: &mut Tree<Item>, ix: TreeIndex)
     requires { ix.0 < length tree.old.nodes }
     ensures { tree.new ≡ loosened_at tree.old ix }
@@ -60,10 +60,9 @@ fn loosen(tree: &mut Tree<Item>, ix: TreeIndex)
 }
 
 impl Reading {
-    /// Closes the innermost open node, of which there has to be one, at the offset `ix`. The paragraphs of
-    /// a list become tight, unless it is loose (CommonMark 5.3). A definition list in which a possible title
-    /// is last ends where its last definition does, and the possible title is a paragraph after it (this
-    /// project).
+    /// Closes the innermost open node, of which there must be one, at the offset `ix`. The paragraphs of a list become
+    /// tight, unless it is loose (CommonMark 5.3). A definition list whose last child is a possible title ends where
+    /// its last definition does, and the title becomes a paragraph after it (this project).
     #[tactic(auto, unfolding(crate::specs::Closing::popped))]
     pub fn pop(&mut self, ix: usize)
         requires { IsSome (slice_get self.old.tree.spine 0) }
@@ -75,8 +74,8 @@ impl Reading {
         }
     }
 
-    // Closes the innermost open node, of which there has to be one, at the offset `ix`. The paragraphs of a list become
-    // tight, unless it is loose. If its last child is given, the list is going to be left by it.
+    // Closes the innermost open node, of which there must be one, at the offset `ix`. The paragraphs of a list become
+    // tight, unless it is loose. If the last child is given, it is about to leave the list.
     #[tactic(auto, using(crate::proofs::WithinLemmas::closed_within))]
     fn close_innermost(&mut self, ix: usize, left: Option<TreeIndex>)
         requires { IsSome (slice_get self.old.tree.spine 0) }
@@ -93,7 +92,7 @@ impl Reading {
         }
     }
 
-    // The current node, if it is a possible title in the definition list that is innermost.
+    // The current node, if it is a possible title in an innermost definition list.
     fn possible_title(&self) -> Option<TreeIndex>
         ensures value { result ≡ possible_title self.now.tree }
         ensures within { IfSome result (λ title. title.0 < length self.now.tree.nodes) }
@@ -108,8 +107,8 @@ impl Reading {
         None
     }
 
-    // Closes the definition list that is innermost where its last definition ends. The possible title after that, the
-    // current node, is a paragraph after the list then.
+    // Closes the innermost definition list where its last definition ends. The possible title after that, the current
+    // node, becomes a paragraph after the list.
     fn leave_possible_title(&mut self, title: TreeIndex)
         requires open { IsSome (slice_get self.old.tree.spine 0) }
         requires title { title.0 < length self.old.tree.nodes }
@@ -120,7 +119,7 @@ impl Reading {
         self.close_definitions(list_end);
     }
 
-    // Where the innermost open node ends, as far as it says; 0 where only the root is open.
+    // The end that is recorded in the innermost open node; 0 if only the root is open.
     #[tactic(auto, using(crate::proofs::WithinLemmas::top_within))]
     fn innermost_end(&self) -> usize
         ensures { result ≡ top_end self.now.tree }
@@ -132,8 +131,7 @@ impl Reading {
         self.tree[ix].end
     }
 
-    // Closes the definition list that is innermost at the offset `end`, and moves its last child out of it, the current
-    // node.
+    // Closes the innermost definition list at the offset `end`, and moves its last child, the current node, out of it.
     #[tactic(auto, unfolding(crate::specs::Closing::definitions_closed))]
     fn close_definitions(&mut self, end: usize)
         requires { IsSome (slice_get self.old.tree.spine 0) }
@@ -147,9 +145,9 @@ impl Reading {
         }
     }
 
-    /// Closes the definition list that is innermost at the offset `end`, where its last definition ends. What
-    /// was read after that as a paragraph, the current node, is a heading or a table, and stands after the list
-    /// then. A blank line before it makes the list loose in whose item both stand (this project).
+    /// Closes the innermost definition list at the offset `end`, where its last definition ends. The current node,
+    /// which was read as a paragraph after that, is a heading or a table, and comes after the list. If a blank line is
+    /// before it, the list whose item contains both becomes loose (this project).
     #[tactic(auto, unfolding(crate::specs::Closing::definitions_left))]
     pub fn leave_definitions(&mut self, end: usize)
         requires { IsSome (slice_get self.old.tree.spine 0) }
@@ -159,8 +157,8 @@ impl Reading {
         self.note_gap();
     }
 
-    /// Makes the current node, a paragraph right after a definition that ends at the offset `end`, a possible
-    /// title: a `:` after it makes it one. A blank line before it doesn't count (this project).
+    /// Makes the current node, a paragraph right after a definition that ends at the offset `end`, a possible title: a
+    /// `:` after it makes it a title. A blank line before it does not count (this project).
     #[tactic(auto, using(crate::proofs::WithinLemmas::top_within), unfolding(crate::specs::Closing::title_kept))]
     pub fn keep_possible_title(&mut self, end: usize)
         ensures { self.new ≡ title_kept end self.old }
@@ -177,8 +175,8 @@ impl Reading {
         self.blank = false;
     }
 
-    /// Whether a `:` may begin a definition here: after a paragraph, and in a definition list after a possible
-    /// title, or after a definition that doesn't take blank lines alone (this project).
+    /// Whether a `:` may begin a definition here: after a paragraph, and in a definition list after a possible title,
+    /// or after a definition that does not take only blank lines (this project).
     pub fn takes_definition(&self) -> bool
         ensures { result ≡ takes_definition self.now.tree }
     {
@@ -194,8 +192,8 @@ impl Reading {
         }
     }
 
-    /// Whether a paragraph that begins here may become the next title: in a definition list in which no possible
-    /// title is last, so that it is right after a definition (this project).
+    /// Whether a paragraph that begins here may become the next title: the innermost open node is a definition list
+    /// whose last child is no possible title, so that it is right after a definition (this project).
     pub fn is_after_definition(&self) -> bool
         ensures { result ≡ is_after_definition self.now.tree }
     {
@@ -229,9 +227,9 @@ impl Reading {
         )
     }
 
-    /// Opens a definition of an indent at the offset `start`: in the definition list that is open, or in a new
-    /// one, whose title is the paragraph that is the current node. A blank line before the definition makes
-    /// that list loose (this project).
+    /// Opens a definition with an indent at the offset `start`: in the open definition list, or in a new one whose
+    /// title is the current node, a paragraph. A blank line before the definition makes that list loose
+    /// (this project).
     #[tactic(auto, unfolding(crate::specs::Closing::definition_begun))]
     pub fn open_definition(&mut self, start: usize, indent: usize) -> Result<(), AllocError>
         ensures { OnOk result (self.new ≡ definition_begun start indent self.old) }
@@ -246,8 +244,8 @@ impl Reading {
         Ok(())
     }
 
-    // Makes the current node the title of a definition, if it is a possible title, or a paragraph: then a definition
-    // list is opened for it.
+    // Makes the current node the title of a definition, if it is a possible title or a paragraph. For a paragraph,
+    // opens a definition list.
     fn open_definition_list(&mut self) -> Result<(), AllocError>
         ensures { OnOk result (self.new
             ≡ with_tree self.old (definitions_opened self.old.tree self.old.tree.current)) }
@@ -277,8 +275,8 @@ impl Reading {
         Ok(())
     }
 
-    /// Closes the innermost open node, if it is an item or a definition that began with two blank lines, after the line
-    /// of its marker (CommonMark 5.2, and this project). No item is empty then.
+    /// Closes the innermost open node at the end of its marker's line, if it is an item or a definition that began
+    /// with two blank lines (CommonMark 5.2, and this project). No item is empty then.
     #[tactic(auto, using(crate::proofs::WithinLemmas::item_is_open), unfolding(crate::specs::Closing::item_finished))]
     pub fn finish_empty_list_item(&mut self)
         ensures { self.new ≡ item_finished self.old }
@@ -306,9 +304,9 @@ impl Reading {
         )
     }
 
-    /// Closes what a new block ends: an empty item, and the list that is then innermost, at the offset `ix`; a definition
-    /// list in which a possible title is last ends where its last definition does. Where a blank line stands before the
-    /// block, the list becomes loose in whose item it stands.
+    /// Closes what a new block ends: an empty item, and then an innermost list at the offset `ix`. A definition list
+    /// whose last child is a possible title ends where its last definition does. If a blank line is before the block,
+    /// the list whose item contains it becomes loose.
     #[inline(always)]
     #[tactic(auto, unfolding(crate::specs::Closing::list_finished))]
     pub fn finish_list(&mut self, ix: usize)
@@ -329,9 +327,9 @@ impl Reading {
         }
     }
 
-    /// Closes the innermost open node at the offset `ix`, where the line begins that is read, if the node is a footnote
-    /// definition and a blank line that counts is directly before. A list that is open in a footnote definition is
-    /// innermost then, and keeps it open (this project, on footnotes in their old form).
+    /// Closes the innermost open node at the offset `ix`, the start of the current line, if the node is a footnote
+    /// definition and a counting blank line is directly before. A list that is open in a footnote definition is
+    /// innermost, and so keeps it open (this project, on footnotes in their old form).
     pub fn finish_old_footnote(&mut self, ix: usize)
         ensures { self.new ≡ old_footnote_finished ix self.old }
     {
@@ -353,7 +351,7 @@ impl Reading {
         }
     }
 
-    // Where a blank line stands before a block, makes the list loose in whose item the block stands.
+    // Makes the list whose item contains the next block loose, if a blank line is before that block.
     #[tactic(auto, using(crate::proofs::WithinLemmas::second_within))]
     fn note_gap(&mut self)
         ensures { self.new ≡ gap_noted self.old }
@@ -367,8 +365,8 @@ impl Reading {
         }
     }
 
-    /// Reads a blank line, which doesn't count directly in a block quote. An item or a definition that was empty takes
-    /// blank lines alone from then on.
+    /// Reads a blank line, which does not count directly in a block quote. An item or a definition that was empty
+    /// takes only blank lines from then on.
     #[tactic(auto, using(crate::proofs::WithinLemmas::top_within), unfolding(crate::specs::Closing::blank_read))]
     pub fn read_blank_line(&mut self)
         ensures { self.new ≡ blank_read self.old }
@@ -390,8 +388,8 @@ impl Reading {
         self.blank = true;
     }
 
-    /// True only where one more blank line changes nothing that is remembered: one that counts is directly before, and
-    /// an item or a definition that is empty takes blank lines alone already.
+    /// Returns true only if one more blank line leaves the state unchanged: a counting one is directly before, and an
+    /// empty item or definition already takes only blank lines.
     #[tactic(auto, using(crate::proofs::WithinLemmas::top_within))]
     pub fn keeps_blank_lines(&self) -> bool
         ensures { result ≡ true → blank_read self.now ≡ self.now }
@@ -425,8 +423,8 @@ impl Reading {
         matches!(self.tree[ix].body, ItemBody::FootnoteDefinition(_))
     }
 
-    /// Continues the list that is innermost, where its byte is `ch`: it is loose if a blank line stands
-    /// before. Else a list with that byte and the number `index` is opened at the offset `start`.
+    /// Continues the innermost list if its byte is `ch`; a blank line before makes it loose. Otherwise opens a list
+    /// with that byte and the number `index` at the offset `start`.
     #[tactic(auto, unfolding(crate::specs::Closing::list_continued))]
     pub fn continue_list(&mut self, start: usize, ch: u8, index: u64) -> Result<(), AllocError>
         ensures { OnOk result (self.new ≡ list_continued start ch index self.old) }
@@ -461,7 +459,7 @@ impl Reading {
         false
     }
 
-    // Continues the innermost open node, a list: a blank line before makes it loose.
+    // Continues the innermost open node, a list; a blank line before makes it loose.
     #[tactic(auto, using(crate::proofs::WithinLemmas::top_within))]
     fn keep_list(&mut self)
         ensures { self.new ≡ list_kept self.old }
@@ -475,7 +473,7 @@ impl Reading {
         }
     }
 
-    /// Opens the item of a marker that starts at the offset `start`, in the list that continues or in a new one.
+    /// Opens the item of a marker at the offset `start`, in the list that continues or in a new one.
     pub fn open_item(&mut self, start: usize, marker: ListMarker) -> Result<(), AllocError>
         ensures { OnOk result (self.new
             ≡ begun start (ListItemBody marker.indent) (list_continued start marker.byte marker.number self.old)) }
@@ -485,7 +483,7 @@ impl Reading {
         Ok(())
     }
 
-    /// Opens a block quote of a kind at the offset `start`, in the line that begins at `line`.
+    /// Opens a block quote of a kind at the offset `start`, in the line at `line`.
     pub fn open_quote(
         &mut self,
         line: usize,
@@ -499,9 +497,9 @@ impl Reading {
         Ok(())
     }
 
-    /// Opens a footnote definition at the offset `start`, that of its `[`, with the label that an index names. What is
-    /// innermost ends there: a list, and then another footnote definition, so that none stands directly in one. A blank
-    /// line before makes the list loose in whose item the new one stands (this project).
+    /// Opens a footnote definition at the offset `start`, that of its `[`, with the label that an index names. An
+    /// innermost list ends there, and then another footnote definition, so that none is directly in another. If a
+    /// blank line is before, the list whose item contains the new one becomes loose (this project).
     #[tactic(auto, unfolding(crate::specs::Closing::footnote_begun))]
     pub fn open_footnote(&mut self, start: usize, label: CowIndex) -> Result<(), AllocError>
         ensures { OnOk result (self.new ≡ footnote_begun start label self.old) }

@@ -1,11 +1,10 @@
-//! What the pass remembers between two lines.
+//! The state of the pass between two lines.
 
 use first_pass_items::item::Item;
 use first_pass_tree::forest::Tree;
 
-/// What the pass remembers between two lines: the tree so far, where the line of its marker ends, of the
-/// innermost item as long as that is empty, and whether a blank line that counts is in the run of them
-/// before the next line.
+/// The state of the pass between two lines: the tree so far; if the innermost item is still empty, the end of its
+/// marker's line; and whether a counting blank line precedes the next line.
 #[derive(Drop)]
 pub struct Reading {
     pub tree: Tree<Item>,

@@ -1,4 +1,4 @@
-//! What follows the titles and definitions of a definition list (this project).
+//! Moving what follows the leading titles and definitions of a definition list out of it (this project).
 
 ghost use Rattle.std.specs.Prelude.{◌≡◌, ◌<◌, ◌≤◌, length, Some};
 ghost use Rattle.first_pass_tree.specs.Forest.{body_at, depths, last_before};
@@ -8,10 +8,10 @@ use first_pass_items::item::{Item, ItemBody};
 use first_pass_tree::forest::Tree;
 use first_pass_tree::tree_index::TreeIndex;
 
-/// Moves what follows the titles and definitions that the definition list `list_ix`, the current node, begins with
-/// out of the list: its first child that is neither, and all after that. The list ends then with the last that is left.
-/// Where a possible title comes first there, it becomes a paragraph. Where no other child is there, nothing changes;
-/// where no title or definition is there, nothing is moved.
+/// Moves everything after the leading titles and definitions of the definition list `list_ix`, the current node, out
+/// of it: the first child that is neither, and all after it. The list then ends with the last child that is left. A
+/// possible title that comes first there becomes a paragraph. Without another child, nothing changes; without leading
+/// titles or definitions, nothing is moved.
 #[tactic(auto, unfolding(crate::specs::Titles::fixed_up))]
 pub fn fixup_end_of_definition_list(tree: &mut Tree<Item>, list_ix: TreeIndex)
     requires { tree.old.current ≡ Some list_ix }
@@ -33,8 +33,8 @@ pub fn fixup_end_of_definition_list(tree: &mut Tree<Item>, list_ix: TreeIndex)
     tree.move_out(TreeIndex(other));
 }
 
-// The place of the first node from `from` on that has this depth and is neither a title nor a definition; where there
-// is none, that at which the nodes end.
+// The place of the first node from `from` on that has this depth and is neither a title nor a definition; the number
+// of nodes if there is none.
 fn first_other(nodes: &[(usize, Item)], depth: usize, from: usize) -> usize
     requires { from ≤ length nodes.now }
     ensures { result ≡ first_other depth from nodes.now }
@@ -49,7 +49,7 @@ fn first_other(nodes: &[(usize, Item)], depth: usize, from: usize) -> usize
     place
 }
 
-// The last place before another whose node has this depth, or 0.
+// The place of the last node of this depth before another place, or 0.
 fn last_of_depth(nodes: &[(usize, Item)], depth: usize, before: usize) -> usize
     requires { before ≤ length nodes.now }
     ensures { result ≡ last_before (depths nodes.now) depth before }
@@ -74,7 +74,7 @@ fn is_in_group(body: &ItemBody) -> bool
     )
 }
 
-// Makes the node at a place a paragraph where it is a possible title.
+// Makes a possible title at a place a paragraph.
 fn leave_untitled(tree: &mut Tree<Item>, place: usize)
     requires { place < length tree.old.nodes }
     ensures { tree.new ≡ left_untitled tree.old place }
