@@ -1,4 +1,5 @@
--- Nodes that differ in what closes nodes and notes blank lines alone: whether a list is loose, which columns an item needs, and what a paragraph stands for.
+-- Nodes that differ only in what changes when nodes are closed and blank lines are noted: whether a list is loose,
+-- the indent of an item, and the meaning of a paragraph.
 use Rattle.std.proofs.Common.{◌≡◌, ℕ, zero, suc, ◌+◌, ◌==◌, Bool, true, false, if◌then◌else◌, List, [], ◌∷◌, nat_lt, slice_index, slice_get}
 use Rattle.std.proofs.Common.{Option, Some, None, is_some, refl, sym, subst, ◌∙◌}
 use Rattle.std.specs.Int.RustNames.{bit_and}
@@ -25,11 +26,11 @@ use Rattle.first_pass_order.proofs.OrderLemmas.{flags_of}
 abbrev pub class_of : ItemBody → Bool × Bool
 class_of b = (is_list (Some b), is_item (Some b))
 
--- what a body tells of tables, of order, of nesting and of names
+-- the properties of a body for tables, order, nesting and names
 abbrev pub told : ItemBody → Bool × Bool × (Bool × Bool × Bool × Bool) × (Bool × Bool) × Option Index × (Names → ℕ → ℕ → ℕ → List Mark)
 told b = (is_row b, is_cell b, flags_of b, class_of b, index_of b, λ names depth start end. shown names depth start end b)
 
--- another body that tells the same; it is a text that a definition list may take in only if the first is
+-- another body with the same properties; it is a text that a definition list may take in only if the first one is
 abbrev pub IsBodyLike : ItemBody → ItemBody → Type 0
 IsBodyLike a b = (told b ≡ told a) × (may_be_title b ≡ true → may_be_title a ≡ true)
 
@@ -40,7 +41,7 @@ pub record IsAlike (n m : ℕ × Item) : Type 0 where
   pub «end» : m.1.«end» ≡ n.1.«end»
   pub body : IsBodyLike n.1.body m.1.body
 
--- nodes each of which is so
+-- each node has such a body
 pub data AreAlike : List (ℕ × Item) → List (ℕ × Item) → Type 0 where
   NoNodes : AreAlike [] []
   OneMore : (n m : ℕ × Item) (old new : List (ℕ × Item)) → IsAlike n m → AreAlike old new → AreAlike (n ∷ old) (m ∷ new)
@@ -68,7 +69,7 @@ alike_body (n ∷ nodes) zero a b is like =
     (record { depth = refl; start = refl; «end» = refl; body = subst (λ c. IsBodyLike c b) (sym e) like })
 alike_body (n ∷ nodes) (suc i) a b is like = alike_tail n nodes _ (alike_body nodes i a b is like)
 
--- the same end at a place of both; one after the other
+-- the same end at a place of both; then one after the other
 pub alike_ended : (old new : List (ℕ × Item)) (i e : ℕ) → AreAlike old new
     → AreAlike (modify old i (λ x. record x { «end» = e })) (modify new i (λ x. record x { «end» = e }))
 alike_ended old new i e NoNodes = NoNodes
@@ -89,7 +90,7 @@ alike_both one two three (OneMore n m xs ys a h) (OneMore m2 l ys2 zs b k) =
     })
     (alike_both xs ys zs h k)
 
--- the paragraphs of a list made tight
+-- the paragraphs of a list become tight
 tight_told : (b : ItemBody) → IsBodyLike b (tight_body b)
 tight_told Paragraph = (refl, λ h. refl)
 tight_told b = (refl, λ h. h)
@@ -139,7 +140,7 @@ like_popped r f ix (Some (DefinitionListDefinition columns)) = like_itself f
 like_popped r f ix None = like_itself f
 like_popped r f ix (Some b) = like_itself f
 
--- a list made loose
+-- a list becomes loose
 loosened_by_like : (f : Forest Item) (ix : TreeIndex) (b : Option ItemBody) → body_at f.nodes ix.0 ≡ b → LooksAlike f (loosened_by f ix b)
 loosened_by_like f ix (Some (ListBody flags byte number)) is =
     like_body f ix (ListBody flags byte number) (ListBody (list_flags false) byte number) is (refl, λ h. h)

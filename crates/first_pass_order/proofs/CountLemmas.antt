@@ -1,5 +1,5 @@
--- How many nodes a tree has of its own: what closes nodes and notes blank lines adds none, what opens a container adds one or
--- two, and each is paid for by a byte.
+-- The number of a tree's own nodes: closing nodes and noting blank lines adds none, and opening a container adds one
+-- or two, with a byte for each.
 use Rattle.std.proofs.Common.{◌≡◌, ℕ, zero, suc, ◌+◌, ◌<◌, ◌≤◌, Bool, true, false, if◌then◌else◌, List, [], ◌∷◌, ◌++◌, length, slice_get}
 use Rattle.std.proofs.Common.{map, take}
 use Rattle.std.proofs.Common.{drop, Option, Some, None, is_some, refl, sym, ap, subst, ◌∙◌, inl, inr, arith}
@@ -42,11 +42,11 @@ use Rattle.first_pass_order.proofs.PropertyKept.{list_finished_keeps, quote_keep
 use Rattle.first_pass_open.specs.Between.{AddsBetween}
 use Rattle.first_pass_lists.proofs.NoEmptyItem.{item_opened}
 
--- how many nodes of its own what is remembered has
+-- the number of own nodes in the state
 abbrev pub count : Reading → ℕ
 count r = own_nodes r.tree.nodes
 
--- nor what moves nodes out of the one that is closed
+-- nor does moving nodes out of a closed one
 own_shallower : (cell : Option ℕ) (nodes : List (ℕ × Item)) → own cell (map shallower nodes) ≡ own cell nodes
 unfolding own
 own_shallower cell [] = refl
@@ -66,7 +66,7 @@ own_alike cell old new (OneMore n m xs ys a h) =
 pub moved_count : (f g : Forest Item) (e : ℕ) (c : TreeIndex) → IsLeft f g e c → own_nodes g.nodes ≡ own_nodes f.nodes
 moved_count f g e c l = ap own_nodes l.nodes ∙ own_moved c.0 None l.mid ∙ own_alike None _ l.mid l.alike ∙ own_ended f.nodes l.list.0 e
 
--- at most so many, and one more for each node that is opened
+-- at most this many, and one more for each node that is opened
 abbrev pub count_kept : Property
 count_kept = record {
   Holds = λ a k f. own_nodes f.nodes ≤ k;
@@ -115,7 +115,7 @@ note_count start index r =
     note_keeps count_kept 0 start (count r) index r (counted r) (λ t is. tt) tt tt tt tt in
     omega arith
 
--- what ends a definition list before a heading or a table adds none
+-- ending a definition list before a heading or a table adds none
 closed_count : (e : ℕ) (r : Reading) (o : Option TreeIndex) → count (current_moved (popped_at e r r.tree.spine) o) ≤ count r
 closed_count e r None = popped_at_keeps count_kept 0 e (count r) r r.tree.spine refl tt tt (omega arith)
 closed_count e r (Some c) =
@@ -141,7 +141,7 @@ unfolding title_kept
 title_kept_count e r is =
     end_count (with_current r.tree MaybeDefinitionListTitle r.tree.current) e (slice_get r.tree.spine 0) ∙ title_count r.tree r.tree.current is
 
--- a definition adds one node, and with a new list, whose title was a paragraph, two
+-- a definition adds one node; with a new list, whose title was a paragraph, two
 own_deeper : (cell : Option ℕ) (nodes : List (ℕ × Item)) → own cell (map deeper nodes) ≡ own cell nodes
 unfolding own
 own_deeper cell [] = refl
@@ -198,7 +198,7 @@ pub child_count : (f : Forest Item) (marker : Option Item) → own_nodes (with_c
 child_count f None = omega arith
 child_count f (Some x) = own_one None f.nodes (length f.spine + 1, x)
 
--- a block that is added between two offsets that are apart
+-- a block that is added between two different offsets
 pub block_count : (text : List ℕ) (from to : ℕ) (old new : Forest Item) → AddsBetween text from to old new → from < to → GrowsBy from to old.nodes new.nodes
 block_count text from to old new adds apart =
     let few = adds.fits.3 apart in
@@ -206,12 +206,12 @@ block_count text from to old new adds apart =
     let more = own_added old.nodes adds.items (length old.spine + 1) in
     omega arith
 
--- a line that isn't blank has a byte
+-- a line that is not blank has a byte
 some_left : (bs : List ℕ) → is_some (blank_len bs) ≡ false → 0 < length bs
 some_left [] h = cc
 some_left (b ∷ bs) h = omega arith
 
--- so has one in which a leaf block begins that is no blank line
+-- so has the line of a leaf block that is no blank line
 pub leaf_left : (options : Options) (r : Rest) (k : Kind) → IsKind options r k → (k ≡ Blank → ⊥) → 0 < length r.left
 unfolding first_kind
 leaf_left options r k h other =
@@ -223,7 +223,7 @@ leaf_left options r k h other =
 pub left_before : (p : Place) → 0 < length p.rest.left → offset p < line_end p
 left_before p some = (let more = line_len-some p.rest.left some in omega arith)
 
--- the less is left, the later is the place
+-- the shorter the rest, the later the place
 pub offset_before : (text : List ℕ) (line : ℕ) (r s : Rest)
     → IsPlaceOf text (place_at line r) → IsPlaceOf text (place_at line s) → length s.left < length r.left → offset (place_at line r) < offset (place_at line s)
 offset_before text line r s i j less =

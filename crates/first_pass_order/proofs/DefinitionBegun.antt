@@ -1,4 +1,5 @@
--- Order where a definition begins: its list is open, a new one in the place of the paragraph that is its title.
+-- Order at the start of a definition: its list is open, a new one in the place of the paragraph that becomes its
+-- title.
 use Rattle.std.proofs.Common.{◌≡◌, ℕ, zero, suc, ◌+◌, ◌<◌, ◌≤◌, not, Bool, true, false, List, [], ◌∷◌, ◌++◌, length}
 use Rattle.std.proofs.Common.{map, take, drop, slice_get, Option, Some, None, IfSome, IsCharBoundary, refl, sym, ap, subst, ◌∙◌, arith}
 use Rattle.std.proofs.Common.{length-append}
@@ -26,7 +27,7 @@ use Rattle.first_pass_order.proofs.Nests.{classes_body, nested_same, nested_befo
 use Rattle.first_pass_order.proofs.OrderLemmas.{ordered_same, ordered_begun, extents-body, list_extent}
 use Rattle.first_pass_order.proofs.PopOrder.{ordered_list_kept}
 
--- the paragraph's node becomes a list's, with its title after it
+-- the paragraph's node becomes that of a list, with its title after it
 listed_extents : (nodes : List (ℕ × Item)) (front : List (ℕ × Extent)) (d : ℕ) (x : Extent) (more : List (ℕ × Extent)) (k : ℕ) (b : ItemBody)
     → ((y : Item) → extent_of (record y { body = b }) ≡ as_list (extent_of y))
     → extents nodes ≡ front ++ (d, x) ∷ more → k ≡ length front
@@ -65,7 +66,7 @@ wrapped_extents (m ∷ nodes) (x ∷ front) n more (suc j) t is at =
     ap (λ (z : List (ℕ × Extent)). (m.0, extent_of m.1) ∷ z) (wrapped_extents nodes front n more j t rest (omega arith))
     ∙ ap (λ (z : ℕ × Extent). z ∷ (front ++ n ∷ (t.0, extent_of t.1) ∷ map deeper more)) first
 
--- open nodes stand before what is in the innermost of them
+-- open nodes are before the children of the innermost one
 places_less : (a b : ℕ) (spine : List TreeIndex) → a ≤ b → AreBefore a spine → AreBefore b spine
 places_less a b [] more h = tt
 places_less a b (ix ∷ spine) more h = ((let w = h.0 in omega arith), places_less a b spine more h.1)
@@ -84,7 +85,7 @@ places_before root (level ∷ levels) row (ix ∷ spine) h =
           (places_before root levels level.0 spine h.1),
     )
 
--- what is innermost is no definition list, by its extent
+-- the innermost open node is no definition list, by its extent
 same_list : (b : ItemBody) → is_definitions (Some b) ≡ is_definition_list b
 same_list (DefinitionList flags) = refl
 same_list b = refl
@@ -113,7 +114,7 @@ no_open_list nodes root (level ∷ levels) row (ix ∷ spine) is at none =
     (is ∙ laid_open-level root level levels row) at.0)
     ∙ list_class (body_at nodes ix.0) none
 
--- The paragraph that is last becomes the title of a definition list that is open.
+-- The last child, a paragraph, becomes the title of an open definition list.
 titled : Forest Item → TreeIndex → Item → Forest Item
 titled f c y = pushed (wrapped (with_body_at f c (DefinitionList (list_flags true))) c
     (record { start = y.start; «end» = y.«end»; body = DefinitionListTitle })) c
@@ -138,7 +139,7 @@ take_front [] more (suc j) i low within = absurd (omega arith)
 take_front (n ∷ nodes) more (suc j) zero low within = refl
 take_front (n ∷ nodes) more (suc j) (suc i) low within = take_front nodes more j i (omega arith) (omega arith)
 
--- a place that has a node, and as many nodes with a list there
+-- a place with a node, and the same number of nodes with a list there
 pub here_within : (nodes : List (ℕ × Item)) (k : ℕ) (y : Item) → option_map (λ n. n.1) (slice_get nodes k) ≡ Some y → k < length nodes
 here_within [] k y is = cc
 here_within (n ∷ nodes) zero y is = omega arith
@@ -234,7 +235,7 @@ not_true : (t : Bool) → not t ≡ true → t ≡ false
 not_true true h = cc
 not_true false h = refl
 
--- A definition begins where one may: what is open then is in order, and nested.
+-- A definition begins if one may: the open nodes are then in order and nested.
 abbrev IsOpenTo : List ℕ → Forest Item → ℕ → Type 0
 IsOpenTo text f a = IsOrderedTo text f a × AreNested f.nodes f.spine
 
@@ -269,7 +270,7 @@ opened_with text f a None forest current may h = h
 opened_with text f a (Some c) forest current may h =
     opened_at text f a c (item_at f c) forest current refl (ap (precedes_definition (top_body f)) (sym (body_item (slice_get f.nodes c.0))) ∙ may) h
 
--- a definition opened at an offset
+-- a definition is opened at an offset
 pub ordered_definition : (text : List ℕ) (r : Reading) (a start columns : ℕ) → IsForest r.tree → takes_definition r.tree ≡ true → a ≤ start
     → start ≤ length text → IsCharBoundary text start → IsOrderedTo text r.tree a → AreNested r.tree.nodes r.tree.spine
     → IsOrderedTo text (definition_begun start columns r).tree start × IsSettled (definition_begun start columns r)

@@ -1,4 +1,5 @@
--- Order where definition lists are opened and closed: a paragraph becomes a title, a possible title is kept, and what is none is moved out of its list.
+-- Order when definition lists are opened and closed: a paragraph becomes a title, a possible title is kept, and one
+-- that is no title is moved out of its list.
 use Rattle.std.proofs.Common.{◌≡◌, ℕ, suc, ◌+◌, ◌<◌, ◌≤◌, not, is_some, Bool, true, false, if◌then◌else◌, List, [], ◌∷◌, ◌++◌, length}
 use Rattle.std.proofs.Common.{take, drop, slice_get, Option, Some, None, IfSome, IsCharBoundary, refl, sym, ap, subst, ◌∙◌, arith}
 use Rattle.std.proofs.Common.{length-append}
@@ -36,7 +37,7 @@ use Rattle.first_pass_order.proofs.AlikeNodes.{LooksAlike, like_itself}
 use Rattle.first_pass_order.proofs.PropertyKept.{IsLeft, is_left}
 use Rattle.first_pass_order.proofs.LeftOrder.{extents-end, modify-front, length-changed, end_there, left_ordered}
 
--- What is last is no task list item marker: the tree is in order up to its end.
+-- If the last child is no task list item marker, the tree is in order up to its end.
 pub ordered_to_last : (text : List ℕ) (f : Forest Item) (a : ℕ) (c : TreeIndex) (y : Item) → IsForest f → f.current ≡ Some c → item_at f c ≡ Some y
     → is_task_marker y.body ≡ false → IsOrderedTo text f a → IsOrderedTo text f y.«end» × (y.«end» ≤ a) × IsCharBoundary text y.«end»
 ordered_to_last text f a c y forest current here plain h =
@@ -94,7 +95,8 @@ kept_some f {i} there current =
     subst (λ o. IsSomeAnd (option_and_then (λ ix. body_at f.nodes ix.0) o) (λ b. is_task_marker b ≡ false)) (sym current)
     (subst (λ o. IsSomeAnd o (λ b. is_task_marker b ≡ false)) (sym there) refl)
 
--- A block was added to a definition list, right after a definition that ends at an offset where the tree was in order.
+-- A block was added to a definition list, right after a definition that ends at an offset up to which the tree was in
+-- order.
 module _ (text : List ℕ) (old : Forest Item) (ix : TreeIndex) (rest : List TreeIndex) (spine : old.spine ≡ ix ∷ rest) (low : ix.0 < length old.nodes)
     (items : List (ℕ × Item)) (e next : ℕ) (o : IsOrderedTo text old e) (boundary : IsCharBoundary text e) (fits : FitsBetween text Elsewhere e next items)
     (within : next ≤ length text) where
@@ -102,7 +104,7 @@ module _ (text : List ℕ) (old : Forest Item) (ix : TreeIndex) (rest : List Tre
   abbrev place : TreeIndex
   place = record { 0 = length old.nodes }
 
-  -- the nodes before it, once the list has that end
+  -- the nodes before it, after the list has that end
   abbrev ended : List (ℕ × Item)
   ended = modify old.nodes ix.0 (λ x. record x { «end» = e })
 
@@ -118,7 +120,7 @@ module _ (text : List ℕ) (old : Forest Item) (ix : TreeIndex) (rest : List Tre
       ap extents (modify-front old.nodes (at_depth (length old.spine + 1) items) ix.0 (λ x. record x { «end» = e }) low)
       ∙ extents-append ended (at_depth (length old.spine + 1) items) ∙ ap (λ (z : List (ℕ × Extent)). extents ended ++ z) block_extents
 
-  -- the list closed, with the block after it
+  -- the closed list, with the block after it
   block_left : (q : Reading) → q.tree ≡ added old items → IsOrderedTo text (definitions_closed e q).tree next
   block_left q is =
       let f : Forest Item = added old items in
@@ -137,7 +139,7 @@ module _ (text : List ℕ) (old : Forest Item) (ix : TreeIndex) (rest : List Tre
         fits = fits.2;
       }) within
 
-  -- a possible title is kept: the block is one, and the list has the offset as its end
+  -- a possible title is kept: the block is one, and the recorded end of the list is the offset
   kept_tree : Forest Item
   kept_tree = with_end_at (with_body_at (added old items) place MaybeDefinitionListTitle) ix e
 
@@ -237,7 +239,7 @@ module _ (text : List ℕ) (old : Forest Item) (ix : TreeIndex) (rest : List Tre
     kept_closes : AreNested old.nodes old.spine → CanClose text kept_tree next
     kept_closes h = record { nested = kept_nested h; last = kept_last; title = kept_title }
 
--- Where a definition is last in a definition list: both, and where it ends.
+-- If a definition is last in a definition list: both, and the end of the definition.
 record AfterDefinition (f : Forest Item) : Type 0 where
   pub place : TreeIndex
   pub outer : List TreeIndex
@@ -270,7 +272,7 @@ no_item_top None h = cc
 no_item_top (Some (DefinitionList flags)) h = refl
 no_item_top (Some b) h = cc
 
--- What stands for a text was added right after a definition, which ends at an offset.
+-- A paragraph, heading or table was added right after a definition, which ends at an offset.
 module _ (text : List ℕ) (r : Reading) (read : Forest Item) (at start next : ℕ) (forest : IsForest r.tree) (after : is_after_definition r.tree ≡ true)
     (none : r.empty_item ≡ None) (o : IsOrderedTo text r.tree at) (closes : CanClose text r.tree at) (later : at ≤ start)
     (adds : (from : ℕ) → from ≤ start → AddsBetween text from next r.tree read) (within : next ≤ length text) where
@@ -296,7 +298,7 @@ module _ (text : List ℕ) (r : Reading) (read : Forest Item) (at start next : �
   place_within : the_definition.place.0 < length r.tree.nodes
   place_within = (subst (AreNested r.tree.nodes) the_definition.spine closes.nested).0
 
-  -- where what is last ends
+  -- the end of the last child
   last_end : option_map_or (λ x. x.«end») (option_and_then (item_at r.tree) r.tree.current) 0 ≡ the_definition.definition.«end»
   last_end =
       ap (λ o. option_map_or (λ x. x.«end») (option_and_then (item_at r.tree) o) 0) the_definition.current

@@ -1,4 +1,4 @@
--- Tables stay whole where a definition begins, and where a possible title is kept.
+-- Tables stay whole when a definition begins, and when a possible title is kept.
 use Rattle.std.proofs.Common.{◌≡◌, ℕ, zero, suc, ◌+◌, ◌<◌, ◌≤◌, true, false, List, [], ◌∷◌, ◌++◌, length, map, take, drop, slice_get}
 use Rattle.std.proofs.Common.{Option, Some, None, IfSome, refl, sym, ap, subst, ◌∙◌, arith}
 use Rattle.std.proofs.lemmas.Option.{none-some}
@@ -28,7 +28,7 @@ use Rattle.first_pass_order.proofs.WholeKept.{may_not_open, none_kept, modified_
 use Rattle.first_pass_order.proofs.AlikeNodes.{like_kept}
 use Rattle.first_pass_order.proofs.WholeKept.{marks_ended, opened_whole, like_kept_whole}
 
--- open nodes stand before the current one
+-- open nodes are before the current one
 open_before : (ds : List ℕ) (spine : List TreeIndex) (c d : ℕ) → IsOpenPath ds spine → IsLastAt ds d c → length spine < d → AreBefore c spine
 open_before ds [] c d path last deep = tt
 open_before ds (ix ∷ spine) c d path last deep =

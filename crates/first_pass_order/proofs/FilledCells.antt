@@ -1,4 +1,4 @@
--- Nodes in whole tables number no more than a tree's own and its filled cells together.
+-- Whole tables have at most as many nodes as a tree's own nodes and its filled cells together.
 use Rattle.std.proofs.Common.{◌≡◌, ◌⊎◌, inl, inr, ℕ, suc, ◌+◌, ◌<◌, ◌≤◌, ◌==◌, Bool, true, false, if◌then◌else◌, List, [], ◌∷◌, ◌++◌, length, map, Option, Some, None}
 use Rattle.std.proofs.Common.{refl, sym, subst, arith, append_assoc}
 use Rattle.std.proofs.lemmas.Bool.{eq-eqb, ne_eqb}
@@ -10,7 +10,7 @@ use Rattle.first_pass_grammar.specs.Counting.{is_cell, is_filled_behind, own, ow
 use Rattle.first_pass_grammar.specs.WholeTables.{Mark, ATable, ARow, ACell, shown, marks, RowCells, row_marks, TableRows, table_marks, StartApart, HaveCells}
 use Rattle.first_pass_grammar.specs.WholeTables.{AreFull, AreWholeTables}
 
--- where a row's last cell so far starts, and where the row ends, after a mark
+-- the start of a row's last cell so far, and the end of the row, after a mark
 abbrev cell_after : Option ℕ → Mark → Option ℕ
 cell_after cell (ATable depth columns) = cell
 cell_after cell (ARow depth «end») = None
@@ -32,7 +32,7 @@ starts_at at (ATable depth columns) = false
 starts_at at (ARow depth «end») = false
 starts_at at (ACell depth start) = is_at at start
 
--- how many cells start where the one before them in their row does, and how many where their row ends
+-- the number of cells that start with the one before them in their row, and the number of cells at their row's end
 unfoldable repeated : Option ℕ → List Mark → ℕ
 repeated cell [] = 0
 repeated cell (m ∷ ms) = (if starts_at cell m then 1 else 0) + repeated (cell_after cell m) ms
@@ -41,7 +41,7 @@ unfoldable at_end : Option ℕ → List Mark → ℕ
 at_end «end» [] = 0
 at_end «end» (m ∷ ms) = (if starts_at «end» m then 1 else 0) + at_end (end_after «end» m) ms
 
--- each node is counted by one of the two
+-- one of the two counts each node
 filled_is : (cell : Option ℕ) (start e : ℕ) → is_filled_behind cell (record { start = start; «end» = e; body = TableCell }) ≡ is_at cell start
 filled_is None start e = refl
 filled_is (Some at) start e = refl
@@ -99,7 +99,8 @@ unfolding filled_in_row at_end marks
 filled_are names end [] = refl
 filled_are names end (n ∷ nodes) = filled_with names end n.0 n.1.start n.1.«end» n.1.body nodes (λ after. filled_are names after nodes)
 
--- wherever a row began before, no more of these marks are cells that start where the one before them does than cells at their row's end
+-- for any row before these marks, at most as many of their cells start with the one before them as are at their row's
+-- end
 abbrev FewAre : List Mark → Type 0
 FewAre ms = (cell «end» : Option ℕ) → repeated cell ms ≤ at_end «end» ms
 

@@ -1,4 +1,4 @@
--- A line that heads a table has another after it: the delimiter row.
+-- A line that heads a table has another line after it, the delimiter row.
 use Rattle.std.proofs.Common.{◌≡◌, inl, inr, ℕ, ◌+◌, ◌<◌, ◌≤◌, ◌&&◌, not, nat_lt, Bool, true, false, List, [], ◌∷◌, length, drop, Option, Some, None}
 use Rattle.std.proofs.Common.{if◌then◌else◌, refl, sym, ap, ◌∙◌, arith, length-drop}
 use Rattle.std.specs.Option.{option_map, option_and_then}
@@ -17,7 +17,7 @@ use Rattle.first_pass_grammar.specs.declared.kind.Container.TheVariants.{BlockQu
 use Rattle.first_pass_grammar.specs.Containers.{Context, has_columns, prefix, after}
 use Rattle.first_pass_grammar.specs.TableHeads.{if_as_many, table_at, ends_in_backslash, headed_table}
 
--- No bytes are no delimiter row.
+-- No bytes form no delimiter row.
 no_row : delimiter_row [] ≡ None
 unfolding delimiter_row stripped
 no_row = refl
@@ -33,7 +33,7 @@ no_row_of r none =
     let size : length r.left ≡ 0 = ap (λ (bs : List ℕ). length bs) none in
     row_by (nat_lt (indent r) 4) (after_columns (indent r) r).left (nil_from_length (after_columns (indent r) r).left (omega arith))
 
--- A line has no more bytes after what a path takes of it.
+-- The rest of a line after the prefixes of a path has no more bytes than the line.
 quote_less : (r s : Rest) (o : Option Rest) → past_quote r ≡ o → option_map (after_columns 1) o ≡ Some s → length s.left ≤ length r.left
 quote_less r s None q e = absurd (none-some s e)
 quote_less r s (Some t) q e =
@@ -74,7 +74,7 @@ unfolding after
 after_less [] r s e = (let left = ap (λ (z : Rest). length z.left) (same_Some r s e) in omega arith)
 after_less (c ∷ path) r s e = after_by c r s (after path r) e (λ q g. after_less path r q g)
 
--- so it has none where the line has none
+-- so it has none if the line has none
 empty_left : (path : List Container) (r : Rest) → after path (line_rest []) ≡ Some r → r.left ≡ []
 empty_left path r taken = (let less = after_less path (line_rest []) r taken in nil_from_length r.left (omega arith))
 
@@ -100,7 +100,7 @@ headed_by : (t : Bool) (o : Option (List Alignment)) (alignments : List Alignmen
 headed_by true o alignments h = h
 headed_by false o alignments h = absurd (none-some alignments h)
 
--- The text that heads a table ends its line before the text does.
+-- The line of a text that heads a table ends before the text does.
 pub headed_has_line : (text : List ℕ) (around : Context) (p : Place) (alignments : List Alignment) → IsPlaceOf text p
     → headed_table around p.rest.left ≡ Some alignments → offset p + line_len (drop (offset p) text) < length text
 unfolding headed_table

@@ -1,4 +1,4 @@
--- Each index that the items of a leaf block keep names an entry.
+-- Each index in the items of a leaf block names an entry.
 use Rattle.std.proofs.Common.{ℕ, Bool, List, [], None, sym, ap, subst}
 use Rattle.std.proofs.lemmas.Option.{slice_get_within}
 use Rattle.first_pass_items.specs.declared.item.Item.{Item}
@@ -17,12 +17,12 @@ use Rattle.first_pass_grammar.proofs.EachToken.{heading_each}
 use Rattle.first_pass_grammar.proofs.NamedItems.{HasEntry, tokens_entered, each_named, named_deeper, text_is_free, html_is_free, lines_named, block_named}
 use Rattle.first_pass_grammar.proofs.TextsNamed.{given_entry, text_named}
 
--- what is opened at a place has the items that are said of it
+-- the items that an opening at a place has
 items_of_leaf : Opening → List (ℕ × Item)
 items_of_leaf (OpensLeaf (Block b) there left) = b.items
 items_of_leaf o = []
 
--- Each index that a leaf block's items keep names an entry.
+-- Each index in the items of a leaf block names an entry.
 pub opens_named : (d : Document) (path : List Container) (p : Place) (lines : List Place) (kind : Kind) (items : List (ℕ × Item)) (gap : Bool)
     (left : List Place) → OpensAs d path p lines kind (OpensLeaf (leaf_block kind p items gap) Line left) → AreNamed d.names items
 unfolding OpensAs OpensRun OpensText items_of_leaf AreNamed

@@ -1,4 +1,4 @@
--- Order where a definition list is closed before its last child, which is moved out of it.
+-- Order when a definition list is closed before its last child, which is moved out of it.
 use Rattle.std.proofs.Common.{◌≡◌, ℕ, zero, suc, ◌+◌, ◌<◌, ◌≤◌, false, List, [], ◌∷◌, ◌++◌, length}
 use Rattle.std.proofs.Common.{take, drop, slice_get, None, IsCharBoundary, refl, sym, ap, subst, ◌∙◌, arith}
 use Rattle.std.proofs.Common.{length-append}
@@ -25,7 +25,7 @@ use Rattle.first_pass_order.proofs.OrderLemmas.{flags_of, ordered_same, ordered_
 use Rattle.first_pass_order.proofs.AlikeNodes.{AreAlike, NoNodes, OneMore}
 use Rattle.first_pass_order.proofs.PropertyKept.{IsLeft, Property, MayLeave, HoldsAt}
 
--- ends at a place, by extents
+-- an end at a place, in the extents
 pub extents-end : (nodes : List (ℕ × Item)) (k e : ℕ) → extents (modify nodes k (λ x. record x { «end» = e })) ≡ modify (extents nodes) k (λ x. ended_at x e)
 extents-end [] k e = refl
 extents-end (n ∷ nodes) zero e = refl
@@ -47,7 +47,7 @@ end_there [] k e low = absurd (omega arith)
 end_there (n ∷ nodes) zero e low = refl
 end_there (n ∷ nodes) (suc k) e low = end_there nodes k e (omega arith)
 
--- the innermost open node stands among the nodes
+-- the innermost open node is among the nodes
 open_by : (nodes : List (ℕ × Item)) (ix : TreeIndex) (rest : List TreeIndex) (root : Extent) (levels : List (Siblings × Extent)) (row : Siblings)
     → extents nodes ≡ laid_open root levels row → AreAt root levels (ix ∷ rest) → ix.0 < length nodes
 open_by nodes ix rest root [] row is places = absurd places
@@ -79,8 +79,8 @@ extents_alike old new (OneMore n m xs ys a h) =
     ∙ ap (λ (x : Extent). (m.0, x) ∷ extents xs) (extent_alike n.1 m.1 a.start a.«end» (ap (λ t. t.2) a.body.0))
     ∙ ap (λ (d : ℕ). (d, extent_of n.1) ∷ extents xs) a.depth
 
--- The node at a place is the last child of the innermost open node: what is before it is in order up to an offset, and it lies, with what is below it, between
--- that and another.
+-- The node at a place is the last child of the innermost open node. The nodes before it are in order up to an offset,
+-- and the child and its descendants lie between that and another offset.
 pub record EndsAt (text : List ℕ) (f : Forest Item) (e at place : ℕ) : Type 0 where
   pub before : IsOrderedTo text (record f { nodes = take place f.nodes }) e
   pub ends : IsCharBoundary text e
@@ -88,7 +88,7 @@ pub record EndsAt (text : List ℕ) (f : Forest Item) (e at place : ℕ) : Type 
   pub last : extents (drop place f.nodes) ≡ laid (suc (length f.spine)) row
   pub fits : Fits text Elsewhere e at row
 
--- so it stands after what is closed at the first of these
+-- so it is after the nodes that are closed at the first of these
 pub left_ordered : (text : List ℕ) (f g : Forest Item) (at e : ℕ) (c : TreeIndex) → IsLeft f g e c → EndsAt text f e at c.0 → at ≤ length text
     → IsOrderedTo text g at
 left_ordered text f g at e c l h within =
@@ -136,7 +136,7 @@ order_kept text = record {
 pub may_leave : (text : List ℕ) (f : Forest Item) (at : ℕ) → EndsBeforeTitle text f at → MayLeave (order_kept text) at f
 may_leave text f at h title is = (let l = h title is in record { before = l.before; ends = l.ends; row = l.row; last = l.last; fits = l.fits })
 
--- so of what is remembered
+-- so is the state
 pub ordered_at : (text : List ℕ) (r : Reading) (at : ℕ) → IsOrderedAt text r at → HoldsAt (order_kept text) at 0 r
 ordered_at text r at h = record {
   holds = h.ordered;

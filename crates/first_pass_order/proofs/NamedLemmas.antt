@@ -1,4 +1,5 @@
--- Each index that nodes keep names an entry: what closes nodes and notes blank lines changes no index, and what opens a container adds none.
+-- Each index in nodes names an entry: closing nodes and noting blank lines changes no index, and opening a container
+-- adds none.
 use Rattle.std.proofs.Common.{◌≡◌, ℕ, zero, suc, ◌+◌, ◌<◌, Bool, true, false, List, [], ◌∷◌, ◌++◌, length}
 use Rattle.std.proofs.Common.{slice_get}
 use Rattle.std.proofs.Common.{Option, Some, map, take, drop}
@@ -47,11 +48,11 @@ task_has_none (TaskListMarker checked) h = refl
 task_has_none body h = cc
 
 module _ (names : Names) where
-  -- the nodes of what is remembered
+  -- the nodes of the state
   abbrev pub AreReadNamed : Reading → Type 0
   AreReadNamed r = AreNamed names r.tree.nodes
 
-  -- nodes moved out of the one that is closed
+  -- nodes that are moved out of a closed one
   shallower_named : (nodes : List (ℕ × Item)) → AreNamed names nodes → AreNamed names (map shallower nodes)
   unfolding AreNamed
   shallower_named [] h = tt
@@ -63,7 +64,7 @@ module _ (names : Names) where
   moved_from_named (suc place) [] h = tt
   moved_from_named (suc place) (n ∷ nodes) h = (h.0, moved_from_named place nodes h.1)
 
-  -- another body that keeps no index
+  -- another body without an index
   body_named : (f : Forest Item) (c : TreeIndex) (b : ItemBody) → NamesEntry names (index_of b) → AreNamed names f.nodes
       → AreNamed names (with_body_at f c b).nodes
   body_named f c b none h = named_modified names f.nodes c.0 (λ x. record x { body = b }) (λ x k. none) h
@@ -142,7 +143,7 @@ module _ (names : Names) where
   title_kept_named e r h =
       end_named (with_current r.tree MaybeDefinitionListTitle r.tree.current) e (slice_get r.tree.spine 0) (title_named r.tree r.tree.current h)
 
-  -- a definition, in the list that is open or in a new one
+  -- a definition, in the open list or in a new one
   deeper_named : (nodes : List (ℕ × Item)) → AreNamed names nodes → AreNamed names (map deeper nodes)
   unfolding AreNamed
   deeper_named [] h = tt
@@ -189,7 +190,7 @@ module _ (names : Names) where
       → ((x : Item) → marker ≡ Some x → is_task_marker x.body ≡ true) → AreNamed names f.nodes → AreNamed names (with_child f marker).nodes
   child_named f marker mark h = none_named marker f mark h
 
-  -- a block that is added, where more is named
+  -- a block that is added, under further names
   pub block_added : (old : Names) (f new : Forest Item) (items : List (ℕ × Item))
       → Extends names old → new ≡ added f items → AreNamed names items → AreNamed old f.nodes → AreNamed names new.nodes
   unfolding AreNamed
@@ -197,7 +198,7 @@ module _ (names : Names) where
       subst (λ (g : Forest Item). AreNamed names g.nodes) (sym is)
       (named_both names f.nodes (at_depth (length f.spine + 1) items) (named_more names old f.nodes more h) (named_deeper names (length f.spine + 1) items own))
 
--- a leaf block of a kind that was added
+-- an added leaf block of a kind
 pub kind_named : (text : List ℕ) (options : Options) (names : Names) (p : Place) (kind : Kind) (gap : Bool) (old new : Forest Item) (next : ℕ)
     → (a : AddsKind (document text options names) p kind gap old new next) → AreNamed names a.items
 kind_named text options names p kind gap old new next a =

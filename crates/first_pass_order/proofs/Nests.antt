@@ -1,4 +1,5 @@
--- What is open directly in a list is an item, as nodes are opened and closed and blank lines are noted; and no possible title is last where a node was closed.
+-- Only items are open directly in lists, as nodes are opened and closed and blank lines are noted. After a node is
+-- closed, no possible title is last.
 use Rattle.std.proofs.Common.{◌≡◌, inl, inr, ℕ, zero, suc, ◌+◌, ◌<◌, ◌≤◌, ◌&&◌, Bool, true, false, if◌then◌else◌, List, [], ◌∷◌, ◌++◌, length, map}
 use Rattle.std.proofs.Common.{slice_get, Option, Some, None, is_some, refl, sym, ap, subst, ◌∙◌, arith, length-append}
 use Rattle.std.proofs.lemmas.Bool.{cond_both, cases_Bool, true≢false, and_parts}
@@ -38,7 +39,7 @@ classes_alike old new NoNodes = refl
 classes_alike old new (OneMore n m xs ys a h) =
     ap (λ z. z ∷ classes ys) (ap (λ t. t.3) a.body.0) ∙ ap (λ z. class_of n.1.body ∷ z) (classes_alike xs ys h)
 
--- nodes of the same classes are nested alike
+-- nodes of the same classes have the same nesting
 listed : Option (Bool × Bool) → Bool
 listed None = false
 listed (Some c) = c.0
@@ -86,7 +87,7 @@ nested_same old new (ix ∷ spine) same h = (
   nested_same old new spine same h.2,
 )
 
--- places before an offset, where nodes stay what they are
+-- places before an offset, at which nodes do not change
 abbrev pub AreBefore : ℕ → List TreeIndex → Type 0
 AreBefore n [] = Unit {0}
 AreBefore n (ix ∷ spine) = (ix.0 < n) × AreBefore n spine
@@ -141,7 +142,7 @@ classes_moved zero nodes = classes_shallower nodes
 classes_moved (suc place) [] = refl
 classes_moved (suc place) (n ∷ nodes) = ap (λ z. class_of n.1.body ∷ z) (classes_moved place nodes)
 
--- no possible title is last where what is innermost is no list, or where what is last is an item of it
+-- no possible title is last if the innermost open node is no list, or if its last child is an item
 definitions_list : (b : Option ItemBody) → is_definition_list b ≡ true → is_list b ≡ true
 definitions_list None h = cc
 definitions_list (Some (DefinitionList flags)) h = refl
@@ -176,7 +177,7 @@ last_by : (top : Option ItemBody) (ix : TreeIndex) (b : Option ItemBody) (t : Bo
 last_by top ix b true is item = unless_item top ix b (item is)
 last_by top ix b false is item = untitled_by top ix b (other_list top is)
 
--- The innermost open node closed: the nodes keep their classes, and it is current.
+-- The innermost open node is closed: the nodes keep their classes, and it is current.
 pub record PopsTo (r q : Reading) (ix : TreeIndex) (rest : List TreeIndex) : Type 0 where
   pub same : classes q.tree.nodes ≡ classes r.tree.nodes
   pub spine : q.tree.spine ≡ rest
@@ -188,13 +189,13 @@ pops_at e r ix rest =
     let like = like_popped r f ix (body_at f.nodes ix.0) in
     record { same = classes_alike f.nodes _ like.nodes ∙ classes_ended r.tree.nodes ix.0 e; spine = like.spine; current = like.current }
 
--- nested, and no possible title is last, but something is in a definition list that is innermost
+-- nested; no possible title is last; and an innermost definition list has a last child
 pub record IsSettled (r : Reading) : Type 0 where
   pub nested : AreNested r.tree.nodes r.tree.spine
   pub none : possible_title r.tree ≡ None
   pub last : HasDefinition r.tree
 
--- nested, and what is innermost is no list
+-- nested, and the innermost open node is no list
 abbrev pub IsOutside : Reading → Type 0
 IsOutside r = AreNested r.tree.nodes r.tree.spine × (is_list (top_body r.tree) ≡ false)
 
@@ -215,7 +216,7 @@ pops_nested : (r q : Reading) (ix : TreeIndex) (rest : List TreeIndex) → AreNe
 pops_nested r q ix rest h p =
     subst (AreNested q.tree.nodes) (sym p.spine) (nested_same r.tree.nodes q.tree.nodes rest p.same h.2)
 
--- a list closed: what is innermost then is none
+-- a list is closed: the innermost open node is then no list
 pops_outside : (r q : Reading) (ix : TreeIndex) (rest : List TreeIndex) → AreNested r.tree.nodes (ix ∷ rest) → is_item (body_at r.tree.nodes ix.0) ≡ false
     → PopsTo r q ix rest → IsOutside q
 pops_outside r q ix rest h other p = (
@@ -239,7 +240,8 @@ pops_settled r q ix rest h p =
           (item_unmarked (body_at q.tree.nodes ix.0) (item (definitions_list (top_body q.tree) list)));
     }
 
--- The definition list that is innermost closed, and its possible title moved out of it: what is innermost then is no list.
+-- The innermost definition list is closed, and its possible title is moved out of it: the innermost open node is then
+-- no list.
 moved_outside : (q : Reading) (o : Option TreeIndex) → IsOutside q → IsOutside (current_moved q o)
 moved_outside q None h = h
 moved_outside q (Some c) h =
@@ -266,7 +268,7 @@ unfolding definitions_closed
 definitions_closed_outside e r h list =
     moved_outside (popped_at e r r.tree.spine) r.tree.current (closed_outside e r r.tree.spine refl h list)
 
--- the current node, a possible title in a definition list that is open
+-- the current node, a possible title in an open definition list
 pub record TitleThere (f : Forest Item) (title : TreeIndex) : Type 0 where
   pub current : f.current ≡ Some title
   pub body : body_at f.nodes title.0 ≡ Some MaybeDefinitionListTitle
@@ -331,7 +333,7 @@ title_closed_outside r title t h =
     (nested_same r.tree.nodes g.nodes r.tree.spine (untitled_same r.tree title t) h)
     (definitions_still r.tree.nodes r.tree.spine title.0 Paragraph t.body t.list)
 
--- what closes the innermost open node
+-- closing the innermost open node
 popped_at_settled : (e : ℕ) (r : Reading) (spine : List TreeIndex) → r.tree.spine ≡ spine → IsSettled r → IsSettled (popped_at e r spine)
 popped_at_settled e r [] is h = h
 popped_at_settled e r (ix ∷ rest) is h =
@@ -347,7 +349,7 @@ pub popped_settled : (e : ℕ) (r : Reading) → AreNested r.tree.nodes r.tree.s
 unfolding popped
 popped_settled e r h last = after_settled e r (possible_title r.tree) refl h last
 
--- what closes an item
+-- closing an item
 pops_item : (r q : Reading) (ix : TreeIndex) (rest : List TreeIndex) → is_item (body_at r.tree.nodes ix.0) ≡ true → PopsTo r q ix rest
     → possible_title q.tree ≡ None
 pops_item r q ix rest item p =
@@ -368,7 +370,7 @@ pub popped_item : (e : ℕ) (r : Reading) → is_item (top_body r.tree) ≡ true
 unfolding popped
 popped_item e r item = after_item e r (possible_title r.tree) refl item
 
--- the same where that is a list, or a footnote definition: none is innermost then
+-- the same for a list or a footnote definition: no list is innermost then
 at_outside : (e : ℕ) (r : Reading) (spine : List TreeIndex) → r.tree.spine ≡ spine → AreNested r.tree.nodes r.tree.spine
     → is_some (top_of r.tree.nodes spine) ≡ true → is_item (top_of r.tree.nodes spine) ≡ false → IsOutside (popped_at e r spine)
 at_outside e r [] is h some other = cc
@@ -396,7 +398,7 @@ note_parts None h = cc
 note_parts (Some (FootnoteDefinitionBody label)) h = (refl, refl)
 note_parts (Some b) h = cc
 
--- an item that began with two blank lines closed
+-- closing an item that began with two blank lines
 popped_nested : (e : ℕ) (r : Reading) → is_item (top_body r.tree) ≡ true → AreNested r.tree.nodes r.tree.spine → IsSettled (popped e r)
 popped_nested e r item h = popped_settled e r h (λ list. absurd (true≢false (sym item ∙ definitions_other (top_body r.tree) list)))
 
@@ -421,7 +423,7 @@ pub item_finished_nested : (r : Reading) → AreNested r.tree.nodes r.tree.spine
 unfolding item_finished
 item_finished_nested r h = finished_by_nested r r.empty_item h
 
--- a list that is innermost closed
+-- closing an innermost list
 left_by : (e : ℕ) (r : Reading) (t : Bool) → is_list (top_body r.tree) ≡ t → AreNested r.tree.nodes r.tree.spine → IsOutside (if t then popped e r else r)
 left_by e r true list h = (let p = list_parts (top_body r.tree) list in popped_outside e r h p.0 p.1)
 left_by e r false none h = (h, none)
@@ -454,7 +456,7 @@ pub list_finished_outside : (e : ℕ) (r : Reading) → AreNested r.tree.nodes r
 unfolding list_finished
 list_finished_outside e r h = noted_outside (list_left e (item_finished r)) (list_left_outside e (item_finished r) (item_finished_nested r h))
 
--- what opens a container
+-- opening a container
 last_there : (nodes : List (ℕ × Item)) (n : ℕ × Item) → body_at (nodes ++ n ∷ []) (length nodes) ≡ Some n.1.body
 last_there [] n = refl
 last_there (m ∷ nodes) n = last_there nodes n
@@ -478,11 +480,11 @@ begun_settled start body r other may h =
       last = λ list. absurd (true≢false (sym list ∙ ap is_definition_list (last_there r.tree.nodes n) ∙ other));
     }
 
--- the same outside of lists
+-- the same outside lists
 pub begun_outside : (start : ℕ) (body : ItemBody) (r : Reading) → is_definition_list (Some body) ≡ false → IsOutside r → IsSettled (begun start body r)
 begun_outside start body r other h = begun_settled start body r other (λ list. absurd (true≢false (sym list ∙ h.1))) h.0
 
--- a list of items is no definition list, nor is it once it is loose
+-- a list of items is no definition list, even if it becomes loose
 list_of_other : (ch : ℕ) (b : Option ItemBody) → is_list_of ch b ≡ true → is_definition_list b ≡ false
 list_of_other ch None h = cc
 list_of_other ch (Some (ListBody flags byte number)) h = refl
@@ -549,7 +551,7 @@ pub added_outside : (f : Forest Item) (items : List (ℕ × Item)) → AreNested
     → AreNested (added f items).nodes (added f items).spine × (is_list (top_body (added f items)) ≡ false)
 added_outside f items h none = (nested_front f.nodes _ f.spine h, ap is_list (top_front f.nodes _ f.spine h) ∙ none)
 
--- what can be closed then
+-- the nodes can then be closed in order
 pub settled_closes : (text : List ℕ) (r : Reading) (at : ℕ) → IsSettled r → CanClose text r.tree at
 settled_closes text r at h =
     record { nested = h.nested; last = h.last; title = λ title is. (let e : None ≡ Some title = sym h.none ∙ is in cc) }
@@ -560,7 +562,7 @@ outside_closes text r at h = settled_closes text r at (outside_settled r h)
 pub tree_closes : (text : List ℕ) (f : Forest Item) (at : ℕ) → AreNested f.nodes f.spine → is_list (top_body f) ≡ false → CanClose text f at
 tree_closes text f at nested none = outside_closes text (remembered f None false) at (nested, none)
 
--- a blank line changes nothing of what is last
+-- a blank line does not change the last child
 blank_by_last : (r : Reading) (b : Option ItemBody) → top_body r.tree ≡ b → HasDefinition r.tree
     → is_item (top_body (blank_read_by r b).tree) ≡ is_item (top_body r.tree) → HasDefinition (blank_read_by r b).tree
 blank_by_last r None is h item = h

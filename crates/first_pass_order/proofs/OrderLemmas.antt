@@ -1,4 +1,4 @@
--- Order is kept as nodes are added and opened, and as the innermost open node is closed.
+-- Adding and opening nodes keeps order, and so does closing the innermost open node.
 use Rattle.std.proofs.Common.{◌≡◌, ◌⊎◌, inl, inr, ℕ, zero, suc, ◌+◌, ◌≤◌, Bool, true, false, if◌then◌else◌, List, [], ◌∷◌, ◌++◌, length}
 use Rattle.std.proofs.Common.{slice_get, Option, Some, None, IsUtf8, IsCharBoundary, refl, sym, ap, subst, ◌∙◌, arith}
 use Rattle.std.proofs.lemmas.Str.{IsCharBoundary-start, IsCharBoundary-end}
@@ -48,7 +48,7 @@ ordered_later text f a b later within h = record {
   whole = h.whole;
 }
 
--- the extent at a place says whether an item stands there
+-- the extent at a place shows whether an item is there
 item_there : (nodes : List (ℕ × Item)) (front : List (ℕ × Extent)) (n : ℕ × Extent) (more : List (ℕ × Extent)) (k : ℕ)
     → extents nodes ≡ front ++ n ∷ more → k ≡ length front → item_on_top (body_at nodes k) ≡ n.1.item
 item_there [] [] n more k is at = cc
@@ -58,7 +58,7 @@ item_there (m ∷ nodes) [] n more (suc k) is at = absurd (omega arith)
 item_there (m ∷ nodes) (y ∷ front) n more zero is at = absurd (omega arith)
 item_there (m ∷ nodes) (y ∷ front) n more (suc k) is at = (let z : extents nodes ≡ front ++ n ∷ more = cc in item_there nodes front n more k z (omega arith))
 
--- where what is added stands
+-- the place of an added node
 within_open : (nodes : List (ℕ × Item)) (root : Extent) (levels : List (Siblings × Extent)) (row : Siblings) (spine : List TreeIndex)
     → extents nodes ≡ laid_open root levels row → AreAt root levels spine
     → open_within levels ≡ (if item_on_top (option_and_then (λ ix. body_at nodes ix.0) (slice_get spine 0)) then InItem else Elsewhere)
@@ -70,7 +70,7 @@ within_open nodes root (level ∷ levels) row (ix ∷ spine) is at =
     (sym (item_there nodes (laid_open root levels level.0) (suc (length levels), level.1) (laid (suc (suc (length levels))) row) ix.0
     (is ∙ laid_open-level root level levels row) at.0))
 
--- more nodes in the innermost open one
+-- further nodes in the innermost open one
 pub ordered_more : (text : List ℕ) (f g : Forest Item) (a b : ℕ) (more : Siblings)
     → extents g.nodes ≡ extents f.nodes ++ laid (suc (length f.spine)) more → g.spine ≡ f.spine → Fits text (within_top f) a b more → b ≤ length text
     → IsOrderedTo text f a → IsOrderedTo text g b
@@ -90,7 +90,7 @@ ordered_more text f g a b more nodes spine fits within h =
       whole = h.whole;
     }
 
--- a node added
+-- a node is added
 pub ordered_appended : (text : List ℕ) (f : Forest Item) (a b : ℕ) (x : Item)
     → IsBetween text a b (extent_of x) → b ≤ length text → IsOrderedTo text f a → IsOrderedTo text (appended f x) b
 ordered_appended text f a b x between within h =
@@ -100,7 +100,7 @@ ordered_appended text f a b x between within h =
     ∙ ap (λ (z : List (ℕ × Extent)). extents f.nodes ++ z) (sym (laid-one (suc (length f.spine)) (extent_of x))))
     refl (fits-one text (within_top f) a b (extent_of x) between) within h
 
--- a block added
+-- a block is added
 pub ordered_added : (text : List ℕ) (f : Forest Item) (a b : ℕ) (items : List (ℕ × Item))
     → FitsBetween text (within_top f) a b items → b ≤ length text → IsOrderedTo text f a → IsOrderedTo text (added f items) b
 ordered_added text f a b items (row, is, fits, few) within h =
@@ -111,7 +111,7 @@ ordered_added text f a b items (row, is, fits, few) within h =
     ordered_more text f (added f items) a b row
     (extents-append f.nodes (at_depth d items) ∙ ap (λ (z : List (ℕ × Extent)). extents f.nodes ++ z) block) refl fits within h
 
--- a container or list begun
+-- a container or list begins
 pub ordered_begun : (text : List ℕ) (r : Reading) (a start : ℕ) (body : ItemBody)
     → a ≤ start → start ≤ length text → IsCharBoundary text start → IsOrderedTo text r.tree a → IsOrderedTo text (begun start body r).tree start
 ordered_begun text r a start body later within starts h =
@@ -131,7 +131,7 @@ ordered_begun text r a start body later within starts h =
       whole = h.whole;
     }
 
--- the whole tree, where no node but the root is open
+-- the whole tree, if only the root is open
 whole_by : (text : List ℕ) (nodes : List (ℕ × Item)) (to : ℕ) (root : Extent) (levels : List (Siblings × Extent)) (row : Siblings)
     → extents nodes ≡ laid_open root levels row → AreAt root levels [] → FitsOpen text to levels row → to ≤ length text
     → IsBetween text 0 (length text) root × (root.start ≡ 0) × (root.«end» ≡ length text) → IsOrdered text nodes
@@ -139,7 +139,7 @@ whole_by text nodes to root [] row is places fits within whole =
     (Node root row Empty, is ∙ laid_open-root root row, fits-whole text root to row whole.0 whole.1 whole.2 within fits)
 whole_by text nodes to root (level ∷ levels) row is places fits within whole = absurd places
 
--- a tree that is closed
+-- a tree in which all nodes are closed
 pub ordered_whole : (text : List ℕ) (f : Forest Item) (to : ℕ) → f.spine ≡ [] → IsOrderedTo text f to → IsOrdered text f.nodes
 ordered_whole text f to closed h =
     whole_by text f.nodes to h.root h.levels h.row h.nodes (subst (λ (s : List TreeIndex). AreAt h.root h.levels s) closed h.places) h.fits h.within h.whole
@@ -169,7 +169,7 @@ ordered_first text tree root utf8 top tree_is =
     let e : tree ≡ with_end_at empty_forest (at_top 0) (length text) = tree_is ∙ ap (λ n. with_end_at empty_forest (at_top n) (length text)) top in
     subst (λ (f : Forest Item). IsOrderedTo text f 0) (sym e) (first_at text utf8)
 
--- the innermost open node closed
+-- the innermost open node is closed
 closed_levels : (text : List ℕ) (f : Forest Item) (at e : ℕ) (ix : TreeIndex) (rest : List TreeIndex) (root : Extent) (levels : List (Siblings × Extent))
     (row : Siblings) → extents f.nodes ≡ laid_open root levels row → AreAt root levels (ix ∷ rest)
     → FitsOpen text at levels row → IsBetween text 0 (length text) root × (root.start ≡ 0) × (root.«end» ≡ length text) → at ≤ e → e ≤ length text
@@ -210,7 +210,7 @@ popped_empty r f ix (Some b) (inr item) = cc
 no_some : (o : Option ℕ) (e : ℕ) → o ≡ None → o ≡ Some e → ⊥
 no_some o e a b = cc
 
--- where no item is empty, what is in order is the tree
+-- if no item is empty, the order of the state is that of the tree
 pub ordered_none : (text : List ℕ) (r : Reading) (at : ℕ) → r.empty_item ≡ None → at ≤ length text → IsOrderedTo text r.tree at → IsOrderedAt text r at
 ordered_none text r at none within h =
     let same : reached r.empty_item at ≡ at = ap (λ (o : Option ℕ). reached o at) none in
@@ -232,11 +232,11 @@ ordered_at_later text r at b later within h =
     let l = later_by text r at b r.empty_item refl later within h.ordered h.later in
     record { ordered = l.0; later = l.1; within = within; innermost = h.innermost }
 
--- what the extent of a node tells of its body
+-- the flags of a body that its extent has
 abbrev pub flags_of : ItemBody → Bool × Bool × Bool × Bool
 flags_of b = (is_text_block b, is_task_marker b, is_list_item b, is_definition_list b)
 
--- another body at a place, of which the extent tells the same
+-- another body at a place, with the same flags
 pub list_extent : (x : Item) (a b : ItemBody) → x.body ≡ a → flags_of a ≡ flags_of b
     → extent_of (record { start = x.start; «end» = x.«end»; body = b }) ≡ extent_of x
 list_extent x a b is same =

@@ -1,4 +1,4 @@
--- Order is kept as what is remembered is closed, where lists and items end, and as blank lines are noted.
+-- Closing the state's nodes keeps order where lists and items end, and so does noting blank lines.
 use Rattle.std.proofs.Common.{◌≡◌, ◌⊎◌, inl, inr, ℕ, ◌≤◌, true, false, List, [], ◌∷◌, length}
 use Rattle.std.proofs.Common.{slice_get, Option, Some, None, IsCharBoundary, refl, sym, ap, subst, ◌∙◌, arith}
 use Rattle.std.proofs.lemmas.Bool.{cond_both}
@@ -47,7 +47,7 @@ title_empty r title none =
     let g : Forest Item = with_body_at r.tree title Paragraph in
     empty_moved (popped_at (top_end r.tree) (with_tree r g) g.spine) g.current ∙ empty_at (top_end r.tree) (with_tree r g) g.spine none
 
--- the same of a list that ends before its last child
+-- the same for a list that ends before its last child
 pub closed_empty : (e : ℕ) (r : Reading) → r.empty_item ≡ None → (definitions_closed e r).empty_item ≡ None
 unfolding definitions_closed
 closed_empty e r none = empty_moved (popped_at e r r.tree.spine) r.tree.current ∙ empty_at e r r.tree.spine none
@@ -93,7 +93,7 @@ closes_empty : (e : ℕ) (r : Reading) → (r.empty_item ≡ None) ⊎ (is_item 
 unfolding popped
 closes_empty e r h = after_empty e r (possible_title r.tree) refl h
 
--- the innermost open node closed
+-- the innermost open node is closed
 pub ordered_popped : (text : List ℕ) (r : Reading) (at e : ℕ) → EndsBeforeTitle text r.tree at
     → at ≤ e → e ≤ length text → IsCharBoundary text e → IsOrderedAt text r at → IsOrderedAt text (popped e r) e
 ordered_popped text r at e closes later within ends h =
@@ -102,7 +102,7 @@ ordered_popped text r at e closes later within ends h =
     (popped_here (order_kept text) at e 0 r (ordered_at text r at h) (may_leave text r.tree at closes) (λ x is. (h.innermost x is).0)
     (omega arith, within) ends)
 
--- an item finished that began with two blank lines
+-- an item that began with two blank lines is finished
 pub ordered_item_finished : (text : List ℕ) (r : Reading) (at : ℕ) → IsOrderedAt text r at → IsOrderedAt text (item_finished r) at
 ordered_item_finished text r at h =
     ordered_none text (item_finished r) at (finished_none r) h.within (item_finished_keeps (order_kept text) at 0 r (ordered_at text r at h))
@@ -115,11 +115,11 @@ item_finished_closes text r at h title is =
 pub ordered_gap_noted : (text : List ℕ) (r : Reading) (a : ℕ) → IsOrderedTo text r.tree a → IsOrderedTo text (gap_noted r).tree a
 ordered_gap_noted text r a h = noted_keeps (order_kept text) a 0 r h
 
--- a list that is kept
+-- a list that continues
 pub ordered_list_kept : (text : List ℕ) (r : Reading) (a : ℕ) → IsOrderedTo text r.tree a → IsOrderedTo text (list_kept r).tree a
 ordered_list_kept text r a h = kept_keeps (order_kept text) a 0 r h
 
--- a list finished before a block
+-- a list is finished before a block
 pub ordered_list_finished : (text : List ℕ) (r : Reading) (at e b : ℕ) → EndsBeforeTitle text r.tree at → at ≤ b → e ≤ b → b ≤ length text
     → IsCharBoundary text e → (is_list (top_body (item_finished r).tree) ≡ true → at ≤ e) → IsOrderedAt text r at → IsOrderedAt text (list_finished e r) b
 ordered_list_finished text r at e b closes later short within ends order h =
@@ -128,7 +128,7 @@ ordered_list_finished text r at e b closes later short within ends order h =
     (list_finished_keeps (order_kept text) at e b 0 r (ordered_at text r at h) (may_leave text r.tree at closes) (λ t. (order t, e_within)) ends (short, within)
     (later, within))
 
--- a footnote definition opened where what is innermost ends
+-- a footnote definition is opened where the innermost open nodes end
 pub ordered_note : (text : List ℕ) (r : Reading) (at start : ℕ) (index : CowIndex) → EndsBeforeTitle text r.tree at → at ≤ start → start ≤ length text
     → IsCharBoundary text start → IsOrderedAt text r at → IsOrderedTo text (footnote_begun start index r).tree start
 ordered_note text r at start index closes later within starts h =
@@ -145,7 +145,7 @@ ordered_list_continued text r at start byte number closes later within starts h 
     (list_continued_keeps (order_kept text) at start byte number 0 r (ordered_at text r at h) (may_leave text r.tree at closes) (here, h.within) (later, within)
     (there, within) starts tt)
 
--- a blank line read
+-- a blank line is read
 blank_by_empty : (r : Reading) (b : Option ItemBody) → (blank_read_by r b).empty_item ≡ r.empty_item
 blank_by_empty r None = refl
 blank_by_empty r (Some (BlockQuoteBody kind)) = refl
@@ -170,13 +170,13 @@ ordered_blank_read text r at b later within h =
       innermost = λ e is. (let inner = h.innermost e (sym same ∙ is) in (like_item r.tree (blank_read r).tree (like_blank r) ∙ inner.0, inner.1));
     })
 
--- the same of what can be closed further
+-- the same for closing in order
 pub read_popped : (text : List ℕ) (r : Reading) (at e : ℕ)
     → at ≤ e → e ≤ length text → IsCharBoundary text e → IsReadTo text r at → IsReadTo text (popped e r) e
 read_popped text r at e later within ends h =
     (ordered_popped text r at e h.1.title later within ends h.0, settled_closes text (popped e r) e (popped_settled e r h.1.nested h.1.last))
 
--- the same of what can be closed further
+-- the same for closing in order
 pub read_item_finished : (text : List ℕ) (r : Reading) (at : ℕ) → IsReadTo text r at → IsReadTo text (item_finished r) at
 read_item_finished text r at h = (
   ordered_item_finished text r at h.0,
@@ -187,7 +187,7 @@ read_item_finished text r at h = (
   },
 )
 
--- the tree is the same after a blank line, or an item is innermost in it
+-- a blank line leaves the tree unchanged, or an item is innermost in it
 blank_closes_by : (text : List ℕ) (r : Reading) (at : ℕ) (b : Option ItemBody) → top_body r.tree ≡ b
     → (is_item (top_body r.tree) ≡ true → is_item (top_body (blank_read_by r b).tree) ≡ true) → EndsBeforeTitle text r.tree at
     → EndsBeforeTitle text (blank_read_by r b).tree at
@@ -204,7 +204,7 @@ unfolding blank_read
 blank_closes text r at h =
     blank_closes_by text r at (top_body r.tree) refl (λ item. like_item r.tree (blank_read_by r (top_body r.tree)).tree (like_blank r) ∙ item) h
 
--- the same of what can be closed further
+-- the same for closing in order
 pub read_blank_read : (text : List ℕ) (r : Reading) (at b : ℕ) → at ≤ b → b ≤ length text → IsReadTo text r at → IsReadTo text (blank_read r) b
 read_blank_read text r at b later within h = (
   ordered_blank_read text r at b later within h.0,
@@ -215,16 +215,16 @@ read_blank_read text r at b later within h = (
   },
 )
 
--- what a call of pop remembers
+-- the state after a call of pop
 pub pop_keeps_order : (text : List ℕ) (r q : Reading) (at e : ℕ) → q ≡ popped e r → at ≤ e → e ≤ length text → IsCharBoundary text e → IsReadTo text r at
     → IsReadTo text q e
 pop_keeps_order text r q at e is later within ends h = subst (λ (s : Reading). IsReadTo text s e) (sym is) (read_popped text r at e later within ends h)
 
--- what a call of finish_empty_list_item remembers
+-- the state after a call of finish_empty_list_item
 pub finish_item_keeps_order : (text : List ℕ) (r q : Reading) (at : ℕ) → q ≡ item_finished r → IsReadTo text r at → IsReadTo text q at
 finish_item_keeps_order text r q at is h = subst (λ (s : Reading). IsReadTo text s at) (sym is) (read_item_finished text r at h)
 
--- what a call of finish_list remembers
+-- the state after a call of finish_list
 pub finish_list_keeps_order : (text : List ℕ) (r q : Reading) (at e : ℕ) → q ≡ list_finished e r → at ≤ e → e ≤ length text → IsCharBoundary text e
     → IsReadTo text r at → IsReadTo text q e
 finish_list_keeps_order text r q at e is later within ends (o, c) =
@@ -234,7 +234,7 @@ finish_list_keeps_order text r q at e is later within ends (o, c) =
       outside_closes text (list_finished e r) e (list_finished_outside e r c.nested),
     )
 
--- what a call of continue_list remembers
+-- the state after a call of continue_list
 pub continue_list_keeps_order : (text : List ℕ) (r q : Reading) (at start byte number : ℕ) → q ≡ list_continued start byte number r → at ≤ start
     → start ≤ length text → IsCharBoundary text start → IsReadTo text r at → IsReadTo text q start
 continue_list_keeps_order text r q at start byte number is later within starts (o, c) =
@@ -243,7 +243,7 @@ continue_list_keeps_order text r q at start byte number is later within starts (
       settled_closes text (list_continued start byte number r) start (list_continued_settled start byte number r c.nested),
     )
 
--- what a call that opens a footnote definition remembers
+-- the state after a call that opens a footnote definition
 pub footnote_keeps_order : (text : List ℕ) (r q : Reading) (at start : ℕ) (index : CowIndex) → q ≡ footnote_begun start index r → at ≤ start
     → start ≤ length text → IsCharBoundary text start → (footnote_begun start index r).empty_item ≡ None → IsReadTo text r at → IsReadTo text q start
 footnote_keeps_order text r q at start index is later within starts none (o, c) =

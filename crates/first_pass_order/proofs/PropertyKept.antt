@@ -1,4 +1,4 @@
--- What a step does to the tree, proved once for each property that is kept.
+-- The effect of a step on the tree, proved once for each property that is kept.
 use Rattle.std.proofs.Common.{◌≡◌, ℕ, suc, ◌<◌, ◌≤◌, arith, ◌&&◌, Bool, true, false, if◌then◌else◌, List, [], ◌∷◌, length, slice_get, Option, Some, None}
 use Rattle.std.proofs.Common.{refl, sym, ap, subst, ◌∙◌}
 use Rattle.std.specs.Option.{option_and_then, option_map}
@@ -25,7 +25,7 @@ use Rattle.first_pass_order.proofs.Nests.{TitleThere, title_there, popped_item}
 use Rattle.first_pass_order.proofs.AlikeNodes.{AreAlike, alike_ended, alike_both, LooksAlike, like_body, like_popped, like_noted, like_kept, like_blank}
 use Rattle.first_pass_lists.proofs.NoEmptyItem.{finished_none}
 
--- The innermost open node, which ends at an offset, is closed, and its last child, the current node, moved out of it.
+-- The innermost open node is closed at an offset, and its last child, the current node, is moved out of it.
 pub record IsLeft (f g : Forest Item) (e : ℕ) (c : TreeIndex) : Type 0 where
   pub list : TreeIndex
   pub rest : List TreeIndex
@@ -38,8 +38,9 @@ pub record IsLeft (f g : Forest Item) (e : ℕ) (c : TreeIndex) : Type 0 where
   pub outer : g.spine ≡ rest
   pub last : IsForest f → g.current ≡ Some c
 
--- A property that trees keep as nodes are opened and closed: it holds of a tree up to an offset, after so many nodes were opened. Reading goes on from one
--- offset to another, and a node may start or end at one; a last child may be moved out of what is closed, and a node of a kind may be opened.
+-- A property that trees keep as nodes are opened and closed. It holds of a tree up to an offset, after a number of
+-- nodes were opened. Reading goes on (`Goes`) from one offset to another, and a node starts or ends at an offset
+-- (`Bounds`). A last child is moved out of a closed node (`Leaves`), and a body is opened (`Opens`).
 pub record Property : Type 1 where
   pub Holds : ℕ → ℕ → Forest Item → Type 0
   pub Goes : ℕ → ℕ → Type 0
@@ -55,7 +56,7 @@ pub record Property : Type 1 where
   pub opened : (a start k : ℕ) (f : Forest Item) (body : ItemBody) → Goes a start → Bounds start → Opens body → Holds a k f
       → Holds start (suc k) (opened_block f start body)
 
--- no possible title is last in an item, nor in a footnote definition
+-- an item is no definition list, nor is a footnote definition
 no_item_list : (b : Option ItemBody) → is_definition_list b ≡ true → is_item b ≡ true → ⊥
 no_item_list None a b = cc
 no_item_list (Some (DefinitionList flags)) a b = cc
@@ -113,7 +114,7 @@ title_is_left r title t =
     (modified-is r.tree title.0 (λ x. record x { body = Paragraph }))
 
 module _ (p : Property) where
-  -- a possible title that is last may be moved out of its list
+  -- the last child, a possible title, may be moved out of its list
   abbrev pub MayLeave : ℕ → Forest Item → Type 0
   MayLeave a f = (title : TreeIndex) → possible_title f ≡ Some title → p.Leaves a (top_end f) f title
 
@@ -126,7 +127,7 @@ module _ (p : Property) where
   pub none_leaves : (a : ℕ) (f : Forest Item) → possible_title f ≡ None → MayLeave a f
   none_leaves a f none title is = absurd (none-some title (sym none ∙ is))
 
-  -- what is innermost closed
+  -- the innermost open node is closed
   pub popped_at_keeps : (a e k : ℕ) (r : Reading) (s : List TreeIndex) → r.tree.spine ≡ s → p.Goes a e → p.Bounds e → p.Holds a k r.tree
       → p.Holds e k (popped_at e r s).tree
   popped_at_keeps a e k r [] spine goes ends h = p.later a e k r.tree goes h
@@ -145,13 +146,14 @@ module _ (p : Property) where
   unfolding popped
   popped_keeps a e k r leaves goes ends h = after_keeps a e k r (possible_title r.tree) refl leaves goes ends h
 
-  -- The property holds of what is remembered, up to an offset at which reading goes on: where an item is empty, up to where the line of its marker ends.
+  -- The property holds of the state up to the offset at which reading continues; with an empty item, up to the end of
+  -- its marker's line.
   pub record HoldsAt (a k : ℕ) (r : Reading) : Type 0 where
     pub holds : p.Holds (reached r.empty_item a) k r.tree
     pub goes : p.Goes (reached r.empty_item a) a
     pub marked : (e : ℕ) → r.empty_item ≡ Some e → p.Goes e e × p.Bounds e
 
-  -- an item that began with two blank lines closed, where the line of its marker ends
+  -- an item that began with two blank lines is closed at the end of its marker's line
   finished_by_keeps : (b k : ℕ) (r : Reading) (o : Option ℕ) → ((e : ℕ) → o ≡ Some e → p.Goes e e × p.Bounds e) → p.Goes (reached o b) b
       → p.Holds (reached o b) k r.tree → p.Holds b k (item_finished_by r o).tree
   finished_by_keeps b k r None marked goes h = h
@@ -175,7 +177,7 @@ module _ (p : Property) where
   unfolding item_finished
   item_finished_leaves a r h = finished_by_leaves a r r.empty_item h
 
-  -- what is innermost closed, where an item that is empty is innermost
+  -- the innermost open node is closed, an empty item if there is one
   popped_with : (b e k : ℕ) (r : Reading) (o : Option ℕ) → ((x : ℕ) → o ≡ Some x → is_item (top_body r.tree) ≡ true) → MayLeave b r.tree
       → p.Goes (reached o b) e → p.Bounds e → p.Holds (reached o b) k r.tree → p.Holds e k (popped e r).tree
   popped_with b e k r None item leaves goes ends h = popped_keeps b e k r leaves goes ends h
@@ -185,7 +187,7 @@ module _ (p : Property) where
       → p.Goes (reached r.empty_item b) e → p.Bounds e → p.Holds e k (popped e r).tree
   popped_here b e k r h leaves item goes ends = popped_with b e k r r.empty_item item leaves goes ends h.holds
 
-  -- a gap noted, a list continued, and a blank line read
+  -- a blank line is noted, a list continues, or a blank line is read
   pub noted_keeps : (a k : ℕ) (r : Reading) → p.Holds a k r.tree → p.Holds a k (gap_noted r).tree
   noted_keeps a k r h = p.like a k r.tree (gap_noted r).tree (like_noted r) h
 
@@ -195,7 +197,7 @@ module _ (p : Property) where
   pub blank_keeps : (a k : ℕ) (r : Reading) → p.Holds a k r.tree → p.Holds a k (blank_read r).tree
   blank_keeps a k r h = p.like a k r.tree (blank_read r).tree (like_blank r) h
 
-  -- a list or a footnote definition closed, if it is innermost
+  -- an innermost list or footnote definition is closed
   left_by : (a e b k : ℕ) (r : Reading) (t : Bool) → (t ≡ true → MayLeave a r.tree × p.Goes a e) → p.Bounds e → p.Goes e b → p.Goes a b
       → p.Holds a k r.tree → p.Holds b k (if t then popped e r else r).tree
   left_by a e b k r true may ends short goes h = p.later e b k (popped e r).tree short (popped_keeps a e k r (may refl).0 (may refl).1 ends h)
@@ -211,7 +213,7 @@ module _ (p : Property) where
       noted_keeps b k (list_left e q)
       (left_by a e b k q (is_list (top_body q.tree)) (λ t. (item_finished_leaves a r leaves, goes t)) ends short later (item_finished_keeps a k r h))
 
-  -- a container opened there
+  -- a container is opened there
   pub quote_keeps : (a e b start k : ℕ) (body : ItemBody) (r : Reading) → HoldsAt a k r → MayLeave a r.tree
       → (is_list (top_body (item_finished r).tree) ≡ true → p.Goes a e)
       → p.Bounds e → p.Goes e b → p.Goes a b → p.Goes b start → p.Bounds start → p.Opens body
@@ -219,7 +221,7 @@ module _ (p : Property) where
   quote_keeps a e b start k body r h leaves goes ends short later on starts opens =
       p.opened b start k (list_finished e r).tree body on starts opens (list_finished_keeps a e b k r h leaves goes ends short later)
 
-  -- an item opened, in the list that continues or in a new one
+  -- an item is opened, in the list that continues or in a new one
   continued_by : (a start byte number k : ℕ) (s : Reading) (t : Bool) → s.empty_item ≡ None → MayLeave a s.tree → p.Goes a a → p.Goes a start
       → p.Goes start start → p.Bounds start → p.Opens (ListBody (list_flags true) byte number) → p.Holds a k s.tree
       → p.Holds start (suc k) (if t then list_kept s else begun start (ListBody (list_flags true) byte number) (list_finished start s)).tree
@@ -248,7 +250,7 @@ module _ (p : Property) where
       p.opened start start (suc k) (list_continued start byte number r).tree (ListItemBody columns) there starts opens
       (list_continued_keeps a start byte number k r h leaves here goes there starts lists)
 
-  -- a footnote definition opened
+  -- a footnote definition is opened
   pub note_keeps : (a start k : ℕ) (index : CowIndex) (r : Reading) → HoldsAt a k r → MayLeave a r.tree → p.Goes a start → p.Goes start start → p.Bounds start
       → p.Opens (FootnoteDefinitionBody index) → p.Holds start (suc k) (footnote_begun start index r).tree
   unfolding footnote_begun

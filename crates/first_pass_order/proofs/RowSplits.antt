@@ -1,4 +1,5 @@
--- A row split at its last node: which node that is, where the row ends, and the row where a definition list stands in place of a paragraph.
+-- A row of siblings split at its last node: that node, the end of the row, and the row with a definition list in
+-- place of a paragraph.
 use Rattle.std.proofs.Common.{◌≡◌, ◌⊎◌, inl, inr, ℕ, zero, suc, ◌+◌, ◌-◌, ◌<◌, ◌≤◌, Bool, true, false, List, [], ◌∷◌, ◌++◌, length, map, slice_index, slice_get}
 use Rattle.std.proofs.Common.{Some, IsCharBoundary, refl, sym, ap, subst, ◌∙◌, arith, if◌then◌else◌}
 use Rattle.std.proofs.lemmas.List.{map-append}
@@ -10,7 +11,7 @@ use Rattle.first_pass_grammar.specs.Order.{below, beyond, IsLead, Fits}
 use Rattle.first_pass_grammar.specs.OpenOrder.{laid_open, open_within, FitsOpen}
 use Rattle.first_pass_grammar.proofs.Orders.{beside, ended_at, laid_open-beside, fits-order, fits-later, below_ended}
 
--- a row's last node, with what is below it, and those before it
+-- a row's last node with its descendants, and the nodes before it
 abbrev pub HasLast : Siblings → Type 0
 HasLast row = (before : Siblings) × (x : Extent) × (kids : Siblings) × (row ≡ beside before (Node x kids Empty))
 
@@ -64,7 +65,8 @@ fits_open_last text to e [] before x kids plain later b h = fits_last text Elsew
 fits_open_last text to e (level ∷ levels) before x kids plain later b (from, low, h, starts, rest) =
     (from, low, fits_last text (below (open_within levels) from level.1) level.1.start to e before x kids plain later b h, starts, rest)
 
--- The nodes before a row's last fit up to an offset, and the last fits after that: where the first of the row may stand, or where another may.
+-- The nodes before a row's last fit up to an offset, and the last fits after that, either as the first of the row or
+-- as a further one.
 pub record FitsApart (text : List ℕ) (w : Within) (from to : ℕ) (before : Siblings) (x : Extent) (kids : Siblings) : Type 0 where
   pub mid : ℕ
   pub front : Fits text w from mid before
@@ -116,7 +118,7 @@ fits_apart text w from to (Node y more before) x kids plain (inr (first, inside,
       inside = r.inside;
     }
 
--- a row fits up to where its last node ends
+-- a row fits up to the end of its last node
 pub fits_ends : (text : List ℕ) (w : Within) (from to : ℕ) (before : Siblings) (x : Extent) (kids : Siblings) → x.marker ≡ false
     → Fits text w from to (beside before (Node x kids Empty))
     → Fits text w from x.«end» (beside before (Node x kids Empty)) × (x.«end» ≤ to) × IsCharBoundary text x.«end»
@@ -133,7 +135,7 @@ fits_open_ends text to (level ∷ levels) before x kids plain (from, low, h, sta
     let e = fits_ends text (below (open_within levels) from level.1) level.1.start to before x kids plain h in
     ((from, low, e.0, starts, rest), e.1, e.2)
 
--- a definition list where a paragraph stood
+-- a definition list in place of a paragraph
 abbrev pub as_list : Extent → Extent
 as_list x = record { start = x.start; «end» = x.«end»; text_block = false; marker = false; item = false; definitions = true }
 
@@ -142,7 +144,7 @@ abbrev pub open_definitions : List (Siblings × Extent) → Bool
 open_definitions [] = false
 open_definitions (level ∷ levels) = level.1.definitions
 
--- what stands below a paragraph outside of lists may stand anywhere
+-- the children of a paragraph outside lists may be anywhere
 plain_by : (text : List ℕ) (w : Within) (mid from to : ℕ) (x : Extent) (kids : Siblings) → x.item ≡ false → (w ≡ Elsewhere) ⊎ ((at : ℕ) × (w ≡ InText at))
     → Fits text (below w mid x) from to kids → Fits text Elsewhere from to kids
 plain_by text w mid from to x kids other (inl e) h =
@@ -150,7 +152,7 @@ plain_by text w mid from to x kids other (inl e) h =
 plain_by text w mid from to x kids other (inr (at, e)) h =
     subst (λ (i : Bool). Fits text (if i then InItem else Elsewhere) from to kids) other (subst (λ v. Fits text (below v mid x) from to kids) e h)
 
--- where something stands directly in what is no item and no definition list
+-- the place is directly in a node that is neither an item nor a definition list
 abbrev IsPlainWithin : Within → Type 0
 IsPlainWithin v = (v ≡ Elsewhere) ⊎ ((at : ℕ) × (v ≡ InText at))
 
@@ -183,8 +185,8 @@ in_stands : (w : Within) (from : ℕ) (x : Extent) (v : Within) → x.item ≡ t
 in_stands w from x v is (inl e) = e ∙ in_item w from x is
 in_stands w from x v is (inr e) = e ∙ ap beyond (in_item w from x is)
 
--- The last node of the innermost open node, a paragraph, becomes a title, the first child of a definition list that is open in its place: what is open then
--- is in order.
+-- The last child of the innermost open node, a paragraph, becomes a title: the first child of a definition list that
+-- is open in its place. The open nodes are then in order.
 titled_in : (text : List ℕ) (to mid : ℕ) (item : Bool) (x : Extent) (kids : Siblings) (v : Within) → x.item ≡ false → x.text_block ≡ true
     → (item ≡ true → v ≡ InItem) → (item ≡ false → IsPlainWithin v) → IsBetween text mid to x → Fits text (below v mid x) x.start x.«end» kids
     → Fits text (below (if item then InItem else Elsewhere) mid (as_list x)) x.start to (Node x kids Empty)
@@ -270,7 +272,7 @@ within_there : (front : List (ℕ × Extent)) (d : ℕ) (x : Extent) (more : Lis
 within_there [] d x more = omega arith
 within_there (n ∷ front) d x more = (let w = within_there front d x more in omega arith)
 
--- the last node of a depth is the one with deeper nodes alone after it
+-- the last node of a depth is the one with only deeper nodes after it
 last_place : (front : List (ℕ × Extent)) (d : ℕ) (x : Extent) (deep : List (ℕ × Extent)) (k : ℕ)
     → AreDeep (suc d) deep → IsLastAt (depths (front ++ (d, x) ∷ deep)) d k → k ≡ length front
 last_place [] d x deep zero below h = refl
@@ -318,7 +320,7 @@ extent_there (n ∷ nodes) [] d x more y is here =
     ap extent_of (sym e) ∙ ap (λ (z : ℕ × Extent). z.1) f
 extent_there (n ∷ nodes) (m ∷ front) d x more y is here = (let f : extents nodes ≡ front ++ (d, x) ∷ more = cc in extent_there nodes front d x more y f here)
 
--- The last child of the innermost open node: its extent, the nodes before it and those below.
+-- The last child of the innermost open node: its extent, the nodes before it and its descendants.
 pub record LastChild (root : Extent) (levels : List (Siblings × Extent)) (row : Siblings) (place : ℕ) (x : Extent) : Type 0 where
   pub before : Siblings
   pub kids : Siblings

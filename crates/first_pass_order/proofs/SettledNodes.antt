@@ -20,7 +20,7 @@ use Rattle.first_pass_grammar.proofs.TableItems.{both_nodes, deeper_nodes}
 use Rattle.first_pass_grammar.proofs.TokensNamed.{NamesWithin}
 use Rattle.first_pass_order.specs.Settled.{IsSettled, AreSettled}
 
--- no token is a possible title, and no leaf block is one, or has one in it
+-- no token is a possible title, and no leaf block is or contains one
 markup_settled : (texts : List CowStr) (body : ItemBody) → is_markup body ≡ true → NamesWithin texts body → IsSettled body
 markup_settled texts MaybeDefinitionListTitle h k = absurd (true≢false (sym h))
 markup_settled texts body h k = refl
@@ -48,7 +48,7 @@ blocks_settled = record {
   task = λ checked. refl;
 }
 
--- the items of a leaf block, also where its paragraph is made tight, or is a title
+-- the items of a leaf block, also if its paragraph becomes tight or is a title
 abbrev SettledBlock : List (ℕ × Item) → Type 0
 SettledBlock items = IsBlockOf IsSettled IsSettled items
 

@@ -1,4 +1,4 @@
--- Nodes that something completes show whole tables already: what is still open in them is no part of a table.
+-- Nodes that can be completed already have whole tables: the nodes still open in them are no part of a table.
 use Rattle.std.proofs.Common.{◌≡◌, ℕ, suc, Bool, true, false, List, [], ◌∷◌, ◌++◌, length, map, refl, sym, ap, subst, ◌∙◌, arith}
 use Rattle.std.proofs.lemmas.Bool.{true≢false}
 use Rattle.first_pass_items.specs.declared.item.Item.{Item}
@@ -25,7 +25,7 @@ use Rattle.first_pass_completion.proofs.SilentNodes.{silent_place, silent_as, si
 use Rattle.first_pass_grammar.proofs.WholeBlocks.{HeadsAreFull, PlainFrom, sequence_whole}
 use Rattle.first_pass_grammar.proofs.WholeForests.{WholeRows, derived_whole}
 
--- the nodes still open show nothing where a container is closed
+-- the nodes still open have no part of a table when a container is closed
 silent_places : (depth last place e : ℕ) (nodes : List (ℕ × Item)) (list : Pending) (rows : Rows) (places : List ℕ) → SilentList nodes list
     → AreSilent nodes places → AreSilent (ended (rendered depth last nodes list rows) place e) places
 silent_places depth last place e nodes list rows [] silent h = tt
@@ -39,7 +39,8 @@ container_shows names depth place w f rows list silent whole =
     let still = silent_rendered depth f.«end» w.nodes w.list rows place list silent in
     (more, marks_ended names (rendered depth f.«end» w.nodes w.list rows) place f.«end» still ∙ shows)
 
--- What completes nodes shows what they show, and then tables: each of the containers takes blocks that show whole tables, or nothing.
+-- The completion of nodes keeps their marks and adds those of tables: each container takes blocks with whole tables,
+-- or with none.
 module _ (d : Document) (full : HeadsAreFull d) where
   becomes_shows : (frames : List Frame) (places : List ℕ) (w : Standing) (further : List Further) (from : From) (lines : List Place)
       (forest : List (ℕ × Item)) (tables : Tables) → PlainFrom d.text from → AreAt d.text lines → AreSilent w.nodes places → SilentList w.nodes w.list
@@ -78,7 +79,8 @@ module _ (d : Document) (full : HeadsAreFull d) where
       (subst (λ (path : List Container). AreFurther d path now.before (onward left).0 (onward left).1 further) (sym (containers-loosened gap frames)) are)
       becomes)
 
--- Where tables stand after marks, and all of it is whole tables, the marks are whole tables: those in a row or a cell begin no table.
+-- If tables follow some marks, and all marks together are whole tables, the first marks are whole tables: those of a
+-- row or a cell begin no table.
 abbrev is_table : Mark → Bool
 is_table (ATable depth columns) = true
 is_table (ARow depth «end») = false
@@ -143,7 +145,7 @@ front_whole : (names : Names) (nodes after : List (ℕ × Item)) → ShowsMore n
 unfolding AreWholeTables
 front_whole names nodes after (more, shows) (all, is, full) = front_of (marks names nodes) more all (sym shows ∙ is) full
 
--- What is completed, under the names that complete it.
+-- The completed nodes, under the names that complete them.
 pub completed_whole : (d : Document) (frames : List Frame) (places : List ℕ) (w : Standing) (from : From) (lines : List Place) → PlainFrom d.text from
     → AreAt d.text lines → AreSilent w.nodes places → SilentList w.nodes w.list → (c : Completion d frames places w from lines)
     → Derives (document d.text d.options c.names) c.forest c.tables → AreWholeTables c.names w.nodes
@@ -153,7 +155,7 @@ completed_whole d frames places w from lines plain at silent list c derives =
     (becomes_shows named (heads_are_full named) frames places w c.further from lines c.forest c.tables plain at silent list c.taken c.becomes)
     (derived_whole named c.forest c.tables derives)
 
--- What each index names, it names under more names too.
+-- Each index names the same under further names.
 shown_still : (more names : Names) (depth start «end» : ℕ) (b : ItemBody) → Extends more names → NamesEntry names (index_of b)
     → shown more depth start «end» b ≡ shown names depth start «end» b
 shown_still more names depth start end (Table ix) e h = ap (λ z. ATable depth (length z) ∷ []) (alignments_kept more names ix e h)
@@ -171,7 +173,7 @@ pub whole_already : (more names : Names) (nodes : List (ℕ × Item)) → Extend
 unfolding AreWholeTables
 whole_already more names nodes e named (tables, is, full) = (tables, sym (marks_still more names nodes e named) ∙ is, full)
 
--- and so tables that are whole stay so where more is named
+-- so whole tables stay whole under further names
 pub whole_still : (more names : Names) (nodes : List (ℕ × Item)) → Extends more names → AreNamed names nodes → AreWholeTables names nodes
     → AreWholeTables more nodes
 unfolding AreWholeTables

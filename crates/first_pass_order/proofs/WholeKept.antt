@@ -1,5 +1,6 @@
--- Tables stay whole: what closes nodes and notes blank lines ends no row, what opens a container shows nothing of tables, and what a leaf block adds is whole.
--- A possible title that is none shows nothing, nor does a paragraph that becomes a title.
+-- Tables stay whole: closing nodes and noting blank lines ends no row, opening a container adds no part of a table,
+-- and a leaf block adds whole tables. A possible title that turns out to be none has no part of a table, nor does a
+-- paragraph that becomes a title.
 use Rattle.std.proofs.Common.{◌≡◌, ℕ, zero, suc, ◌+◌, ◌||◌, Bool, true, false, List, [], ◌∷◌, ◌++◌, length}
 use Rattle.std.proofs.Common.{map}
 use Rattle.std.proofs.Common.{Option, Some, None, refl, sym, ap, subst, ◌∙◌}
@@ -56,14 +57,14 @@ use Rattle.first_pass_order.proofs.PropertyKept.{IsLeft, Property, MayLeave, non
 use Rattle.first_pass_order.proofs.PropertyKept.{quote_keeps, item_keeps, note_keeps, blank_keeps}
 use Rattle.first_pass_lists.proofs.NoEmptyItem.{item_opened}
 
--- a node stands at a place, and is no row and no text that a definition list may take in
+-- the node at a place is neither a row nor a text that a definition list may take in
 abbrev pub may_not_open : ItemBody → Bool
 may_not_open b = is_row b || may_be_title b
 
 abbrev pub IsNoRow : List (ℕ × Item) → ℕ → Type 0
 IsNoRow nodes i = IsSomeAnd (body_at nodes i) (λ b. may_not_open b ≡ false)
 
--- where one stood among these, one stands among others
+-- each such place among these nodes is one among the others
 abbrev pub KeepNoRows : List (ℕ × Item) → List (ℕ × Item) → Type 0
 KeepNoRows old new = (i : ℕ) → IsNoRow old i → IsNoRow new i
 
@@ -80,7 +81,7 @@ modified_keeps (n ∷ nodes) zero g k (suc i) h = h
 modified_keeps (n ∷ nodes) (suc place) g k zero h = h
 modified_keeps (n ∷ nodes) (suc place) g k (suc i) h = modified_keeps nodes place g k i h
 
--- a change of a node that isn't open
+-- a change of a node that is not open
 pub other_keeps : (nodes : List (ℕ × Item)) (place : ℕ) (g : Item → Item) (b : ItemBody) → body_at nodes place ≡ Some b → may_not_open b ≡ true
     → KeepNoRows nodes (modify nodes place g)
 other_keeps [] place g b is own i h = h
@@ -110,13 +111,13 @@ last_is : (nodes : List (ℕ × Item)) (n : ℕ × Item) → may_not_open n.1.bo
 last_is [] n h = h
 last_is (m ∷ nodes) n h = last_is nodes n h
 
--- a node that shows nothing stands where this body is read
+-- a node without any part of a table, at the place of this body
 pub silent_at : (nodes : List (ℕ × Item)) (i : ℕ) (b : ItemBody) → body_at nodes i ≡ Some b → ShowsNothing b → IsSilent nodes i
 silent_at [] i b is h = absurd (none-some b is)
 silent_at (n ∷ nodes) zero b is h = subst ShowsNothing (sym (same_Some n.1.body b is)) h
 silent_at (n ∷ nodes) (suc i) b is h = silent_at nodes i b is h
 
--- another end of a node that is no row changes nothing that is shown
+-- another end of a node that is no row changes no mark
 end_shows : (names : Names) (depth start «end» e : ℕ) (b : ItemBody) → is_row b ≡ false → shown names depth start e b ≡ shown names depth start «end» b
 end_shows names depth start end e TableHead h = absurd (true≢false h)
 end_shows names depth start end e TableRow h = absurd (true≢false h)
@@ -135,12 +136,12 @@ silent_open nodes i (Some b) is h = ap (λ o. option_map_or may_be_title o false
 pub open_last : (nodes : List (ℕ × Item)) (ix : TreeIndex) → IsNoRow nodes ix.0 → IsSilentLast nodes (Some ix)
 open_last nodes ix h may = absurd (true≢false (sym may ∙ silent_open nodes ix.0 (body_at nodes ix.0) refl h))
 
--- the marker of a task shows nothing
+-- the marker of a task has no part of a table
 pub task_shows : (body : ItemBody) → is_task_marker body ≡ true → ShowsNothing body
 task_shows (TaskListMarker checked) h = λ names depth start end. refl
 task_shows body h = cc
 
--- a text that a definition list may take in, first among these items, shows nothing, nor what is below it
+-- a first item that a definition list may take in has no part of a table, nor do its descendants
 abbrev pub IsSilentFirst : List (ℕ × Item) → Type 0
 IsSilentFirst [] = Unit {0}
 IsSilentFirst (x ∷ items) = may_be_title x.1.body ≡ true → AreEachNode ShowsNothing (x ∷ items)
@@ -170,7 +171,7 @@ pub record IsKept (names : Names) (f : Forest Item) : Type 0 where
   pub whole : AreWholeTables names f.nodes
   pub none_open : HaveNoRows f.nodes f.spine
 
--- nodes that are alike show the same, and what shows nothing, or may be open, does so
+-- alike nodes have the same marks
 shown_alike : (names : Names) (n m : ℕ × Item) → IsAlike n m
     → shown names m.0 m.1.start m.1.«end» m.1.body ≡ shown names n.0 n.1.start n.1.«end» n.1.body
 shown_alike names n m a =
@@ -229,7 +230,7 @@ module _ (names : Names) where
       (end_shows names n.0 n.1.start n.1.«end» e n.1.body (or_parts (is_row n.1.body) (may_be_title n.1.body) h).0)
   marks_ended (n ∷ nodes) (suc place) e h = ap (λ (z : List Mark). shown names n.0 n.1.start n.1.«end» n.1.body ++ z) (marks_ended nodes place e h)
 
-  -- the tables of what is remembered
+  -- the tables of the state
   abbrev pub IsReadWhole : Reading → Type 0
   IsReadWhole r = HasWholeTables names r.tree
 
@@ -239,7 +240,7 @@ module _ (names : Names) where
   pub same_shown : (f g : Forest Item) → marks names g.nodes ≡ marks names f.nodes → HaveNoRows g.nodes g.spine → IsKept names f → IsKept names g
   same_shown f g same none h = record { whole = whole_same names f.nodes g.nodes same h.whole; none_open = none }
 
-  -- one node more that shows nothing
+  -- one more node without any part of a table
   one_whole : (nodes : List (ℕ × Item)) (n : ℕ × Item) → ShowsNothing n.1.body → AreWholeTables names nodes → AreWholeTables names (nodes ++ n ∷ [])
   unfolding marks
   one_whole nodes n own h =
@@ -258,7 +259,7 @@ module _ (names : Names) where
     last = subst (IsSilentLast g.nodes) (sym l.current) (last_alike f.nodes g.nodes f.current l.nodes h.last);
   }
 
-  -- the innermost open node, which is no row, closed
+  -- the innermost open node, which is no row, is closed
   pub closed_whole : (f : Forest Item) (e : ℕ) (ix : TreeIndex) (rest : List TreeIndex) → f.spine ≡ ix ∷ rest → HasWholeTables names f
       → HasWholeTables names (closed_by f e (ix ∷ rest))
   closed_whole f e ix rest spine h =
@@ -271,7 +272,7 @@ module _ (names : Names) where
         last = open_last (modify f.nodes ix.0 to) ix (keeps ix.0 none.0);
       }
 
-  -- and its last child, which shows nothing, moved out of it
+  -- and its last child, which has no part of a table, is moved out of it
   pub left_whole : (f g : Forest Item) (e : ℕ) (c : TreeIndex) → IsLeft f g e c → SilentFrom f.nodes c.0 → IsForest f → HasWholeTables names f
       → HasWholeTables names g
   left_whole f g e c l silent forest h =
@@ -291,7 +292,7 @@ module _ (names : Names) where
         last = subst (λ ns. IsSilentLast ns g.current) (sym l.nodes) (subst (IsSilentLast moved) (sym (l.last forest)) (λ may. last));
       }
 
-  -- a node opened that shows nothing
+  -- a node without any part of a table is opened
   pub opened_whole : (f : Forest Item) (start : ℕ) (body : ItemBody) → ShowsNothing body → may_not_open body ≡ false → IsKept names f
       → HasWholeTables names (opened_block f start body)
   opened_whole f start body own other h =
@@ -317,7 +318,7 @@ module _ (names : Names) where
     opened = λ a start k f body goes ends opens h. opened_whole f start body opens.0 opens.1 (kept_of f h);
   }
 
-  -- a possible title that is last has nothing of tables in it
+  -- a last child that is a possible title has no part of a table
   may_leave : (f : Forest Item) → IsForest f → HasWholeTables names f → MayLeave whole_kept 0 f
   may_leave f forest h title is =
       let t = title_there f title is in
@@ -353,11 +354,11 @@ module _ (names : Names) where
   pub blank_whole : (r : Reading) → IsReadWhole r → IsReadWhole (blank_read r)
   blank_whole r h = blank_keeps whole_kept 0 0 r h
 
-  -- the same where no possible title is last
+  -- the same if the last child is no possible title
   pub popped_plain_whole : (e : ℕ) (r : Reading) → possible_title r.tree ≡ None → IsReadWhole r → IsReadWhole (popped e r)
   popped_plain_whole e r none h = popped_keeps whole_kept 0 e 0 r (none_leaves whole_kept 0 r.tree none) tt tt h
 
-  -- where more is named
+  -- under further names
   pub more_whole : (old : Names) (f : Forest Item) → Extends names old → AreNamed old f.nodes → HasWholeTables old f → HasWholeTables names f
   more_whole old f more named h = record { whole = whole_still names old f.nodes more named h.whole; none_open = h.none_open; last = h.last }
 
@@ -374,7 +375,8 @@ module _ (names : Names) where
             ∙ task_untitled x.body (mark x refl)));
       }
 
-  -- a block that is added, where more is named; a paragraph or a possible title that is first in it shows nothing
+  -- a block that is added, under further names; a paragraph or a possible title that is first in it has no part of a
+  -- table
   pub block_whole : (old : Names) (f new : Forest Item) (items : List (ℕ × Item)) → Extends names old → new ≡ added f items → AreWholeTables names items
       → IsSilentFirst items → AreNamed old f.nodes → IsKept old f → HasWholeTables names new
   block_whole old f new items more is own first named h =
@@ -386,7 +388,7 @@ module _ (names : Names) where
         last = block_last f.nodes items (length f.spine + 1) first;
       })
 
-  -- the root alone
+  -- only the root
   first_shows : (i e : ℕ) → marks names (modify empty_forest.nodes i (λ x. record x { «end» = e })) ≡ []
   unfolding marks
   first_shows zero e = refl
@@ -397,7 +399,7 @@ module _ (names : Names) where
       let nodes : List (ℕ × Item) = modify empty_forest.nodes root.0 (λ x. record x { «end» = e }) in
       subst (HasWholeTables names) (sym is) (record { whole = whole_none names nodes (first_shows root.0 e); none_open = tt; last = tt })
 
--- a leaf block of a kind that was added
+-- an added leaf block of a kind
 pub kind_whole : (text : List ℕ) (options : Options) (names : Names) (p : Place) (kind : Kind) (gap : Bool) (old new : Forest Item) (next : ℕ)
     → IsPlaceOf text p → (a : AddsKind (document text options names) p kind gap old new next) → AreWholeTables names a.items
 kind_whole text options names p kind gap old new next place a =
@@ -405,7 +407,7 @@ kind_whole text options names p kind gap old new next place a =
     (opens_as d (heads_are_full d) (path_of options old) p (lines_from text (line_end p)) kind
     (OpensLeaf (leaf_block kind p a.items gap) Line (lines_from text next)) place.left (lines_from_at text (line_end p)) (a.opens names (extends_none names))).0
 
--- what stands for a text
+-- a paragraph, heading or table
 pub added_text_whole : (d : Document) (path : List Container) (p : Place) (marker : Option Item) (lines : List Place) (t : Taken) → IsPlaceOf d.text p
     → ShownBy marker → IsText d path p marker lines t → AreWholeTables d.names t.items
 added_text_whole d path p marker lines t place shows is = text_whole d (heads_are_full d) path p marker lines t place.left shows is

@@ -11,8 +11,8 @@ use Rattle.first_pass_grammar.specs.Skeleton.{Line, OpensLeaf, OpensAs}
 use Rattle.first_pass_grammar.specs.Completion.{lines_from}
 use Rattle.first_pass_open.specs.Path.{path_of}
 
--- A leaf block of a kind, which begins at a place, is a last child of the innermost open node, whatever more is named: with or without blank
--- lines at its end, and the lines from an offset on left.
+-- A leaf block of a kind that begins at a place is added as a last child of the innermost open node, and remains one
+-- under any further names. With `gap` it has blank lines at its end. The remaining lines begin at an offset.
 pub record AddsKind (d : Document) (p : Place) (kind : Kind) (gap : Bool) (old new : Forest Item) (next : ℕ) : Type 0 where
   pub items : List (ℕ × Item)
   pub tree_is : new ≡ added old items

@@ -1,4 +1,4 @@
--- Nodes of a finished tree: none is a paragraph that may still become a title (this project).
+-- Finished trees: no node is a paragraph that may still become a title (this project).
 use Rattle.std.specs.Prelude.{◌≡◌, ℕ, Bool, true, false, List}
 use Rattle.first_pass_items.specs.declared.item.Item.{Item}
 use Rattle.first_pass_items.specs.declared.item.ItemBody.{ItemBody}
