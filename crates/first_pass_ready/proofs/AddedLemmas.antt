@@ -1,4 +1,4 @@
--- What is last in the innermost open node once a leaf block is added to it.
+-- The last child of the innermost open node after a leaf block is added to it.
 use Rattle.std.proofs.Common.{◌≡◌, ℕ, ◌+◌, Bool, true, false, List, [], ◌∷◌, ◌++◌, length, map, refl, ap, ◌∙◌}
 use Rattle.std.proofs.Common.{if◌then◌else◌}
 use Rattle.std.specs.Option.{option_map_or}
@@ -16,12 +16,12 @@ use Rattle.first_pass_ready.specs.State.{closed_elsewhere, closed_in, AreOpen}
 use Rattle.first_pass_ready.proofs.ClosedIn.{closed_elsewhere_in, top_of, plain_no_definitions, top_no_definitions}
 use Rattle.first_pass_ready.proofs.OpenLemmas.{open_below, frame-append}
 
--- the first of more nodes
+-- the first of further nodes
 pub body_behind : (nodes more : List (ℕ × Item)) → body_at (nodes ++ more) (length nodes) ≡ body_at more 0
 body_behind [] more = refl
 body_behind (n ∷ nodes) more = body_behind nodes more
 
--- what is last where items were added, by the first of them
+-- the last child after items are added, by the first of them
 abbrev pub begun_at : ℕ → List (ℕ × Item) → Closed
 begun_at place items = if begins_paragraph items then ParagraphAt place else OtherClosed
 
@@ -47,12 +47,12 @@ silent_by : (nodes : List (ℕ × Item)) (k : ℕ) (items : List (ℕ × Item)) 
 silent_by nodes k items true is shows = silent_added nodes k items is (shows is)
 silent_by nodes k items false is shows = tt
 
--- a paragraph that shows nothing of tables; or another block
+-- a paragraph without any part of a table; or another block
 pub silent_begun : (nodes : List (ℕ × Item)) (k : ℕ) (items : List (ℕ × Item)) → (begins_paragraph items ≡ true → AreEachNode ShowsNothing items)
     → SilentClosed (nodes ++ at_depth k items) (begun_at (length nodes) items)
 silent_begun nodes k items shows = silent_by nodes k items (begins_paragraph items) refl shows
 
--- what is open stays open where items are added
+-- open nodes stay open when items are added
 pub open_added : (d : Document) (f : Forest Item) (items : List (ℕ × Item)) (frames : List Frame) → AreBelow (length f.nodes) (map (λ ix. ix.0) f.spine)
     → AreOpen d.options f.nodes f.spine frames → AreOpen d.options (added f items).nodes f.spine frames
 open_added d f items frames below o =

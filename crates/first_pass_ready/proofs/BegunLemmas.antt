@@ -1,4 +1,4 @@
--- A container opened in the tree, after what is open already.
+-- A container is opened in the tree, after the nodes that are already open.
 use Rattle.std.proofs.Common.{◌≡◌, ℕ, suc, ◌+◌, ◌<◌, ◌==◌, Bool, true, false, List, [], ◌∷◌, ◌++◌, length, map, slice_index, Option, Some, None}
 use Rattle.std.proofs.Common.{IfSome, MatchOption, inl, inr, refl, sym, ap, subst, ◌∙◌, arith}
 use Rattle.std.proofs.lemmas.List.{length-map}
@@ -43,25 +43,25 @@ opened_too options nodes k x s frames frame is apart below o = (
 pub depth_of : (s : List TreeIndex) → suc (length (map (λ (i : TreeIndex). i.0) s)) ≡ length s + 1
 depth_of s = let k = length-map s (λ (i : TreeIndex). i.0) in omega arith
 
--- what is innermost, of which the frame is a container's, holds nothing yet
+-- an innermost node whose frame is a container has no child yet
 none_there : (options : Options) (b : ItemBody) (c : Container) → frame_of options b ≡ Some (InContainer c) → closed_none (Some b) ≡ OtherClosed
 none_there options (DefinitionList flags) c h = absurd (definitions_no_container (flags.0 == 1) (flags.0 == 0) c h)
 none_there options b c h = refl
 
--- the tree with an item opened in what is innermost
+-- the tree with an item opened in the innermost open node
 abbrev pub with_open : Forest Item → Item → Forest Item
 with_open f x = pushed (appended f x) (record { 0 = length f.nodes })
 
 pub top_opened : (f : Forest Item) (x : Item) → top_body (with_open f x) ≡ Some x.body
 top_opened f x = get_end f.nodes (length f.spine + 1, x) [] (length f.nodes) refl
 
--- a container is open, and holds nothing yet
+-- a container is open, and has no child yet
 pub record IsBegun (d : Document) (defined : Tables) (f : Forest Item) (c : Container) (from : From) (lines : List Place) (path : List Container)
     : Type 0 where
   pub ready : ReadyAt d defined f false from lines
   pub path_is : path_of d.options f ≡ c ∷ path
 
--- what is remembered once a container is open
+-- the state after a container is opened
 pub record HasBegun (d : Document) (defined : Tables) (old new : Reading) (c : Container) (from : From) (lines : List Place) : Type 0 where
   pub is_begun : IsBegun d defined new.tree c from lines (path_of d.options old.tree)
   pub blank : new.blank ≡ false
@@ -84,14 +84,14 @@ begun_ready d defined f x c frames from lines is apart o below k =
       path_is = open_path d.options g.nodes g.spine (InContainer c ∷ frames) open_now;
     }
 
--- where no footnote definition begins, what else does
+-- what begins if no footnote definition does
 pub opens_bare : (d : Document) (l : Level) (p : Place) (lines : List Place) (opening : Opening)
     → footnote_head_at (around d l.path) p ≡ None → OpensBy d l.path p lines (start_at d.options (may_define d l) p) opening → Opens d l p lines opening
 opens_bare d l p lines opening bare h =
     subst (λ z. MatchOption z (OpensBy d l.path p lines (start_at d.options (may_define d l) p) opening) (λ head. OpensFootnote d p lines head opening))
     (sym bare) h
 
--- what begins a container opens it
+-- the start of a container opens it
 pub opens_start : (d : Document) (l : Level) (p : Place) (lines : List Place) (s : Start) → footnote_head_at (around d l.path) p ≡ None
     → start_at d.options (may_define d l) p ≡ Some s → Opens d l p lines (opening_of d l.path p lines s)
 unfolding OpensBy
@@ -99,7 +99,7 @@ opens_start d l p lines s bare begins =
     let opening : Opening = opening_of d l.path p lines s in
     opens_bare d l p lines opening bare (subst (λ o. OpensBy d l.path p lines o opening) (sym begins) refl)
 
--- where what is innermost is no list, so the frames say
+-- if the innermost open node is no list, neither is its frame
 pub plain_top : (options : Options) (top : Option ItemBody) (frames : List Frame) → IsTop options top frames → is_list top ≡ false → IsPlain frames
 plain_top options top [] is none = tt
 plain_top options top (InContainer c ∷ frames) is none = tt
@@ -112,7 +112,7 @@ pub plain_open : (options : Options) (f : Forest Item) (frames : List Frame) →
     → IsPlain frames
 plain_open options f frames o none = plain_top options (top_body f) frames (top_of options f.nodes f.spine frames o) none
 
--- the current node is after what is open
+-- the current node is after the open nodes
 not_before : (ds : List ℕ) (d i c : ℕ) → IsLastAt ds d i → IsLastAt ds (suc d) c → c < i → ⊥
 not_before ds d i c first last h = let b = last.behind i h first.within in let e = first.depth in absurd (omega arith)
 
@@ -141,7 +141,7 @@ current_after f c forest current below =
     current_by (depths f.nodes) (length f.nodes) c.0 f.spine forest.opened
     (subst (λ z. IfSome z (λ (c : TreeIndex). IsLastAt (depths f.nodes) (length f.spine + 1) c.0)) current forest.at_current) below
 
--- Where containers and lists alone are open no table is.
+-- If only containers and lists are open, no table is.
 no_table_by : (options : Options) (b : ItemBody) (frame : Frame) (outer : Bool) → frame_of options b ≡ Some frame → in_table_by outer (Some b) ≡ false
 no_table_by options (BlockQuoteBody kind) frame outer is = refl
 no_table_by options (ListItemBody columns) frame outer is = refl

@@ -1,4 +1,4 @@
--- What is last in the innermost open node, as the tree changes.
+-- The last child of the innermost open node, as the tree changes.
 use Rattle.std.proofs.Common.{◌≡◌, ℕ, zero, suc, ◌==◌, Bool, true, false, List, [], ◌∷◌, slice_get, Option, Some, None, refl, sym, ap, ◌∙◌}
 use Rattle.std.proofs.Common.{subst, if◌then◌else◌}
 use Rattle.std.specs.Option.{option_map, option_map_or, option_and_then}
@@ -30,11 +30,11 @@ use Rattle.first_pass_ready.proofs.OpenLemmas.{open_path}
 use Rattle.first_pass_completion.proofs.Extending.{tail, lvl}
 use Rattle.first_pass_completion.proofs.Flags.{IsDefined}
 
--- what is innermost of these open nodes
+-- the body of the innermost of these open nodes
 abbrev pub top_in : List (ℕ × Item) → List TreeIndex → Option ItemBody
 top_in nodes s = option_and_then (λ (ix : TreeIndex). body_at nodes ix.0) (slice_get s 0)
 
--- what a list's frame is not
+-- the frame of a list is no container
 pub items_no_container : (a b : Bool) (byte : ℕ) (c : Container)
     → (if a then Some (InList byte false) else (if b then Some (InList byte true) else None)) ≡ Some (InContainer c) → ⊥
 items_no_container true b byte c h = cc
@@ -59,7 +59,7 @@ definitions_no_items true b byte loose h = cc
 definitions_no_items false true byte loose h = cc
 definitions_no_items false false byte loose h = cc
 
--- what a node is whose frame is known
+-- the body of a node whose frame is known
 pub definitions_at : (options : Options) (b : Option ItemBody) (loose : Bool) → option_and_then (frame_of options) b ≡ Some (InDefinitions loose)
     → (flags : ListFlags) × (b ≡ Some (DefinitionList flags))
 definitions_at options None loose h = cc
@@ -74,7 +74,7 @@ list_at options (Some (ListBody flags list number)) byte loose h = (flags, list,
 list_at options (Some (DefinitionList flags)) byte loose h = absurd (definitions_no_items (flags.0 == 1) (flags.0 == 0) byte loose h)
 list_at options (Some b) byte loose h = cc
 
--- what is last, by what is innermost
+-- the last block, by the body of the innermost open node
 abbrev pub last_below : Option ItemBody → Closed → Last
 last_below (Some (ListBody flags list number)) closed = LastItem
 last_below (Some (DefinitionList flags)) closed = last_defined closed
@@ -111,7 +111,7 @@ open_level options f frames run o =
     ap (λ p. level p (record { last = last_in f; counted = run })) (open_path options f.nodes f.spine frames o)
     ∙ ap (λ l. level (containers_of frames) (record { last = l; counted = run })) (sym (open_last options f.nodes f.spine frames (closed_in f) o))
 
--- Whether a `:` may begin a definition is read off the tree as the grammar says it.
+-- Whether a `:` may begin a definition depends on the tree as in the grammar.
 body_by : (o : Option (ℕ × Item)) → option_map (λ n. n.1.body) o ≡ option_map (λ (x : Item). x.body) (option_map (λ n. n.1) o)
 body_by None = refl
 body_by (Some n) = refl
@@ -157,7 +157,7 @@ takes_by f (Some c) =
 pub takes_same : (f : Forest Item) → takes_after (last_in f) ≡ takes_definition f
 takes_same f = takes_by f f.current
 
--- where what is innermost is no definition list, the body of the current node says what is last
+-- if no definition list is innermost, the body of the current node decides what is last
 abbrev placed : Option TreeIndex → (ℕ → Option ItemBody) → Closed
 placed None body = OtherClosed
 placed (Some c) body = option_map_or (closed_elsewhere c.0) (body c.0) OtherClosed
@@ -185,13 +185,13 @@ elsewhere_by f (Some c) h = item_elsewhere (top_end f) c.0 (top_body f) (slice_g
 pub closed_elsewhere_in : (f : Forest Item) → is_definition_list (top_body f) ≡ false → closed_in f ≡ placed f.current (body_at f.nodes)
 closed_elsewhere_in f h = elsewhere_by f f.current h
 
--- the current node there, whose body is known
+-- the current node there, if its body is known
 pub closed_at_body : (f : Forest Item) (c : TreeIndex) (b : ItemBody) → is_definition_list (top_body f) ≡ false → f.current ≡ Some c
     → body_at f.nodes c.0 ≡ Some b → closed_in f ≡ closed_elsewhere c.0 b
 closed_at_body f c b h current is =
     closed_elsewhere_in f h ∙ ap (λ z. placed z (body_at f.nodes)) current ∙ ap (λ z. option_map_or (closed_elsewhere c.0) z OtherClosed) is
 
--- trees in which paragraphs are the same, elsewhere
+-- trees with the same paragraphs, in other nodes
 placed_same : (c : Option TreeIndex) (body other : ℕ → Option ItemBody)
     → ((i : ℕ) → option_map_or (closed_elsewhere i) (other i) OtherClosed ≡ option_map_or (closed_elsewhere i) (body i) OtherClosed)
     → placed c other ≡ placed c body
@@ -205,7 +205,7 @@ closed_same f g old new current h =
     closed_elsewhere_in g new ∙ ap (λ z. placed z (body_at g.nodes)) current ∙ placed_same f.current (body_at f.nodes) (body_at g.nodes) h
     ∙ sym (closed_elsewhere_in f old)
 
--- a body changed that is no paragraph, to another that isn't
+-- a body that is no paragraph changes to another that is none
 no_paragraph : (i : ℕ) (b : ItemBody) → is_paragraph_body b ≡ false → closed_elsewhere i b ≡ OtherClosed
 no_paragraph i ParagraphBody h = cc
 no_paragraph i b h = refl
@@ -222,7 +222,7 @@ closed_renamed (n ∷ nodes) zero b c old new is at (suc i) = refl
 closed_renamed (n ∷ nodes) (suc place) b c old new is at zero = refl
 closed_renamed (n ∷ nodes) (suc place) b c old new is at (suc i) = closed_renamed nodes place b c old new is at i
 
--- what is innermost, as the frames say
+-- the body of the innermost open node matches the frames
 abbrev pub IsTop : Options → Option ItemBody → List Frame → Type 0
 IsTop options top [] = top ≡ None
 IsTop options top (frame ∷ frames) = option_and_then (frame_of options) top ≡ Some frame
@@ -234,7 +234,7 @@ top_of options nodes [] (frame ∷ frames) o = absurd o
 top_of options nodes (ix ∷ s) [] o = absurd o
 top_of options nodes (ix ∷ s) (frame ∷ frames) o = o.0
 
--- what is innermost is no definition list
+-- the innermost open node is no definition list
 abbrev pub NoDefinitions : List Frame → Type 0
 NoDefinitions [] = Unit {0}
 NoDefinitions (InContainer c ∷ frames) = Unit {0}
@@ -273,7 +273,7 @@ definition_top options columns top (InContainer c ∷ frames) is stands = absurd
 definition_top options columns top (InList byte loose ∷ frames) is stands = absurd stands
 definition_top options columns top (InDefinitions loose ∷ frames) is stands = definitions_at options top loose is
 
--- a container that is closed is last then
+-- a closed container is the last child
 closed_as_below : (options : Options) (e place s y : ℕ) (b : ItemBody) (c : Container) (top : Option ItemBody) (frames : List Frame)
     → frame_of options b ≡ Some (InContainer c) → IsTop options top frames → StandsIn c frames → closed_below e top place (node_of s y b) ≡ closed_as c y
 closed_as_below options e place s y (BlockQuoteBody kind) c top frames h is stands =
@@ -323,7 +323,7 @@ closed_popped options f e ix rest c frames is o stands =
     ap (λ z. option_map_or (closed_below (top_end g) (top_body g) ix.0) z (closed_none (top_body g))) item
     ∙ closed_as_below options (top_end g) ix.0 x.start e x.body c (top_body g) frames b.2 (top_of options g.nodes rest frames o) stands
 
--- what is last in a definition list that is innermost: a possible title, or a definition
+-- the last child of an innermost definition list: a possible title, or a definition
 title_none_by : (e place s y : ℕ) (ix : TreeIndex) (flags : ListFlags) (b : ItemBody) → title_by (Some (DefinitionList flags)) ix (Some b) ≡ None
     → (z : ℕ) × (blanks : Bool) × (closed_in_definitions e place y b ≡ DefinitionClosed z blanks)
 title_none_by e place s y ix flags MaybeDefinitionListTitle h = cc
@@ -359,7 +359,7 @@ pub closed_definition : (f : Forest Item) (flags : ListFlags) → top_body f ≡
 closed_definition f flags top none =
     let r = none_by f f.current (top_body f) flags top none in (r.0, r.1, closed_as_map f f.current ∙ r.2)
 
--- a possible title is the current node, in a definition list that is innermost
+-- a possible title is the current node, in an innermost definition list
 pub record IsTitle (f : Forest Item) (title : TreeIndex) : Type 0 where
   pub current : f.current ≡ Some title
   pub flags : ListFlags
@@ -411,7 +411,7 @@ title_found f title (Some c) current h =
 pub title_is : (f : Forest Item) (title : TreeIndex) → possible_title f ≡ Some title → IsTitle f title
 title_is f title h = title_found f title f.current refl h
 
--- in a definition list a definition or a possible title is last
+-- the last child of a definition list is a definition or a possible title
 below_defined : (e place s y : ℕ) (flags : ListFlags) (b : ItemBody) → IsDefined (closed_below e (Some (DefinitionList flags)) place (node_of s y b))
 below_defined e place s y flags MaybeDefinitionListTitle = tt
 below_defined e place s y flags (DefinitionListDefinition columns) = tt

@@ -1,4 +1,5 @@
--- A definition opened at a place in a line: in the definition list that is open, or in a new one whose title is the paragraph before it (this project).
+-- A definition is opened at a place in a line: in the open definition list, or in a new one whose title is the
+-- paragraph before it (this project).
 use Rattle.std.proofs.Common.{◌≡◌, ℕ, zero, suc, ◌+◌, ◌<◌, ◌==◌, Bool, true, false, not, ◌||◌, List, [], ◌∷◌, ◌++◌, length, map, take, drop}
 use Rattle.std.proofs.Common.{slice_get, slice_index, Option, Some, None, IfSome, refl, sym, ap, subst, ◌∙◌, arith, if◌then◌else◌}
 use Rattle.std.proofs.lemmas.Bool.{true≢false, and_parts}
@@ -40,7 +41,8 @@ use Rattle.first_pass_ready.proofs.ClosedIn.{closed_at_body, closed_definition, 
 use Rattle.first_pass_ready.proofs.OpenLemmas.{open_path, open_below}
 use Rattle.first_pass_ready.proofs.BegunLemmas.{with_open, IsBegun, HasBegun, begun_ready, plain_open, current_after}
 
--- A definition list is open for a definition, and with it whatever completes the nodes, the text derives. The list is loose so far or isn't.
+-- A definition list is open for a definition, and every completion of the nodes with it is derived by the text. The
+-- list is loose so far or not.
 record ListIsOpen (d : Document) (defined : Tables) (run : Bool) (path : List Container) (g : Forest Item) (columns start : ℕ) (from : From)
     (lines : List Place) : Type 0 where
   ix : TreeIndex
@@ -55,7 +57,7 @@ record ListIsOpen (d : Document) (defined : Tables) (run : Bool) (path : List Co
       CompletesAt d defined fresh (InContainer (Definition columns) ∷ InDefinitions (loose || run) ∷ frames)
       (g.nodes ++ (suc (suc (length os)), definition_node start 0 columns) ∷ []) (length g.nodes ∷ ix.0 ∷ os) from lines)
 
--- the definition list that is innermost, and its frame
+-- the innermost definition list, and its frame
 record IsInnermost (f : Forest Item) (frames : List Frame) : Type 0 where
   ix : TreeIndex
   rest : List TreeIndex
@@ -124,7 +126,7 @@ title_front (n ∷ nodes) zero i h = absurd (omega arith)
 title_front (n ∷ nodes) (suc at) zero h = refl
 title_front (n ∷ nodes) (suc at) (suc i) h = title_front nodes at i (omega arith)
 
--- the tree in which the current paragraph is a title is that of the nodes with a title
+-- if the current paragraph becomes a title, the nodes of the tree are the nodes with a title
 titled_nodes : (nodes : List (ℕ × Item)) (at j k : ℕ) (x : Item) → option_map (λ n. n.1) (slice_get nodes at) ≡ Some x
     → j ≡ suc at → slice_index (depths nodes) at + 1 ≡ k
     → (let changed : List (ℕ × Item) = modify nodes at (λ y. record y { body = DefinitionList (list_flags true) }) in
@@ -161,7 +163,7 @@ module _ (d : Document) (defined : Tables) (f : Forest Item) (run : Bool) (p : P
   abbrev Opened : Forest Item → Type 0
   Opened g = ListIsOpen d defined run (path_of d.options f) g columns (offset p) from behind
 
-  -- what opens there, and completes the nodes, where this is last
+  -- the opening there that completes the nodes, given the last child
   opens_at : (closed : Closed) → closed_in f ≡ closed
       → Opens d (lvl ready.frames (tail closed run)) p lines (OpensNode (definition_head p columns) from behind)
   opens_at closed is =
@@ -208,7 +210,7 @@ module _ (d : Document) (defined : Tables) (f : Forest Item) (run : Bool) (p : P
             (ns ++ (suc (suc (length os)), definition_node (offset p) 0 columns) ∷ []) (length ns ∷ c.0 ∷ os) from behind) (sym nodes) k;
       }
 
-  -- what is known in a definition list
+  -- the facts about an open definition list
   list_opens : (l : IsInnermost f ready.frames) (closed : Closed) → closed_in f ≡ closed
       → Opens d (lvl (InDefinitions l.loose ∷ l.outer) (tail closed run)) p lines (OpensNode (definition_head p columns) from behind)
   list_opens l closed is =
@@ -302,7 +304,7 @@ module _ (d : Document) (defined : Tables) (f : Forest Item) (run : Bool) (p : P
   opened_with (Some c) current may =
       opened_at c (item_at f c) current refl (ap (precedes_definition (top_body f)) (sym (body_item (slice_get f.nodes c.0))) ∙ may)
 
--- the list made loose where a blank line is before the definition
+-- the list becomes loose if a blank line is before the definition
 begun_in : (d : Document) (defined : Tables) (path : List Container) (h : Forest Item) (columns start : ℕ) (from : From) (lines : List Place)
     (ix : TreeIndex) (rest : List TreeIndex) (frames : List Frame) (loose : Bool) → h.spine ≡ ix ∷ rest
     → AreOpen d.options h.nodes (ix ∷ rest) (InDefinitions loose ∷ frames) → AreBelow (length h.nodes) (map (λ (i : TreeIndex). i.0) (ix ∷ rest))

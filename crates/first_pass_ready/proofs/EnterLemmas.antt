@@ -1,4 +1,5 @@
--- A line entered after what it continues: a blank line read, or the place where blocks begin in it.
+-- A line is entered after the prefixes of the containers that it continues: a blank line is read, or blocks begin at
+-- a place in it.
 use Rattle.std.proofs.Common.{◌≡◌, ℕ, zero, suc, ◌+◌, ◌<◌, ◌==◌, nat_lt, Bool, true, false, not, ◌||◌, ◌&&◌, List, [], ◌∷◌, length, map, drop}
 use Rattle.std.proofs.Common.{Option, Some, None, is_some, refl, sym, ap, subst, ◌∙◌, arith, if◌then◌else◌, MatchOption}
 use Rattle.std.proofs.lemmas.Bool.Decides.{nat_tests}
@@ -56,7 +57,7 @@ use Rattle.first_pass_items.specs.declared.option_set.Options.{Options}
 use Rattle.first_pass_grammar.specs.Skeleton.{OpensBy}
 use Rattle.first_pass_grammar.proofs.OpenerFacts.{marker_where, start_none}
 
--- Columns change nothing of whether a line is blank.
+-- Columns do not change whether a line is blank.
 some_mapped : (o : Option ℕ) (f : ℕ → ℕ) → is_some (option_map f o) ≡ is_some o
 some_mapped None f = refl
 some_mapped (Some n) f = refl
@@ -118,7 +119,7 @@ blank_behind_item : (b : ItemBody) (n : ℕ) (o : Option Rest) → is_blank_behi
 blank_behind_item b n None h = h
 blank_behind_item b n (Some q) h = item_blank b n q h
 
--- a line that is blank after what an item or a definition takes is blank after what is around it
+-- a line that is blank after the prefix of an item or a definition is blank after those of the containers around it
 pub blank_behind : (b : ItemBody) (n : ℕ) (path : List Container) (r : Rest)
     → is_blank_behind (after (item_container b n ∷ path) r) ≡ true → is_blank_behind (after (item_container b 0 ∷ path) r) ≡ true
 unfolding after
@@ -237,7 +238,7 @@ opens_blank d l p lines h =
     (sym (start_none d.options may p (no_item p.rest h) (no_marker_where may p h) (no_quote p.rest h)))
     (Blank, blank_kind d.options p.rest h, refl))
 
--- inside a line that all open containers continue
+-- in a line that all open containers continue
 pub ready_enter : (d : Document) (defined : Tables) (f : Forest Item) (run : Bool) (line : Place) (lines : List Place) (r : Rest)
     → after (path_of d.options f) line.rest ≡ Some r → ends_here d.options f run ≡ false → ReadyAt d defined f run Line (line ∷ lines)
     → ReadyAt d defined f run (Inside (at_rest line r)) lines
@@ -260,7 +261,7 @@ or_false : (a : Bool) → (a || false) ≡ a
 or_false true = refl
 or_false false = refl
 
--- whether a blank line counts, by what is innermost
+-- whether a blank line counts, by the innermost open node
 plain_counts : (run quote : Bool) (closed : Closed) → (run || (not quote || list_is_open (last_plain closed))) ≡ (run || not quote)
 plain_counts run quote closed = ap (λ t. run || (not quote || t)) (plain_not_open closed) ∙ ap (λ t. run || t) (or_false (not quote))
 
@@ -316,7 +317,7 @@ module _ (d : Document) (defined : Tables) (r : Reading) (p : Place) (lines : Li
   same_none (Some (DefinitionListDefinition columns)) = refl
   same_none (Some b) = refl
 
-  -- a blank line read where no item is empty
+  -- a blank line is read, and no item is empty
   pub ready_blank : r.empty_item ≡ None → ReadyAt d defined r.tree r.blank (Inside p) lines → Ready d defined (blank_read r) lines
   unfolding blank_read
   ready_blank none ready =
@@ -362,7 +363,7 @@ only_blank_by d defined f t e ix rest c line lines (InContainer a ∷ frames) is
     (ap (option_map (at_rest line)) b.1) b.2
     (opens_blank d (lvl (InContainer c ∷ frames) t) (at_rest line b.0) lines b.2) k')
 
--- a blank line in an item or a definition that takes blank lines alone
+-- a blank line in an item or a definition that takes only blank lines
 only_blank : (d : Document) (defined : Tables) (f : Forest Item) (run : Bool) (e : ℕ) (ix : TreeIndex) (rest : List TreeIndex) (b : ItemBody) (line : Place)
     (lines : List Place) → f.spine ≡ ix ∷ rest → body_at f.nodes ix.0 ≡ Some (item_body b 0)
     → is_blank_behind (after (item_container b 0 ∷ path_in d.options f.nodes rest) line.rest) ≡ true → ReadyAt d defined f run (Blanks e) (line ∷ lines)
@@ -382,7 +383,7 @@ only_blank d defined f run e ix rest b line lines spine item blank ready =
       silent = ready.silent;
     }
 
--- what is below a place alone counts
+-- only the nodes before a place matter
 pub path_below : (options : Options) (nodes other : List (ℕ × Item)) (n : ℕ) (s : List TreeIndex)
     → ((i : ℕ) → i < n → body_at other i ≡ body_at nodes i) → AreBelow n (map (λ ix. ix.0) s) → path_in options other s ≡ path_in options nodes s
 path_below options nodes other n [] h b = refl
@@ -395,14 +396,14 @@ and_true : (a : Bool) → (a && true) ≡ a
 and_true true = refl
 and_true false = refl
 
--- a blank line read in an item or a definition that is empty
+-- a blank line is read in an empty item or definition
 blank_item_is : (r : Reading) (e : ℕ) (b : ItemBody) (n : ℕ) → r.empty_item ≡ Some e
     → blank_read_by r (Some (item_body b n)) ≡ record r { tree = emptied_as r.tree (Some (item_body b n)); blank = true }
 blank_item_is r e (DefinitionListDefinition columns) n some =
     ap (λ o. record r { tree = if is_some o then emptied_definition r.tree r.tree.spine else r.tree; blank = true }) some
 blank_item_is r e b n some = ap (λ o. record r { tree = if is_some o then emptied r.tree r.tree.spine else r.tree; blank = true }) some
 
--- an item or a definition closed
+-- an item or a definition is closed
 item_popped : (r : Reading) (g : Forest Item) (ix : TreeIndex) (b : ItemBody) (n : ℕ)
     → popped_by r g ix (Some (item_body b n)) ≡ record r { tree = g; empty_item = None }
 item_popped r g ix (DefinitionListDefinition columns) n = refl
@@ -411,7 +412,7 @@ item_popped r g ix b n = refl
 module _ (d : Document) (defined : Tables) (r : Reading) (line : Place) (lines : List Place) (rest : Rest)
     (goes : after (path_of d.options r.tree) line.rest ≡ Some rest) where
   module _ (e : ℕ) (empty : ReadyEmpty d defined r e (line ∷ lines)) where
-    -- the item or the definition that is empty
+    -- the empty item or definition
     own : (b : ItemBody) × (body_at r.tree.nodes empty.place.0 ≡ Some (item_body b empty.columns))
     own =
         let b = columns_are (body_at r.tree.nodes empty.place.0) empty.columns empty.item in
@@ -449,7 +450,7 @@ module _ (d : Document) (defined : Tables) (r : Reading) (line : Place) (lines :
           (not_changed r.tree.nodes empty.place.0 change (item_body b 0) (is ∙ ap (λ n. Some (item_body b n)) none)
           (λ x h. ap (λ z. node_of x.start x.«end» z) (sym h)))
 
-      -- the nodes around the item stay
+      -- the nodes around the item are unchanged
       outer_path : (run : Bool) (from : From) (ls : List Place) → ReadyAt d defined zero_tree run from ls
           → path_in d.options zero_tree.nodes empty.outer ≡ path
       outer_path run from ls ready =
@@ -473,7 +474,7 @@ module _ (d : Document) (defined : Tables) (r : Reading) (line : Place) (lines :
           (subst (λ z. is_blank_behind (after (item_container b 0 ∷ z) line.rest) ≡ true) (sym (outer_path false (Blanks e) (line ∷ lines) zero))
           (blank_item h)) zero
 
-      -- what is remembered once the blank line is read
+      -- the state after the blank line is read
       read_is : r.empty_item ≡ Some e → blank_read r ≡ record r { tree = zero_tree; blank = true }
       unfolding blank_read
       read_is some = ap (blank_read_by r) top_item ∙ blank_item_is r e b empty.columns some ∙ ap (λ f. record r { tree = f; blank = true })
@@ -500,7 +501,7 @@ module _ (d : Document) (defined : Tables) (r : Reading) (line : Place) (lines :
       ready_blank d defined r (at_rest line rest) lines h none (ready_enter d defined r.tree r.blank line lines rest goes stays ready)
   blank_with (Some e) some stays h ready = let b = own e ready in ready_emptied e ready b.0 b.1 some h
 
-  -- a blank line read that all open containers continue
+  -- a blank line that all open containers continue is read
   pub ready_blank_line : ends_here d.options r.tree r.blank ≡ false → is_blank_rest rest ≡ true
       → Ready d defined r (line ∷ lines) → Ready d defined (blank_read r) lines
   unfolding Ready
@@ -514,7 +515,7 @@ module _ (d : Document) (defined : Tables) (r : Reading) (line : Place) (lines :
         ∙ ap (λ t. record (if r.blank && t then popped e r else r) { empty_item = None }) (item_true b.0 empty.columns)
         ∙ ap (λ t. record (if t then popped e r else r) { empty_item = None }) (and_true r.blank ∙ is)
 
-    -- the item ends before a line that isn't blank
+    -- the item ends before a line that is not blank
     emptied_ends : (blank : Bool) → r.blank ≡ blank → is_blank_rest rest ≡ false → ReadyInItem d defined r.tree e (line ∷ lines) blank
         → (
         let q : Reading = record (if blank then popped e r else r) { empty_item = None } in ReadyAt d defined q.tree q.blank (Inside (at_rest line rest)) lines)
@@ -556,7 +557,7 @@ module _ (d : Document) (defined : Tables) (r : Reading) (line : Place) (lines :
   entered_with (Some e) stays h ready = subst (λ (q : Reading). ReadyAt d defined q.tree q.blank (Inside (at_rest line rest)) lines)
       (sym (finished_is e ready r.blank refl)) (emptied_ends e ready r.blank refl h ready.ready)
 
-  -- the place in a line that isn't blank, where all open containers continue it
+  -- the place in a line that is not blank and that all open containers continue
   pub ready_line : ends_here d.options r.tree r.blank ≡ false → is_blank_rest rest ≡ false → Ready d defined r (line ∷ lines)
       → ReadyAt d defined (item_finished r).tree (item_finished r).blank (Inside (at_rest line rest)) lines
   unfolding Ready item_finished

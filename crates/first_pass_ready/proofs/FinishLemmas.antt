@@ -1,4 +1,4 @@
--- What a new block ends: the list that is innermost; and what it notes: a blank line before it.
+-- A new block ends an innermost list, and notes a blank line before it.
 use Rattle.std.proofs.Common.{◌≡◌, ℕ, ◌<◌, ◌==◌, Bool, true, false, ◌||◌, List, [], ◌∷◌, map, Option, Some, None, refl, sym, ap, subst}
 use Rattle.std.proofs.Common.{◌∙◌, if◌then◌else◌}
 use Rattle.std.specs.Option.{option_and_then, option_map_or}
@@ -48,7 +48,7 @@ use Rattle.first_pass_items.specs.declared.option_set.Options.{Options}
 abbrev pub ReadyPlain : Document → Tables → Forest Item → Bool → Place → List Place → Type 0
 ReadyPlain d defined f run p lines = (q : ReadyAt d defined f run (Inside p) lines) × IsPlain q.frames
 
--- what opens at a place ends the list that is innermost, at an offset, where this is last in it
+-- the opening at a place ends an innermost list at an offset, given the last child of the list
 abbrev pub EndsListAt : ℕ → Option ItemBody → Closed → Opening → Type 0
 EndsListAt at None closed opening = Unit {0}
 EndsListAt at (Some b) closed opening = EndsItAt at b closed opening
@@ -70,7 +70,7 @@ plain_by options nodes (ix ∷ s) (InContainer c ∷ frames) o n = tt
 plain_by options nodes (ix ∷ s) (InList byte loose ∷ frames) o n = absurd (no_items options (body_at nodes ix.0) byte loose o.0 n)
 plain_by options nodes (ix ∷ s) (InDefinitions loose ∷ frames) o n = absurd (no_definitions options (body_at nodes ix.0) loose o.0 n)
 
--- what is closed is no container
+-- the closed node is no container
 left_path : (options : Options) (r : Reading) (at : ℕ) (ix : TreeIndex) (rest : List TreeIndex) (b : ItemBody) → container_of options b ≡ None
     → r.tree.spine ≡ ix ∷ rest → body_at r.tree.nodes ix.0 ≡ Some b → path_of options (popped at r).tree ≡ path_of options r.tree
 left_path options r at ix rest b none spine is =
@@ -90,7 +90,7 @@ path_left options r at (ix ∷ rest) (Some (ListBody flags list number)) spine i
 path_left options r at (ix ∷ rest) (Some (DefinitionList flags)) spine is = left_path options r at ix rest (DefinitionList flags) refl spine is
 path_left options r at (ix ∷ rest) (Some b) spine is = refl
 
--- what is remembered once the list that is innermost, if one is, is closed
+-- the state after an innermost list, if there is one, is closed
 pub kept_left : (r : Reading) (at : ℕ) (s : List TreeIndex) (b : Option ItemBody) → r.tree.spine ≡ s → top_in r.tree.nodes s ≡ b
     → ((if is_list b then popped at r else r).blank ≡ r.blank)
     × (r.empty_item ≡ None → (if is_list b then popped at r else r).empty_item ≡ None)
@@ -106,7 +106,7 @@ takes_title : (f : Forest Item) (title : TreeIndex) (t : IsTitle f title) → ta
 takes_title f title t =
     ap (λ z. takes_after (last_below z (closed_in f))) t.top ∙ ap (λ z. takes_after (last_defined z)) t.closed
 
--- the nodes continue at a place, no list is innermost, and the same opens there
+-- the nodes continue at a place, no list is innermost, and the opening there is the same
 pub record LeftPlain (d : Document) (defined : Tables) (f : Forest Item) (run : Bool) (p : Place) (lines : List Place) (opening : Opening) : Type 0 where
   pub ready : ReadyPlain d defined f run p lines
   pub opens : Opens d (level_of d.options f run) p lines opening
@@ -182,7 +182,7 @@ module _ (d : Document) (defined : Tables) (r : Reading) (p : Place) (lines : Li
       definitions_left ix rest flags (possible_title r.tree) refl spine is away ready
   left_by (ix ∷ rest) (Some b) spine is away ready = still (ap (λ z. is_list (top_in r.tree.nodes z)) spine ∙ ap is_list is) ready
 
-  -- the list that is innermost, if one is, closed
+  -- an innermost list, if there is one, is closed
   pub ready_left : EndsListAt at (top_body r.tree) (closed_in r.tree) opening → ReadyAt d defined r.tree r.blank (Inside p) lines
       → LeftAs (list_left at r).tree
   ready_left away ready = left_by r.tree.spine (top_body r.tree) refl refl away ready
@@ -191,7 +191,7 @@ or_true : (a : Bool) → (a || true) ≡ true
 or_true true = refl
 or_true false = refl
 
--- a list of either kind that is made loose
+-- a list of either kind that becomes loose
 pub loosened_is : (f : Forest Item) (ix : TreeIndex) (b : ItemBody) (flags : ListFlags) → list_flags_of b ≡ Some flags
     → loosened_by f ix (Some b) ≡ with_body_at f ix (flagged true b)
 loosened_is f ix (ListBody flags list number) other h = refl
@@ -222,7 +222,7 @@ loosened_paths options f ix (Some (DefinitionList flags)) is s =
     (unnamed options f.nodes ix.0 (DefinitionList flags) (DefinitionList (list_flags false)) refl refl is) s
 loosened_paths options f ix (Some b) is s = refl
 
--- the frame of a list that is made loose
+-- the frame of a list that becomes loose
 abbrev pub loose_frame_of : Frame → Frame
 loose_frame_of (InContainer c) = InContainer c
 loose_frame_of (InList byte loose) = InList byte (loose || true)
@@ -254,7 +254,7 @@ loose_frame options f ix b flags frame is listed framed =
     ap (option_and_then (frame_of options)) now
     ∙ loose_frame_by options b flags frame listed (sym (ap (option_and_then (frame_of options)) is) ∙ framed)
 
--- a list that is made loose, around what is innermost: what is last stays
+-- a list around the innermost open node becomes loose: the last child is unchanged
 list_no_paragraph : (b : ItemBody) (flags : ListFlags) → list_flags_of b ≡ Some flags → is_paragraph_body b ≡ false
 list_no_paragraph (ListBody flags list number) other h = refl
 list_no_paragraph (DefinitionList flags) other h = refl
@@ -278,7 +278,7 @@ silent_reflagged nodes o loose (ParagraphAt at) h = from_modified nodes o at _ (
 silent_reflagged nodes o loose (DefinitionClosed e blanks) h = tt
 silent_reflagged nodes o loose (TitleAt e at) h = from_modified nodes o at _ (λ x k. silent_flagged loose x.body k) h
 
--- the list around a container, which may be loose then
+-- the list around a container, which may then be loose
 reflag_around : (d : Document) (defined : Tables) (closed : Closed) (c : Container) (frame : Frame) (frames : List Frame) (nodes : List (ℕ × Item))
     (x o : ℕ) (os : List ℕ) (p : Place) (lines : List Place) → ((b : Container) → frame ≡ InContainer b → ⊥) → IsBefore o closed
     → CompletesAt d defined (tail closed false) (InContainer c ∷ frame ∷ frames) nodes (x ∷ o ∷ os) (Inside p) lines
@@ -313,7 +313,7 @@ no_list_at options (Some (ListBody flags list number)) c h f ix = absurd (items_
 no_list_at options (Some (DefinitionList flags)) c h f ix = absurd (definitions_no_container (flags.0 == 1) (flags.0 == 0) c h)
 no_list_at options (Some b) c h f ix = refl
 
--- no footnote definition is directly in another one then either
+-- no footnote definition is directly in another then
 apart_loose : (frame : Frame) (frames : List Frame) → ((b : Container) → frame ≡ InContainer b → ⊥)
     → is_footnote_in_another (loose_frame_of frame) frames ≡ false
 apart_loose (InContainer b) frames none = absurd (none b refl)
@@ -326,7 +326,7 @@ apart_in c (InContainer b) frames none h = h
 apart_in c (InList byte loose) frames none h = h
 apart_in c (InDefinitions loose) frames none h = h
 
--- the frames around a container with a gap noted, where the outer is a list's
+-- the frames around a container after a blank line was noted, if the outer one is that of a list
 loosened_frames : (c : Container) (frame : Frame) (frames : List Frame) → ((b : Container) → frame ≡ InContainer b → ⊥)
     → loosened_in true (InContainer c ∷ frame ∷ frames) ≡ InContainer c ∷ loose_frame_of frame ∷ frames
 loosened_frames c (InContainer b) frames none = refl
@@ -349,7 +349,7 @@ module _ (d : Document) (defined : Tables) (f : Forest Item) (p : Place) (lines 
       (subst (λ z. StaysAt d z p) (open_path d.options f.nodes f.spine frames o) stays)
       (subst (λ z. Opens d z p lines opening) (open_level d.options f frames true o) opens) block other k
 
-  -- where no list is around what is innermost
+  -- if the innermost open node is not in a list
   noted_still : (frames : List Frame) → SilentClosed f.nodes (closed_in f) → loosened_in true frames ≡ frames → IsPlain frames
       → AreOpen d.options f.nodes f.spine frames
       → CompletesAt d defined t frames f.nodes (map (λ (i : TreeIndex). i.0) f.spine) (Inside p) lines
@@ -361,7 +361,7 @@ module _ (d : Document) (defined : Tables) (f : Forest Item) (p : Place) (lines 
       (noted_at frames plain o k)) in
       record { ready = q; plain = plain; last = refl }
 
-  -- where one is
+  -- if it is in a list
   noted_loose : (ix jx : TreeIndex) (s : List TreeIndex) (c : Container) (frame : Frame) (frames : List Frame) (b : ItemBody) (flags : ListFlags)
       → f.spine ≡ ix ∷ jx ∷ s → SilentClosed f.nodes (closed_in f) → body_at f.nodes jx.0 ≡ Some b → list_flags_of b ≡ Some flags
       → AreOpen d.options f.nodes (ix ∷ jx ∷ s) (InContainer c ∷ frame ∷ frames)
@@ -407,7 +407,7 @@ module _ (d : Document) (defined : Tables) (f : Forest Item) (p : Place) (lines 
       (ix.0 ∷ jx.0 ∷ map (λ (i : TreeIndex). i.0) s) (Inside p) lines) (sym nodes) done)) in
       record { ready = q; plain = tt; last = last }
 
-  -- what is opened by these, of the tree's own
+  -- the frames of the tree's own open nodes
   opened_here : (s : List TreeIndex) (frames : List Frame) → f.spine ≡ s → AreOpen d.options f.nodes s frames → AreOpen d.options f.nodes f.spine frames
   opened_here s frames spine o = subst (λ z. AreOpen d.options f.nodes z frames) (sym spine) o
 
@@ -458,7 +458,7 @@ module _ (d : Document) (defined : Tables) (f : Forest Item) (p : Place) (lines 
       let b = definitions_at d.options (body_at f.nodes jx.0) loose o.1.0 in
       noted_around ix jx s c (InDefinitions loose) frames (DefinitionList b.0) b.0 spine silent b.1 refl o k
 
-  -- a blank line before a block noted
+  -- a blank line before a block is noted
   pub noted_run : ReadyPlain d defined f true p lines → PlainAfter d defined (gap_tree f f.spine) false (Inside p) lines (closed_in f)
   noted_run (q, plain) = noted_by f.spine q.frames refl q.silent plain q.are_open q.completes
 
@@ -475,7 +475,7 @@ gap_spine f (ix ∷ jx ∷ rest) = loosened_spine f jx (body_at f.nodes jx.0)
 gap_path : (options : Options) (f : Forest Item) (spine : List TreeIndex) → path_of options (gap_tree f spine) ≡ path_of options f
 gap_path options f spine = ap (path_in options (gap_tree f spine).nodes) (gap_spine f spine) ∙ gap_paths options f spine f.spine
 
--- what is remembered once a new block has ended what it ends, where this opens at the place
+-- the state after a new block ended what it ends, given the opening at the place
 pub record Finished (d : Document) (defined : Tables) (old new : Reading) (p : Place) (lines : List Place) (opening : Opening) : Type 0 where
   pub ready : ReadyPlain d defined new.tree false p lines
   pub opens : Opens d (level_of d.options new.tree false) p lines opening
@@ -505,7 +505,7 @@ noted_as d defined r p lines opening true is none stays block other left =
 noted_as d defined r p lines opening false is none stays block other left =
     record { ready = left.ready; opens = left.opens; path = refl; blank = is; none = none }
 
--- a new block ends the list that is innermost, and a blank line before it is noted
+-- a new block ends an innermost list, and a blank line before it is noted
 pub ready_finished : (d : Document) (defined : Tables) (r : Reading) (p : Place) (lines : List Place) (at : ℕ) (opening : Opening)
     → IsForest r.tree → StaysAt d (path_of d.options r.tree) p → Opens d (level_of d.options r.tree r.blank) p lines opening
     → OpensBlock opening → opens_definition opening ≡ false

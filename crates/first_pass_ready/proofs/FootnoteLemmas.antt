@@ -1,4 +1,5 @@
--- A footnote definition opened at a place in a line: what is innermost ends there, a list, and then another footnote definition (this project).
+-- A footnote definition is opened at a place in a line: an innermost list ends there, and then another footnote
+-- definition (this project).
 use Rattle.std.proofs.Common.{◌≡◌, ℕ, ◌==◌, Bool, true, false, ◌&&◌, List, [], ◌∷◌, map, Option, Some, None, is_some}
 use Rattle.std.proofs.Common.{MatchOption, refl, sym, ap, subst, ◌∙◌, if◌then◌else◌}
 use Rattle.std.proofs.lemmas.Bool.{true≢false}
@@ -49,7 +50,7 @@ use Rattle.first_pass_ready.proofs.OldFootnotes.{footnote_top}
 use Rattle.first_pass_ready.proofs.FinishLemmas.{ReadyPlain, EndsListAt, LeftPlain, plain_by, path_left, kept_left, ready_left, noted_as}
 use Rattle.first_pass_ready.proofs.BegunLemmas.{with_open, begun_ready}
 
--- what opens a footnote definition ends any list at its start
+-- the opening of a footnote definition ends any list at its start
 note_away : (b : Option ItemBody) (closed : Closed) (d : Document) (p : Place) (lines : List Place) (size : ℕ) (index : CowIndex) (label : List ℕ)
     → EndsListAt (offset (unindented p)) b closed (footnote_opening d p lines size (FootnoteMarker (footnote_columns d.options) index label))
 note_away None closed d p lines size index label = tt
@@ -60,7 +61,7 @@ note_away (Some (DefinitionList flags)) (DefinitionClosed e blanks) d p lines si
 note_away (Some (DefinitionList flags)) (TitleAt e at) d p lines size index label = tt
 note_away (Some b) closed d p lines size index label = tt
 
--- a footnote definition opens where its head stands
+-- a footnote definition opens at its head
 opens_note : (d : Document) (l : Level) (p : Place) (lines : List Place) (head : ℕ × List ℕ) (opening : Opening)
     → footnote_head_at (around d l.path) p ≡ Some head → OpensFootnote d p lines head opening → Opens d l p lines opening
 opens_note d l p lines head opening is opens =
@@ -75,7 +76,7 @@ note_framed options (Some (ListBody flags list number)) n h = absurd (items_no_c
 note_framed options (Some (DefinitionList flags)) n h = absurd (definitions_no_container (flags.0 == 1) (flags.0 == 0) (FootnoteDefinition n) h)
 note_framed options (Some b) n h = cc
 
--- where no list and no footnote definition is innermost, none is the innermost container
+-- if neither a list nor a footnote definition is innermost, the innermost container is no footnote definition
 outside : (options : Options) (nodes : List (ℕ × Item)) (s : List TreeIndex) (frames : List Frame) → AreOpen options nodes s frames → IsPlain frames
     → is_footnote (top_in nodes s) ≡ false → in_footnote (containers_of frames) ≡ false
 outside options nodes [] [] o plain h = refl
@@ -89,7 +90,7 @@ outside options nodes (ix ∷ s) (InContainer (FootnoteDefinition n) ∷ frames)
 outside options nodes (ix ∷ s) (InList byte loose ∷ frames) o plain h = absurd plain
 outside options nodes (ix ∷ s) (InDefinitions loose ∷ frames) o plain h = absurd plain
 
--- no list is innermost, and what is around the innermost open node is before what is last in it
+-- no list is innermost, and the node around the innermost open node is before the last child of that
 abbrev IsLeft : Document → Tables → Forest Item → Bool → Place → List Place → Type 0
 IsLeft d defined f run p lines =
     ReadyPlain d defined f run p lines × ((ix jx : TreeIndex) (s : List TreeIndex) → f.spine ≡ ix ∷ jx ∷ s → IsBefore jx.0 (closed_in f))
@@ -102,7 +103,7 @@ module _ (d : Document) (defined : Tables) (r : Reading) (p : Place) (lines : Li
   abbrev Left : Forest Item → Type 0
   Left f = IsLeft d defined f r.blank p lines
 
-  -- a list without a possible title closed with the footnote definition around it
+  -- a list without a possible title is closed, with the footnote definition around it
   plain_ended : (ix : TreeIndex) (rest : List TreeIndex) (b : ItemBody) (flags : ListFlags) → r.tree.spine ≡ ix ∷ rest → body_at r.tree.nodes ix.0 ≡ Some b
       → list_flags_of b ≡ Some flags → possible_title r.tree ≡ None → ends_footnote (around d (path_of d.options r.tree)) p ≡ true
       → ReadyAt d defined r.tree r.blank (Inside p) lines → Left (popped at r).tree
@@ -131,14 +132,14 @@ module _ (d : Document) (defined : Tables) (r : Reading) (p : Place) (lines : Li
   definitions_ended ix rest flags None none spine is ends ready = plain_ended ix rest (DefinitionList flags) flags spine is refl none ends ready
   definitions_ended ix rest flags (Some title) titled spine is ends ready = titled_ended ix rest title spine titled ends ready
 
-  -- where no list is innermost
+  -- if no list is innermost
   still : is_list (top_body r.tree) ≡ false → ReadyAt d defined r.tree r.blank (Inside p) lines → Left r.tree
   still h ready = (
     (ready, plain_by d.options r.tree.nodes r.tree.spine ready.frames ready.are_open h),
     λ ix jx s e. open_before r.tree ix jx s forest e,
   )
 
-  -- the list that is innermost, if one is, closed with the footnote definition around it
+  -- an innermost list, if there is one, is closed, with the footnote definition around it
   ended_by : (s : List TreeIndex) (b : Option ItemBody) → in_footnote (path_of d.options r.tree) ≡ true → r.tree.spine ≡ s
       → top_in r.tree.nodes s ≡ b → ReadyAt d defined r.tree r.blank (Inside p) lines
       → Left (if is_list b then popped at r else r).tree
@@ -164,7 +165,7 @@ module _ (d : Document) (defined : Tables) (r : Reading) (p : Place) (lines : Li
       (note_away (top_body r.tree) (closed_in r.tree) d p lines head.0 index head.1) ready in
       (left.ready, left.before)
 
--- what is remembered once what is innermost has ended where another footnote definition begins
+-- the state after the innermost open nodes end where another footnote definition begins
 record IsOutside (d : Document) (defined : Tables) (old new : Reading) (p : Place) (lines : List Place) : Type 0 where
   left : IsLeft d defined new.tree old.blank p lines
   out : in_footnote (path_of d.options new.tree) ≡ false
@@ -212,7 +213,8 @@ note_left d defined r p lines head true is_head top ((ready, plain), before) =
           ∙ ap (λ z. footnote_head_at (around d z) p) (sym inner);
     }
 
--- where blocks continue in a footnote definition whose head at a place has so many bytes, and the lines then
+-- the place where blocks continue in a footnote definition, given the length of its head at a place, and the lines
+-- after that
 abbrev pub behind_note : Document → Place → List Place → ℕ → Place × List Place
 behind_note d p lines size =
     let q : Place = place_behind size (unindented p) in
@@ -240,7 +242,7 @@ module _ (d : Document) (defined : Tables) (r : Reading) (p : Place) (lines : Li
   unfolding OpensFootnote
   opens_in path before is = opens_note d (level path before) p lines head opening is (index, named, refl)
 
-  -- a footnote definition opened, where what is innermost has ended and a blank line before is noted
+  -- a footnote definition is opened after the innermost open nodes ended and a blank line before was noted
   note_begun : (f : Forest Item) → ReadyPlain d defined f false p lines → in_footnote (path_of d.options f) ≡ false
       → footnote_head_at (around d (path_of d.options f)) p ≡ Some head
       → ReadyAt d (told_label defined head.1) (with_open f (node_of start 0 (FootnoteDefinitionBody index))) false (Inside there.0) there.1
@@ -256,7 +258,7 @@ module _ (d : Document) (defined : Tables) (r : Reading) (p : Place) (lines : Li
       (begun_ready d (told_label defined head.1) f (node_of start 0 (FootnoteDefinitionBody index)) (FootnoteDefinition columns) frames (Inside there.0)
       there.1 refl out' ready.are_open ready.completes.below k).ready
 
-  -- a footnote definition opened
+  -- a footnote definition is opened
   pub note_is_open : ReadyAt d defined r.tree r.blank (Inside p) lines → NoteIsOpen d (told_label defined head.1) (footnote_begun start index r) there
   unfolding footnote_begun item_finished
   note_is_open ready =

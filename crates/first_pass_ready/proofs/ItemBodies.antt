@@ -1,4 +1,4 @@
--- Items and definitions, which are alike but for the lists that they stand in.
+-- Items and definitions, which are alike except for the lists that they are in.
 use Rattle.std.proofs.Common.{◌≡◌, ℕ, nat_le, true, false, List, ◌∷◌, Option, Some, None, refl, sym, ap, arith}
 use Rattle.std.proofs.lemmas.Bool.Decides.{nat_tests}
 use Rattle.std.specs.Option.{option_and_then}
@@ -17,7 +17,7 @@ use Rattle.first_pass_open.specs.Path.{container_of}
 use Rattle.first_pass_lists.specs.Closing.{is_item, is_definition_list, emptied, emptied_definition}
 use Rattle.first_pass_ready.specs.State.{frame_of, item_columns, emptied_as}
 
--- an item like this one with so many columns, as a node and as a container
+-- an item of the same kind with a number of columns, as a node and as a container
 abbrev pub item_body : ItemBody → ℕ → ItemBody
 item_body (DefinitionListDefinition columns) n = DefinitionListDefinition n
 item_body _ n = ListItemBody n
@@ -26,7 +26,7 @@ abbrev pub item_container : ItemBody → ℕ → Container
 item_container (DefinitionListDefinition columns) n = Definition n
 item_container _ n = ListItem n
 
--- the body of a node is known by its columns
+-- the columns of a node determine its body
 pub columns_are : (o : Option ItemBody) (n : ℕ) → option_and_then item_columns o ≡ Some n → (b : ItemBody) × (o ≡ Some b) × (item_columns b ≡ Some n)
 columns_are None n h = cc
 columns_are (Some b) n h = (b, refl, h)
@@ -60,13 +60,13 @@ pub item_no_quote : (b : ItemBody) (n : ℕ) → is_quote (item_container b n) �
 item_no_quote (DefinitionListDefinition columns) n = refl
 item_no_quote b n = refl
 
--- one that takes blank lines alone
+-- one that takes only blank lines
 pub emptied_is : (f : Forest Item) (ix : TreeIndex) (rest : List TreeIndex) (b : ItemBody) (n : ℕ) → f.spine ≡ ix ∷ rest
     → emptied_as f (Some (item_body b n)) ≡ with_body_at f ix (item_body b 0)
 emptied_is f ix rest (DefinitionListDefinition columns) n spine = ap (emptied_definition f) spine
 emptied_is f ix rest b n spine = ap (emptied f) spine
 
--- an item that takes blank lines alone continues each line
+-- every line continues an item that takes only blank lines
 zero_item : (q : Rest) → prefix (ListItem 0) q ≡ Some q
 unfolding prefix
 zero_item q = let t : nat_le 0 (indent q) ≡ true = grind (arith, nat_tests) in rw t refl

@@ -1,4 +1,5 @@
--- A heading or a table that was read as the last child of a definition list, and stands after that list: as if the list had ended before it.
+-- A heading or a table that was read as the last child of a definition list, and is after that list, as if the list
+-- had ended before it.
 use Rattle.std.proofs.Common.{◌≡◌, ℕ, zero, suc, ◌+◌, ◌-◌, ◌<◌, ◌==◌, nat_lt, ◌&&◌, not, Bool, true, false, List, [], ◌∷◌, ◌++◌, length, map}
 use Rattle.std.proofs.Common.{slice_index, slice_get}
 use Rattle.std.proofs.Common.{Option, Some, None, is_some, refl, sym, ap, subst, ◌∙◌, arith, if◌then◌else◌}
@@ -28,7 +29,7 @@ use Rattle.first_pass_lists.specs.declared.reading.Reading.{Reading}
 use Rattle.first_pass_ready.proofs.PopLemmas.{list_popped, list_spine}
 use Rattle.first_pass_ready.proofs.TitleMoved.{last_child, moved_current}
 
--- nodes without a paragraph stay as they are where paragraphs are made tight
+-- making paragraphs tight does not change nodes without a paragraph
 body_kept : (b : ItemBody) → is_paragraph_body b ≡ false → tight_body b ≡ b
 body_kept ParagraphBody h = cc
 body_kept b h = refl
@@ -74,7 +75,7 @@ at_append depth zero nodes more h = run_append depth nodes more h
 at_append depth (suc i) [] more h = at_kept depth (suc i) more h
 at_append depth (suc i) (n ∷ nodes) more h = ap (λ z. n ∷ z) (at_append depth i nodes more h)
 
--- which leaves their depths
+-- nor does it change their depths
 run_depths_by : (t : Bool) (depth : ℕ) (n : ℕ × Item) (now more : List (ℕ × Item)) → depths now ≡ depths more
     → depths (if t then tightened depth n ∷ now else n ∷ more) ≡ depths (n ∷ more)
 run_depths_by true depth n now more is = ap (λ z. n.0 ∷ z) is
@@ -118,7 +119,7 @@ module _ (f : Forest Item) (items : List (ℕ × Item)) (e : ℕ) (ix : TreeInde
   abbrev more : List (ℕ × Item)
   more = at_depth (length f.spine + 1) items
 
-  -- the nodes of the list closed, and what was read in it after them
+  -- the nodes of the closed list, and the block that was read in it after them
   tight_by : (t : Bool) → (if t then tight_items (closed_by (added f items) e (ix ∷ rest)) ix else closed_by (added f items) e (ix ∷ rest)).nodes
       ≡ (if t then tight_items (closed_by f e (ix ∷ rest)) ix else closed_by f e (ix ∷ rest)).nodes ++ more
   tight_by true =
@@ -143,7 +144,7 @@ module _ (f : Forest Item) (items : List (ℕ × Item)) (e : ℕ) (ix : TreeInde
   closed_length : length (list_popped f e ix rest flags).nodes ≡ length f.nodes
   closed_length = length_of (list_popped f e ix rest flags).nodes f.nodes (popped_depths (bit_and flags.0 1 == 1) f)
 
-  -- what was read, moved out of the list
+  -- the block that was read, moved out of the list
   moved_nodes : map_from shallower (length f.nodes) (list_popped (added f items) e ix rest flags).nodes
       ≡ (list_popped f e ix rest flags).nodes ++ at_depth (length rest + 1) items
   moved_nodes =
@@ -184,7 +185,7 @@ pop_as r e ix rest flags is =
     ap (popped_by r (closed_by r.tree e (ix ∷ rest)) ix)
     (body-kept r.tree.nodes ix.0 ix.0 (λ x. record { start = x.start; «end» = e; body = x.body }) (λ x. refl) ∙ is)
 
--- a definition list is innermost, and no possible title is last in it
+-- a definition list is innermost, and its last child is no possible title
 pub record IsBehindDefinition (f : Forest Item) : Type 0 where
   pub place : TreeIndex
   pub outer : List TreeIndex
@@ -217,7 +218,7 @@ behind_definition f h =
     let p = and_parts (is_definition_list (top_body f)) (not (is_some (possible_title f))) h in
     behind_by f f.spine refl p.0 (no_title (possible_title f) p.1)
 
--- a list around made loose
+-- a list around it becomes loose
 body_added : (f : Forest Item) (items : List (ℕ × Item)) (ix : TreeIndex) (b : ItemBody) → ix.0 < length f.nodes
     → with_body_at (added f items) ix b ≡ added (with_body_at f ix b) items
 body_added f items ix b low =
@@ -272,7 +273,7 @@ module _ (r : Reading) (items : List (ℕ × Item)) (e : ℕ) (ix : TreeIndex) (
   are_in : AreIn (length r.tree.nodes) (ix ∷ rest)
   are_in = subst (AreIn (length r.tree.nodes)) spine (open_are_in r.tree.nodes r.tree.spine old.opened)
 
-  -- the list closed, and what was read after it
+  -- the closed list, and the block that was read after it
   closed_left : definitions_closed e (with_tree r (added r.tree items)) ≡ (let f : Forest Item = list_popped r.tree e ix rest flags in
       with_tree r (added f items))
   unfolding definitions_closed
@@ -296,7 +297,7 @@ module _ (r : Reading) (items : List (ℕ × Item)) (e : ℕ) (ix : TreeIndex) (
       ap gap_noted closed_left ∙ noted_added (with_tree r f) items low
       ∙ ap (λ (q : Reading). with_tree q (added q.tree items)) (sym (finished_is e r ix rest flags spine body none empty))
 
--- a heading or a table right after a definition leaves what it would if the list had ended before it
+-- a heading or a table right after a definition gives the same as if the list had ended before it
 pub left_is : (r : Reading) (items : List (ℕ × Item)) (e : ℕ) → IsForest r.tree → IsForest (added r.tree items) → is_after_definition r.tree ≡ true
     → r.empty_item ≡ None → NoParagraph items
     → definitions_left e (with_tree r (added r.tree items)) ≡ with_tree (list_finished e r) (added (list_finished e r).tree items)

@@ -1,4 +1,4 @@
--- What opens at a place, as what stands before it changes.
+-- The openings at a place, as the blocks before it change.
 use Rattle.std.proofs.Common.{◌≡◌, ℕ, ◌<◌, ◌+◌, Bool, false, List, ◌∷◌, length, Option, Some, None, IfSome, sym, ap, subst, ◌∙◌, arith}
 use Rattle.std.specs.Option.{option_map_or}
 use Rattle.first_pass_items.specs.declared.item.Item.{Item}
@@ -25,14 +25,14 @@ use Rattle.first_pass_ready.proofs.ClosedIn.{last_in, level_of, open_last}
 abbrev stands_before : Forest Item → Bool → Before
 stands_before f run = record { last = last_in f; counted = run }
 
--- where a definition may begin after the one tree if after the other
+-- if a definition may begin after the one tree exactly if after the other
 pub opens_as : (d : Document) (f g : Forest Item) (run later : Bool) (p : Place) (lines : List Place) (o : Opening) → path_of d.options g ≡ path_of d.options f
     → takes_after (last_in f) ≡ takes_after (last_in g) → Opens d (level_of d.options f run) p lines o → Opens d (level_of d.options g later) p lines o
 opens_as d f g run later p lines o path takes opens =
     let alike = takes_alike d (path_of d.options f) (stands_before f run) (stands_before g later) p takes in
     subst (λ z. Opens d (level z (stands_before g later)) p lines o) (sym path) (alike.to lines o opens)
 
--- where none may after the other, and what opens is none
+-- if none may begin after the other, and the opening is none
 pub opens_none : (d : Document) (f g : Forest Item) (run later : Bool) (p : Place) (lines : List Place) (o : Opening)
     → path_of d.options g ≡ path_of d.options f
     → opens_definition o ≡ false → takes_after (last_in g) ≡ false → Opens d (level_of d.options f run) p lines o
@@ -41,7 +41,7 @@ opens_none d f g run later p lines o path other none opens =
     let alike = other_alike d (path_of d.options f) (stands_before f run) (stands_before g later) p lines o other none opens in
     subst (λ z. Opens d (level z (stands_before g later)) p lines o) (sym path) (alike.to lines o opens)
 
--- what is last where no list is innermost
+-- the last child if no list is innermost
 pub plain_last_in : (options : Options) (f : Forest Item) (frames : List Frame) (closed : Closed) → AreOpen options f.nodes f.spine frames → IsPlain frames
     → closed_in f ≡ closed → last_in f ≡ last_plain closed
 plain_last_in options f frames closed o plain is =
@@ -88,7 +88,7 @@ open_before f ix jx s forest spine =
     let n : length f.spine ≡ length (ix ∷ jx ∷ s) = ap (λ (z : List TreeIndex). length z) spine in
     with_before jx.0 f f.current (current_before ds (length s + 1) (length f.spine + 1) jx.0 f.current opened.1.0 (omega arith) forest.at_current)
 
--- the same once the innermost open node is closed whose last child is a paragraph then
+-- the same after the innermost open node is closed, whose last child is then a paragraph
 pub outer_before : (f : Forest Item) (ix a b c : TreeIndex) (rest s : List TreeIndex) → IsForest f → f.spine ≡ ix ∷ rest → rest ≡ a ∷ b ∷ s
     → f.current ≡ Some c → b.0 < c.0
 outer_before f ix a b c rest s forest spine is current =

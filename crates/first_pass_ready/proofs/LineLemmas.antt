@@ -1,4 +1,4 @@
--- A line read: containers closed, and the line entered.
+-- A line is read: containers are closed, and the line is entered.
 use Rattle.std.proofs.Common.{◌≡◌, ℕ, ◌+◌, ◌<◌, ◌≤◌, true, false, List, ◌∷◌, length, drop, Some, None, is_some, IsUtf8}
 use Rattle.std.proofs.Common.{IsCharBoundary, refl, sym, ap, subst, ◌∙◌}
 use Rattle.first_pass_items.specs.declared.item.Item.{Item}
@@ -25,7 +25,7 @@ use Rattle.first_pass_ready.proofs.OldFootnotes.{ends_here, ended_path, ended_re
 use Rattle.first_pass_lists.specs.Closing.{footnote_ended}
 use Rattle.first_pass_items.specs.declared.option_set.Options.{Options}
 
--- a line and those after it, of which the containers that don't continue it are closed
+-- a line and those after it, after the containers that it does not continue are closed
 pub record IsAtLine (d : Document) (defined : Tables) (old new : Reading) (start : ℕ) (r : Rest) : Type 0 where
   pub goes : after (path_of d.options new.tree) (line_rest (drop start d.text)) ≡ Some r
   pub ready : Ready d defined old (lines_from d.text start)
@@ -54,7 +54,8 @@ at_line d defined old new start kept line r line_is within spine paths closes ta
           (subst (Ready d defined old) first ready);
     }
 
--- the same once a footnote definition in the old form has ended there, if one does: what is innermost then doesn't
+-- the same after a footnote definition in the old form ended there, if one does: the innermost open node then does
+-- not end
 pub record IsSettled (d : Document) (defined : Tables) (old new : Reading) (start : ℕ) (r : Rest) : Type 0 where
   pub goes : after (path_of d.options new.tree) (line_rest (drop start d.text)) ≡ Some r
   pub ready : Ready d defined old (lines_from d.text start)
@@ -71,7 +72,7 @@ settled d defined old new start r line =
       ready = λ ready. ended_ready d defined start new here lines refl (line.ready ready);
     }
 
--- a blank line read
+-- a blank line is read
 pub blank_line_read : (d : Document) (defined : Tables) (old new : Reading) (start : ℕ) (r : Rest)
     → IsSettled d defined old new start r → is_some (blank_len r.left) ≡ true → Ready d defined old (lines_from d.text start)
     → Ready d defined (blank_read new) (lines_from d.text (start + line_len (drop start d.text)))
@@ -80,7 +81,7 @@ blank_line_read d defined old new start r line blank ready =
     ready_blank_line d defined new (line_place start (drop start d.text)) (lines_from d.text (start + line_len (drop start d.text))) r line.goes
     now.1 blank now.0
 
--- a line that isn't blank
+-- a line that is not blank
 pub line_entered : (d : Document) (defined : Tables) (old new : Reading) (start : ℕ) (r : Rest)
     → IsSettled d defined old new start r → is_some (blank_len r.left) ≡ false → Ready d defined old (lines_from d.text start)
     → ReadyAt d defined (item_finished new).tree (item_finished new).blank (Inside (place_at start r))
@@ -90,7 +91,7 @@ line_entered d defined old new start r line blank ready =
     ready_line d defined new (line_place start (drop start d.text)) (lines_from d.text (start + line_len (drop start d.text))) r line.goes
     now.1 blank now.0
 
--- a line has what is left of it after what it continues
+-- the rest of a line, after the prefixes of the containers that it continues
 pub line_kept : (options : Options) (text : List ℕ) (start kept : ℕ) (f : Forest Item) (r : Rest) → IsUtf8 text → IsCharBoundary text start
     → after (path_in options f.nodes (outer kept f.spine)) (line_rest (drop start text)) ≡ Some r
     → IsPlaceOf text (place_at start r) × (line_end (place_at start r) ≡ start + line_len (drop start text))

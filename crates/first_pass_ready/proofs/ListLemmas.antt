@@ -1,4 +1,4 @@
--- A list closed in the tree, against what the grammar says of it.
+-- A list is closed in the tree as in the grammar.
 use Rattle.std.proofs.Common.{◌≡◌, ℕ, zero, suc, ◌+◌, ◌<◌, ◌==◌, nat_lt, Bool, true, false, not, List, [], ◌∷◌, length, map, slice_index, Option, Some, None}
 use Rattle.std.proofs.Common.{refl, sym}
 use Rattle.std.proofs.Common.{ap, subst, ◌∙◌, arith, if◌then◌else◌}
@@ -17,7 +17,7 @@ use Rattle.first_pass_open.specs.OpenBlock.{closed_by}
 use Rattle.first_pass_ready.specs.State.{frame_of}
 use Rattle.first_pass_tree.proofs.BodyLemmas.{changed_alike}
 
--- all are deeper than a depth
+-- all are deeper than this
 abbrev AreDeeper : ℕ → List (ℕ × Item) → Type 0
 AreDeeper depth [] = Unit {0}
 AreDeeper depth (n ∷ ns) = (depth < n.0) × AreDeeper depth ns
@@ -32,7 +32,7 @@ run_all depth (n ∷ ns) deep =
     let r = run_all depth ns deep.1 in
     rw t (ap (λ k. tightened k n ∷ tight_run depth ns) z ∙ ap (λ ms. tightened (suc (suc depth)) n ∷ ms) r)
 
--- after a place all are deeper
+-- all after a place are deeper
 abbrev AreDeeperBehind : ℕ → ℕ → List (ℕ × Item) → Type 0
 AreDeeperBehind depth i [] = Unit {0}
 AreDeeperBehind depth zero (n ∷ ns) = AreDeeper depth ns
@@ -57,7 +57,7 @@ tight_same true x e b is plain set =
 tight_same false x e b is plain set =
     ap (λ z. node_of x.start e (flagged false z)) is ∙ ap (λ z. node_of x.start e z) set ∙ ap (λ z. node_of x.start e z) (sym is)
 
--- The paragraphs are made tight after a list that has its end, or the list is closed as a whole.
+-- The paragraphs become tight after the list gets its end, or the list is closed as a whole.
 tight_whole : (depth i e : ℕ) (ns : List (ℕ × Item)) (b : ItemBody)
     → body_at ns i ≡ Some b → tight_body b ≡ b → flagged false b ≡ b → AreDeeperBehind depth i ns
     → tight_at depth (suc i) (modify ns i (λ x. record { start = x.start; «end» = e; body = x.body }))
@@ -81,7 +81,7 @@ list_flags_of (ListBody flags byte number) = Some flags
 list_flags_of (DefinitionList flags) = Some flags
 list_flags_of _ = None
 
--- a list's body doesn't change where paragraphs are made tight, nor where its flags are set again
+-- a list's body does not change when paragraphs become tight, nor when its flags are set again
 pub list_not_tight : (b : ItemBody) (flags : ListFlags) → list_flags_of b ≡ Some flags → tight_body b ≡ b
 list_not_tight (ListBody flags byte number) other h = refl
 list_not_tight (DefinitionList flags) other h = refl
@@ -93,7 +93,7 @@ list_flagged (ListBody flags byte number) other loose h set =
 list_flagged (DefinitionList flags) other loose h set = let same : flags ≡ other = cc in ap DefinitionList (sym set ∙ sym same)
 list_flagged b other loose h set = cc
 
--- a tight list closed
+-- a tight list is closed
 pub tight_closed : (f : Forest Item) (ix : TreeIndex) (rest : List TreeIndex) (e : ℕ) (b : ItemBody)
     → IsForest f → f.spine ≡ ix ∷ rest → body_at f.nodes ix.0 ≡ Some b → tight_body b ≡ b → flagged false b ≡ b
     → (tight_items (closed_by f e (ix ∷ rest)) ix).nodes ≡ list_closed f.nodes ix.0 (suc (suc (suc (length rest)))) false e
@@ -110,7 +110,7 @@ tight_closed f ix rest e b forest spine is plain set =
     ap (λ d. tight_at d (ix.0 + 1) nodes) at ∙ ap (λ k. tight_at (suc (length rest)) k nodes) y
     ∙ tight_whole (suc (length rest)) ix.0 e f.nodes b is plain set (deeper_behind (suc (length rest)) ix.0 f.nodes behind)
 
--- a loose list closed
+-- a loose list is closed
 pub loose_closed : (f : Forest Item) (ix : TreeIndex) (rest : List TreeIndex) (e : ℕ) (b : ItemBody)
     → body_at f.nodes ix.0 ≡ Some b → flagged true b ≡ b
     → (closed_by f e (ix ∷ rest)).nodes ≡ list_closed f.nodes ix.0 (suc (suc (suc (length rest)))) true e

@@ -1,4 +1,4 @@
--- A footnote definition in the old form ended at a line, after a blank line that counts.
+-- A footnote definition in the old form ends at a line, after a counting blank line.
 use Rattle.std.proofs.Common.{◌≡◌, ◌⊎◌, inl, inr, ℕ, ◌==◌, Bool, true, false, not, ◌||◌, ◌&&◌, List, [], ◌∷◌, Option, Some, None, refl, sym}
 use Rattle.std.proofs.Common.{ap, subst, ◌∙◌, if◌then◌else◌}
 use Rattle.std.proofs.Math.Dec.{leb-zero}
@@ -42,14 +42,15 @@ pub and_no : (b : Bool) → (b && false) ≡ false
 and_no true = refl
 and_no false = refl
 
--- what is innermost is a footnote definition that ends at the next line: one in the old form, after a blank line that counts
+-- the innermost open node is a footnote definition that ends at the next line: one in the old form, after a counting
+-- blank line
 abbrev pub ends_here : Options → Forest Item → Bool → Bool
 ends_here options f run = is_footnote (top_body f) && (run && not (gfm_footnotes options))
 
 pub stays_unblank : (options : Options) (f : Forest Item) → ends_here options f false ≡ false
 stays_unblank options f = and_no (is_footnote (top_body f))
 
--- where the frames say that it is no footnote definition
+-- no footnote definition, by the frames
 no_footnote_by : (options : Options) (b : Option ItemBody) (frame : Frame) (frames : List Frame) → option_and_then (frame_of options) b ≡ Some frame
     → in_footnote (containers_of (frame ∷ frames)) ≡ false → is_footnote b ≡ false
 no_footnote_by options None frame frames h out = refl
@@ -67,7 +68,7 @@ no_footnote_in options nodes [] frames o out = refl
 no_footnote_in options nodes (ix ∷ s) [] o out = absurd o
 no_footnote_in options nodes (ix ∷ s) (frame ∷ frames) o out = no_footnote_by options (body_at nodes ix.0) frame frames o.0 out
 
--- an item or a definition that is closed leaves a list
+-- a list remains after an item or a definition in it is closed
 item_in_container : (b : ItemBody) (n : ℕ) (c : Container) (frames : List Frame) → StandsIn (item_container b n) (InContainer c ∷ frames) → ⊥
 item_in_container (DefinitionListDefinition columns) n c frames stands = stands
 item_in_container b n c frames stands = stands
@@ -88,7 +89,7 @@ stays_in_list d defined f run lines ready b n stands =
     ap (λ (t : Bool). t && (run && not (gfm_footnotes d.options)))
     (no_footnote_around d.options f.nodes f.spine ready.frames b n ready.are_open stands)
 
--- Where what is innermost doesn't end here, neither does it in the grammar.
+-- If the innermost open node does not end here, it does not end in the grammar.
 columns_by : (options : Options) (g run : Bool) → gfm_footnotes options ≡ g → (run && not g) ≡ false
     → ((footnote_columns options == 0) && (run && true)) ≡ false
 columns_by options true run is h = ap (λ (t : Bool). ((if t then 4 else 0) == 0) && (run && true)) is
@@ -131,7 +132,7 @@ pub goes_on_at : (options : Options) (f : Forest Item) (frames : List Frame) (ru
     → ends_here options f run ≡ false → ends_old_footnote (lvl frames (tail (closed_in f) run)) ≡ false
 goes_on_at options f frames run o h = goes_on_in options f.nodes f.spine frames (closed_in f) run o (open_defined options f frames o) h
 
--- what is made of what is innermost at a line
+-- the innermost open node at a line
 ended_by : (options : Options) (e : ℕ) (r : Reading) (g b t : Bool) → gfm_footnotes options ≡ g → r.blank ≡ b → is_footnote (top_body r.tree) ≡ t
     → ((if g then r else (if b then (if t then popped e r else r) else r)) ≡ footnote_ended options e r)
     × ((t && (b && not g)) ≡ ends_here options r.tree r.blank)
@@ -144,7 +145,7 @@ ended_by options e r g b t g_is b_is t_is =
           ∙ ap (λ (x : Bool). tested (gfm_footnotes options) r.blank x) (sym t_is),
     )
 
--- it stays, or it is a footnote definition in the old form after a blank line that counts, and is closed
+-- it stays open; or it is a footnote definition in the old form after a counting blank line, and is closed
 abbrev pub Stays : Options → ℕ → Reading → Type 0
 Stays options e r = (footnote_ended options e r ≡ r) × (ends_here options r.tree r.blank ≡ false)
 
@@ -175,11 +176,11 @@ pub footnote_top : (nodes : List (ℕ × Item)) (s : List TreeIndex) → is_foot
 footnote_top nodes [] h = cc
 footnote_top nodes (ix ∷ rest) h = let b = footnote_is (body_at nodes ix.0) h in (ix, rest, b.0, refl, b.1)
 
--- one in the old form takes nothing of a line
+-- one in the old form has no prefix
 columns_none : (options : Options) (g : Bool) → gfm_footnotes options ≡ g → g ≡ false → footnote_columns options ≡ 0
 columns_none options g is h = let old : gfm_footnotes options ≡ false = is ∙ h in ap (λ (t : Bool). if t then 4 else 0) old
 
--- it is innermost among the containers then
+-- it is then the innermost container
 pub in_old : (options : Options) (r : Reading) → gfm_footnotes options ≡ false → is_footnote (top_body r.tree) ≡ true
     → in_old_footnote (path_of options r.tree) ≡ true
 in_old options r old top =
@@ -245,7 +246,7 @@ module _ (d : Document) (defined : Tables) (r : Reading) (line : Place) (lines :
   unfolding Ready
   left_ready e_is ready = left_with r.empty_item refl e_is ready
 
--- after what is innermost has ended at a line, if it does
+-- after the innermost open node has ended at a line, if it does
 pub ended_path : (d : Document) (e : ℕ) (r : Reading) (x : Rest) → after (path_of d.options (footnote_ended d.options e r).tree) x
     ≡ after (path_of d.options r.tree) x
 ended_path d e r x = elim (ended_as d.options e r) [

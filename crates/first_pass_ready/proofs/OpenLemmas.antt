@@ -1,4 +1,4 @@
--- What the open nodes are, as the tree grows and nodes are closed.
+-- The frames of the open nodes, as the tree grows and nodes are closed.
 use Rattle.std.proofs.Common.{◌≡◌, ℕ, zero, suc, ◌<◌, ◌==◌, Bool, true, false, List, [], ◌∷◌, ◌++◌, length, map, Option, Some, None}
 use Rattle.std.proofs.Common.{refl, sym, ap, ◌∙◌, arith, if◌then◌else◌}
 use Rattle.std.specs.Option.{option_map, option_and_then}
@@ -17,7 +17,7 @@ use Rattle.first_pass_open.proofs.PathLemmas.{get_front}
 use Rattle.first_pass_tree.proofs.BodyLemmas.{body-kept, body-other}
 use Rattle.first_pass_items.specs.declared.option_set.Options.{Options}
 
--- the container that a frame is, if it is one
+-- the container of a frame, if it has one
 abbrev framed : Option Frame → Option Container
 framed None = None
 framed (Some (InContainer c)) = Some c
@@ -63,7 +63,7 @@ open_path options nodes (ix ∷ spine) (frame ∷ frames) o =
     ap (λ c. with_container c (path_in options nodes spine)) (container_framed_at options (body_at nodes ix.0) frame o.0)
     ∙ ap (with_container (framed (Some frame))) (open_path options nodes spine frames o.1) ∙ with_frame frame frames
 
--- what is below a place alone counts
+-- only the nodes before a place matter
 pub open_below : (options : Options) (nodes other : List (ℕ × Item)) (n : ℕ) (spine : List TreeIndex) (frames : List Frame)
     → ((i : ℕ) → i < n → frame_at options other i ≡ frame_at options nodes i) → AreBelow n (map (λ ix. ix.0) spine)
     → AreOpen options nodes spine frames → AreOpen options other spine frames

@@ -1,4 +1,4 @@
--- One open node closed, over what the nodes can still become.
+-- One open node is closed: the completions of the nodes.
 use Rattle.std.proofs.Common.{◌≡◌, ℕ, zero, suc, ◌==◌, Bool, true, false, not, List, [], ◌∷◌, length, map, Some, refl, sym, ap, subst, ◌∙◌}
 use Rattle.std.proofs.Common.{if◌then◌else◌}
 use Rattle.std.proofs.lemmas.List.{length-map}
@@ -43,11 +43,11 @@ use Rattle.first_pass_ready.proofs.ClosedIn.{items_no_container, definitions_no_
 use Rattle.first_pass_ready.proofs.ClosedIn.{level_of, open_level, closed_at_body}
 use Rattle.first_pass_ready.proofs.ClosedIn.{top_in, top_of, plain_no_definitions, top_no_definitions, closed_popped}
 
--- a list closed, its depth from its open nodes
+-- the depth below a closed list, from its open nodes
 pub list_depth : (os : List TreeIndex) → suc (suc (suc (length (map (λ (i : TreeIndex). i.0) os)))) ≡ suc (suc (suc (length os)))
 list_depth os = ap (λ n. suc (suc (suc n))) (length-map os (λ (i : TreeIndex). i.0))
 
--- what is ready, of nodes with this last in what is innermost
+-- ready nodes, given the last child of the innermost open one
 abbrev pub ready_as : (d : Document) (defined : Tables) (f : Forest Item) (run : Bool) (from : From) (lines : List Place) (frames : List Frame)
     (closed : Closed)
     → closed_in f ≡ closed → AreOpen d.options f.nodes f.spine frames → SilentClosed f.nodes closed
@@ -59,18 +59,19 @@ ready_as d defined f run from lines frames closed is o silent k = record {
   silent = subst (SilentClosed f.nodes) (sym is) silent;
 }
 
--- what is ready, in which no list is innermost and this is last
+-- ready nodes with this last child, and no innermost list
 pub record PlainAfter (d : Document) (defined : Tables) (f : Forest Item) (run : Bool) (from : From) (lines : List Place) (closed : Closed) : Type 0 where
   pub ready : ReadyAt d defined f run from lines
   pub plain : IsPlain ready.frames
   pub last : closed_in f ≡ closed
 
--- a sequence in these containers ends before these lines, after what is last and a run of blank lines that counts or doesn't
+-- a sequence in these containers ends before these lines, after its last block and a run of blank lines that counts
+-- or not
 abbrev pub EndsBefore : Options → Closed → Bool → List Container → From → List Place → Type 0
 EndsBefore options closed run path from lines =
     going options (level path (record { last = last_plain closed; counted = run })) from lines ≡ Ends (Lines lines)
 
--- what is left open once a container is closed that is directly in it
+-- the open nodes that remain after a container directly in them is closed
 pub record LeftOpen (d : Document) (defined : Tables) (f : Forest Item) (run : Bool) (lines : List Place) (c : Container) : Type 0 where
   pub ready : ReadyAt d defined f run Line lines
   pub stands : StandsIn c ready.frames
@@ -112,7 +113,7 @@ closed_container d defined f closed run from lines e ix rest c (InContainer b �
     (completes-pop d defined (tail closed run) b frames f.nodes ix.0 (map (λ (i : TreeIndex). i.0) rest) from lines (Lines lines) ends' k))) in
     record { ready = q; stands = stands; apart = ap (λ z. is_footnote_in_another (InContainer z) frames) same ∙ o.2 }
 
--- a container closed
+-- a container is closed
 pub leave_container : (d : Document) (defined : Tables) (f : Forest Item) (run : Bool) (from : From) (lines : List Place) (e : ℕ) (ix : TreeIndex)
     (rest : List TreeIndex) (c : Container) → f.spine ≡ ix ∷ rest → frame_at d.options f.nodes ix.0 ≡ Some (InContainer c)
     → EndsBefore d.options (closed_in f) run (c ∷ path_in d.options f.nodes rest) from lines
@@ -123,7 +124,7 @@ leave_container d defined f run from lines e ix rest c spine is ends e_is ready 
     (subst (λ s. AreOpen d.options f.nodes s ready.frames) spine ready.are_open)
     (subst (λ s. CompletesAt d defined (tail (closed_in f) run) ready.frames f.nodes (map (λ (i : TreeIndex). i.0) s) from lines) spine ready.completes)
 
--- what is ready then
+-- ready nodes after that
 pub pop_container : (d : Document) (defined : Tables) (f : Forest Item) (run : Bool) (from : From) (lines : List Place) (e : ℕ) (ix : TreeIndex)
     (rest : List TreeIndex) (c : Container) → f.spine ≡ ix ∷ rest → frame_at d.options f.nodes ix.0 ≡ Some (InContainer c)
     → EndsBefore d.options (closed_in f) run (c ∷ path_in d.options f.nodes rest) from lines
@@ -132,7 +133,7 @@ pub pop_container : (d : Document) (defined : Tables) (f : Forest Item) (run : B
 pop_container d defined f run from lines e ix rest c spine is ends e_is ready =
     let left = leave_container d defined f run from lines e ix rest c spine is ends e_is ready in left.ready
 
--- the tree once a list of these flags is closed
+-- the tree after a list with these flags is closed
 abbrev pub list_popped : Forest Item → ℕ → TreeIndex → List TreeIndex → ListFlags → Forest Item
 list_popped f e ix rest flags = if bit_and flags.0 1 == 1 then tight_items (closed_by f e (ix ∷ rest)) ix else closed_by f e (ix ∷ rest)
 
@@ -158,7 +159,7 @@ list_nodes f e ix rest b flags false forest spine is listed set =
     ap (λ z. (list_popped f e ix rest z).nodes) set
     ∙ tight_closed f ix rest e b forest spine is (list_not_tight b flags listed) (list_flagged b flags false listed set)
 
--- a list stays one when it is closed
+-- a closed list is still a list
 tight_if : (t : Bool) (x : Item) (b : ItemBody) → x.body ≡ b → tight_body b ≡ b
     → (if t then record { start = x.start; «end» = x.«end»; body = tight_body x.body } else x).body ≡ b
 tight_if true x b is plain = ap tight_body is ∙ plain
@@ -182,7 +183,7 @@ list_no_paragraph o (ListBody flags byte number) other h = refl
 list_no_paragraph o (DefinitionList flags) other h = refl
 list_no_paragraph o b other h = cc
 
--- the flags of a list, as its frame says
+-- the flags of a list, from its frame
 pub items_set : (options : Options) (b : ItemBody) (flags : ListFlags) (byte : ℕ) (loose : Bool) → list_flags_of b ≡ Some flags
     → frame_of options b ≡ Some (InList byte loose) → flags ≡ list_flags (not loose)
 items_set options (ListBody flags list number) other byte loose listed h =
@@ -203,7 +204,7 @@ list_no_frame options (ListBody flags list number) other c listed h = items_no_c
 list_no_frame options (DefinitionList flags) other c listed h = definitions_no_container (flags.0 == 1) (flags.0 == 0) c h
 list_no_frame options b other c listed h = cc
 
--- the current node of a list that is closed is the list, which is no paragraph
+-- after a list is closed, it is the current node, and no paragraph
 pub closed_list : (options : Options) (f : Forest Item) (e : ℕ) (ix : TreeIndex) (rest : List TreeIndex) (b : ItemBody) (flags : ListFlags) (loose : Bool)
     (frames : List Frame) → IsForest f → f.spine ≡ ix ∷ rest → body_at f.nodes ix.0 ≡ Some b → list_flags_of b ≡ Some flags → flags ≡ list_flags (not loose)
     → AreOpen options (list_popped f e ix rest flags).nodes rest frames → IsPlain frames → closed_in (list_popped f e ix rest flags) ≡ OtherClosed
@@ -218,14 +219,14 @@ closed_list options f e ix rest b flags loose frames forest spine is listed set 
     ∙ top_no_definitions options (top_in now.nodes rest) frames (top_of options now.nodes rest frames o) (plain_no_definitions frames plain) in
     closed_at_body now ix b none (current_by (bit_and flags.0 1 == 1) f e ix rest) body ∙ list_no_paragraph ix.0 b flags listed
 
--- what opens at a place ends a list at an offset, where this is last in the list
+-- the opening at a place ends a list at an offset, given the last child of the list
 abbrev pub EndsItAt : ℕ → ItemBody → Closed → Opening → Type 0
 EndsItAt at (ListBody flags byte number) closed opening = OpensAway (ItemsOf byte) at opening
 EndsItAt at (DefinitionList flags) (DefinitionClosed e blanks) opening = OpensAway (DefinitionsTo e) at opening
 EndsItAt at (DefinitionList flags) _ opening = Unit {0}
 EndsItAt at _ closed opening = Unit {0}
 
--- in a definition list the last is a definition
+-- the last child of a definition list is a definition
 abbrev pub HasDefinition : ItemBody → Closed → Type 0
 HasDefinition (DefinitionList flags) closed = (e : ℕ) × (blanks : Bool) × (closed ≡ DefinitionClosed e blanks)
 HasDefinition _ closed = Unit {0}
@@ -257,7 +258,7 @@ module _ (d : Document) (defined : Tables) (f : Forest Item) (run : Bool) (lines
   abbrev os : List ℕ
   os = map (λ (i : TreeIndex). i.0) rest
 
-  -- what is left open once a list is closed
+  -- the open nodes that remain after a list is closed
   list_left_open : (loose : Bool) (from : From) (frames : List Frame)
       → flags ≡ list_flags (not loose) → AreOpen d.options f.nodes rest frames → AreBelow ix.0 os → IsPlain frames
       → CompletesAt d defined (tail OtherClosed run) frames (list_closed f.nodes ix.0 (suc (suc (suc (length os)))) loose e) os from lines
@@ -279,7 +280,7 @@ module _ (d : Document) (defined : Tables) (f : Forest Item) (run : Bool) (lines
       (subst (λ z. CompletesAt d defined (tail OtherClosed run) frames z os from lines) (sym nodes) k')) in
       record { ready = q; plain = plain; last = last }
 
-  -- the frame of a list is a list's
+  -- the frame of a list
   framed : (frame : Frame) → frame_at d.options f.nodes ix.0 ≡ Some frame → frame_of d.options b ≡ Some frame
   framed frame h = sym (ap (option_and_then (frame_of d.options)) is) ∙ h
 
@@ -304,7 +305,7 @@ module _ (d : Document) (defined : Tables) (f : Forest Item) (run : Bool) (lines
       (completes-pop_definitions d defined c.0 c.1 run loose frames f.nodes ix.0 os lines (subst (λ p. next_goes_on p lines ≡ false) path ends)
       (subst (λ z. CompletesAt d defined (tail z run) (InDefinitions loose ∷ frames) f.nodes (ix.0 ∷ os) Line lines) c.2 k)))
 
-  -- the same of what is ready
+  -- the same for ready nodes
   abbrev opened_at : (frames : List Frame) → AreOpen d.options f.nodes f.spine frames → AreOpen d.options f.nodes (ix ∷ rest) frames
   opened_at frames o = subst (λ s. AreOpen d.options f.nodes s frames) spine o
 
@@ -314,7 +315,7 @@ module _ (d : Document) (defined : Tables) (f : Forest Item) (run : Bool) (lines
   completes_at from frames k =
       subst (λ s. CompletesAt d defined (tail (closed_in f) run) frames f.nodes (map (λ (i : TreeIndex). i.0) s) from lines) spine k
 
-  -- a list closed with what is around it
+  -- a list is closed, with the node around it
   pub pop_list : HasDefinition b (closed_in f) → start_of (length d.text) lines ≡ e → next_goes_on (path_in d.options f.nodes rest) lines ≡ false
       → ReadyAt d defined f run Line lines → ReadyAt d defined (list_popped f e ix rest flags) run Line lines
   pop_list has e_is ends ready =
@@ -342,7 +343,7 @@ module _ (d : Document) (defined : Tables) (f : Forest Item) (run : Bool) (lines
       (away_definitions d.options b loose closed c.0 c.1 e opening (framed (InDefinitions loose) o.0) c.2 away)
       (subst (λ z. CompletesAt d defined (tail z run) (InDefinitions loose ∷ frames) f.nodes (ix.0 ∷ os) (Inside p) lines) c.2 k))
 
-  -- a list closed before a block that ends it
+  -- a list is closed before a block that ends it
   pub leave_list : (p : Place) (opening : Opening) → HasDefinition b (closed_in f)
       → StaysAt d (path_of d.options f) p → Opens d (level_of d.options f run) p lines opening → EndsItAt e b (closed_in f) opening
       → ReadyAt d defined f run (Inside p) lines → PlainAfter d defined (list_popped f e ix rest flags) run (Inside p) lines OtherClosed
@@ -374,7 +375,7 @@ module _ (d : Document) (defined : Tables) (f : Forest Item) (run : Bool) (lines
       (completes-pop_definitions_in_line d defined c.0 c.1 run loose frames f.nodes ix.0 os p lines ends
       (subst (λ z. CompletesAt d defined (tail z run) (InDefinitions loose ∷ frames) f.nodes (ix.0 ∷ os) (Inside p) lines) c.2 k)))
 
-  -- a list closed with the footnote definition around it, where another begins
+  -- a list is closed with the footnote definition around it, where another begins
   pub end_list : (p : Place) → HasDefinition b (closed_in f) → ends_footnote (around d (path_of d.options f)) p ≡ true → offset (unindented p) ≡ e
       → ReadyAt d defined f run (Inside p) lines → PlainAfter d defined (list_popped f e ix rest flags) run (Inside p) lines OtherClosed
   end_list p has ends e_is ready =
@@ -382,7 +383,8 @@ module _ (d : Document) (defined : Tables) (f : Forest Item) (run : Bool) (lines
       (subst (λ z. ends_footnote (around d z) p ≡ true) (open_path d.options f.nodes f.spine ready.frames ready.are_open) ends) e_is
       (opened_at ready.frames ready.are_open) (completes_at (Inside p) ready.frames ready.completes)
 
--- what is left open at a place once a footnote definition is closed, where another begins: no list innermost, and no footnote definition
+-- the open nodes that remain at a place after a footnote definition is closed, where another begins: neither a list
+-- nor a footnote definition is innermost
 abbrev pub LeftAt : Document → Tables → Forest Item → Bool → Place → List Place → Type 0
 LeftAt d defined f run p lines = (q : ReadyAt d defined f run (Inside p) lines) × IsPlain q.frames × (in_footnote (containers_of q.frames) ≡ false)
 
@@ -419,7 +421,7 @@ module _ (d : Document) (defined : Tables) (f : Forest Item) (run : Bool) (p : P
       (subst (λ z. footnote_head_at (around d (c ∷ z)) p ≡ Some head) path begins) k') in
       (q, k'.shape.0, apart)
 
-  -- a footnote definition closed, where another begins
+  -- a footnote definition is closed, where another begins
   pub end_note : f.spine ≡ ix ∷ rest → ReadyAt d defined f run (Inside p) lines → LeftAt d defined (closed_by f (offset (unindented p)) (ix ∷ rest)) run p lines
   end_note spine ready =
       ended_note (closed_in f) ready.frames (subst (λ s. AreOpen d.options f.nodes s ready.frames) spine ready.are_open)

@@ -1,4 +1,4 @@
--- The tree between two blocks, over what its nodes can still become: open nodes closed before the next line.
+-- The tree between two blocks and the completions of its nodes: open nodes are closed before the next line.
 use Rattle.std.proofs.Common.{◌≡◌, ℕ, zero, suc, ◌+◌, ◌-◌, ◌<◌, ◌≤◌, ◌==◌, nat_lt, Bool, true, false, List, [], ◌∷◌, length, map}
 use Rattle.std.proofs.Common.{drop}
 use Rattle.std.proofs.Common.{Option, Some, None, is_some, refl, sym, ap, subst, ◌∙◌, arith, if◌then◌else◌}
@@ -75,13 +75,13 @@ pub ready_finish : (d : Document) (defined : Tables) (r : Reading) → r.tree.sp
 unfolding Ready
 ready_finish d defined r closed ready = ended_with d defined r r.empty_item closed ready
 
--- where no item is empty
+-- if no item is empty
 pub ready_plain : (d : Document) (defined : Tables) (r : Reading) (lines : List Place)
     → r.empty_item ≡ None → ReadyAt d defined r.tree r.blank Line lines → Ready d defined r lines
 unfolding Ready
 ready_plain d defined r lines none ready = subst (λ o. ReadyWith d defined r lines o) (sym none) ready
 
--- where the next line doesn't continue a path it isn't blank after it
+-- if the next line does not continue a path, it is not blank after it
 not_blank_by : (o : Option Rest) → is_some o ≡ false → is_blank_behind o ≡ false
 not_blank_by None h = refl
 not_blank_by (Some r) h = absurd (true≢false h)
@@ -94,7 +94,7 @@ not_on : (b : ItemBody) (path : List Container) (lines : List Place) → next_go
 not_on b path [] h = refl
 not_on b path (line ∷ lines) h = ap is_some (sym (after_zero b path line.rest)) ∙ h
 
--- no possible title is last elsewhere than in a definition list
+-- a possible title is last only in a definition list
 title_off : (top : Option ItemBody) (ix : TreeIndex) (b : Option ItemBody) → is_definition_list top ≡ false → title_by top ix b ≡ None
 title_off top ix None h = refl
 title_off top ix (Some MaybeDefinitionListTitle) h = rw h refl
@@ -112,7 +112,7 @@ pub no_title_at : (f : Forest Item) (ix : TreeIndex) (rest : List TreeIndex) (b 
     → is_definition_list (Some b) ≡ false → possible_title f ≡ None
 no_title_at f ix rest b spine is h = no_title f (ap (λ s. is_definition_list (top_in f.nodes s)) spine ∙ ap is_definition_list is ∙ h)
 
--- the innermost open node closed, where no possible title is last
+-- the innermost open node is closed, if its last child is no possible title
 pub popped_is : (e : ℕ) (r : Reading) (ix : TreeIndex) (rest : List TreeIndex) → r.tree.spine ≡ ix ∷ rest → possible_title r.tree ≡ None
     → popped e r ≡ popped_by r (closed_by r.tree e (ix ∷ rest)) ix (body_at r.tree.nodes ix.0)
 unfolding popped
@@ -139,7 +139,7 @@ pub popped_list : (e : ℕ) (r : Reading) (ix : TreeIndex) (rest : List TreeInde
 popped_list e r ix rest b flags spine is listed none =
     popped_is e r ix rest spine none ∙ ap (popped_by r (closed_by r.tree e (ix ∷ rest)) ix) is ∙ list_by e r ix rest b flags listed
 
--- a definition list whose last child is moved out of it
+-- a definition list, out of which its last child is moved
 moved_by : (e : ℕ) (r : Reading) (ix : TreeIndex) (rest : List TreeIndex) (flags : ListFlags) (title : TreeIndex) → r.tree.spine ≡ ix ∷ rest
     → body_at r.tree.nodes ix.0 ≡ Some (DefinitionList flags)
     → current_moved (popped_at e r r.tree.spine) (Some title) ≡ record r { tree = moved_from (list_popped r.tree e ix rest flags) title.0 }
@@ -154,7 +154,7 @@ unfolding definitions_closed
 definitions_closed_is e r ix rest flags c spine is current =
     ap (current_moved (popped_at e r r.tree.spine)) current ∙ moved_by e r ix rest flags c spine is
 
--- a possible title is last in it
+-- its last child is a possible title
 body_apart : (nodes : List (ℕ × Item)) (place i : ℕ) (g : Item → Item) (a b : ItemBody) → (a ≡ b → ⊥) → body_at nodes place ≡ Some a
     → body_at nodes i ≡ Some b → body_at (modify nodes place g) i ≡ Some b
 body_apart [] place i g a b apart here there = there
@@ -184,7 +184,7 @@ framed_open : (options : Options) (nodes : List (ℕ × Item)) (ix : TreeIndex) 
 framed_open options nodes ix rest [] o = absurd o
 framed_open options nodes ix rest (frame ∷ frames) o = (frame, o.0)
 
--- what is remembered beside the tree
+-- the state beside the tree
 kept_by : (e : ℕ) (r : Reading) (ix : TreeIndex) (rest : List TreeIndex) (b : Option ItemBody)
     → (let q : Reading = popped_by r (closed_by r.tree e (ix ∷ rest)) ix b in (q.blank ≡ r.blank) × (r.empty_item ≡ None → q.empty_item ≡ None))
 kept_by e r ix rest None = (refl, λ none. none)
@@ -221,7 +221,7 @@ module _ (d : Document) (defined : Tables) (r : Reading) (lines : List Place) (e
   abbrev path : List Container
   path = path_in d.options r.tree.nodes rest
 
-  -- the innermost open node closed before the next line, where no item is empty
+  -- the innermost open node is closed before the next line, and no item is empty
   pop_as : (b : Option ItemBody) (frame : Frame) → possible_title r.tree ≡ None → body_at r.tree.nodes ix.0 ≡ b
       → option_and_then (frame_of d.options) b ≡ Some frame
       → next_goes_on (with_container (option_and_then (container_of d.options) b) path) lines ≡ false
@@ -273,7 +273,7 @@ module _ (d : Document) (defined : Tables) (r : Reading) (lines : List Place) (e
       ready_plain d defined (popped e r) lines (kept.1 none)
       (subst (λ b. ReadyAt d defined (popped e r).tree b Line lines) (sym kept.0) (pop_plain ends ready))
 
-  -- an item or a definition closed that may be empty
+  -- an item or a definition that may be empty is closed
   module _ (b : ItemBody) (columns : ℕ) (item : body_at r.tree.nodes ix.0 ≡ Some (item_body b columns))
       (ends : next_goes_on (path_of d.options r.tree) lines ≡ false) where
     item_ends : next_goes_on (item_container b columns ∷ path) lines ≡ false
@@ -326,7 +326,7 @@ module _ (d : Document) (defined : Tables) (r : Reading) (lines : List Place) (e
       (ready_plain d defined (record r { tree = closed_by r.tree e (ix ∷ rest); empty_item = None }) lines refl
       (closed_item b.0 ready.columns item ends x r.blank refl ready.none ready.ready))
 
--- the innermost open node closed before the next line
+-- the innermost open node is closed before the next line
 pub ready_pop : (d : Document) (defined : Tables) (r : Reading) (lines : List Place) (e : ℕ) (ix : TreeIndex) (rest : List TreeIndex)
     → IsForest r.tree → r.tree.spine ≡ ix ∷ rest → start_of (length d.text) lines ≡ e → next_goes_on (path_of d.options r.tree) lines ≡ false
     → Ready d defined r lines → Ready d defined (popped e r) lines
@@ -406,7 +406,7 @@ module _ (e : ℕ) (r : Reading) (ix : TreeIndex) (rest : List TreeIndex) where
   spine_by (Some (DefinitionListDefinition columns)) = refl
   spine_by (Some b) = refl
 
--- a body changed that is no container's, to another that isn't
+-- a body that is no container's changes to another that is none
 pub unnamed : (options : Options) (nodes : List (ℕ × Item)) (place : ℕ) (a b : ItemBody) → container_of options a ≡ None → container_of options b ≡ None
     → body_at nodes place ≡ Some a → (i : ℕ)
     → option_and_then (container_of options) (body_at (modify nodes place (λ x. record { start = x.start; «end» = x.«end»; body = b })) i)
@@ -466,7 +466,7 @@ outer_next s x xs l h =
     let z : suc (length s - suc (length xs)) ≡ length s - length xs = omega arith in
     sym (drop_next (length s - suc (length xs)) s x xs (sym h)) ∙ ap (λ k. drop k s) z
 
--- What is closed of a tree, with the lines before which it is ready.
+-- The nodes of a tree that are closed so far, and the lines before which it is ready.
 pub record ClosedSoFar (old now : Reading) (kept at : ℕ) : Type 0 where
   pub enough : kept ≤ length now.tree.spine
   pub fewer : length now.tree.spine ≤ length old.tree.spine
@@ -506,7 +506,7 @@ closed_more old now kept at (ix ∷ rest) forest spine more c =
       omega arith,
     )
 
--- one open node closed, of those that are to be
+-- one of the open nodes that are to be closed is closed
 pub closed_one : (old now new : Reading) (kept at : ℕ) → IsForest now.tree → new ≡ popped at now → kept < length now.tree.spine → ClosedSoFar old now kept at
     → ClosedSoFar old new kept at × (length new.tree.spine < length now.tree.spine)
 closed_one old now new kept at forest is more c =

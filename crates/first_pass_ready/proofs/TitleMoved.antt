@@ -1,4 +1,4 @@
--- What was last in a definition list that is closed stands after it: nodes and depths.
+-- The last child of a definition list that is closed is moved after it: nodes and depths.
 use Rattle.std.proofs.Common.{◌≡◌, ℕ, zero, suc, ◌+◌, ◌-◌, ◌<◌, ◌≤◌, ◌==◌, Bool, true, false, List, [], ◌∷◌, length, map, slice_index, get_or, Option}
 use Rattle.std.proofs.Common.{Some, IfSome, refl, sym, ap, subst, ◌∙◌, arith, if◌then◌else◌}
 use Rattle.std.proofs.lemmas.List.{length-map}
@@ -10,7 +10,7 @@ use Rattle.first_pass_tree.proofs.Depths.{last-order}
 use Rattle.first_pass_tree.proofs.Moves.{last_before-is}
 use Rattle.first_pass_grammar.specs.Completion.{flagged, list_closed}
 
--- the innermost open node and the current one, its last child
+-- the innermost open node and its last child, the current node
 pub record IsLastChild (f : Forest Item) (ix : TreeIndex) (rest : List TreeIndex) (c : TreeIndex) : Type 0 where
   pub parent : IsLastAt (depths f.nodes) (length rest + 1) ix.0
   pub child : IsLastAt (depths f.nodes) (length rest + 2) c.0
@@ -34,7 +34,7 @@ changed_both [] o (suc at) g f h = refl
 changed_both (n ∷ nodes) zero (suc at) g f h = refl
 changed_both (n ∷ nodes) (suc o) (suc at) g f h = ap (λ z. n ∷ z) (changed_both nodes o at g f (omega arith))
 
--- a change where paragraphs are made tight at another depth
+-- a change at another depth than the paragraphs that become tight
 tight_other : (t : Bool) (x y : Item) → t ≡ false → (if t then record { start = x.start; «end» = x.«end»; body = tight_body x.body } else x) ≡ x
 tight_other true x y h = cc
 tight_other false x y h = refl
@@ -53,7 +53,7 @@ tight_from [] (suc o) at d g l w h = absurd (omega arith)
 tight_from (n ∷ nodes) (suc o) zero d g l w h = absurd (omega arith)
 tight_from (n ∷ nodes) (suc o) (suc at) d g l w h = ap (λ z. n ∷ z) (tight_from nodes o at d g (omega arith) (omega arith) h)
 
--- a list closed whose last child is changed, which stands less deep than the blocks in its items
+-- a closed list whose last child, which is less deep than the blocks in its items, is changed
 pub closed_changed : (nodes : List (ℕ × Item)) (o at d : ℕ) (g : Item → Item) (loose : Bool) (e : ℕ) → o < at → at < length (depths nodes)
     → (slice_index (depths nodes) at == d) ≡ false
     → list_closed (modify nodes at g) o d loose e ≡ modify (list_closed nodes o d loose e) at g
@@ -80,7 +80,7 @@ lower_length ns zero = length-map ns shallower
 lower_length [] (suc e) = refl
 lower_length (n ∷ ns) (suc e) = ap suc (lower_length ns e)
 
--- the last of the depth of a node that was moved, which all after it stood below, is that node
+-- a moved node is the last of its depth, if all nodes after it were deeper
 pub moved_current : (ns : List (ℕ × Item)) (d at : ℕ) → IsLastAt (depths ns) (d + 1) at
     → last_before (depths (map_from shallower at ns)) d (length (map_from shallower at ns)) ≡ at
 moved_current ns d at l =

@@ -1,4 +1,4 @@
--- A definition list closed whose last child is a possible title, which is a paragraph after it then.
+-- A definition list whose last child is a possible title is closed, and the title becomes a paragraph after it.
 use Rattle.std.proofs.Common.{◌≡◌, ℕ, zero, suc, ◌+◌, ◌<◌, ◌==◌, Bool, true, false, not, List, [], ◌∷◌, length, map, slice_index, Some, refl, sym, ap}
 use Rattle.std.proofs.Common.{subst, ◌∙◌, arith}
 use Rattle.std.proofs.lemmas.List.{length-map}
@@ -39,7 +39,7 @@ use Rattle.first_pass_ready.proofs.ClosedIn.{top_no_definitions, IsTitle}
 use Rattle.first_pass_ready.proofs.PopLemmas.{list_depth, ready_as, PlainAfter, list_popped, list_spine, list_nodes, definitions_set, list_no_frame}
 use Rattle.first_pass_ready.proofs.TitleMoved.{last_child, closed_changed, moved_current}
 
--- the tree once a definition list is closed at an offset, whose last child is a possible title
+-- the tree after a definition list whose last child is a possible title is closed at an offset
 abbrev pub title_popped : Forest Item → ℕ → TreeIndex → List TreeIndex → ListFlags → TreeIndex → Forest Item
 title_popped f e ix rest flags title = moved_from (list_popped (with_body_at f title ParagraphBody) e ix rest flags) title.0
 
@@ -67,7 +67,7 @@ in_definitions options nodes ix rest flags (InDefinitions loose ∷ frames) is o
   set = definitions_set options (DefinitionList flags) flags loose refl (sym (ap (option_and_then (frame_of options)) is) ∙ o.0);
 }
 
--- depths and bodies of nodes that are changed
+-- depths and bodies of changed nodes
 depths-tight : (nodes : List (ℕ × Item)) (o d : ℕ) → depths (map_from (tightened d) o nodes) ≡ depths nodes
 depths-tight [] zero d = refl
 depths-tight [] (suc o) d = refl
@@ -118,7 +118,7 @@ module _ (d : Document) (defined : Tables) (f : Forest Item) (run : Bool) (lines
     abbrev closed_nodes : List (ℕ × Item)
     closed_nodes = list_closed f.nodes ix.0 deep loose e
 
-    -- the nodes of the list that is closed, with the paragraph still in it
+    -- the nodes of the closed list, with the paragraph still in it
     list_is : (list_popped (with_body_at f title ParagraphBody) e ix rest t.flags).nodes
         ≡ modify closed_nodes title.0 (λ x. record { start = x.start; «end» = x.«end»; body = ParagraphBody })
     list_is =
@@ -162,7 +162,7 @@ module _ (d : Document) (defined : Tables) (f : Forest Item) (run : Bool) (lines
         ∙ body-moved (modify closed_nodes title.0 (λ x. record { start = x.start; «end» = x.«end»; body = ParagraphBody })) title.0 title.0
         ∙ body-set closed_nodes title.0 ParagraphBody (omega arith)
 
-    -- what is left open
+    -- the open nodes that remain
     title_left_open : (from : From) (frames : List Frame)
         → AreOpen d.options f.nodes rest frames → AreBelow ix.0 os → IsPlain frames → SilentFrom f.nodes title.0
         → CompletesAt d defined (tail (ParagraphAt title.0) run) frames (title_left (list_closed f.nodes ix.0 (suc (suc (suc (length os)))) loose e) title.0) os
@@ -189,7 +189,7 @@ module _ (d : Document) (defined : Tables) (f : Forest Item) (run : Bool) (lines
         (subst (λ z. CompletesAt d defined (tail (ParagraphAt title.0) run) frames z os from lines) (sym title_nodes) k')) in
         record { ready = q; plain = plain; last = last }
 
-  -- what is ready, of the open nodes from the list on
+  -- ready open nodes, from the list on
   abbrev Open : List Frame → Type 0
   Open frames = AreOpen d.options f.nodes (ix ∷ rest) frames
 
@@ -217,7 +217,7 @@ module _ (d : Document) (defined : Tables) (f : Forest Item) (run : Bool) (lines
       (completes-pop_title d defined e title.0 run v.loose v.outer f.nodes ix.0 os lines
       (subst (λ z. next_goes_on (containers_of z) lines ≡ false) v.is ends) k')
 
-  -- such a list closed with what is around it
+  -- such a list is closed, with the node around it
   pub pop_title : next_goes_on (path_of d.options f) lines ≡ false → ReadyAt d defined f run Line lines → ReadyAt d defined now run Line lines
   pop_title ends ready =
       let o = open_of ready.frames ready.are_open in
@@ -237,7 +237,7 @@ module _ (d : Document) (defined : Tables) (f : Forest Item) (run : Bool) (lines
       (subst (λ z. StaysAt d (containers_of z) p) v.is stays)
       (subst (λ z. Opens d (lvl z (tail (TitleAt e title.0) run)) p lines opening) v.is opens) block other k')
 
-  -- such a list closed before a block that is no definition
+  -- such a list is closed before a block that is no definition
   pub leave_title : (p : Place) (opening : Opening)
       → StaysAt d (path_of d.options f) p → Opens d (level_of d.options f run) p lines opening → OpensBlock opening
       → opens_definition opening ≡ false → ReadyAt d defined f run (Inside p) lines → PlainAfter d defined now run (Inside p) lines (ParagraphAt title.0)
@@ -259,7 +259,7 @@ module _ (d : Document) (defined : Tables) (f : Forest Item) (run : Bool) (lines
       (completes-pop_title_in_line d defined e title.0 run v.loose v.outer f.nodes ix.0 os p lines
       (subst (λ z. ends_footnote (around d (containers_of z)) p ≡ true) v.is ends) k')
 
-  -- such a list closed with the footnote definition around it, where another begins
+  -- such a list is closed with the footnote definition around it, where another begins
   pub end_title : (p : Place) → ends_footnote (around d (path_of d.options f)) p ≡ true
       → ReadyAt d defined f run (Inside p) lines → PlainAfter d defined now run (Inside p) lines (ParagraphAt title.0)
   end_title p ends ready =

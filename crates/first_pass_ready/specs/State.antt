@@ -1,4 +1,4 @@
--- What the tree of the pass stands for between two blocks.
+-- The meaning of the pass's tree between two blocks.
 use Rattle.std.specs.Prelude.{◌≡◌, ℕ, ◌<◌, ◌≤◌, ◌==◌, Bool, true, false, List, [], ◌∷◌, length, map, ◌&&◌, Option, Some, None, if◌then◌else◌}
 use Rattle.std.specs.Option.{option_and_then, option_map_or}
 use Rattle.first_pass_items.specs.declared.item.Item.{Item}
@@ -23,11 +23,11 @@ use Rattle.first_pass_lists.specs.declared.reading.Reading.{Reading}
 use Rattle.first_pass_open.specs.Path.{path_in, path_of, outer}
 use Rattle.first_pass_items.specs.declared.option_set.Options.{Options}
 
--- a list of either kind that is tight so far, or isn't
+-- a list of either kind, tight or loose so far
 abbrev pub list_frame : (Bool → Frame) → ℕ → Option Frame
 list_frame of flags = if flags == 1 then Some (of false) else (if flags == 0 then Some (of true) else None)
 
--- what is open in a node under these options: a container, or a list
+-- the frame of an open node under these options: a container, or a list
 abbrev pub frame_of : Options → ItemBody → Option Frame
 frame_of options (BlockQuoteBody kind) = Some (InContainer (BlockQuote kind))
 frame_of options (ListItemBody columns) = Some (InContainer (ListItem columns))
@@ -46,7 +46,7 @@ is_footnote_in_another (InContainer c) frames = is_footnote c && in_footnote (co
 is_footnote_in_another (InList byte loose) frames = false
 is_footnote_in_another (InDefinitions loose) frames = false
 
--- The open nodes are what the frames say under these options, and no footnote definition is directly in another one.
+-- The frames describe the open nodes under these options, and no footnote definition is directly in another one.
 abbrev pub AreOpen : Options → List (ℕ × Item) → List TreeIndex → List Frame → Type 0
 AreOpen options nodes [] [] = Unit {0}
 AreOpen options nodes [] (frame ∷ frames) = ⊥
@@ -54,18 +54,19 @@ AreOpen options nodes (ix ∷ spine) [] = ⊥
 AreOpen options nodes (ix ∷ spine) (frame ∷ frames) =
     (frame_at options nodes ix.0 ≡ Some frame) × AreOpen options nodes spine frames × (is_footnote_in_another frame frames ≡ false)
 
--- what is last in a definition list that ends at an offset: the node at a place, which ends at another offset; a possible title, or else a definition
+-- the last child of a definition list that ends at an offset: the node at a place, which ends at another offset; a
+-- possible title, or otherwise a definition
 abbrev pub closed_in_definitions : ℕ → ℕ → ℕ → ItemBody → Closed
 closed_in_definitions e place x MaybeDefinitionListTitle = TitleAt e place
 closed_in_definitions e place x (DefinitionListDefinition columns) = DefinitionClosed x (columns == 0)
 closed_in_definitions e place x _ = DefinitionClosed x true
 
--- what is last elsewhere: the node at a place
+-- the last child of another node: the node at a place
 abbrev pub closed_elsewhere : ℕ → ItemBody → Closed
 closed_elsewhere place ParagraphBody = ParagraphAt place
 closed_elsewhere place _ = OtherClosed
 
--- what is last in an open node, which ends at an offset: the node at a place; or nothing
+-- the last child of an open node that ends at an offset: the node at a place
 abbrev pub closed_below : ℕ → Option ItemBody → ℕ → Item → Closed
 closed_below e (Some (DefinitionList flags)) place x = closed_in_definitions e place x.«end» x.body
 closed_below e _ place x = closed_elsewhere place x.body
@@ -79,12 +80,14 @@ abbrev pub closed_with : Forest Item → Option TreeIndex → Closed
 closed_with f None = closed_none (top_body f)
 closed_with f (Some c) = option_map_or (closed_below (top_end f) (top_body f) c.0) (item_at f c) (closed_none (top_body f))
 
--- What is last in the innermost open node. An open definition list with a possible title ends where its last definition does (this project).
+-- The last child of the innermost open node. An open definition list with a possible title ends where its last
+-- definition does (this project).
 abbrev pub closed_in : Forest Item → Closed
 closed_in f = closed_with f f.current
 
--- Only containers and lists are open, and whatever completes the nodes from a place or from these lines on, the text derives; the run of blank lines before
--- holds one that counts, or doesn't. A paragraph or a possible title that is last has nothing of tables in it.
+-- Only containers and lists are open, and every completion of the nodes, from a place or from these lines on, is
+-- derived by the text. `run` is true if the run of blank lines before has a counting one. A last child that is a
+-- paragraph or a possible title has no part of a table in it.
 pub record ReadyAt (d : Document) (defined : Tables) (tree : Forest Item) (run : Bool) (from : From) (lines : List Place) : Type 0 where
   pub frames : List Frame
   pub are_open : AreOpen d.options tree.nodes tree.spine frames
@@ -97,7 +100,7 @@ pub record ReadyAt (d : Document) (defined : Tables) (tree : Forest Item) (run :
       }) from lines
   pub silent : SilentClosed tree.nodes (closed_in tree)
 
--- the innermost open node, an item or a definition, takes blank lines alone
+-- the innermost open node, an item or a definition, takes only blank lines
 abbrev pub emptied_as : Forest Item → Option ItemBody → Forest Item
 emptied_as f (Some (DefinitionListDefinition columns)) = emptied_definition f f.spine
 emptied_as f _ = emptied f f.spine
@@ -105,23 +108,24 @@ emptied_as f _ = emptied f f.spine
 abbrev pub emptied_top : Forest Item → Forest Item
 emptied_top f = emptied_as f (top_body f)
 
--- the same with an empty item or definition innermost, whose marker's line ends at an offset: whether it takes blank lines alone is seen at the next line
+-- the same for an innermost item or definition that is empty and whose marker's line ends at an offset: the next line
+-- decides whether it takes only blank lines
 abbrev pub ReadyBeforeLine : Document → Tables → Forest Item → ℕ → List Place → Bool → Type 0
 ReadyBeforeLine d defined tree e lines true = ReadyAt d defined (emptied_top tree) false (Blanks e) lines
 ReadyBeforeLine d defined tree e lines false = ReadyAt d defined tree false Line lines
 
--- the same where a blank line after that marker's line is read already, or isn't yet
+-- the same if a blank line after that line is already read, or not yet
 abbrev pub ReadyInItem : Document → Tables → Forest Item → ℕ → List Place → Bool → Type 0
 ReadyInItem d defined tree e lines true = ReadyAt d defined tree true (Blanks e) lines
 ReadyInItem d defined tree e lines false = ReadyBeforeLine d defined tree e lines (next_is_blank (path_of d.options tree) lines)
 
--- the columns of an item or of a definition
+-- the indent of an item or of a definition
 abbrev pub item_columns : ItemBody → Option ℕ
 item_columns (ListItemBody columns) = Some columns
 item_columns (DefinitionListDefinition columns) = Some columns
 item_columns _ = None
 
--- the same of what the pass remembers; once that blank line is read, the item or the definition asks for no columns
+-- the same for a state; once that blank line is read, the item or definition has the indent 0
 pub record ReadyEmpty (d : Document) (defined : Tables) (r : Reading) (e : ℕ) (lines : List Place) : Type 0 where
   pub place : TreeIndex
   pub outer : List TreeIndex
@@ -135,14 +139,14 @@ abbrev pub ReadyWith : Document → Tables → Reading → List Place → Option
 ReadyWith d defined r lines None = ReadyAt d defined r.tree r.blank Line lines
 ReadyWith d defined r lines (Some e) = ReadyEmpty d defined r e lines
 
--- what the pass remembers begins a derivation of the text that continues these lines
+-- the state begins a derivation of the text that continues with these lines
 unfoldable pub Ready : Document → Tables → Reading → List Place → Type 0
 Ready d defined r lines = ReadyWith d defined r lines r.empty_item
 
--- it does so whatever more is named
+-- it does so under any further names
 abbrev pub StaysReady : Document → Tables → Reading → List Place → Type 0
 StaysReady d defined r lines = (more : Names) → Extends more d.names → Ready (document d.text d.options more) defined r lines
 
--- no more than so many of the open nodes continue the first of these lines
+-- the first of these lines continues at most this many of the open nodes
 abbrev pub NoMore : Options → Forest Item → ℕ → List Place → Type 0
 NoMore options f kept lines = (m : ℕ) → kept < m → m ≤ length f.spine → next_goes_on (path_in options f.nodes (outer m f.spine)) lines ≡ false

@@ -1,2 +1,2 @@
-//! Closing and opening blocks: what the pass has read so far remains the beginning of a derivation.
+//! Closing and opening blocks: the state of the pass still begins a derivation.
 #![tactic(auto)]
