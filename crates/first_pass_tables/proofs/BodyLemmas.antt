@@ -37,7 +37,7 @@ use Rattle.first_pass_tables.specs.RowsRead.{AppendsBody, BodySoFar}
 use Rattle.first_pass_tables.proofs.RowPlaces.{begins_row, row_within}
 use Rattle.first_pass_items.specs.declared.option_set.Options.{Options}
 
--- a row ends where its line ends
+-- a row ends at the end of its line
 row_line : (d : Document) (path : List Container) (n : ℕ) (start : Spot) (cells : List (List (ℕ × Item))) (stop : Spot) → IsUtf8 d.text
     → IsCharBoundary d.text n
     → row_text (around d path) (line_place n (drop n d.text)) ≡ Some start.at → AreCells d start cells stop → stop.at ≡ n + line_len (drop n d.text)
@@ -75,7 +75,7 @@ row_more d path table at row more within next_is has is rest =
     subst (λ lines. AreRows d path table lines t) (sym (lines_at-line d.text at within ∙ ap (λ n. line_place at (drop at d.text) ∷ lines_from d.text n)
     (sym next_is))) all
 
--- no row, before lines that are left
+-- no row, before the remaining lines
 row_none_by : (d : Document) (path : List Container) (table : TableSoFar) (line : Place) (lines : List Place) → row_text (around d path) line ≡ None
     → AreRows d path table (line ∷ lines) (taking [] (line ∷ lines))
 unfolding CountedRows
@@ -114,7 +114,7 @@ body_none d columns start old some boundary = record {
   goes_on = λ later e t rows. rows;
 }
 
--- the rows are read under names that continue those under which the first of them were
+-- the rows are read under names that extend those of the first rows
 module _ (d : Document) (before : Names) (columns start : ℕ) (old now new : OpenTable) (at : ℕ) (utf8 : IsUtf8 d.text)
     (there : AreIn (length old.tree.nodes) old.tree.spine) (grown : Extends d.names before)
     (s : BodySoFar (document d.text d.options before) columns start old now at) where
@@ -175,7 +175,7 @@ module _ (d : Document) (before : Names) (columns start : ℕ) (old now new : Op
   body_more next ix (inl (none, answer, same)) = absurd (no_row next ix answer)
   body_more next ix (inr (begin, h, r)) = more_by next begin ix h r
 
-  -- before what is no row
+  -- before a line that is no row
   over_by : new.tree ≡ now.tree → AreRows d (path_of d.options old.tree) (so_far columns now) (lines_from d.text at) (taking [] (lines_from d.text at))
       → AppendsBody d columns start old new.tree at
   over_by same rows = record {

@@ -1,4 +1,4 @@
--- The cells of a row, and the row itself, lie in order between where the row begins and where it ends.
+-- The cells of a row, and the row itself, are in order between the start and the end of the row.
 use Rattle.std.proofs.Common.{◌≡◌, inl, inr, ℕ, zero, suc, ◌+◌, ◌-◌, ◌*◌, ◌<◌, ◌≤◌, ◌==◌, Bool, true, false, true≢false, List, [], ◌∷◌, ◌++◌, length, take}
 use Rattle.std.proofs.Common.{drop, replicate, slice_index, None, IsUtf8, IsCharBoundary, refl, sym, ap, subst, ◌∙◌, arith, append_assoc, if◌then◌else◌}
 use Rattle.std.specs.List.{prefix_len}
@@ -31,11 +31,11 @@ use Rattle.first_pass_grammar.proofs.RowEnds.{text_in_line, row_ends_its_line, b
 use Rattle.first_pass_grammar.proofs.TableEnds.{cells_end}
 use Rattle.first_pass_open.proofs.PlaceLemmas.{place_end, line_start_end}
 
--- the nodes of blocks side by side lie between two offsets in order, in no list item (this project)
+-- the nodes of blocks side by side are between two offsets in order, in no list item (this project)
 abbrev pub AreBetween : List ℕ → ℕ → ℕ → List (ℕ × Item) → Type 0
 AreBetween text from to items = (row : Siblings) × (extents items ≡ laid 0 row) × Fits text Elsewhere from to row
 
--- no nodes, nodes after others, and in more room
+-- no nodes; nodes after others; nodes in more room
 pub between-none : (text : List ℕ) (from to : ℕ) → from ≤ to → AreBetween text from to []
 unfolding laid Fits
 between-none text from to h = (Empty, refl, h)
@@ -69,7 +69,7 @@ between-block text from to x kids between (row, is, fits) = (
   inl (between, fits-any text (below Elsewhere from (extent_of x)) x.start x.«end» row fits, between.before),
 )
 
--- it counts once at most
+-- it counts at most once
 pub own_block : (x : Item) (kids : List (ℕ × Item)) → own_nodes (block_of x kids) ≤ suc (own_nodes kids)
 own_block x kids =
     let first = own_join None ((0, x) ∷ []) (at_depth 1 kids) in
@@ -86,7 +86,7 @@ leaves_laid (x ∷ chain) = ap (λ (z : List (ℕ × Extent)). (0, extent_of x) 
 leaves_between : (text : List ℕ) (from to : ℕ) (chain : List Item) → AreInOrder text from to chain → AreBetween text from to (leaves chain)
 leaves_between text from to chain h = (row_of chain, leaves_laid chain, row_of-fits text Elsewhere from to chain h)
 
--- A cell begins between characters, and so does its content.
+-- A cell begins at a character boundary, and so does its content.
 start_boundary : (text : List ℕ) (at : ℕ) (t : Bool) → (slice_index text at == pipe) ≡ t → IsUtf8 text → IsCharBoundary text at
     → IsCharBoundary text (cell_start text at)
 start_boundary text at true here utf8 boundary =
@@ -109,7 +109,8 @@ start_behind : (text : List ℕ) (at : ℕ) (t : Bool) → (slice_index text at 
 start_behind text at true here = let begins : cell_start text at ≡ at + 1 = ap (λ (t : Bool). if t then at + 1 else at) here in omega arith
 start_behind text at false here = let begins : cell_start text at ≡ at = ap (λ (t : Bool). if t then at + 1 else at) here in omega arith
 
--- A cell that is looked for at an offset lies between that and where it ends, and has at most two nodes for each byte there.
+-- A cell, from the offset at which the search for it begins, is between that and its end, and has at most two nodes
+-- for each byte there.
 record OneCell (d : Document) (at stop : ℕ) (cell : List (ℕ × Item)) : Type 0 where
   later : at < stop
   within : stop ≤ length d.text
@@ -145,7 +146,7 @@ one_cell d p tokens stop utf8 boundary on cell =
       few = omega arith;
     }
 
--- The cells of a row that stand in the table, so many at the most, lie in order between where the row begins and where it ends.
+-- The cells of a row in the table, up to a number, are in order between the start and the end of the row.
 record KeptCells (text : List ℕ) (from to : ℕ) (items : List (ℕ × Item)) : Type 0 where
   between : AreBetween text from to items
   few : own_nodes items ≤ 2 * (to - from)
@@ -185,7 +186,7 @@ some_cells d p (cell ∷ cells) to utf8 boundary (on, tokens, next, is, same, mo
     let behind = cells_end d next cells to one.within more in
     omega (arith, behind.0)
 
--- A row ends between characters.
+-- A row ends at a character boundary.
 pub row_boundary : (d : Document) (p : Spot) (cells : List (List (ℕ × Item))) (to : Spot) → IsUtf8 d.text → IsCharBoundary d.text p.at
     → AreCells d p cells to → IsCharBoundary d.text to.at
 row_boundary d p cells to utf8 boundary are =
@@ -210,7 +211,7 @@ side-append : (xs ys : List (List (ℕ × Item))) → side_by_side (xs ++ ys) �
 side-append [] ys = refl
 side-append (block ∷ xs) ys = ap (λ (z : List (ℕ × Item)). block ++ z) (side-append xs ys) ∙ sym (append_assoc block (side_by_side xs) (side_by_side ys))
 
--- A row lies in order between where it begins and where it ends: it has two nodes of its own at the most, and two for each byte.
+-- A row is in order between its start and its end. It has at most two nodes of its own, and two for each byte.
 pub record OneRow (text : List ℕ) (from to : ℕ) (items : List (ℕ × Item)) : Type 0 where
   pub between : AreBetween text from to items
   pub few : own_nodes items ≤ 2 + 2 * (to - from)

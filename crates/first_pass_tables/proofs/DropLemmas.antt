@@ -1,4 +1,4 @@
--- What stands after the current node dropped: the tree as it was.
+-- The nodes after the current node are dropped: the tree is as before.
 use Rattle.std.proofs.Common.{◌≡◌, ℕ, ◌+◌, ◌-◌, List, ◌∷◌, ◌++◌, length, get_or, take, drop, Some, None, true, false, nat_lt, IfSome, Option, refl, sym, ◌∙◌}
 use Rattle.std.proofs.Common.{ap, subst, arith}
 use Rattle.std.proofs.lemmas.List.{length-append, map-append, length-map, get_or-drop, length-drop, get_or_append_left, get_or_at}
@@ -8,7 +8,7 @@ use Rattle.std.proofs.Math.Seq.{take-append_seam}
 use Rattle.first_pass_tree.specs.declared.tree_index.TreeIndex.{TreeIndex}
 use Rattle.first_pass_tree.specs.Forest.{Forest, IsForest, IsLastAt, depths, end_of, kept_after, childless}
 
--- all below the last node of a depth ends where the next node of that depth is
+-- the descendants of the last node of a depth end at the next node of that depth
 pub end_before : (ds more : List ℕ) (d i : ℕ) → IsLastAt ds d i → end_of (ds ++ d ∷ more) i ≡ length ds
 end_before ds more d i h =
     let es = ds ++ d ∷ more in
@@ -29,7 +29,7 @@ end_before ds more d i h =
     ap (nat_lt (get_or es i 0)) (get_or-drop (i + 1) es (length ds - (i + 1)) 0) ∙ t) in
     omega arith
 
--- what was added after the current node is dropped
+-- the nodes that were added after the current node are dropped
 pub kept_back : {T : Type 0} (f g : Forest T) (c : TreeIndex) (x : T) (more : List (ℕ × T)) → IsForest f → f.current ≡ Some c
     → g.nodes ≡ f.nodes ++ (length f.spine + 1, x) ∷ more → g.spine ≡ f.spine → kept_after g c ≡ f
 kept_back {T} f g c x more h q e s =
@@ -44,7 +44,7 @@ kept_back {T} f g c x more h q e s =
     ∙ ap (λ (v : List TreeIndex). record f { nodes = f.nodes; spine = v; current = Some c }) s
     ∙ ap (λ (o : Option TreeIndex). record f { current = o }) (sym q)
 
--- what was added below the innermost open node, which had no children, is dropped
+-- the nodes that were added below the innermost open node, which had no children, are dropped
 pub childless_back : {T : Type 0} (f g : Forest T) (ix : TreeIndex) (rest : List (ℕ × T)) → f.current ≡ None → ix.0 + 1 ≡ length f.nodes
     → g.nodes ≡ f.nodes ++ rest → g.spine ≡ f.spine → childless g ix ≡ f
 childless_back {T} f g ix rest q l e s =

@@ -31,7 +31,7 @@ side_more (block ∷ blocks) more =
 side_one : (block : List (ℕ × Item)) → side_by_side (block ∷ []) ≡ block
 side_one block = append-nil block
 
--- what the scanners find of a cell: where its content begins, and whether a line ends there
+-- the scanners' findings on a cell: the start of its content, and whether a line ends there
 pub content_found : (text bytes rest : List ℕ) (at cell white : ℕ)
     → bytes ≡ text → cell ≡ cell_start bytes at → rest ≡ drop cell bytes → white ≡ prefix_len is_white rest
     → cell + white ≡ cell_text text at
@@ -57,7 +57,7 @@ none_read d start f within =
       within = within;
     }
 
--- where no line ends stands a byte that is none of a line end
+-- if no line ends here, the byte here is none of a line ending
 no_end : (t u : Bool) (n : ℕ) → (if t then Some 1 else (if u then Some n else None)) ≡ None → (t || u) ≡ false
 no_end true u n h = absurd (none-some 1 (sym h))
 no_end false true n h = absurd (none-some n (sym h))
@@ -77,7 +77,7 @@ none_of : (h x y z : Bool) → x ≡ false → y ≡ false → z ≡ false → (
 none_of true x y z a b c = rw (a, b, c)
 none_of false x y z a b c = rw (a, b)
 
--- a cell that begins with neither a line end nor a pipe has a byte
+-- a cell that begins with neither a line ending nor a pipe has a byte
 not_empty : (d : Document) (text : Spot) → eol_len (drop text.at d.text) ≡ None → (slice_index d.text text.at == pipe) ≡ false
     → ends_at (cell_content d text) text.at ≡ false
 unfolding ends_at
@@ -85,7 +85,7 @@ not_empty d text none other =
     let on = runs_on d.text text.at none in
     none_of (has d.options tables) _ _ _ (lt-leb (length d.text) text.at on.0) on.1 other
 
--- a cell ends after the place where it was looked for
+-- a cell ends after the start of the search for it
 further : (d : Document) (at cell : ℕ) (text stop : Spot) (tokens : List Item) (t : Bool) → (slice_index d.text at == pipe) ≡ t
     → cell ≡ (if t then at + 1 else at)
     → cell ≤ text.at → text.at ≤ length d.text → eol_len (drop text.at d.text) ≡ None → IsCell d.names.texts (cell_content d text) tokens stop.at stop.braces
@@ -105,7 +105,7 @@ further d at cell text stop tokens false here begins order within none is =
           (omega arith, ends.within)
     ]
 
--- the cells continue one that is not at the line's end
+-- the cells extended by one that is not at the end of the line
 one_more : (d : Document) (before : Names) (start at stop : Spot) (cells : List (List (ℕ × Item))) (tokens : List Item) → Extends d.names before
     → GoOn (document d.text d.options before) start cells at
     → eol_len (drop (cell_text d.text at.at) d.text) ≡ None → IsCell d.names.texts (begun_there d at) tokens stop.at stop.braces

@@ -1,4 +1,4 @@
--- A row opened, filled with its cells and with empty ones, and closed, or dropped again.
+-- A row is opened, filled with its cells and with empty ones, and closed, or dropped again.
 use Rattle.std.proofs.Common.{◌≡◌, ℕ, ◌+◌, ◌-◌, ◌&&◌, ◌||◌, not, Bool, true, nat_lt, nat_le, zero, suc, List, [], ◌∷◌, ◌++◌, length, take, replicate, Option}
 use Rattle.std.proofs.Common.{Some, None, is_some, IsSome, MatchOption, slice_get, refl, sym, ap, subst, ◌∙◌, append_assoc}
 use Rattle.std.proofs.lemmas.List.{length-append}
@@ -69,7 +69,7 @@ module _ (d : Document) (columns : ℕ) (start stop : Spot) (count missing : ℕ
       (sym (side_more (take columns adds.cells) (replicate missing (cell_block stop.at stop.at []))))
       ∙ ap (λ (n : ℕ). opened.nodes ++ at_depth depth (side_by_side (take columns adds.cells ++ replicate n (cell_block stop.at stop.at [])))) missing_are
 
-  -- the row is closed where it ends
+  -- the row is closed at its end
   pub row_closed : (new : Forest Item) → new ≡ closed_by full stop.at full.spine → new ≡ added old (row_block body columns start.at adds.cells stop.at)
   row_closed new new_is =
       let x = begun_item start.at body in
@@ -79,7 +79,7 @@ module _ (d : Document) (columns : ℕ) (start stop : Spot) (count missing : ℕ
       (row_cells columns adds.cells stop.at) place
       refl opened_is nodes_are spine_is spine_of_row refl refl
 
--- a row is kept by what its cells, and those that are missing, number
+-- the numbers of a row's cells and of the missing ones decide whether it is kept
 pub same_test : (behind : Bool) (columns most count missing : ℕ) (cells : List (List (ℕ × Item))) → count ≡ length cells → missing ≡ filled columns cells
     → ((not behind || nat_lt 0 count) && nat_le missing most) ≡ keeps_row behind columns most cells
 same_test behind columns most count missing cells count_is missing_is =
@@ -92,7 +92,7 @@ same_spine s v w i j a b = cc
 no_spine : (s v : List TreeIndex) (i : TreeIndex) → s ≡ i ∷ v → s ≡ [] → ⊥
 no_spine s v i a b = cc
 
--- the row is closed and is to be dropped
+-- the row is closed, and about to be dropped
 pub row_behind : (d : Document) (columns : ℕ) (start : Spot) (body : ItemBody) (old opened read back : Forest Item) (answer : Spot × ℕ) (r : Option TreeIndex)
     → opened ≡ opened_block old start.at body → AppendsCells d columns start opened read answer
     → MatchOption r ((read.spine ≡ []) × (back ≡ read)) (λ ix. (read.spine ≡ ix ∷ back.spine) × (back ≡ popped read ix back.spine)) → HasMore old back

@@ -1,4 +1,4 @@
--- What stands after the last child of the innermost open node, dropped; and a row with the cells that are kept.
+-- The nodes after the last child of the innermost open node are dropped; and a row with the cells that are kept.
 use Rattle.std.proofs.Common.{◌≡◌, Bool, true, false, ℕ, ◌+◌, ◌<◌, List, [], ◌∷◌, ◌++◌, length, take, Option, Some, None, IfSome, slice_get, refl, sym, ap}
 use Rattle.std.proofs.Common.{subst, ◌∙◌, arith}
 use Rattle.std.proofs.lemmas.List.{length-append, length-map, append-nil}
@@ -34,7 +34,8 @@ current_child {T} f c h is =
       behind = last-order ds _ _ _ _ o l (omega arith);
     }
 
--- these trees are alike, but for nodes after those of the first, of which the first is a child of the innermost open node
+-- the trees are alike, except for further nodes in the second one; the first of these is a child of the innermost
+-- open node
 pub record HasMore (f g : Forest Item) : Type 0 where
   pub x : Item
   pub rest : List (ℕ × Item)
@@ -45,7 +46,7 @@ child_by : (f g : Forest Item) (o : Option TreeIndex) → f.current ≡ o → Is
 child_by f g None is h more = tt
 child_by f g (Some c) is h more = child-kept f g ((length f.spine + 1, more.x) ∷ more.rest) c more.nodes more.spine (current_child f c h is)
 
--- the current node is a child of the innermost open one yet
+-- the current node is still a child of the innermost open one
 pub current_is_child : (f g : Forest Item) → IsForest f → HasMore f g → IfSome f.current (λ ix. IsChild g ix)
 current_is_child f g h more = child_by f g f.current refl h more
 
@@ -55,7 +56,7 @@ dropped_by f g None is h n more =
     ap (without_children g) here ∙ childless_back f g n.place ((length f.spine + 1, more.x) ∷ more.rest) is (n.childless is) more.nodes more.spine
 dropped_by f g (Some c) is h n more = kept_back f g c more.x more.rest h is more.nodes more.spine
 
--- what stands after the current node dropped: the tree as it was
+-- the nodes after the current node are dropped: the tree is as before
 pub dropped : (f g : Forest Item) → IsForest f → IsOpenNode f → HasMore f g → without_behind g f.current ≡ f
 dropped f g h n more = dropped_by f g f.current refl h n more
 
@@ -126,7 +127,7 @@ none_more d at stop count f g empty all =
     let count_is = all.count_is in
     (none_by (length f.spine + 1) f g all.cells (omega arith) all.nodes, all.spine)
 
--- what was appended after is dropped
+-- the nodes that were appended after it are dropped
 pub same_dropped : (f g new : Forest Item) → IsForest f → IsOpenNode f → HasMore f g → new ≡ without_behind g f.current → HaveSame new f
 same_dropped f g new h n more is =
     let back = is ∙ dropped f g h n more in

@@ -1,4 +1,4 @@
--- Where the text of a row begins, and what stays as it is while rows are added.
+-- The start of a row's text, and the parts that do not change while rows are added.
 use Rattle.std.proofs.Common.{◌≡◌, ◌⊎◌, inl, inr, ℕ, ◌+◌, ◌<◌, Bool, true, false, true≢false, List, length, drop, Option, []}
 use Rattle.std.proofs.Common.{Some, None, IsUtf8, IsCharBoundary, refl, sym, ap, subst, ◌∙◌, if◌then◌else◌}
 use Rattle.std.specs.Option.{option_map, option_and_then}
@@ -24,7 +24,7 @@ pub record BeginsRow (text : List ℕ) (around : Context) (n start : ℕ) : Type
   pub ends : line_end place ≡ line_end (line_place n (drop n text))
   pub goes : interrupts_row around.options place.rest.left ≡ false
 
--- where the text of a row begins at a place, if it does
+-- the start of a row's text at a place, if there is one
 abbrev row_in : Options → Place → Option ℕ
 row_in options p = if interrupts_row options (unindented p).rest.left then None else Some (offset (unindented p))
 
@@ -81,7 +81,7 @@ module _ (text : List ℕ) (around : Context) (n at : ℕ) (o : Option Rest) (r 
   pub row_goes : stops ≡ false → Some at ≡ row_text around (line_place n (drop n text))
   row_goes h = sym (value_is ∙ ap (λ b. if b then None else Some at) h)
 
--- a row has a line, in the text
+-- a row has a line in the text
 none_left : all_taken (line_rest []) ≡ line_rest []
 none_left = after-none (indent (line_rest [])) (line_rest []) refl
 

@@ -1,4 +1,4 @@
--- A row that is read lies in order where it is added, and so do the rows of a table, before the table is closed.
+-- A row that is read is in order where it is added, and so are the rows of a table before the table is closed.
 use Rattle.std.proofs.Common.{◌≡◌, ◌⊎◌, inl, inr, ℕ, ◌-◌, ◌<◌, ◌≤◌, List, ◌++◌, length, Option, Some, None, IfSome, IsUtf8, IsCharBoundary, refl, sym, ap}
 use Rattle.std.proofs.Common.{subst, arith}
 use Rattle.std.proofs.lemmas.Bool.{cases_lt}
@@ -29,7 +29,7 @@ use Rattle.first_pass_tables.specs.Appends.{OpenTable, ReadsRow, ReadsRowLine, A
 use Rattle.first_pass_tables.proofs.CellsFit.{OneRow, between-order, between-join, between-wider, row_fits}
 use Rattle.first_pass_tables.proofs.RowsFit.{row_place, RowsBetween, rows_fit}
 
--- a row fits wherever it stands, after an offset before it
+-- a row fits at any place after an offset before it
 row_fits_behind : (d : Document) (body : ItemBody) (columns : ℕ) (p : Spot) (cells : List (List (ℕ × Item))) (to : Spot) (w : Within) (from : ℕ)
     → IsUtf8 d.text
     → IsCharBoundary d.text p.at → AreCells d p cells to → from ≤ p.at → FitsBetween d.text w from to.at (row_block body columns p.at cells to.at)
@@ -43,7 +43,7 @@ row_fits_behind d body columns p cells to w from utf8 boundary are low =
     let wide = between-wider d.text from start stop stop block low (omega arith) row.between in
     between-any d.text w from stop block (wide.0, wide.1, wide.2, λ room. omega arith)
 
--- A row that is read lies between an offset before it and where it ends.
+-- A row that is read is between an offset before it and its end.
 pub row_between : (d : Document) (columns start : ℕ) (old new : OpenTable) (answer : Option (ℕ × TreeIndex)) → IsUtf8 d.text
     → IsCharBoundary d.text start → ReadsRow d columns start old new answer → (from : ℕ) → from ≤ start
     → IfSome answer (λ r. AddsBetween d.text from r.0 old.tree new.tree)
@@ -68,13 +68,13 @@ row_ends d columns start old new (Some (stop, ix)) within r =
     let is : stop ≡ r.row_end = r.adds.3 in
     omega arith
 
--- Where no row is read the tree stays as it is.
+-- If no row is read, the tree is unchanged.
 pub row_none : (d : Document) (columns start : ℕ) (old new : OpenTable) (answer : Option (ℕ × TreeIndex))
     → ReadsRow d columns start old new answer → answer ≡ None → new.tree ≡ old.tree
 row_none d columns start old new None r is = ap (λ (t : OpenTable). t.tree) r.adds.1
 row_none d columns start old new (Some (stop, ix)) r is = absurd (none-some (stop, ix) (sym is))
 
--- the same of a line
+-- the same for a line
 pub line_row_ends : (d : Document) (columns n : ℕ) (old new : OpenTable) (answer : Option (ℕ × TreeIndex)) → IsUtf8 d.text
     → IsCharBoundary d.text n → ReadsRowLine d columns n old new answer → IfSome answer (λ r. r.0 ≤ length d.text)
 line_row_ends d columns n old new answer utf8 boundary (inl (none, is, same)) =
@@ -88,7 +88,7 @@ pub line_row_none : (d : Document) (columns n : ℕ) (old new : OpenTable) (answ
 line_row_none d columns n old new answer (inl (none, nothing, same)) is = ap (λ (t : OpenTable). t.tree) same
 line_row_none d columns n old new answer (inr (start, begins, r)) is = row_none d columns start old new answer r is
 
--- a header row and the rows after it, where the header row has a byte or none are after it
+-- a header row and the rows after it, if the header row has a byte or there are none after it
 both_between : (text : List ℕ) (from start mid behind next : ℕ) (head body : List (ℕ × Item)) → from ≤ start → mid ≤ behind → (start < mid) ⊎ (next ≤ start)
     → OneRow text start mid head → RowsBetween text behind next body → FitsBetween text Elsewhere from next (head ++ body)
 both_between text from start mid behind next head body low apart some row rows =
@@ -101,7 +101,8 @@ both_between text from start mid behind next head body low apart some row rows =
     (between-wider text mid behind next next body apart (omega arith) rows.between) in
     (kids.0, kids.1, kids.2, λ room. elim some [ inl more ↦ omega arith | inr none ↦ omega arith ])
 
--- The rows of a table lie between an offset before its header row and the first line that is none, where those of its body are after the header row's line.
+-- The rows of a table are between an offset before its header row and the first line that is no row, if those of its
+-- body are after the header row's line.
 pub rows_between : (d : Document) (columns head_start body_start next from : ℕ) (old new : Forest Item) → IsUtf8 d.text → IsCharBoundary d.text head_start
     → IsCharBoundary d.text body_start → AppendsRows d columns head_start body_start old new next → from ≤ head_start
     → line_end_at d.text head_start ≤ body_start → ClosesBetween d.text from next old new

@@ -1,4 +1,4 @@
--- The rows of a table's body lie in order between the first of its lines and the first line that is no row of it.
+-- The rows of a table's body are in order between the first of its lines and the first line that is no row of it.
 use Rattle.std.proofs.Common.{◌≡◌, inl, inr, ℕ, ◌+◌, ◌-◌, ◌*◌, ◌<◌, ◌≤◌, Bool, true, false, List, [], ◌∷◌, ◌++◌, length, drop, Option, Some, None, nat_lt}
 use Rattle.std.proofs.Common.{nat_le, IsUtf8, IsCharBoundary, refl, sym, ap, subst, ◌∙◌, arith, if◌then◌else◌}
 use Rattle.std.specs.Option.{option_map, option_and_then}
@@ -25,7 +25,7 @@ use Rattle.first_pass_grammar.proofs.RowEnds.{row_ends_at_place}
 use Rattle.first_pass_open.proofs.PlaceLemmas.{all_keep, after_keeps, line_start_end}
 use Rattle.first_pass_tables.proofs.CellsFit.{AreBetween, between-none, between-order, between-join, between-wider, some_cells, row_boundary, row_fits}
 
--- where the text of a row begins in its line
+-- the start of a row's text in its line
 pub record RowPlace (text : List ℕ) (n start : ℕ) : Type 0 where
   pub place : Place
   pub start_is : start ≡ offset place
@@ -69,7 +69,7 @@ first_line text n line lines is =
       | inr past ↦ let e : line ∷ lines ≡ [] = is ∙ lines_at-end text n past in cc
     ]
 
--- The rows lie in order between two offsets, and have at most four nodes of their own for each byte there.
+-- The rows are in order between two offsets, and have at most four nodes of their own for each byte there.
 pub record RowsBetween (text : List ℕ) (from to : ℕ) (items : List (ℕ × Item)) : Type 0 where
   pub between : AreBetween text from to items
   pub few : own_nodes items ≤ 4 * (to - from)
@@ -100,7 +100,7 @@ one_more_row d columns n begin cells ended to more utf8 boundary are behind some
       few = omega arith;
     }
 
--- The rows of a table's body lie so between the first of its lines and the first line that is no row of it.
+-- The rows of a table's body are so between the first of its lines and the first line that is no row.
 counted_fit : (d : Document) (path : List Container) (table : TableSoFar) (lines : List Place) (n : ℕ) (t : Taken) → IsUtf8 d.text
     → IsCharBoundary d.text n → lines ≡ lines_from d.text n → CountedRows d path table lines t
     → RowsBetween d.text n (start_of (length d.text) t.left) t.items

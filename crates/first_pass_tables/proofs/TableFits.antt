@@ -1,4 +1,4 @@
--- The nodes of a table lie in order between where it begins and where it ends, at most four of its own for each byte.
+-- The nodes of a table are in order between its start and its end, at most four of its own for each byte.
 use Rattle.std.proofs.Common.{◌≡◌, ℕ, ◌-◌, ◌<◌, ◌≤◌, List, ◌++◌, length, drop, None, IsUtf8, IsCharBoundary, refl, sym, ap, subst, arith}
 use Rattle.first_pass_items.specs.declared.item.Alignment.{Alignment}
 use Rattle.first_pass_items.specs.declared.item.Item.{Item}
@@ -48,8 +48,9 @@ block_between text from start mid behind next x head body starts_is ends_is low 
     (rw (starts_is, ends_is) kids) in
     (block.0, block.1, block.2, λ some. omega arith)
 
--- The nodes of the table whose header row begins at a place, in a line with another after it, lie in order between an offset before that place and the
--- first line after the table, and at most four of them are its own for each byte there.
+-- The nodes of the table whose header row begins at a place, in a line with another after it, are in order. They are
+-- between an offset before that place and the first line after the table, at most four of its own for each byte
+-- there.
 pub table_fits : (d : Document) (path : List Container) (p : Place) (alignments : List Alignment) (next : ℕ) (items : List (ℕ × Item)) (w : Within) (from : ℕ)
     → IsUtf8 d.text → IsPlaceOf d.text p → line_end_at d.text (offset p) < length d.text → IsCharBoundary d.text next
     → IsTable d path p alignments (lines_from d.text (line_end_at d.text (offset p))) (taking items (lines_from d.text next))

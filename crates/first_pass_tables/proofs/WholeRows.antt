@@ -23,7 +23,7 @@ HasNoTable (ATable depth columns ∷ marks) = ⊥
 HasNoTable (ARow depth «end» ∷ marks) = HasNoTable marks
 HasNoTable (ACell depth start ∷ marks) = HasNoTable marks
 
--- nodes among which no table is show the same, whatever indices name
+-- nodes without a table among them have the same marks under any names
 shown_free : (m n : Names) (depth start «end» : ℕ) (b : ItemBody) (more : List Mark) → HasNoTable (shown n depth start «end» b ++ more)
     → (shown m depth start «end» b ≡ shown n depth start «end» b) × HasNoTable more
 unfolding HasNoTable

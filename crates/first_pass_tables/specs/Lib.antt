@@ -1,4 +1,4 @@
--- What the contracts of this crate say.
+-- The definitions that the contracts of this crate use.
 pub mod Appends
 pub mod RowsRead
 pub mod Reading

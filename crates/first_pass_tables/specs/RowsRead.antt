@@ -1,4 +1,4 @@
--- How far the rows of a table are read (private functions alone cite this).
+-- How far the rows of a table are read (only private functions cite this).
 use Rattle.std.specs.Prelude.{◌≡◌, ℕ, ◌+◌, ◌≤◌, List, ◌++◌, length, None, IsCharBoundary}
 use Rattle.first_pass_items.specs.declared.item.Item.{Item}
 use Rattle.first_pass_tree.specs.Forest.{Forest, at_depth}
@@ -9,7 +9,7 @@ use Rattle.first_pass_grammar.specs.Tables.{Taken, taking, AreRows}
 use Rattle.first_pass_open.specs.Path.{path_of}
 use Rattle.first_pass_tables.specs.Appends.{OpenTable, so_far}
 
--- The rows among the lines from an offset on stand in the open table, after which another row may stand.
+-- The rows among the lines from an offset on are in the open table, and the remaining lines begin at another offset.
 pub record AppendsBody (d : Document) (columns start : ℕ) (old : OpenTable) (new : Forest Item) (next : ℕ) : Type 0 where
   pub body : List (ℕ × Item)
   pub are_rows : AreRows d (path_of d.options old.tree) (so_far columns old) (lines_from d.text start) (taking body (lines_from d.text next))
@@ -18,8 +18,8 @@ pub record AppendsBody (d : Document) (columns start : ℕ) (old : OpenTable) (n
   pub later : start ≤ next
   pub boundary : IsCharBoundary d.text next
 
--- Rows are read up to an offset, and the table is as it is now by then, with the brace contexts there: what are the rows from there on, whatever more is
--- named, are with them the rows from the first on.
+-- Rows are read up to an offset, with the brace contexts of the table there. Under any further names, these rows
+-- followed by the rows from the offset on are the rows from the first on.
 pub record BodySoFar (d : Document) (columns start : ℕ) (old now : OpenTable) (at : ℕ) : Type 0 where
   pub body : List (ℕ × Item)
   pub nodes : now.tree.nodes ≡ old.tree.nodes ++ at_depth (length old.tree.spine + 1) body

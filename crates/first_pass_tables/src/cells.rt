@@ -21,7 +21,7 @@ use first_pass_tree::forest::Tree;
 use first_pass_tree::tree_index::TreeIndex;
 use std::alloc::AllocError;
 
-/// Where the cell begins at the offset `at` into `bytes`: after its pipe, if one stands there (GFM 4.10).
+/// The start of the cell at the offset `at` into `bytes`: after its pipe, if there is one (GFM 4.10).
 pub fn cell_start(bytes: &[u8], at: usize) -> usize
     requires { at ≤ length bytes.now }
     ensures value { result ≡ cell_start bytes.now at }
@@ -35,16 +35,16 @@ pub fn cell_start(bytes: &[u8], at: usize) -> usize
     }
 }
 
-/// Where a cell begins, and where its content does: offsets into the text.
+/// The start of a cell, and the start of its content: offsets into the text.
 #[derive(Clone, Copy)]
 pub struct CellStart {
     pub at: usize,
     pub content: usize,
 }
 
-/// Appends the cell that begins there to the innermost open node, with its tokens; returns the offset at which it ends.
-/// The texts that tokens name are put among `allocs`. `braces`, the brace contexts before the cell, become those after
-/// it. The error is want of memory (GFM 4.10).
+/// Appends a cell with its tokens to the innermost open node, and returns the offset at which it ends. Adds the texts
+/// that tokens name to `allocs`. `braces`, the brace contexts before the cell, become those after it. Fails only if an
+/// allocation fails (GFM 4.10).
 pub fn append_table_cell(
     source: &Source<'_>,
     tree: &mut Tree<Item>,
@@ -74,7 +74,7 @@ pub fn append_table_cell(
     Ok(end)
 }
 
-/// Drops what is after a child of the innermost open node, or all that is below that node.
+/// Drops everything after a child of the innermost open node; without a child, all descendants of that node.
 pub fn drop_behind(tree: &mut Tree<Item>, last: Option<TreeIndex>)
     requires { IfSome last (λ ix. IsChild tree.old ix) }
     ensures { tree.new ≡ without_behind tree.old last }
@@ -89,8 +89,7 @@ pub fn drop_behind(tree: &mut Tree<Item>, last: Option<TreeIndex>)
     }
 }
 
-/// Appends so many empty cells, which a row is filled with, at the offset where the row ends. The error is want of
-/// memory (GFM 4.10).
+/// Fills a row with `missing` empty cells at the offset where it ends. Fails only if an allocation fails (GFM 4.10).
 pub fn fill_row(tree: &mut Tree<Item>, end: usize, missing: usize) -> Result<(), AllocError>
     ensures { OnOk result (tree.new ≡ chained tree.old (replicate missing (empty_cell end))) }
 {

@@ -22,28 +22,29 @@ use first_pass_tree::forest::Tree;
 use first_pass_tree::tree_index::TreeIndex;
 use std::alloc::AllocError;
 
-/// How many cells are filled into the rows of one table at the most.
+/// The greatest number of cells that are filled into the rows of one table.
 pub const MAX_AUTOCOMPLETED_CELLS: usize = 1 << 18;
 
-/// Which cells of a row are kept.
+/// The cells of a row that are kept.
 #[derive(Clone, Copy)]
 pub struct CellsWanted {
-    /// The offset into the text from which on they are read.
+    /// The offset into the text from which they are read.
     pub start: usize,
-    /// How many are kept at most: as many as the table has columns.
+    /// The greatest number that is kept: the number of the table's columns.
     pub most: usize,
 }
 
-/// What of an open table counts for the rows that follow.
+/// The state of an open table that matters for the next rows.
 #[derive(Drop)]
 pub struct TableSoFar {
-    /// How many cells are filled into its rows so far.
+    /// The number of cells that are filled into its rows so far.
     pub missing_empty_cells: usize,
     /// The brace contexts after its last cell.
     pub braces: BraceContexts,
 }
 
-// How far the cells of a row were read: where the row ends, if it does, or the next cell is looked for; and how many.
+// How far the cells of a row were read: to the end of the row, if it ended, or to the next cell; and the number of
+// cells.
 #[derive(Clone, Copy, Drop)]
 struct CellsRead {
     at: usize,
@@ -51,8 +52,8 @@ struct CellsRead {
     ended: bool,
 }
 
-// Appends the cells of a row that are wanted to the innermost open node. The texts that their tokens name are put among
-// `allocs`; `braces`, the brace contexts before those cells, become those after them.
+// Appends the wanted cells of a row to the innermost open node. Adds the texts that their tokens name to `allocs`.
+// `braces`, the brace contexts before those cells, become those after them.
 fn append_some_cells(
     source: &Source<'_>,
     tree: &mut Tree<Item>,
@@ -95,9 +96,9 @@ fn append_some_cells(
     })
 }
 
-// Appends the cells of a row that are wanted to the innermost open node, which was just opened. Returns where the row
-// ends, and how many cells it has. The texts that the tokens of all its cells name are put among `allocs`; `braces`,
-// the brace contexts before the row, become those after all its cells.
+// Appends the wanted cells of a row to the innermost open node, which was just opened. Returns the end of the row and
+// the number of its cells. Adds the texts that the tokens of all its cells name to `allocs`. `braces`, the brace
+// contexts before the row, become those after all its cells.
 fn append_cells(
     source: &Source<'_>,
     tree: &mut Tree<Item>,
@@ -132,9 +133,9 @@ fn append_cells(
     Ok((excess.at, kept.count + excess.count))
 }
 
-/// Appends the header row of a table, which begins where cells are wanted from, to the innermost open node, filled with
-/// empty cells where it has too few; `table` says then how many are filled in. The error is want of memory. The texts
-/// that tokens name are put among `allocs`; the brace contexts before the row become those after it (GFM 4.10).
+/// Appends the header row of a table, which begins at `wanted.start`, to the innermost open node, and fills it with
+/// empty cells if it has too few. Sets the number of filled cells of `table`. Adds the texts that tokens name to
+/// `allocs`. The brace contexts before the row become those after it. Fails only if an allocation fails (GFM 4.10).
 pub fn append_head_row(
     source: &Source<'_>,
     tree: &mut Tree<Item>,
@@ -159,7 +160,7 @@ pub fn append_head_row(
     Ok(())
 }
 
-// Whether a row with so many cells is kept: it has one, or no row is before it in its table, and no more are missing
+// Whether a row with `count` cells is kept: it has one, or no row is before it in its table, and no more are missing
 // than may be filled in.
 fn is_kept(behind: bool, count: usize, missing: usize, most: usize) -> bool
     ensures value { result ≡ ((not behind || nat_lt 0 count) && nat_le missing most) }
@@ -168,12 +169,12 @@ fn is_kept(behind: bool, count: usize, missing: usize, most: usize) -> bool
     (!behind || count > 0) && missing <= most
 }
 
-/// Appends the row that begins where cells are wanted from, after what the containers take of its line, to the
-/// innermost open node, filled with empty cells where it has too few; they are added to those of `table`. Returns the
-/// offset at which the row ends and the row's index; `None`, and nothing is appended, where it has no cell and is not
-/// the table's first row, or more than 262,144 cells would be filled in. The texts that tokens name are put among
-/// `allocs`, those of a row that isn't appended too; the brace contexts of `table` become those after its cells, be it
-/// appended or not. The error is want of memory (GFM 4.10).
+/// Appends the row that begins at `wanted.start`, after the container prefixes of its line, to the innermost open
+/// node. Fills it with empty cells if it has too few, and adds their number to that of `table`. Returns the end of the
+/// row and its index. Returns `None` and appends nothing if the row has no cell and is not the table's first, or if
+/// more than 262,144 cells would be filled in. Adds the texts that tokens name to `allocs`, also those of a row that
+/// is not appended. The brace contexts of `table` become those after the row's cells in either case. Fails only if an
+/// allocation fails (GFM 4.10).
 pub fn parse_table_row_inner(
     source: &Source<'_>,
     tree: &mut Tree<Item>,

@@ -27,8 +27,8 @@ use first_pass_tree::forest::Tree;
 use first_pass_tree::tree_index::TreeIndex;
 use std::alloc::AllocError;
 
-// Whether `bytes`, what is left of a line after its columns, end a table before it: they interrupt a paragraph, as any
-// list item does here, but for tables (GFM 4.10, and this project).
+// Whether a line, whose rest after its indentation is `bytes`, ends a table before it: it interrupts a paragraph, as
+// any list item does here, except by heading a table (GFM 4.10, and this project).
 #[inline(always)]
 fn interrupts_rows(options: Options, bytes: &[u8]) -> bool
     ensures { result ≡ interrupts_row options bytes.now }
@@ -37,8 +37,8 @@ fn interrupts_rows(options: Options, bytes: &[u8]) -> bool
         || interrupts_as_footnote(bytes, options.contains(Options::ENABLE_FOOTNOTES))
 }
 
-// Where the text of a row begins in the line that begins at the offset `start`; `None` where that line is no row:
-// where it doesn't continue all open containers, or its text interrupts rows.
+// The start of a row's text in the line at the offset `start`. `None` if that line is no row: if it does not continue
+// all open containers, or if its text interrupts rows.
 fn scan_row_text(source: &Source<'_>, tree: &Tree<Item>, start: usize) -> Option<usize>
     requires { IsCharBoundary source.now.text.now start }
     ensures value { result
@@ -58,10 +58,10 @@ fn scan_row_text(source: &Source<'_>, tree: &Tree<Item>, start: usize) -> Option
     Some(start + text.bytes_scanned())
 }
 
-/// Appends the row that is in the line which begins where cells are wanted from, to the table, the innermost open
-/// node; returns as `parse_table_row_inner`. `None` too where the line doesn't continue all open containers, or its
-/// text would interrupt a paragraph, as any list item does here (GFM 4.10). The texts that tokens name are put among
-/// `allocs`; `table`, what counts before the row, becomes what counts after it.
+/// Appends the row in the line at `wanted.start` to the table, the innermost open node; returns as
+/// `parse_table_row_inner`. Also returns `None` if the line does not continue all open containers, or if its text
+/// would interrupt a paragraph, as any list item does here (GFM 4.10). Adds the texts that tokens name to `allocs`.
+/// `table`, the state before the row, becomes that after it.
 pub fn parse_table_row(
     source: &Source<'_>,
     tree: &mut Tree<Item>,
@@ -92,9 +92,9 @@ pub fn parse_table_row(
     Ok(row)
 }
 
-// Appends the rows that are among the lines from where cells are wanted on to the table, the innermost open node, up
-// to the first line that is none. Returns the offset at which that line begins, or the text's length. The texts that
-// tokens name are put among `allocs`; `table`, what counts before the rows, becomes what counts after them.
+// Appends the rows among the lines from `wanted.start` on to the table, the innermost open node, up to the first line
+// that is no row. Returns the start of that line, or the end of the text. Adds the texts that tokens name to `allocs`.
+// `table`, the state before the rows, becomes that after them.
 fn append_body(
     source: &Source<'_>,
     tree: &mut Tree<Item>,
@@ -126,26 +126,26 @@ fn append_body(
     }
 }
 
-/// Where the rows of a table stand, and how many columns it has.
+/// The places of a table's rows, and the number of its columns.
 #[derive(Clone, Copy)]
 pub struct TableRows {
-    /// How many columns the table has.
+    /// The number of columns of the table.
     pub columns: usize,
     /// The offset into the text at which the header row begins.
     pub head_start: usize,
-    /// The offset at which the line begins that the first row after the delimiter row may stand in.
+    /// The start of the line after the delimiter row, in which the next row may be.
     pub body_start: usize,
 }
 
-/// Appends the rows of a table to the table, the innermost open node, which was just opened, and closes it after them:
-/// the header row, and those among the lines from `body_start` on, up to the first line that is none. Returns the
-/// offset at which that line begins, or the text's length; the error is want of memory. The texts that tokens name are
-/// put among `allocs`. No brace context is open before the header row; the rows after it have those that it leaves
-/// (GFM 4.10).
+/// Appends the rows of a table to it, the innermost open node, which was just opened, and closes it after them. The
+/// rows are the header row, and those among the lines from `body_start` on, up to the first line that is no row.
+/// Returns the start of that line, or the end of the text. Adds the texts that tokens name to `allocs`. No brace
+/// context is open before the header row; the rows after it begin with those that it leaves. Fails only if an
+/// allocation fails (GFM 4.10).
 ///
-/// Each row has as many cells as the table has columns then. At most 262,144 of them are filled in, or those that are
-/// filled into the header row if these are more: none are with tables, where the line at `head_start` has as many
-/// columns as a header row (this project).
+/// Each row then has as many cells as the table has columns. At most 262,144 cells are filled in, or as many as are
+/// filled into the header row if these are more. With tables, none is filled into that row if the line at
+/// `head_start`, as a header row, has at least as many columns (this project).
 pub fn parse_table(
     source: &Source<'_>,
     tree: &mut Tree<Item>,

@@ -13,7 +13,7 @@ use Rattle.first_pass_tables.proofs.RowClosed.{row_place, row_opened, row_is_ope
 use Rattle.first_pass_tables.proofs.RowsAdded.{row_between}
 use Rattle.first_pass_tables.proofs.row.parse_table_row_inner.Goals as goal
 
--- the test of a row, where the cells that may be filled in are as many as is said
+-- the test of a row, with the number of cells that may be filled in
 kept_by : (kept behind : Bool) (count missing some : ℕ) {most : ℕ} → kept ≡ ((not behind || nat_lt 0 count) && nat_le missing some) → some ≡ most
     → kept ≡ ((not behind || nat_lt 0 count) && nat_le missing most)
 kept_by kept behind count missing some value same = value ∙ ap (λ n. (not behind || nat_lt 0 count) && nat_le missing n) same
