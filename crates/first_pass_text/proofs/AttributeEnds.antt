@@ -1,4 +1,4 @@
--- The attribute block that the text of a heading ends with.
+-- The attribute block at the end of a heading's text.
 use Rattle.std.proofs.Common.{◌≡◌, inl, inr, ℕ, ◌+◌, ◌-◌, ◌≤◌, ◌<◌, ◌==◌, ◌&&◌, nat_lt, Bool, true, false, List, ◌∷◌, ◌++◌, length, take, drop, get_or, []}
 use Rattle.std.proofs.Common.{slice_index, Option, Some, None, is_some, IsSomeAnd, min, IsUtf8, IsCharBoundary, refl, sym, ap, subst, ◌∙◌, arith, length-append}
 use Rattle.std.proofs.Common.{length-drop, length-take, length-take-le, get_or-drop, if◌then◌else◌}
@@ -35,7 +35,7 @@ none_between text start to past = let none : to - start ≡ 0 = omega arith in a
 pub length_between : (text : List ℕ) (start to : ℕ) → to ≤ length text → length (slice_range text start to) ≡ to - start
 length_between text start to within = let long = length-drop start text in length-take-le (to - start) (drop start text) (omega arith)
 
--- what stands between two offsets of what stands between two others
+-- the bytes between two offsets of the bytes between two others
 pub between_both : (text : List ℕ) (start to a b : ℕ) → b ≤ to - start → slice_range (slice_range text start to) a b ≡ slice_range text (start + a) (start + b)
 between_both text start to a b within =
     elim (cases_lt a b) [
@@ -50,7 +50,7 @@ between_both text start to a b within =
       | inr past ↦ none_between (slice_range text start to) a b past ∙ sym (none_between text (start + a) (start + b) (omega arith))
     ]
 
--- where headings have no attributes, or a text is empty, there is no block
+-- without heading attributes, or in an empty text, there is no block
 pub no_braces : (options : Options) (bs : List ℕ) → has options heading_attributes ≡ false → heading_braces options bs ≡ None
 unfolding heading_braces
 no_braces options bs h = rw h refl
@@ -63,14 +63,14 @@ pub these_braces : (options : Options) (bs : List ℕ) → has options heading_a
 unfolding heading_braces
 these_braces options bs h = rw h refl
 
--- what a text gives that has no block
+-- a text without a block
 pub before_none : (options : Options) (bs : List ℕ) → heading_braces options bs ≡ None → before_attributes options bs ≡ bs
 before_none options bs h = ap (λ (o : Option Braces). option_map_or (λ block. take block.opening bs) o bs) h
 
 pub given_none : (options : Options) (bs : List ℕ) → heading_braces options bs ≡ None → heading_attributes_of options bs ≡ None
 given_none options bs h = ap (option_map (λ (block : Braces). attributes_of (slice_range bs (block.opening + 1) block.closing))) h
 
--- a block stands within its text
+-- a block is within its text
 some_if : (t : Bool) (o : Option Braces) (block : Braces) → (if t then o else None) ≡ Some block → o ≡ Some block
 some_if true o block e = e
 some_if false o block e = absurd cc
@@ -88,7 +88,7 @@ pub braces_within : (options : Options) (bs : List ℕ) (block : Braces)
 unfolding heading_braces
 braces_within options bs block e = block_within bs block (some_if (has options heading_attributes) (attribute_block bs) block e)
 
--- how much stands before a block
+-- the number of bytes before a block
 length_by : (bs : List ℕ) (o : Option Braces) → attribute_block bs ≡ o
     → option_map_or (λ (block : Braces). block.opening) o (length bs) ≡ length (option_map_or (λ (block : Braces). take block.opening bs) o bs)
 length_by bs None e = refl
@@ -99,13 +99,13 @@ length_before options bs h =
     length_by bs (attribute_block bs) refl
     ∙ sym (ap (λ (o : Option Braces). length (option_map_or (λ (block : Braces). take block.opening bs) o bs)) (these_braces options bs h))
 
--- where the content of a heading's text ends, of a text that is held by another name
+-- the end of the content of a heading's text, if the text has another name
 pub content_before : (options : Options) (text bytes : List ℕ) (start to n : ℕ) → has options heading_attributes ≡ true → bytes ≡ text
     → n ≡ length_before_block (slice_range bytes start to) → start + n ≡ start + length (before_attributes options (slice_range text start to))
 content_before options text bytes start to n on same is =
     ap (λ k. start + k) (is ∙ ap (λ (xs : List ℕ). length_before_block (slice_range xs start to)) same ∙ length_before options (slice_range text start to) on)
 
--- what was found between the braces
+-- the bytes that were found between the braces
 none_inside : (o : Option Braces) → None ≡ option_map enclosed o → o ≡ None
 none_inside None e = refl
 none_inside (Some block) e = cc
@@ -139,7 +139,7 @@ given_some options text start to bs block r found h bs_is within e block_is is =
     ∙ sym (ap (option_map (λ (b : Braces). attributes_of (slice_range bs (b.opening + 1) b.closing))) (these_braces options bs h ∙ found_is)
     ∙ ap (λ xs. Some (attributes_of xs)) same)
 
--- after the opening brace is a place between two characters
+-- the offset after the opening brace is a character boundary
 pub brace_boundary : (text bs : List ℕ) (start to opening at : ℕ)
     → IsUtf8 text → bs ≡ slice_range text start to → to ≤ length text → opening + 1 < length bs → slice_index bs opening ≡ left_brace
     → at ≡ opening + 1 → IsCharBoundary text (start + at)
@@ -150,7 +150,7 @@ brace_boundary text bs start to opening at utf8 bs_is within less opens at_is =
     let same : start + opening + 1 ≡ start + at = omega arith in
     subst (IsCharBoundary text) same (IsCharBoundary-after_ascii text (start + opening) utf8 (omega arith) (omega (arith, opens)))
 
--- a text has a block where attributes were found, and none where none were
+-- a text has a block if attributes were found, and none if none were
 given_by : (options : Options) (bs : List ℕ) (found : Option HeadingAttributes) (o : Option Braces) → heading_braces options bs ≡ o
     → option_map attributes_in found ≡ option_map (λ (block : Braces). attributes_of (slice_range bs (block.opening + 1) block.closing)) o
     → is_some found ≡ true → (block : Braces) × (heading_braces options bs ≡ Some block)
@@ -173,7 +173,7 @@ pub none_given : (options : Options) (bs : List ℕ) (found : Option HeadingAttr
     → is_some found ≡ false → heading_braces options bs ≡ None
 none_given options bs found e none = none_by options bs found (heading_braces options bs) refl e none
 
--- where the content ends before a block
+-- the end of the content before a block
 pub length_some : (options : Options) (bs : List ℕ) (block : Braces)
     → heading_braces options bs ≡ Some block → length (before_attributes options bs) ≡ block.opening
 length_some options bs block h =
@@ -181,7 +181,7 @@ length_some options bs block h =
     ap (λ (o : Option Braces). length (option_map_or (λ (b : Braces). take b.opening bs) o bs)) h
     ∙ length-take-le block.opening bs (omega (arith, inside.0, inside.1))
 
--- an end past the text's is no other than that
+-- an end after that of the text is the same as that of the text
 pub clipped : (text : List ℕ) (start to : ℕ) → slice_range text start (min to (length text)) ≡ slice_range text start to
 clipped text start to =
     elim (cases_lt to (length text)) [
@@ -192,7 +192,7 @@ clipped text start to =
           ap (λ n. take n (drop start text)) same ∙ take_min (to - start) (drop start text)
     ]
 
--- what is cut off with a block
+-- the bytes that are cut off with a block
 pub cut_place : (broken : Bool) (start opening content_end white : ℕ) (bs content : List ℕ) → content_end ≡ start + opening → content ≡ take opening bs
     → white ≡ (if broken then 0 else suffix_len is_white content) → start + kept_before broken opening bs ≡ content_end - white
 cut_place true start opening content_end white bs content e f g = omega arith
@@ -269,7 +269,7 @@ opens_with options bs block e =
     ap (λ n. get_or bs n 0) is.opens ∙ ap (λ xs. get_or xs (length is.front) 0) is.parts
     ∙ behind_front is.front left_brace (is.inside ++ right_brace ∷ is.behind)
 
--- the text that a heading's line is read from, and the bytes before its block
+-- the text from which a heading's line is read, and the bytes before its block
 
 content_by : (options : Options) (line : List ℕ) (size : ℕ) (o : Option Braces) → heading_braces options (take size line) ≡ o → size ≤ length line
     → take (length (before_attributes options (take size line))) line ≡ before_attributes options (take size line)
@@ -290,7 +290,7 @@ content_read options text start size content_end fits ends =
     let n : content_end - start ≡ length (before_attributes options (take size (drop start text))) = omega arith in
     ap (λ k. take k (drop start text)) n ∙ content_by options (drop start text) size (heading_braces options (take size (drop start text))) refl fits
 
--- cut tokens are no more than before, whatever each of them comes to
+-- cut tokens are no more than before, whatever is left of each
 fewer_by : (t u v : Bool) (n m k : ℕ × Item) (cs ns : List (ℕ × Item)) → length cs ≤ length ns
     → length (if t then n ∷ cs else (if u then m ∷ cs else (if v then k ∷ [] else []))) ≤ length (n ∷ ns)
 fewer_by true u v n m k cs ns h = omega arith

@@ -94,15 +94,15 @@ module _ (texts : List CowStr) (s : Inline) (kept : ℕ) (old read last : Forest
 abbrev heading_line : List ℕ → ℕ → List ℕ
 heading_line text start = take (line_len (drop start text)) (drop start text)
 
--- what stands between the start of a heading's text and the end of its line
+-- the bytes between the start of a heading's text and the end of its line
 pub line_between : (text : List ℕ) (start to : ℕ) → to ≡ start + line_len (drop start text) → slice_range text start to ≡ heading_line text start
 line_between text start to e = let size : to - start ≡ line_len (drop start text) = omega arith in ap (λ n. take n (drop start text)) size
 
--- where the attribute block of a heading's line begins
+-- the start of the attribute block of a heading's line
 abbrev cut_by : ℕ → Option Braces → Option ℕ
 cut_by start block = option_map (λ (b : Braces). start + b.opening) block
 
--- the text that the line is read from, and what of the line stands before the block
+-- the text from which the line is read, and the bytes of the line before the block
 cut_text : (text : List ℕ) (start : ℕ) (o : Option Braces)
     → text_upto text (cut_by start o) ≡ option_map_or (λ (b : Braces). take (start + b.opening) text) o text
 cut_text text start None = refl
@@ -151,7 +151,7 @@ heading_read text options before names start next cut index front content old ne
       },
     )
 
--- where a heading's line ends, by the place of its block or after its content
+-- the end of a heading's line, from the place of its block or after its content
 place_at : List ℕ → ℕ → Braces → AttributePlace
 place_at text start b = record { opening = start + b.opening; line_end = line_end_at text start }
 
@@ -238,7 +238,7 @@ line_skip text s k h =
     let l = ap line_len d in
     omega arith
 
--- A heading's text ends where its line ends.
+-- A heading's text ends at the end of its line.
 pub heading_line_end : (text : List ℕ) (start : ℕ) (level : HeadingLevel) → start ≤ length text → atx_level (drop start text) ≡ Some level
     → line_end_at text (heading_text_at text start (level_number level)) ≡ line_end_at text start
 heading_line_end text start level within h =

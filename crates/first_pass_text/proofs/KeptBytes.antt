@@ -1,4 +1,4 @@
--- How many bytes of an ATX heading's text are kept, as they are counted from its end.
+-- The number of bytes of an ATX heading's text that are kept, counted from its end.
 use Rattle.std.proofs.Common.{◌≡◌, inl, inr, ℕ, zero, suc, ◌+◌, ◌-◌, ◌<◌, ◌≤◌, ◌==◌, ◌&&◌, ◌||◌, Bool, true, false, List, length, take, get_or, nat_lt, refl}
 use Rattle.std.proofs.Common.{sym, ap, ◌∙◌, arith, length-take-le, if◌then◌else◌}
 use Rattle.std.specs.List.{suffix_len}
@@ -8,7 +8,7 @@ use Rattle.std.proofs.lemmas.List.{take_all, take-take}
 use Rattle.std.proofs.lemmas.List.Sums.{suffix_len-le-length, suffix_len-take_yes, suffix_len-take_no}
 use Rattle.first_pass_grammar.specs.Leaves.{is_put_aside, without_closing, kept_len}
 
--- the last byte does not pass where none passes at the end
+-- the last byte does not pass if none passes at the end
 pub run_none : (p : ℕ → Bool) (xs : List ℕ) → 0 < length xs → suffix_len p xs ≡ 0 → p (get_or xs (length xs - 1) 0) ≡ false
 run_none p xs some none =
     elim (cases_Bool (p (get_or xs (length xs - 1) 0))) [
@@ -19,7 +19,7 @@ run_none p xs some none =
       | inr fails ↦ fails
     ]
 
--- no more of them pass before those that pass at the end
+-- before those that pass at the end, no more of them pass
 no_more : (p : ℕ → Bool) (xs : List ℕ) (n : ℕ) → n ≤ length xs → suffix_len p (take (n - suffix_len p (take n xs)) xs) ≡ 0
 no_more p xs zero within = (let place : zero - suffix_len p (take zero xs) ≡ zero = omega arith in ap (λ (k : ℕ). suffix_len p (take k xs)) place)
 no_more p xs (suc n) within =
@@ -41,7 +41,7 @@ no_more p xs (suc n) within =
 pub space_aside : (b : ℕ) → (b == 32) ≡ true → is_put_aside b ≡ true
 space_aside b h = grind (arith, nat_tests, h)
 
--- no space stands at the end where nothing is put aside there
+-- no space is at the end if nothing is put aside there
 no_spaces : (xs : List ℕ) → suffix_len is_put_aside xs ≡ 0 → suffix_len (λ b. b == 32) xs ≡ 0
 no_spaces xs none =
     elim (cases_lt 0 (length xs)) [
@@ -56,7 +56,7 @@ no_spaces xs none =
       | inr empty ↦ (let few = suffix_len-le-length (λ b. b == 32) xs in omega arith)
     ]
 
--- by the counts: of signs at the end, and of spaces before them
+-- by the counts: the number signs at the end, and the spaces before them
 choose_len : (t : Bool) (xs ys : List ℕ) → length (if t then ys else xs) ≡ (if t then length ys else length xs)
 choose_len true xs ys = refl
 choose_len false xs ys = refl
@@ -90,7 +90,8 @@ closing_len xs none =
     ∙ by_signs (nat_lt 0 s) s (length xs) o n refl refl
     (λ no_sign. ap (suffix_len (λ b. b == 32)) (take_all o xs (omega arith)) ∙ none)
 
--- As many bytes are kept as are counted: what is put aside, the number signs before that, and the spaces before these.
+-- The number of kept bytes is the counted one: without the bytes that are put aside, the number signs before these,
+-- and the spaces before those.
 pub kept_counted : (text : List ℕ)
     → (let t : ℕ = length text - suffix_len is_put_aside text in let o : ℕ = t - suffix_len (λ b. b == 35) (take t text) in
     let n : ℕ = suffix_len (λ b. b == 32) (take o text) in kept_len text ≡ (if (o == 0) || nat_lt 0 n then o - n else t))
@@ -125,7 +126,7 @@ unclosed text none =
     kept_counted text
     ∙ choose_all t o (suffix_len (λ b. b == 32) (take o text)) all (ap (λ (k : ℕ). suffix_len (λ b. b == 32) (take k text)) all ∙ no_spaces (take t text) aside)
 
--- Nothing but what is put aside at the end goes where no number sign stands before it.
+-- Only the bytes that are put aside at the end are removed if no number sign is before them.
 pub kept_unclosed : (text front : List ℕ) (a n : ℕ)
     → a ≡ suffix_len is_put_aside text → front ≡ take (length text - a) text → n ≡ suffix_len (λ b. b == 35) front → n ≡ 0 → kept_len text ≡ length text - a
 kept_unclosed text front a n e f g none =

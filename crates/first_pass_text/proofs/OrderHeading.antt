@@ -52,7 +52,7 @@ use Rattle.first_pass_open.proofs.PlaceLemmas.{place_end, line_start_end}
 run_first : (p : ℕ → Bool) (xs : List ℕ) (n : ℕ) → n ≤ length xs → (suffix_len p (take n xs) ≡ 0) ⊎ (p (get_or xs (n - suffix_len p (take n xs)) 0) ≡ true)
 run_first p xs n within = elim (cases_lt 0 (suffix_len p (take n xs))) [ inl some ↦ inr (suffix_first p xs n within some).1 | inr none ↦ inl (omega arith) ]
 
--- what stands after the bytes of a heading's text that are kept: a byte that is put aside, or nothing; or no byte is kept
+-- after the kept bytes of a heading's text there is a byte that is put aside, or nothing; or no byte is kept
 KeptAt : List ℕ → ℕ → Type 0
 KeptAt text n = (n ≡ 0) ⊎ (((n < length text) × (is_put_aside (get_or text n 0) ≡ true)) ⊎ ((n ≡ length text) × (suffix_len is_put_aside text ≡ 0)))
 
@@ -96,7 +96,7 @@ kept_at text =
     let o : ℕ = t - suffix_len (λ b. b == 35) (take t text) in
     subst (KeptAt text) (sym (kept_counted text)) (kept_by text t o (suffix_len (λ b. b == 32) (take o text)) refl (omega arith) refl)
 
--- a line ends with a line end, or with the text
+-- a line ends with a line ending, or with the text
 last_step : (t : Bool) (b : ℕ) (bs : List ℕ)
     → ends_line b bs ≡ t → (0 < length bs → (is_line_end (slice_index bs (line_len bs - 1)) ≡ true) ⊎ (line_len bs ≡ length bs))
     → (is_line_end (slice_index (b ∷ bs) (line_len (b ∷ bs) - 1)) ≡ true) ⊎ (line_len (b ∷ bs) ≡ length (b ∷ bs))
@@ -123,17 +123,17 @@ line_aside b h = grind (arith, nat_tests, h)
 aside_small : (b : ℕ) → is_put_aside b ≡ true → b < 33
 aside_small b h = grind (arith, nat_tests, h)
 
--- before a byte that is no more than a space, or at the text's end
+-- before a byte that is no more than a space, or at the end of the text
 small_boundary : (text : List ℕ) (i : ℕ) → i ≤ length text → slice_index text i < 33 → IsCharBoundary text i
 small_boundary text i within small = (within, λ l high. absurd (omega arith))
 
--- the bytes of an ATX heading's text before its attribute block, in the text that its line is read from
+-- the bytes of an ATX heading's text before its attribute block, in the text from which its line is read
 record IsContent (text : List ℕ) (start : ℕ) (content : List ℕ) : Type 0 where
   fits : start + length content ≤ length text
   bytes : (i : ℕ) → i < length content → get_or content i 0 ≡ slice_index text (start + i)
   ended : suffix_len is_put_aside content ≡ 0 → (length content ≡ 0) ⊎ (slice_index text (start + length content) < 33)
 
--- where its bytes end that are kept: none is, or a space, a line end or the text's end is there
+-- the end of its kept bytes: none is kept, or a space, a line ending or the end of the text is there
 kept_place : (text : List ℕ) (start n : ℕ) (content : List ℕ) → IsContent text start content → KeptAt content n
     → (n ≡ 0) ⊎ ((start + n ≤ length text) × (slice_index text (start + n) < 33))
 unfolding KeptAt
@@ -176,7 +176,7 @@ line_content text start within =
           ];
     }
 
--- what stands before an attribute block
+-- the bytes before an attribute block
 block_content : (text : List ℕ) (start size opening : ℕ) → size ≤ length (drop start text) → opening ≤ size → start ≤ length text
     → IsContent (take (start + opening) text) start (take opening (take size (drop start text)))
 block_content text start size opening fits less within =
@@ -216,7 +216,7 @@ kept_less content n (inl none) = omega arith
 kept_less content n (inr (inl aside)) = (let inside = aside.0 in omega arith)
 kept_less content n (inr (inr whole)) = (let all = whole.0 in omega arith)
 
--- the escaped texts of a whole line, its last backslash among them
+-- the escaped texts of a whole line, with its last backslash
 line_stands : {texts : List CowStr} {after : MathBraces} (s : Inline) (tokens : List Item) (answer : ℕ × Option Item)
     → IsUtf8 s.text → IsCharBoundary s.text s.start → IsLine texts s tokens answer after
     → EscapesStand s.text s.start (close_break answer.1 (add_tokens [] tokens))
@@ -251,7 +251,7 @@ line_fits s tokens answer content next utf8 boundary line is ends reach =
       omega arith,
     )
 
--- The chain of a heading is in order in the text, up to where its line ends.
+-- The chain of a heading is in order in the text, up to the end of its line.
 heading_by : (d : Document) (start : ℕ) (index : Option HeadingIndex) (chain : List Item) (end_of_line : ℕ) (o : Option Braces)
     → heading_braces d.options (line_bytes d start) ≡ o
     → IsUtf8 d.text → IsCharBoundary d.text start → IsHeading d start index chain end_of_line
@@ -324,7 +324,7 @@ rule_fits text from ix size old new tree_is behind starts ends = record {
       (record { behind = behind; order = omega arith; before = omega arith; starts = starts; ends = ends }) (omega arith) (λ some. omega arith);
 }
 
--- The text of an ATX heading begins between characters.
+-- The text of an ATX heading begins at a character boundary.
 pub heading_text_boundary : (text : List ℕ) (start : ℕ) (level : HeadingLevel)
     → IsUtf8 text → IsCharBoundary text start → atx_level (drop start text) ≡ Some level → IsCharBoundary text (heading_text_at text start (level_number level))
 heading_text_boundary text start level u b h =

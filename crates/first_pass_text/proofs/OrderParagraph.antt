@@ -1,4 +1,4 @@
--- The tokens of a paragraph, or of a heading that is underlined, are in order.
+-- The tokens of a paragraph or of a setext heading are in order.
 use Rattle.std.proofs.Common.{◌≡◌, inl, inr, ℕ, ◌≤◌, true, false, List, [], ◌∷◌, length, drop, Option, Some, None, IfSome, IsUtf8, IsCharBoundary, refl, sym}
 use Rattle.std.proofs.Common.{ap, subst, ◌∙◌, arith, length-drop}
 use Rattle.std.proofs.lemmas.Bool.{cases_lt, false≢true}
@@ -27,7 +27,7 @@ use Rattle.first_pass_open.proofs.PlaceLemmas.{text_place}
 use Rattle.first_pass_items.specs.declared.item.ItemBody.{ItemBody}
 use Rattle.first_pass_items.specs.declared.item.ItemBody.TheVariants.{Text}
 
--- A chain in order ends within its bounds, between two characters.
+-- A chain in order ends within its bounds, at a character boundary.
 pub chain_end_place : (text : List ℕ) (from to : ℕ) (chain : List Item) → AreInOrder text from to chain → IsCharBoundary text from
     → (from ≤ chain_end from chain) × (chain_end from chain ≤ to) × IsCharBoundary text (chain_end from chain)
 chain_end_place text from to [] h boundary = (omega arith, h, boundary)
@@ -36,7 +36,7 @@ chain_end_place text from to (x ∷ y ∷ ys) h boundary =
     let later : AreInOrder text from to (y ∷ ys) = order_from text from x.«end» to (y ∷ ys) h.4 (omega (arith, h.0, h.1)) in
     chain_end_place text from to (y ∷ ys) later boundary
 
--- a chain in order, whose escaped texts stand after their backslashes and whose tokens have bytes
+-- a chain in order whose escaped texts are after their backslashes and whose tokens have bytes
 abbrev ChainStands : List ℕ → ℕ → ℕ → List Item → Type 0
 ChainStands text from to chain = AreInOrder text from to chain × EscapesStand text from chain × HaveBytes chain
 
@@ -94,7 +94,8 @@ one_line d from ix b after chain tokens answer utf8 boundary h line =
       broken = e.broken;
     }
 
--- The chain of a text's lines is in order up to an offset, after which the break of the last line stands; the lines left begin after that.
+-- The chain of a text's lines is in order up to an offset, and the break of the last line is after that. The
+-- remaining lines begin after the break.
 pub record TextInOrder (d : Document) (start : ℕ) (t : TextLines) : Type 0 where
   pub stop : ℕ
   pub order : AreInOrder d.text start stop t.chain
@@ -170,13 +171,13 @@ first_later text m within =
           omega arith
     ]
 
--- the first of the lines left begins before the second does
+-- the first of the remaining lines begins before the second does
 pub text_later : (text : List ℕ) (left : List Place) (m : ℕ)
     → left ≡ lines_from text m → m ≤ length text → start_of (length text) left ≤ start_of (length text) (drop 1 left)
 text_later text left m is within =
     subst (λ (ls : List Place). start_of (length text) ls ≤ start_of (length text) (drop 1 ls)) (sym is) (first_later text m within)
 
--- The chain of the lines of a text is in order from where the text begins.
+-- The chain of the lines of a text is in order from the start of the text.
 pub text_is_in_order : (d : Document) (path : List Container) (start : ℕ) (t : TextLines) → IsUtf8 d.text → IsCharBoundary d.text start
     → AreTextLines d path (spot start no_braces) [] (lines_from d.text (line_end_at d.text start)) t → TextInOrder d start t
 text_is_in_order d path start t utf8 boundary lines =

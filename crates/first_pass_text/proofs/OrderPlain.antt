@@ -1,4 +1,4 @@
--- The block of a paragraph, or of a heading that is underlined, lies between two offsets in order.
+-- The block of a paragraph or of a setext heading is between two offsets in order.
 use Rattle.std.proofs.Common.{◌≡◌, inl, inr, ℕ, ◌+◌, ◌-◌, ◌*◌, ◌<◌, ◌≤◌, suc, Bool, true, false, if◌then◌else◌, List, [], ◌∷◌, ◌++◌, length, drop, Option}
 use Rattle.std.proofs.Common.{Some, None, IsUtf8, IsCharBoundary, refl, sym, ap, subst, ◌∙◌, arith, MatchOption, get_or, slice_index, take, ◌==◌}
 use Rattle.std.proofs.Common.{length-take-le, get_or-drop}
@@ -56,7 +56,7 @@ few_marked (Some x) chain = omega arith
 abbrev text_node : ℕ → ℕ → ItemBody → Item
 text_node start next body = record { start = start; «end» = next; body = body }
 
--- such a block has at most four nodes for each byte: itself, a marker, and its tokens, all of them its own
+-- such a block has at most four nodes for each byte: the block, a marker and its tokens, all of them its own
 block_few : (from start next : ℕ) (body : ItemBody) (marker : Option Item) (chain : List Item) → from ≤ start → length chain + start ≤ next → from < next
     → own_nodes (block_with start next body (marker_items marker ++ chain)) ≤ 4 * (next - from)
 block_few from start next body marker chain low few some =
@@ -65,16 +65,16 @@ block_few from start next body marker chain low few some =
     let most = own_at_most None (block_with start next body (marker_items marker ++ chain)) in
     omega arith
 
--- a task list item marker stands in a list item
+-- a task list item marker is in a list item
 abbrev StandsIn : Within → Option Item → Type 0
 StandsIn w None = Unit {0}
 StandsIn w (Some m) = w ≡ InItem
 
--- what the extent of a paragraph or a heading is
+-- the extent of a paragraph or a heading
 abbrev text_extent : ℕ → ℕ → Extent
 text_extent start next = record { start = start; «end» = next; text_block = true; marker = false; item = false; definitions = false }
 
--- what stands below a paragraph
+-- the children of a paragraph
 kids_fit : (text : List ℕ) (w : Within) (from start next : ℕ) (marker : Option Item) (chain : List Item)
     → AreInOrder text start next chain → StandsBefore text from start marker → StandsIn w marker
     → (from ≤ start) × Fits text (below w from (text_extent start next)) start next (row_of (marker_items marker ++ chain))
@@ -151,7 +151,7 @@ white_first bs some =
     ∙ (suffix_first is_white bs (length bs) (omega arith) (subst (λ (xs : List ℕ). 0 < suffix_len is_white xs) (sym all) some)).1 in
     grind (arith, nat_tests, white)
 
--- at the opening of an attribute block stands a brace
+-- a brace is at the opening of an attribute block
 brace_first : (options : Options) (bs : List ℕ) (block : Braces) → heading_braces options bs ≡ Some block → slice_index bs block.opening ≡ left_brace
 unfolding heading_braces
 brace_first options bs block =
@@ -163,7 +163,7 @@ brace_first options bs block =
     ∙ get_or-append_seam is.front left_brace (is.inside ++ right_brace ∷ is.behind) 0)
     (λ b e. absurd (none-some block e))
 
--- what is cut off begins with that brace, or with white space
+-- the bytes that are cut off begin with that brace, or with white space
 kept_byte : (broken : Bool) (bs : List ℕ) (opening : ℕ) → opening < length bs → slice_index bs opening ≡ left_brace
     → (kept_before broken opening bs ≤ opening) × (slice_index bs (kept_before broken opening bs) < 128)
 kept_byte true bs opening within is = (omega arith, omega (arith, is))
@@ -184,7 +184,7 @@ kept_byte false bs opening within is =
           (omega arith, omega arith)
     ]
 
--- A heading's content ends between two characters before its attribute block.
+-- A heading's content ends at a character boundary before its attribute block.
 pub kept_place : (text : List ℕ) (options : Options) (start last : ℕ) (broken : Bool) (block : Braces)
     → last ≤ length text → heading_braces options (slice_range text start last) ≡ Some block
     → let e : ℕ = start + kept_before broken block.opening (slice_range text start last) in (start ≤ e) × (e < last) × IsCharBoundary text e
@@ -198,7 +198,7 @@ kept_place text options start last broken block within e =
     let at : slice_index bs k ≡ slice_index text (start + k) = get_or-take (last - start) (drop start text) k 0 before ∙ get_or-drop start text k 0 in
     (omega arith, omega arith, IsCharBoundary-before_ascii text (start + k) (omega arith) (omega (arith, kept.1)))
 
--- where a chain with a marker before it ends
+-- the end of a chain with a marker before it
 pub marked_end : (text : List ℕ) (from start stop : ℕ) (marker : Option Item) (chain : List Item)
     → StandsBefore text from start marker → start ≤ stop → chain_end start chain ≤ stop
     → chain_end start (marker_items marker ++ chain) ≤ stop
@@ -206,7 +206,7 @@ marked_end text from start stop None chain stands low e = e
 marked_end text from start stop (Some m) [] stands low e = let b : IsBetween text from start (extent_of m) = stands.1 in omega (arith, b.before)
 marked_end text from start stop (Some m) (x ∷ xs) stands low e = e
 
--- what is left of a marker before the cut, or of one that is empty there
+-- the rest of a marker before the cut, or of one that is empty there
 pub cut_marker : (e : ℕ) (m : Item) (chain : List Item) → m.start < e → m.«end» ≤ e → cut e (m ∷ chain) ≡ m ∷ cut e chain
 cut_marker e m chain before whole =
     cond-true _ _ _ (lt-ltb m.start e before) ∙ ap (λ (x : Item). x ∷ cut e chain) (cond-false _ _ _ (le-ltb e m.«end» whole))
@@ -263,7 +263,7 @@ module _ (d : Document) (w : Within) (from start : ℕ) (l : TextLines) (h : Tex
         }
       ]
 
-  -- the children of a heading, by its attribute block, or none
+  -- the children of a heading, with its attribute block or without one
   heading_stand : (marker : Option Item) (o : Option Braces) → heading_braces d.options (heading_bytes d start marker l) ≡ o → IsCharBoundary d.text start
       → StandsBefore d.text from start marker → StandsIn w marker → ChildrenStand d.text w from start next_start (heading_children d start marker l)
   heading_stand marker None none starts stands inside =
@@ -279,7 +279,7 @@ module _ (d : Document) (w : Within) (from start : ℕ) (l : TextLines) (h : Tex
       subst (ChildrenStand d.text w from start next_start) (sym (children_by d start marker l (Some block) some))
       (cut_stand (start + kept_before (by_backslash l.break) block.opening (heading_bytes d start marker l)) marker stands inside p.0 (omega (arith, p.1)) p.2)
 
--- A paragraph, or a heading that is underlined, lies between an offset that its marker or its text stands after, and the line after it.
+-- A paragraph or a setext heading is between an offset before its marker or its text, and the line after it.
 ended_between : (d : Document) (w : Within) (from start : ℕ) (marker : Option Item) (l : TextLines) (items : List (ℕ × Item)) (next : ℕ)
     (o : Option (ℕ × HeadingLevel))
     → IsCharBoundary d.text start → IsCharBoundary d.text next → start_of (length d.text) l.left ≤ start_of (length d.text) (drop 1 l.left)
@@ -306,7 +306,7 @@ ended_between d w from start marker l items next (Some underline) starts ends la
     (children_between d.text w from start (start_of (length d.text) l.left) next body (heading_children d start marker l) refl starts ends
     (omega arith) heading)
 
--- the text stands after the offset that its marker stands after
+-- the text is after an offset before its marker
 low_start : (text : List ℕ) (from start : ℕ) (marker : Option Item) → StandsBefore text from start marker → from ≤ start
 low_start text from start None stands = stands
 low_start text from start (Some m) stands = let b : IsBetween text from start (extent_of m) = stands.1 in omega (arith, b.behind, b.order, b.before)

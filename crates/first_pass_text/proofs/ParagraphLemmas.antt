@@ -59,7 +59,7 @@ goes_within c text n h =
           ∙ interrupts-end c (continued c.path (line_rest []))))
     ]
 
--- It has no underline there.
+-- There is no underline there.
 underline-end : (path : List Container) → underline_of path (line_rest []) ≡ None
 unfolding underline_of setext_underline
 underline-end path =
@@ -89,7 +89,7 @@ underline_within path text n underline h =
       | inr past ↦ absurd (none-some underline (sym (underline-end path) ∙ ap (λ bs. underline_of path (line_rest bs)) (sym (ends_past text n past)) ∙ h))
     ]
 
--- the underline that the line is which begins at an offset
+-- the underline in the line at an offset
 pub underline_there : (path : List Container) (text : List ℕ) (n : ℕ) → underline_first path (lines_from text n) ≡ underline_of path (line_rest (drop n text))
 underline_there path text n =
     elim (cases_lt n (length text)) [
@@ -98,7 +98,7 @@ underline_there path text n =
           ap (underline_first path) (lines_at-end text n past) ∙ sym (ap (λ bs. underline_of path (line_rest bs)) (ends_past text n past) ∙ underline-end path)
     ]
 
--- The text of a line ends where the line ends.
+-- The text of a line ends at the end of the line.
 pub line_end-text : (path : List Container) (text : List ℕ) (n : ℕ)
     → IsUtf8 text → IsCharBoundary text n → line_end_at text (offset (unindented (place_at n (front path (line_rest (drop n text)))))) ≡ line_end_at text n
 line_end-text path text n u b =
@@ -172,7 +172,7 @@ pub with_closed_break-chained : (f : Forest Item) (chain : List Item) (line_brea
 with_closed_break-chained f chain None apart = refl
 with_closed_break-chained f chain (Some x) apart = closed_by (is_backslash_break x.body) f chain x refl apart
 
--- what is no text stays first, whatever comes after it
+-- a token that is no text stays first, whatever follows it
 token_behind : (m y : Item) (chain : List Item) → is_text m.body ≡ false → add_token (m ∷ chain) y ≡ m ∷ add_token chain y
 token_behind m y [] plain =
     cond-false _ _ _ (and_right (is_text y.body) (is_text m.body && (m.«end» == y.start)) (and_left (is_text m.body) (m.«end» == y.start) plain))
@@ -193,7 +193,7 @@ closed_behind m (Some x) chain plain = closed_if (is_backslash_break x.body) m x
 pub so_far_start : (d : Document) (start : ℕ) (old : Forest Item) → IsCharBoundary d.text start → LinesSoFar d start old old (spot start no_braces)
 so_far_start d start old boundary = record { chain = []; tree_is = refl; boundary = boundary; from = inl refl; goes_on = λ more e t p. p }
 
--- A line ends between characters.
+-- A line ends at a character boundary.
 pub next_boundary : (d : Document) (ix n : ℕ) (b : MathBraces) (line_break : Option Item)
     → IsUtf8 d.text → IsCharBoundary d.text ix → EndsLine (content_at d (spot ix b)) (n, line_break) → IsCharBoundary d.text n
 next_boundary d ix n b line_break utf8 boundary ends =
@@ -213,7 +213,7 @@ read_path d start ix old now read answer s apart line there =
     ap (path_of d.options) (line.tree_is ∙ ap (λ f. with_tokens f line.tokens) s.tree_is ∙ with_tokens-chained old s.chain line.tokens apart)
     ∙ path_of-chained d.options old (add_tokens s.chain line.tokens) there
 
--- after a line, where the text continues
+-- after a line, if the text continues
 pub so_far_more : (path : List Container) (d : Document) (names : Names) (after : MathBraces) (start : ℕ) (ix : Spot) (n at : ℕ)
     (old now read new : Forest Item) (line_break : Option Item) → path ≡ path_of d.options old → IsUtf8 d.text → LinesSoFar d start old now ix → JoinsNone old
     → Extends names d.names → AppendsLine names.texts (content_at d ix) now read (n, line_break) after → EndsLine (content_at d ix) (n, line_break)
@@ -275,7 +275,7 @@ so_far_end path d names after start ix n old now read line_break underline path_
       short = short;
     }
 
--- what the next line says
+-- the next line
 pub goes_by : (o : Option (ℕ × HeadingLevel)) (t : Bool) (v at : ℕ) (next : NextLine)
     → next ≡ next_by o t v → next ≡ More at → ((is_some o || t) ≡ false) × (at ≡ v)
 goes_by (Some underline) t v at next e f = cc
@@ -309,7 +309,7 @@ break_fits d ix n (Some x) small ends =
 abbrev pub line_source : Options → List ℕ → Spot → Inline
 line_source options text p = record { options = options; whole = text; text = text; start = p.at; row = false; braces = p.braces }
 
--- the same source, where the text and the options are still those
+-- the same source, with the same text and options
 pub same_line : (texts : List CowStr) (after : MathBraces) (t u : List ℕ) (o w : Options) (ix : Spot) (old new : Forest Item) (answer : ℕ × Option Item)
     → t ≡ u → o ≡ w
     → AppendsLine texts (line_source o t ix) old new answer after → AppendsLine texts (content_at (document u w no_names) ix) old new answer after
@@ -321,7 +321,7 @@ pub same_end : (t u : List ℕ) (o w : Options) (ix : Spot) (answer : ℕ × Opt
 same_end t u o w ix answer e f ends =
     subst (λ z. EndsLine (line_source z u ix) answer) f (subst (λ z. EndsLine (line_source o z ix) answer) e ends)
 
--- the two steps, of a text that is held by other names before and after the line is read
+-- the two steps, for a text that has other names before and after the line is read
 pub so_far_next : (names later : Names) (after : MathBraces) (first text now_text : List ℕ) (o w : Options) (start : ℕ) (ix : Spot) (n at : ℕ)
     (old now read new : Forest Item) (line_break : Option Item) (found : NextLine) (path : List Container)
     → text ≡ first → o ≡ w → now_text ≡ text → path ≡ path_of w read → AreIn (length old.nodes) old.spine → IsUtf8 first
@@ -361,7 +361,7 @@ so_far_stop names later after first text now_text o w start ix n old now read li
     (path_is ∙ read_path (document first w names) start ix old now read (n, line_break) s apart line_is there) s apart grown line_is
     ended stops.0 (subst (λ t. IsCharBoundary t n) same boundary) (break_fits (document first w names) ix n line_break small ended) stops.1
 
--- a paragraph just opened, with the marker of its task list item
+-- a paragraph that was just opened, with the marker of its task list item
 pub path_of-paragraph : (options : Options) (g p m : Forest Item) (x : Item) (ix : TreeIndex) (marker : Option Item)
     → container_of options x.body ≡ None → p ≡ pushed (appended g x) ix → m ≡ with_child p marker → ix.0 ≡ length g.nodes
     → AreIn (length g.nodes) g.spine → path_of options m ≡ path_of options g

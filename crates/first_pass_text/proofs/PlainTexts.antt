@@ -1,4 +1,4 @@
--- A paragraph, or a heading that is underlined, is added to the tree.
+-- A paragraph or a setext heading is added to the tree.
 use Rattle.std.proofs.Common.{◌≡◌, Bool, ◌≤◌, ℕ, ◌+◌, List, [], ◌++◌, length, drop, Option, Some, None, IfSome, MatchOption, IsUtf8}
 use Rattle.std.proofs.Common.{IsCharBoundary, refl, sym, ap, subst, ◌∙◌, arith, false, IsSome, slice_get}
 use Rattle.first_pass_items.specs.declared.item.Item.{Item}
@@ -49,26 +49,26 @@ some_underline : (level : HeadingLevel) (o : Option (ℕ × HeadingLevel))
 some_underline level None h = cc
 some_underline level (Some underline) h = (underline.0, ap (λ z. Some (underline.0, z)) (sym (same_Some level underline.1 h)))
 
--- the break after a chain is closed after a marker before it too
+-- the break after a chain with a marker before it is closed in the same way
 closed_marked : (marker line_break : Option Item) (chain : List Item) → IfSome marker (λ y. is_text y.body ≡ false)
     → close_break line_break (marker_items marker ++ chain) ≡ marker_items marker ++ close_break line_break chain
 closed_marked None line_break chain plain = refl
 closed_marked (Some m) line_break chain plain = closed_behind m line_break chain plain
 
--- the children of a heading are those, whatever is named
+-- the children of a heading are the same under any names
 children_renamed : (text : List ℕ) (options : Options) (m n : Names) (start : ℕ) (marker : Option Item) (l : TextLines)
     → heading_children (document text options m) start marker l ≡ heading_children (document text options n) start marker l
 unfolding heading_children
 children_renamed text options m n start marker l = refl
 
--- the children of a heading, by its attribute block, or none
+-- the children of a heading, with its attribute block or without one
 pub children_by : (d : Document) (start : ℕ) (marker : Option Item) (l : TextLines) (o : Option Braces)
     → heading_braces d.options (heading_bytes d start marker l) ≡ o
     → heading_children d start marker l ≡ children_without d start marker l o
 unfolding heading_children
 children_by d start marker l o e = ap (children_without d start marker l) e
 
--- what the lines of a text give, those from an offset on left
+-- the result for the lines of a text, with the remaining lines from an offset on
 abbrev given : List ℕ → ℕ → List Item → Option Item → TextLines
 given text next chain line_break = text_lines chain line_break (lines_from text next)
 
@@ -81,7 +81,7 @@ module _ (text : List ℕ) (options : Options) (names : Names) (start n : ℕ) (
   abbrev lines : TextLines
   lines = given text n chain line_break
 
-  -- where no underline follows
+  -- if no underline follows
   pub paragraph_added : None ≡ option_map (λ (found : ℕ × HeadingLevel). found.1) (underline_first (path_of options old) (lines_from text n))
       → new ≡ added old (paragraph_block start n (text_children marker lines)) → AddsPlainText (document text options names) start marker old new n
   paragraph_added said tree_is =
@@ -102,7 +102,7 @@ module _ (text : List ℕ) (options : Options) (names : Names) (start n : ℕ) (
         boundary = boundary;
       }
 
-  -- where one follows
+  -- if one follows
   pub heading_added : (level : HeadingLevel) (index : Option HeadingIndex) (next : ℕ)
       → Some level ≡ option_map (λ (found : ℕ × HeadingLevel). found.1) (underline_first (path_of options old) (lines_from text n))
       → next ≡ line_end_at text n → IsCharBoundary text next
@@ -140,7 +140,8 @@ module _ (text : List ℕ) (options : Options) (names : Names) (start n : ℕ) (
 abbrev pub opened_item : ℕ → Item
 opened_item start = record { start = start; «end» = 0; body = Paragraph }
 
--- A paragraph stands open in the tree, with the marker of its task list item and the chain of its lines in it, but for the break after the last of them.
+-- A paragraph is open in the tree, with the marker of its task list item and the chain of its lines in it, except the
+-- break after the last of them.
 pub record StandsOpen (text : List ℕ) (options : Options) (names : Names) (start : ℕ) (marker : Option Item) (g r : Forest Item) (ix : TreeIndex)
     (end : TextEnd) : Type 0 where
   pub chain : List Item
@@ -197,7 +198,7 @@ module _ {text : List ℕ} {options : Options} {read_names : Names} {start : ℕ
       n_is ∙ ap (λ f. with_closed_break f end.line_break) c_is
       ∙ with_closed_break-chained (pushed (appended g x) ix) chain end.line_break (joins_none-fresh (pushed (appended g x) ix) refl)
 
-  -- a paragraph, whose last line is ended
+  -- a paragraph, after its last line is ended
   text_filled : (n : Forest Item)
       → n ≡ with_closed_break r end.line_break → n ≡ chained (pushed (appended g (opened_item start)) ix) (text_children marker read_lines)
   text_filled n is =
@@ -213,7 +214,7 @@ module _ {text : List ℕ} {options : Options} {read_names : Names} {start : ℕ
       paragraph_added text options read_names start end.next marker g new t.chain end.line_break t.are t.later t.boundary (none ∙ t.said)
       (block_closed g n (opened_item start) (text_children marker read_lines) ix t.at (text_filled n n_is) new end.next is)
 
-  -- what is left of the chain of a heading, its last line ended, are its children
+  -- the rest of the chain of a heading, after its last line is ended, forms its children
   cut_is : (o : Option Braces) → heading_braces options (chain_bytes text start whole_chain) ≡ o
       → close_break end.line_break (cut_chain text options start (by_backslash end.line_break) whole_chain)
       ≡ heading_children (document text options no_names) start marker read_lines
@@ -227,7 +228,7 @@ module _ {text : List ℕ} {options : Options} {read_names : Names} {start : ℕ
       whole_chain)) some
       ∙ sym (children_by (document text options no_names) start marker read_lines (Some block) some)
 
-  -- a heading, whose attribute block is cut off, and whose last line is then ended
+  -- a heading, after its attribute block is cut off and its last line is ended
   module _ (names : Names) (grown : Extends names read_names) (level : HeadingLevel) (broken : Bool) (h n : Forest Item)
       (broken_is : broken ≡ by_backslash end.line_break)
       (heads : BecomesHeading (document text options names) level broken ix r h) (n_is : n ≡ with_closed_break h end.line_break) where

@@ -1,4 +1,4 @@
--- How far the reading of a paragraph's lines has come (private functions alone cite this).
+-- How far the lines of a paragraph are read (only private functions cite this).
 use Rattle.std.specs.Prelude.{◌≡◌, ◌⊎◌, ◌≤◌, ℕ, List, [], IsCharBoundary}
 use Rattle.first_pass_items.specs.declared.item.Item.{Item}
 use Rattle.first_pass_tree.specs.Forest.{Forest}
@@ -11,8 +11,8 @@ use Rattle.first_pass_grammar.specs.Completion.{lines_from}
 use Rattle.first_pass_open.specs.Between.{line_end_at}
 use Rattle.first_pass_open.specs.Path.{path_of}
 
--- The lines of a text are read up to where the text of another begins, with the brace contexts there: what they give from there on, whatever more is named, is
--- what all of them give.
+-- The lines of a text are read up to the text of another line, with the brace contexts there. Under any further
+-- names, the remaining lines turn the chain so far into the chain of all lines.
 pub record LinesSoFar (d : Document) (start : ℕ) (old now : Forest Item) (to : Spot) : Type 0 where
   pub chain : List Item
   pub tree_is : now ≡ chained old chain

@@ -1,4 +1,4 @@
--- The front of a text that ends between two characters: what is in order in it is so in the text.
+-- The front of a text that ends at a character boundary: order in it is order in the text.
 use Rattle.std.proofs.Common.{◌≡◌, ℕ, ◌≤◌, List, [], ◌∷◌, length, take, IsUtf8, IsCharBoundary, sym, subst, arith, length-take-le}
 use Rattle.std.proofs.lemmas.List.{take-take}
 use Rattle.std.proofs.lemmas.Str.{IsUtf8-take, IsCharBoundary-from_take}

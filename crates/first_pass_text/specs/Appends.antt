@@ -1,4 +1,4 @@
--- What the leaf parsers append to the tree.
+-- The nodes that the leaf parsers append to the tree.
 use Rattle.std.specs.Prelude.{◌≡◌, ◌≤◌, ℕ, ◌+◌, List, [], take, drop, Option, Some, None, false, IsCharBoundary, if◌then◌else◌, ◌<◌, ◌^◌, IfSome}
 use Rattle.first_pass_items.specs.declared.cow_str.CowStr.{CowStr}
 use Rattle.first_pass_items.specs.declared.item.Item.{Item}
@@ -24,22 +24,23 @@ use Rattle.first_pass_items.specs.declared.option_set.Options.{Options}
 use Rattle.first_pass_text.specs.declared.heading.AttributePlace.{AttributePlace}
 use Rattle.first_pass_text.specs.declared.paragraph.TextEnd.{TextEnd}
 
--- the bytes from an offset up to the end of the line that has something there, its end too (CommonMark 2.1)
+-- the rest of a line from an offset on, with its line ending (CommonMark 2.1)
 abbrev pub line_from : List ℕ → ℕ → List ℕ
 line_from text start = take (line_len (drop start text)) (drop start text)
 
--- where the attribute block begins which the line ends with that has something at an offset, and where the line ends (this project)
+-- of the line containing an offset: the start of its trailing attribute block, and the end of the line (this project)
 abbrev pub attribute_place : Options → List ℕ → ℕ → Option AttributePlace
 attribute_place options text start =
     option_map (λ block. record { opening = start + block.opening; line_end = line_end_at text start }) (heading_braces options (line_from text start))
 
--- the tree where no line follows: the backslash of a hard break is text
+-- the tree if no line follows: the backslash of a hard break is text
 abbrev pub with_closed_break : Forest Item → Option Item → Forest Item
 with_closed_break f None = f
 with_closed_break f (Some x) = if is_backslash_break x.body then with_text f x.start (x.start + 1) false else f
 
--- The chain of the lines of a text that begins at an offset, whatever more is named, stands in the innermost open node, with the break after the last of them
--- apart; they leave those from another offset on, the first of which is an underline or none (CommonMark 4.3, 4.8).
+-- The chain of a text that begins at an offset is in the innermost open node, without the break after its last line,
+-- and remains its chain under any further names. The remaining lines begin at another offset, and the first of them
+-- may be an underline (CommonMark 4.3, 4.8).
 pub record AppendsLines (d : Document) (start : ℕ) (old new : Forest Item) (end : TextEnd) : Type 0 where
   pub chain : List Item
   pub are : (more : Names) → Extends more d.names
@@ -51,8 +52,8 @@ pub record AppendsLines (d : Document) (start : ℕ) (old new : Forest Item) (en
   pub boundary : IsCharBoundary d.text end.next
   pub short : IfSome end.line_break (λ x. x.start < 2 ^ 63)
 
--- The tokens of an ATX heading's line, which is read so and of which this is the text, stand in the innermost open node, without the closing sequence; each
--- text that they name is among these.
+-- The tokens of an ATX heading's line with this text are in the innermost open node, without the closing sequence.
+-- Each text that they name is among these.
 pub record AppendsHeading (texts : List CowStr) (s : Inline) (content : List ℕ) (old new : Forest Item) : Type 0 where
   pub tokens : List Item
   pub answer : ℕ × Option Item
@@ -60,8 +61,9 @@ pub record AppendsHeading (texts : List CowStr) (s : Inline) (content : List ℕ
   pub line : IsLine texts s tokens answer after
   pub tree_is : new ≡ chained old (heading_chain (kept_len content) s.start (close_break answer.1 (add_tokens [] tokens)))
 
--- What stands for the text that begins at an offset and heads no table, whatever more is named, is a last child of the innermost open node, and leaves the
--- lines from another on (CommonMark 4.3, 4.8).
+-- The paragraph or setext heading of a text that begins at an offset and heads no table is added as a last child of
+-- the innermost open node. It remains one under any further names. The remaining lines begin at another offset
+-- (CommonMark 4.3, 4.8).
 pub record AddsPlainText (d : Document) (start : ℕ) (marker : Option Item) (old new : Forest Item) (next : ℕ) : Type 0 where
   pub items : List (ℕ × Item)
   pub is : (more : Names) → Extends more d.names
@@ -71,7 +73,8 @@ pub record AddsPlainText (d : Document) (start : ℕ) (marker : Option Item) (ol
   pub later : line_end_at d.text start ≤ next
   pub boundary : IsCharBoundary d.text next
 
--- The ATX heading that begins at an offset, whatever more is named, is a last child of the innermost open node, and its line ends before another.
+-- The ATX heading that begins at an offset is added as a last child of the innermost open node, and remains one under
+-- any further names. Its line ends at another offset.
 pub record AddsHeading (d : Document) (start : ℕ) (level : HeadingLevel) (old new : Forest Item) (next : ℕ) : Type 0 where
   pub index : Option HeadingIndex
   pub chain : List Item

@@ -14,31 +14,34 @@ use Rattle.first_pass_grammar.specs.Headings.{heading_braces, heading_attributes
 use Rattle.first_pass_grammar.specs.Leaves.{Document}
 use Rattle.first_pass_grammar.specs.Names.{Names, NamesAttributes, NamesEntry, AttributesAt, Extends}
 
--- the innermost open node is the last one, and nothing stands in it
+-- the innermost open node is the last node, and has no children
 pub record IsBare (f : Forest Item) : Type 0 where
   pub last : open_place f.spine + 1 ≡ length f.nodes
   pub none : f.current ≡ None
 
--- a chain that begins at an offset, without the attribute block at its end; a backslash breaks its last line, or doesn't
+-- a chain that begins at an offset, without the attribute block at its end; `broken` if a backslash breaks its last
+-- line
 abbrev pub cut_chain : List ℕ → Options → ℕ → Bool → List Item → List Item
 cut_chain text options start broken chain =
     option_map_or (λ block. cut (start + kept_before broken block.opening (chain_bytes text start chain)) chain)
     (heading_braces options (chain_bytes text start chain)) chain
 
--- The attribute block of the heading's text that begins at an offset is cut off its chain, which stands alone in the innermost open node, and the index of its
--- attributes names them, whatever more is named.
+-- The attribute block of a heading's text that begins at an offset is cut off its chain, the only content of the
+-- innermost open node. Under any further names, the index names the attributes.
 abbrev pub CutsBlock : Document → ℕ → Bool → Forest Item → Forest Item → Option HeadingIndex → Type 0
 CutsBlock d start broken old new index =
     (f : Forest Item) → (chain : List Item) → IsBare f → old ≡ chained f chain
     → (new ≡ chained f (cut_chain d.text d.options start broken chain))
     × ((more : Names) → Extends more d.names → NamesAttributes more index (heading_attributes_of d.options (chain_bytes d.text start chain)))
 
--- A tree is as it was, or the children of its innermost open node are cut between two characters, at an offset that is not before another one.
+-- The tree is unchanged, or the children of its innermost open node are cut at a character boundary that is not
+-- before an offset.
 abbrev pub CutsChildren : List ℕ → ℕ → Forest Item → Forest Item → Type 0
 CutsChildren text start old new = (new ≡ old) ⊎ ((e : ℕ) × (start ≤ e) × IsCharBoundary text e × (new ≡ cut_siblings old e))
 
--- An open block is a heading of this level now, whose attribute block is cut off the chain that stands in it; a backslash breaks its text's last line, or
--- doesn't. Whatever stands in it is cut at the most, and an index of the heading names attributes (CommonMark 4.3, and this project).
+-- An open block becomes a heading of this level, and the attribute block is cut off the chain in it; `broken` if a
+-- backslash breaks the last line of its text. The block's children are at most cut, and an index of the heading names
+-- attributes (CommonMark 4.3, and this project).
 pub record BecomesHeading (d : Document) (level : HeadingLevel) (broken : Bool) (block : TreeIndex) (old new : Forest Item) : Type 0 where
   pub index : Option HeadingIndex
   pub cut : Forest Item

@@ -1,4 +1,4 @@
--- The break after a line as an item.
+-- The item of the break after a line.
 use Rattle.std.specs.Prelude.{Option, true, false}
 use Rattle.std.specs.Option.{option_map}
 use Rattle.first_pass_items.specs.declared.item.Item.{Item}

@@ -1,4 +1,4 @@
-//! The attributes that the text of a heading ends with (this project).
+//! The attribute block at the end of a heading's text (this project).
 
 ghost use Rattle.std.specs.Prelude.{◌≡◌, ◌≤◌, ◌<◌, ◌+◌, ◌-◌, List, length, slice_get, IfOk, IfSome, OnOk, Some, None, if◌then◌else◌};
 ghost use Rattle.std.specs.List.{slice_range, suffix_len};
@@ -28,10 +28,10 @@ use first_pass_tree::forest::Tree;
 use first_pass_tree::tree_index::TreeIndex;
 use std::alloc::AllocError;
 
-/// Where the content of a heading ends whose text goes from the offset `header_start` into the text up to
-/// `header_end`, and its attributes: before its attribute block, after the white space there, and what the
-/// block gives. Without such a block, or where headings have none, the text's end and `None`; a text whose end lies
-/// before its start is empty. The error is want of memory (this project).
+/// Returns the offset at which a heading's content ends, and its attributes. Its text extends from the offset
+/// `header_start` into the text to `header_end`. The content ends before the attribute block and includes the white
+/// space there. Without such a block, or if headings have no attributes, returns the end of the text and `None`. A
+/// text whose end is before its start is empty. Fails only if an allocation fails (this project).
 pub fn extract_and_parse_heading_attribute_block<'a>(
     source: &Source<'a>,
     header_start: usize,
@@ -62,8 +62,8 @@ pub fn extract_and_parse_heading_attribute_block<'a>(
     }
 }
 
-/// Puts the attributes of a heading, if it has some, after those that nodes name, and returns their index. The error
-/// is want of memory (this project).
+/// Adds the attributes of a heading, if it has some, to those that nodes name, and returns their index. Fails only if
+/// an allocation fails (this project).
 pub fn name_attributes<'a>(
     allocs: &mut Allocations<'a>,
     attributes: Option<HeadingAttributes<'a>>,
@@ -81,7 +81,8 @@ pub fn name_attributes<'a>(
     }
 }
 
-// Where the chain of the innermost open node ends, of a text that begins at an offset: there where it has no token.
+// The end of the chain in the innermost open node, for a text that begins at an offset; that offset if the chain has
+// no token.
 fn chain_end(tree: &Tree<Item>, start: usize) -> usize
     ensures { (f : Forest Item) → (chain : List Item) → IsBare f → tree.now ≡ chained f chain
         → result ≡ chain_end_of start chain }
@@ -93,7 +94,7 @@ fn chain_end(tree: &Tree<Item>, start: usize) -> usize
     }
 }
 
-// How many bytes of white space stand last.
+// The number of white space bytes at the end.
 fn trailing_white(bytes: &[u8]) -> usize
     ensures value { result ≡ suffix_len is_white bytes.now }
     ensures within { result ≤ length bytes.now }
@@ -101,8 +102,8 @@ fn trailing_white(bytes: &[u8]) -> usize
     bytes.iter().rev().take_while(|b| is_white(**b)).count()
 }
 
-// How many bytes of white space stand last in the content of an underlined heading and are cut off with its attribute
-// block: none where a backslash breaks its last line.
+// The number of white space bytes at the end of a setext heading's content that are cut off with its attribute block:
+// none if a backslash breaks its last line.
 fn white_at_cut(content: &[u8], broken: bool) -> usize
     ensures value { result ≡ (if broken then 0 else suffix_len is_white content.now) }
     ensures within { result ≤ length content.now }
@@ -110,10 +111,10 @@ fn white_at_cut(content: &[u8], broken: bool) -> usize
     if broken { 0 } else { trailing_white(content) }
 }
 
-/// Cuts the attribute block of an underlined heading off its chain, which stands in the innermost open node: that of
-/// the text that begins at the offset `start`, whose last line a backslash breaks (`broken`) or doesn't. The
-/// attributes are put among `allocs`, and the answer is their index; `None` where the text ends with no such block.
-/// No node is added. The error is want of memory (CommonMark 4.3, and this project).
+/// Cuts the attribute block of a setext heading off its chain in the innermost open node, and returns the index of the
+/// attributes; `None` if there is no such block. The heading's text begins at the offset `start`, and a backslash
+/// breaks its last line if `broken`. Adds the attributes to `allocs`, and no node to the tree. Fails only if an
+/// allocation fails (CommonMark 4.3, and this project).
 pub fn cut_attributes<'a>(
     source: &Source<'a>,
     tree: &mut Tree<Item>,
@@ -142,7 +143,7 @@ pub fn cut_attributes<'a>(
     Ok(index)
 }
 
-/// A text that is underlined.
+/// A text with a setext heading underline.
 #[derive(Clone, Copy)]
 pub struct Underlined {
     /// The level of its underline.
@@ -151,9 +152,9 @@ pub struct Underlined {
     pub broken: bool,
 }
 
-/// Makes the block `node_ix`, the innermost open node, in which the chain of an underlined text stands, a heading: the
-/// attribute block is cut off the chain, and the attributes are put among `allocs`. No node is added. The error is
-/// want of memory (CommonMark 4.3, and this project).
+/// Makes the block `node_ix`, the innermost open node with the chain of a setext heading, a heading. Cuts the
+/// attribute block off the chain, and adds the attributes to `allocs`. No node is added. Fails only if an allocation
+/// fails (CommonMark 4.3, and this project).
 pub fn make_heading<'a>(
     source: &Source<'a>,
     tree: &mut Tree<Item>,

@@ -31,7 +31,7 @@ use first_pass_tree::forest::Tree;
 use first_pass_tree::tree_index::TreeIndex;
 use std::alloc::AllocError;
 
-// How many spaces and line ends stand at the end.
+// The number of spaces and line endings at the end.
 fn trailing_aside(text: &[u8]) -> usize
     ensures value { result ≡ suffix_len is_put_aside text.now }
     ensures within { result ≤ length text.now }
@@ -42,7 +42,7 @@ fn trailing_aside(text: &[u8]) -> usize
         .count()
 }
 
-// Where the text of a heading begins: after its number signs and the white space after them.
+// The start of a heading's text: after its number signs and the white space after them.
 fn heading_text_start(bytes: &[u8], start: usize, level: HeadingLevel) -> usize
     requires within { start ≤ length bytes.now }
     requires heading { atx_level_of (drop start bytes.now) ≡ Some level }
@@ -53,7 +53,7 @@ fn heading_text_start(bytes: &[u8], start: usize, level: HeadingLevel) -> usize
     signs_end + scan_whitespace_no_nl(rest_of(bytes, signs_end))
 }
 
-// How many of this byte stand at the end.
+// The length of the run of this byte at the end.
 fn trailing_run(text: &[u8], byte: u8) -> usize
     ensures value { result ≡ suffix_len (λ b. b == byte) text.now }
     ensures within { result ≤ length text.now }
@@ -69,7 +69,7 @@ fn first_bytes(text: &[u8], count: usize) -> &[u8]
     &text[..count]
 }
 
-// How many bytes of a heading's text are left without its closing sequence (CommonMark 4.2).
+// The length in bytes of a heading's text without its closing sequence (CommonMark 4.2).
 fn kept_len(text: &[u8]) -> usize
     ensures value { result ≡ kept_len_of text.now }
     ensures within { result ≤ length text.now }
@@ -88,16 +88,16 @@ fn kept_len(text: &[u8]) -> usize
     }
 }
 
-// Where the attribute block of an ATX heading begins, and where its line ends: offsets into the text.
+// The start of an ATX heading's attribute block, and the end of its line: offsets into the text.
 #[derive(Clone, Copy, Drop)]
 struct AttributePlace {
     opening: usize,
     line_end: usize,
 }
 
-// The attribute block of the heading whose text begins at the offset `start` into the text: where it is, and the index
-// of the attributes that it gives, which are put among `allocs`; neither where there is none. Where headings have no
-// attributes, the line's end isn't sought: the tokens end there. The error is want of memory (this project).
+// The place of the attribute block of the heading whose text begins at the offset `start` into the text, and the index
+// of its attributes; neither if there is no block. Adds the attributes to `allocs`. If headings have no attributes, it
+// does not search for the end of the line: the tokens end there. Fails only if an allocation fails (this project).
 #[inline(always)]
 fn name_attribute_block<'a>(
     source: &Source<'a>,
@@ -123,14 +123,14 @@ fn name_attribute_block<'a>(
     Ok((Some(AttributePlace { opening, line_end }), index))
 }
 
-// Where the attribute block begins, if there is one.
+// The start of the attribute block, if there is one.
 fn opening_of(place: Option<AttributePlace>) -> Option<usize>
     ensures { result ≡ option_map (λ p. p.opening) place }
 {
     place.map(|block| block.opening)
 }
 
-// Where the line ends, by the place of its attribute block or after its content.
+// The end of the line: from the place of its attribute block, or after its content.
 fn line_end_of(place: Option<AttributePlace>, next: usize) -> usize
     ensures { result ≡ option_map_or (λ p. p.line_end) place next }
 {
@@ -140,9 +140,9 @@ fn line_end_of(place: Option<AttributePlace>, next: usize) -> usize
     }
 }
 
-/// Appends the ATX heading of this level that begins at the offset `start` into the text to the innermost open node
-/// of the tree, without its attribute block, and returns the offset at which its line ends (CommonMark 4.2). The
-/// attributes are put among `allocs`. The error is want of memory.
+/// Appends the ATX heading of this level that begins at the offset `start` into the text to the innermost open node,
+/// without its attribute block. Returns the offset at which its line ends (CommonMark 4.2). Adds the attributes to
+/// `allocs`. Fails only if an allocation fails.
 pub fn parse_atx_heading<'a>(
     source: &Source<'a>,
     tree: &mut Tree<Item>,
@@ -176,9 +176,8 @@ pub fn parse_atx_heading<'a>(
     Ok(end)
 }
 
-// Appends the chain of a heading whose text is this content to `node_ix`, the innermost open node, which was just
-// opened, and returns the offset at which the content ends, with its line end. The texts that its tokens name are put
-// among `allocs`.
+// Appends the chain of a heading with this content to `node_ix`, the innermost open node, which was just opened.
+// Returns the end of the content, with its line ending. Adds the texts that its tokens name to `allocs`.
 #[inline(always)]
 fn heading_text(
     content: Content<'_>,

@@ -1,4 +1,4 @@
-//! The break after a line, while the next line is looked at.
+//! The break after a line, while the next line is read.
 
 ghost use Rattle.std.specs.Prelude.{◌≡◌, true, IfSome};
 ghost use Rattle.first_pass_tokens.specs.LineTokens.{is_break};
@@ -6,7 +6,7 @@ ghost use Rattle.first_pass_text.specs.LineBreaks.{body_of, break_item};
 
 use first_pass_items::item::{Item, ItemBody};
 
-/// What makes a break (CommonMark 6.7, 6.8).
+/// The kind of a break (CommonMark 6.7, 6.8).
 #[derive(Clone, Copy, Drop)]
 pub enum BreakKind {
     Soft,
@@ -14,8 +14,7 @@ pub enum BreakKind {
     ByBackslash,
 }
 
-/// A break from one offset into the text up to another. It is told in fewer bytes than an item, so that it stays in
-/// registers.
+/// A break from one offset into the text to another. It has fewer bytes than an item, so that it stays in registers.
 #[derive(Clone, Copy, Drop)]
 pub struct LineBreak {
     pub start: usize,
@@ -23,7 +22,7 @@ pub struct LineBreak {
     pub kind: BreakKind,
 }
 
-/// The break that an item is, if there is one.
+/// The break of an item, if there is one.
 #[inline(always)]
 pub fn held_break(item: Option<Item>) -> Option<LineBreak>
     requires { IfSome item (λ x. is_break x.body ≡ true) }

@@ -1,4 +1,4 @@
-//! The lines of a paragraph, or of a heading that is underlined.
+//! The lines of a paragraph or of a setext heading.
 
 ghost use Rattle.std.specs.Prelude.{◌≡◌, ◌<◌, ◌^◌, ℕ, false, IfOk, IfSome, OnOk, IsUtf8, IsCharBoundary};
 ghost use Rattle.first_pass_tokens.specs.TreeTokens.{JoinsNone};
@@ -46,7 +46,7 @@ fn is_by_backslash(line_break: Option<Item>) -> bool
     }
 }
 
-/// Ends a block's last line: a backslash that would make a hard break there is text.
+/// Ends a block's last line: a backslash that would make a hard break there becomes text.
 pub fn append_last_backslash(
     tree: &mut Tree<Item>,
     line_break: Option<Item>,
@@ -69,8 +69,8 @@ pub fn append_last_backslash(
     }
 }
 
-// Where the lines of a text end: at the offset at which the next line begins, or the text's length; the break after
-// the last of them; and the level of the heading that they are, where the next line is an underline.
+// The end of the lines of a text: the start of the next line, or the end of the text; the break after the last line;
+// and the level of the heading, if the next line is an underline.
 #[derive(Clone, Copy, Drop)]
 struct TextEnd {
     next: usize,
@@ -78,10 +78,10 @@ struct TextEnd {
     underline: Option<HeadingLevel>,
 }
 
-/// Appends the paragraph, or the heading that is underlined, whose first line's text begins at the offset `start_ix`
-/// into the text to the innermost open node of the tree, with the marker of its task list item, if it has one, as its
-/// first child. Returns the offset at which the line begins that is after it, or the text's length (CommonMark 4.3,
-/// 4.8). The attributes of a heading and the texts that tokens name are put among `allocs`.
+/// Appends the paragraph or setext heading whose text begins at the offset `start_ix` into the text to the innermost
+/// open node. The marker of its task list item, if it has one, is its first child. Returns the start of the next
+/// unread line, or the end of the text (CommonMark 4.3, 4.8). Adds the attributes of a heading, and the texts that
+/// tokens name, to `allocs`.
 pub fn parse_paragraph<'a>(
     source: &Source<'a>,
     tree: &mut Tree<Item>,
@@ -119,8 +119,8 @@ pub fn parse_paragraph<'a>(
     Ok(behind)
 }
 
-// Appends the chain of the lines of the text that begins at `start` to the innermost open node, but for the break
-// after the last of them. The texts that its tokens name are put among `allocs`.
+// Appends the chain of the text that begins at `start` to the innermost open node, except the break after its last
+// line. Adds the texts that its tokens name to `allocs`.
 fn append_text_lines<'a>(
     source: &Source<'a>,
     tree: &mut Tree<Item>,

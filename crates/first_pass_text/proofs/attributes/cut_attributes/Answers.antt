@@ -47,7 +47,7 @@ returns-clause-cut c f chain bare is =
           (w.tree-is ∙ is ∙ ap (chained f) (sym (cut_none text options start c.args.broken chain none)), named)
     ]
 
--- where the attribute block is cut off
+-- the offset at which the attribute block is cut off
 pub returns-clause-children : goal.returns-clause-children
 returns-clause-children c =
     let text : List ℕ = c.args.source.now.text.now in

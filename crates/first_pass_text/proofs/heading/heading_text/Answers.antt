@@ -13,7 +13,7 @@ use Rattle.first_pass_names.specs.TableEntries.{names_of}
 use Rattle.first_pass_text.proofs.HeadingLemmas.{heading_open, heading_empty, heading_cut}
 use Rattle.first_pass_text.proofs.heading.heading_text.Goals as goal
 
--- the line is read after no brace contexts
+-- the line is read without brace contexts before it
 begun : {texts : List CowStr} (content : Content) {braces after : MathBraces} {old new : Forest Item} {answer : ℕ × Option Item}
     → braces ≡ no_braces
     → AppendsLine texts (source content braces) old new answer after → AppendsLine texts (source content no_braces) old new answer after

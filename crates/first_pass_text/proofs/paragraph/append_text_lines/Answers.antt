@@ -14,7 +14,7 @@ use Rattle.first_pass_open.proofs.PathLemmas.{open_are_in}
 use Rattle.first_pass_text.proofs.ParagraphLemmas.{same_end, next_boundary, so_far_start, so_far_next, so_far_stop, stops_by, underlined_by}
 use Rattle.first_pass_text.proofs.paragraph.append_text_lines.Goals as goal
 
--- with the break as the item that it was
+-- with the break as the original item
 ended_by : {d : Document} {start next : ℕ} {old new : Forest Item} {item now : Option Item} {underline : Option HeadingLevel} → now ≡ item
     → AppendsLines d start old new (record { next = next; line_break = item; underline = underline })
     → AppendsLines d start old new (record { next = next; line_break = now; underline = underline })
