@@ -1,4 +1,4 @@
--- A run of blank lines that change nothing of what is remembered.
+-- A run of blank lines that leave the state unchanged.
 use Rattle.std.proofs.Common.{◌≡◌, inl, ℕ, ◌+◌, ◌<◌, true, false, length, drop, Some, is_some, IsUtf8, IsCharBoundary, refl, subst, arith}
 use Rattle.first_pass_lines.specs.Lines.{blank_len, line_len}
 use Rattle.first_pass_lines.specs.Rest.{Rest}
@@ -18,7 +18,7 @@ use Rattle.first_pass_ready.proofs.EnterLemmas.{ready_blank_line}
 use Rattle.first_pass_blocks.proofs.HandedOn.{ordered_blank_line}
 use Rattle.first_pass_ready.proofs.OldFootnotes.{ends_here}
 
--- one line more
+-- one more line
 pub one_read : (source : Source) (start at : ℕ) (r : Reading) (rest : Rest) → IsUtf8 source.text.now → blank_read r ≡ r
     → ends_here source.options r.tree r.blank ≡ false → at < length source.text.now → IsCharBoundary source.text.now at
     → after (path_of source.options r.tree) (line_rest (drop at source.text.now)) ≡ Some rest → is_some (blank_len rest.left) ≡ true

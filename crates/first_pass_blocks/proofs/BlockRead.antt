@@ -1,4 +1,4 @@
--- A pass read a block, once the containers were left, entered and opened that its first line says.
+-- A pass read a block, after its first line closed, continued and opened containers.
 use Rattle.std.proofs.Common.{◌≡◌, ℕ, ◌+◌, ◌<◌, ◌≤◌, List, length, drop, Option, Some, IsUtf8, IsCharBoundary, refl, sym, ap, subst, ◌∙◌, arith}
 use Rattle.first_pass_items.specs.declared.item.Item.{Item}
 use Rattle.first_pass_lines.specs.Lines.{line_len}
@@ -22,7 +22,7 @@ use Rattle.first_pass_blocks.specs.Starts.{last_at, IsAfter}
 use Rattle.first_pass_blocks.specs.Views.{allocs_of, reading_of, source_of, source_text, tree_of}
 use Rattle.first_pass_blocks.proofs.OrderSteps.{line_later, place_before_end}
 
--- a step of what is remembered is one of the pass
+-- a step of the state is a step of the pass
 pub passes_reading : (over : Source) (line : ℕ) (old new : BlockPass) (p q : Position) → source_of new ≡ source_of old → allocs_of new ≡ allocs_of old
     → ReadsTo over line (reading_of old) (reading_of new) p q → PassesTo over line old new p q
 passes_reading over line old new p q source same step =
@@ -55,7 +55,7 @@ passes_both over line a b c p q t one two = record {
   whole = λ h k. two.whole (one.named h) (one.whole h k);
 }
 
--- where reading is once the containers are open that begin in a line or where they continue
+-- the position of reading after the containers that begin in a line, or where they continue, are open
 pub record IsOpenedFrom (over : Source) (start : ℕ) (old new : BlockPass) (q : Place) (after : AfterMarker) : Type 0 where
   pub place : IsPlaceOf over.text.now q
   pub begins : start ≤ offset q
@@ -63,7 +63,7 @@ pub record IsOpenedFrom (over : Source) (start : ℕ) (old new : BlockPass) (q :
   pub is_after : IsAfter after (reading_of new)
   pub steps : PassesTo over start old new (LineAt start) (last_at q (line_end q) after)
 
--- the line is entered, and the containers are open that begin in it
+-- the line is entered, and the containers that begin in it are open
 pub opened_line : (over : Source) (start : ℕ) (old mid new : BlockPass) (o : Option Place) (p q : Place) (after here : AfterMarker)
     → source_of mid ≡ source_of old → allocs_of mid ≡ allocs_of old → o ≡ Some p
     → EntersLine over (reading_of old) (reading_of mid) start o → IsFrom over.text.now p q → IsAfter after (reading_of new)
@@ -86,7 +86,7 @@ opened_line over start old mid new o p q after here source same some entered fro
           (passes_both over start old mid new (LineAt start) (InLine p) (last_at q (line_end q) after) first opened);
     }
 
--- a position lies between two offsets
+-- a position is between two offsets
 abbrev pub IsBetween : ℕ → ℕ → Position → Type 0
 IsBetween low high (LineAt n) = (low ≤ n) × (n ≤ high)
 IsBetween low high (InLine p) = (low ≤ offset p) × (offset p ≤ high)
@@ -94,7 +94,7 @@ IsBetween low high (LeafAt p) = (low ≤ offset p) × (offset p ≤ high)
 IsBetween low high (TaskAt p marker) = (low ≤ offset p) × (offset p ≤ high)
 IsBetween low high (TaggedAt n) = (low ≤ n) × (n ≤ high)
 
--- a place whose line reading passes
+-- a place in a line that reading passes
 pub place_between : (start next : ℕ) (p : Place) → start ≤ offset p → line_end p ≤ next → (start ≤ offset p) × (offset p ≤ next)
 place_between start next p begins later = let before = place_before_end p in (begins, omega arith)
 
@@ -130,7 +130,7 @@ block_read over old middle new start far next at steps r between later = record 
   whole = λ h k. r.whole (steps.named h) (steps.whole h k);
 }
 
--- the line of a place is over, which nothing follows
+-- nothing follows the marker in its line
 pub line_ended : (over : Source) (old new : BlockPass) (start next : ℕ) → PassesTo over start old new (LineAt start) (LineAt next)
     → IsCharBoundary over.text.now next → start < next → ReadsBlockOf over old new (1 + start) (LineAt start) next
 line_ended over old new start next steps boundary later =

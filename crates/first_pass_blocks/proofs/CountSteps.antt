@@ -1,4 +1,4 @@
--- How many nodes a container adds that is opened with its markers.
+-- The number of nodes that are added when a container is opened with its markers.
 use Rattle.std.proofs.Common.{◌≡◌, ℕ, ◌+◌, ◌<◌, ◌≤◌, List}
 use Rattle.std.proofs.Common.{Option, Some, None, refl, arith}
 use Rattle.first_pass_items.specs.declared.item.Item.{Item}
@@ -10,7 +10,7 @@ use Rattle.first_pass_grammar.specs.Openers.{after_task}
 use Rattle.first_pass_blocks.specs.Positions.{GrowsTo}
 use Rattle.first_pass_blocks.specs.Starts.{after_at}
 
--- an item with something after its markers, which stand up to two offsets
+-- an item with something after its markers, which end at two offsets
 pub container_count : (text : List ℕ) (line low mid e : ℕ) (q : Place) (first old new : List (ℕ × Item)) (marker : Option Item)
     → GrowsBy line low first old → own_nodes new ≤ own_nodes old + 2 → line ≤ low → low < mid → mid ≤ offset q
     → ((x : Item) → marker ≡ Some x → StandsBefore text mid (offset q) (Some x) × (mid < offset q))

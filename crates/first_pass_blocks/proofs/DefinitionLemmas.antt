@@ -1,4 +1,4 @@
--- A link definition that is found is one more of its run.
+-- A link reference definition that is found is one more in its run.
 use Rattle.std.proofs.Common.{◌≡◌, inl, inr, ℕ, ◌+◌, ◌-◌, ◌<◌, ◌||◌, Bool, true, false, List, [], ◌∷◌, length, drop, slice_index, Option, Some, None, IsSomeAnd}
 use Rattle.std.proofs.Common.{MatchOption, IsUtf8, IsCharBoundary, refl, sym, ap, subst, ◌∙◌, arith, if◌then◌else◌}
 use Rattle.std.specs.Option.{option_map}
@@ -30,7 +30,7 @@ use Rattle.first_pass_blocks.specs.Views.{reading_of, source_of, source_text, tr
 use Rattle.first_pass_blocks.proofs.TagLemmas.{tag_end}
 use Rattle.first_pass_blocks.proofs.RunLemmas.{defined_here, IsOneMore}
 
--- what was found is what stands there, and nothing was found where nothing stands
+-- what was found is there, and nothing is there if nothing was found
 pub found_by : {A : Type 0} (o : Option LinkReference) (answer : Option A) (found : A) (P : LinkReference → A → Type 0)
     → MatchOption o (answer ≡ None) (λ x. IsSomeAnd answer (P x)) → answer ≡ Some found
     → (x : LinkReference) × (o ≡ Some x) × P x found
@@ -67,7 +67,7 @@ behind_boundary text e u b =
           let same : e ≡ e + line_len (drop e text) = omega arith in subst (IsCharBoundary text) same b)
     ]
 
--- What was found is one more.
+-- The definition that was found is one more.
 pub one_more : (text : List ℕ) (around : Context) (nested : Bool) (q : Place) (at : ℕ) (x : LinkReference) (found : ℕ × CowStr × LinkDef) (before now : Tables)
     → IsUtf8 text → IsPlaceOf text q → offset q ≡ at
     → reference_at nested around (drop at text) ≡ Some x → IsReference nested at x found → 0 < found.0 → IsCharBoundary text (at + found.0)
@@ -92,7 +92,7 @@ one_more text around nested q at x found before now u i there here h some b is =
       defined = λ plain. is;
     }
 
--- the definition at an offset, as a pass sees it with the same text and the same open blocks
+-- the definition at an offset, for a pass with the same text and the same open blocks
 same_reference : (first now : BlockPass) (at : ℕ) → source_of now ≡ source_of first → reading_of now ≡ reading_of first
     → reference_at (in_table (tree_of now).nodes (tree_of now).spine) (context_in now) (drop at (source_text now))
     ≡ reference_at (in_table (tree_of first).nodes (tree_of first).spine) (context_in first) (drop at (source_text first))
@@ -101,7 +101,7 @@ same_reference first now at source reading =
     ∙ ap (λ (z : Reading). reference_at (in_table z.tree.nodes z.tree.spine) (context_of (source_of first).options z.tree) (drop at (source_text first)))
     reading
 
--- what a pass answers to the definition at an offset
+-- the result of a pass for the definition at an offset
 abbrev pub Answers : BlockPass → ℕ → Option (ℕ × CowStr × LinkDef) → Type 0
 Answers pass at answer =
     (let nested : Bool = in_table (tree_of pass).nodes (tree_of pass).spine in
@@ -124,7 +124,7 @@ found_here first now at answer found source reading said is =
       subst (λ (z : Reading). IsReference (in_table z.tree.nodes z.tree.spine) at w.0 found) reading w.2,
     )
 
--- whether the next line continues the run, by what the call returns
+-- whether the next line continues the run, from the result of the call
 pub stops_by : (t : Bool) (x : Rest) (o : Option Rest) → o ≡ (if t then None else Some x) → o ≡ None → t ≡ true
 stops_by true x o h is = refl
 stops_by false x o h is = cc
@@ -133,14 +133,14 @@ pub goes_by : (t : Bool) (x r : Rest) (o : Option Rest) → o ≡ (if t then Non
 goes_by true x r o h is = cc
 goes_by false x r o h is = (refl, cc)
 
--- whether a run ends before the line that these bytes begin with, and what is left of it after its columns
+-- whether a run ends before the first line of these bytes, and the rest of that line after its indentation
 abbrev pub stops_at : Context → List ℕ → Bool
 stops_at around bs = ends_tag around (line_rest bs) || is_blank_rest (all_taken (front around.path (line_rest bs)))
 
 abbrev pub rest_at : Context → List ℕ → Rest
 rest_at around bs = all_taken (front around.path (line_rest bs))
 
--- A line that continues a run is there.
+-- A line that continues a run exists.
 pub line_is_there : (text : List ℕ) (around : Context) (next : ℕ) → stops_at around (drop next text) ≡ false → next < length text
 line_is_there text around next goes =
     elim (cases_lt next (length text)) [
@@ -150,7 +150,7 @@ line_is_there text around next goes =
           absurd (true≢false (sym none ∙ goes)))
     ]
 
--- what the call returns of the next line, as it is said of the text
+-- the result of the call for the next line, in terms of the text
 pub answered : (around around' : Context) (bs bs' : List ℕ) (o : Option Rest) → around ≡ around' → bs ≡ bs'
     → o ≡ (if stops_at around bs then None else Some (rest_at around bs)) → o ≡ (if stops_at around' bs' then None else Some (rest_at around' bs'))
 answered around around' bs bs' o a b h = subst (λ z. o ≡ (if stops_at around' z then None else Some (rest_at around' z))) b

@@ -1,4 +1,4 @@
--- An item or a definition opened with nothing after its markers on its line.
+-- An item or a definition whose line ends after its markers is opened.
 use Rattle.std.proofs.Common.{◌≡◌, ℕ, ◌+◌, ◌<◌, Bool, true, false, List, [], ◌∷◌, ◌++◌, length, map, slice_get, Option, Some, None}
 use Rattle.std.proofs.Common.{refl, sym, ap, subst, ◌∙◌, arith, if◌then◌else◌, length-append}
 use Rattle.std.specs.Option.{option_map, option_and_then}
@@ -52,11 +52,11 @@ no_paragraph : (i : ℕ) (b : ItemBody) → is_paragraph_body b ≡ false → cl
 no_paragraph i ParagraphBody h = cc
 no_paragraph i b h = refl
 
--- the marker of a task, where there is one, is no paragraph
+-- the marker of a task, if there is one, is no paragraph
 abbrev pub IsNoParagraph : Option Item → Type 0
 IsNoParagraph marker = (x : Item) → marker ≡ Some x → is_paragraph_body x.body ≡ false
 
--- a task list item marker with nothing after it, in what is innermost, which is no list
+-- a task list item marker with nothing after it, in the innermost open node, which is no list
 marked_top : (f : Forest Item) (x : Item) (ix : TreeIndex) (rest : List TreeIndex) → f.spine ≡ ix ∷ rest → ix.0 < length f.nodes
     → top_body (with_child f (Some x)) ≡ top_body f
 marked_top f x ix rest spine within =
@@ -110,7 +110,7 @@ marked_path options f None below = refl
 marked_path options f (Some x) below = path_below options f.nodes (f.nodes ++ (length f.spine + 1, x) ∷ []) (length f.nodes) f.spine
     (λ i h. ap (option_map (λ (n : ℕ × Item). n.1.body)) (get_front f.nodes _ i h)) below
 
--- An item of a tree, opened last with so many columns.
+-- An item of a tree, opened last with a number of columns.
 module _ (b : ItemBody) (g : Forest Item) (start : ℕ) where
   abbrev with_columns : ℕ → Forest Item
   with_columns n = with_open g (node_of start 0 (item_body b n))
@@ -121,7 +121,7 @@ module _ (b : ItemBody) (g : Forest Item) (start : ℕ) where
   longer : (n : ℕ) → length (with_columns n).nodes ≡ length g.nodes + 1
   longer n = length-append g.nodes ((length g.spine + 1, node_of start 0 (item_body b n)) ∷ [])
 
-  -- the path with the item, whatever its indent
+  -- the path with the item, for any indent
   opened_path : (options : Options) (m n : ℕ) (path : List Container)
       → AreBelow (length (with_columns m).nodes) (map (λ (i : TreeIndex). i.0) (with_columns m).spine)
       → path_of options (with_columns m) ≡ item_container b m ∷ path → path_of options (with_columns n) ≡ item_container b n ∷ path
@@ -136,7 +136,7 @@ module _ (b : ItemBody) (g : Forest Item) (start : ℕ) where
       (λ i h. ap (option_map (λ (n : ℕ × Item). n.1.body)) (get_front g.nodes _ i h)) below.1 in
       top n ∙ ap (λ z. item_container b n ∷ z) (same n ∙ sym (same m) ∙ outer)
 
-  -- what takes blank lines alone, with the marker of a task after it or without one
+  -- a container that takes only blank lines, with the marker of a task after it or without one
   emptied_nodes : (n : ℕ) (more : List (ℕ × Item))
       → modify ((with_columns n).nodes ++ more) (length g.nodes) (λ x. record { start = x.start; «end» = x.«end»; body = item_body b 0 })
       ≡ (with_columns 0).nodes ++ more
@@ -164,7 +164,7 @@ module _ (b : ItemBody) (g : Forest Item) (start : ℕ) where
       ap (emptied_as (with_child (with_columns n) marker)) (marked_item n marker)
       ∙ emptied_is (with_child (with_columns n) marker) place g.spine b n (marked_spine (with_columns n) marker) ∙ named_marked n marker
 
--- what is remembered after the markers of an empty item
+-- the state after the markers of an empty item
 abbrev pub empty_item_read : Reading → Option Item → ℕ → Reading
 empty_item_read r marker e = record r { tree = with_child r.tree marker; empty_item = Some e }
 
@@ -176,7 +176,7 @@ in_item d defined f e lines t false none is ready = subst (ReadyBeforeLine d def
 none_blank : (blank : Bool) (columns : ℕ) → blank ≡ false → blank ≡ true → columns ≡ 0
 none_blank blank columns none some = cc
 
--- where the next line is blank too, the item takes blank lines alone
+-- if the next line is blank too, the item takes only blank lines
 abbrev columns_by : Bool → ℕ → ℕ
 columns_by t n = if t then 0 else n
 
@@ -226,7 +226,7 @@ module _ (d : Document) (defined : Tables) (b : ItemBody) (g : Forest Item) (sta
       (ready_marked d defined full marker p None lines (place b g start) g.spine other refl
       (ap is_list (top_opened g (node_of start 0 (item_body b columns))) ∙ item_not_list b columns) begun.ready)
 
--- what the markers of an empty item open
+-- the opening of an empty item, from its markers
 item_opens : (d : Document) (path : List Container) (p : Place) (lines : List Place) (byte number columns : ℕ) (marker : Option Item) (rest : Rest) (e : ℕ)
     (t : Bool) → is_blank_rest rest ≡ true → next_is_blank (ListItem columns ∷ path) lines ≡ t → start_of (length d.text) lines ≡ e
     → opening_of d path p lines (item_start p (byte, number, columns) (marker, rest))
@@ -255,7 +255,7 @@ ready_empty_item d defined r p lines byte number columns marker rest e forest ba
     empty_is d defined (ListItemBody columns) (list_continued (offset p) byte number r).tree (offset p) columns (item_opened (offset p) byte number columns r)
     marker (at_rest p rest) lines e path refl now.blank other t refl now.is_begun
 
--- what the marker of an empty definition opens
+-- the opening of an empty definition, from its marker
 definition_opens : (d : Document) (path : List Container) (p : Place) (lines : List Place) (columns : ℕ) (rest : Rest) (e : ℕ)
     (t : Bool) → is_blank_rest rest ≡ true → next_is_blank (Definition columns ∷ path) lines ≡ t → start_of (length d.text) lines ≡ e
     → opening_of d path p lines (definition_start p (columns, rest))

@@ -1,4 +1,4 @@
--- What ends a footnote definition in the old form at a line adds no node, and keeps names, whole tables and order.
+-- Ending a footnote definition in the old form at a line adds no node, and keeps names, whole tables and order.
 use Rattle.std.proofs.Common.{◌≡◌, inl, inr, ℕ, ◌≤◌, true, false, List, length, IsCharBoundary, sym, ap, subst, ◌∙◌, arith}
 use Rattle.first_pass_items.specs.declared.option_set.Options.{Options}
 use Rattle.first_pass_grammar.specs.Names.{Names}
@@ -15,7 +15,7 @@ use Rattle.first_pass_order.proofs.Nests.{note_untitled}
 use Rattle.first_pass_order.proofs.PopOrder.{read_popped}
 use Rattle.first_pass_order.proofs.WholeKept.{IsReadWhole, popped_plain_whole}
 
--- what holds of what is remembered and once what is innermost is closed, holds then
+-- a property of the state that holds before and after the innermost open node is closed, holds here
 ended_holds : (options : Options) (e : ℕ) (r : Reading) (P : Reading → Type 0) → P r → P (popped e r) → P (footnote_ended options e r)
 ended_holds options e r P here closed = elim (ended_as options e r) [
   | inl stays ↦ subst P (sym stays.0) here
@@ -40,7 +40,7 @@ ended_ordered options text e r within boundary h =
     let here : e ≤ e = omega arith in
     ended_holds options e r (λ q. IsReadTo text q e) h (read_popped text r e e here within boundary h)
 
--- nothing ends where no blank line counts, if a footnote definition in the old form is innermost
+-- without a counting blank line, nothing ends if a footnote definition in the old form is innermost
 unblank_by : (options : Options) (e : ℕ) (r : Reading) → (in_old_footnote (path_of options r.tree) ≡ true → r.blank ≡ false) → footnote_ended options e r ≡ r
 unblank_by options e r none = elim (ended_as options e r) [
   | inl stays ↦ stays.0

@@ -1,4 +1,4 @@
--- No leaf block begins with a possible title: one that begins with a paragraph shows nothing of tables.
+-- No leaf block begins with a possible title; one that begins with a paragraph has no part of a table.
 use Rattle.std.proofs.Common.{◌≡◌, ℕ, Bool, true, false, List, [], ◌∷◌, drop, Option, Some, None, MatchOption, IfSome, refl, sym, ap, subst}
 use Rattle.std.proofs.lemmas.Bool.{true≢false}
 use Rattle.first_pass_items.specs.declared.item.Alignment.{Alignment}
@@ -59,7 +59,7 @@ module _ (d : Document) where
   text_by path p marker lines t None (l, are, is) = ended_untitled (offset p) marker l t (underline_first path l.left) is
   text_by path p marker lines t (Some alignments) h = untitled_is _ _ t.items h.items_are refl
 
-  -- what stands for a text
+  -- a paragraph, heading or table
   text_untitled : (path : List Container) (p : Place) (marker : Option Item) (lines : List Place) (t : Taken) → IsText d path p marker lines t
       → IsUntitled t.items
   unfolding IsText
@@ -98,7 +98,7 @@ silent_first : (items : List (ℕ × Item)) → IsUntitled items → (begins_par
 silent_first [] other h = tt
 silent_first (x ∷ items) other h = silent_by x items x.1.body refl other (λ begins. text_silent (x ∷ items) begins h)
 
--- what stands for a text, after the marker of a task or none, which shows nothing
+-- the same after the marker of a task or none, which has no part of a table
 pub text_silent_first : (d : Document) (path : List Container) (p : Place) (marker : Option Item) (lines : List Place) (t : Taken)
     → IfSome marker (λ x. ShowsNothing x.body) → IsText d path p marker lines t → IsSilentFirst t.items
 text_silent_first d path p marker lines t mark is =

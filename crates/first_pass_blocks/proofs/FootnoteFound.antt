@@ -1,4 +1,4 @@
--- Whether a footnote definition begins at a place, as the calls tell it, and what is open then.
+-- Whether a footnote definition begins at a place, from the results of the calls, and what is open then.
 use Rattle.std.proofs.Common.{◌≡◌, inl, inr, ℕ, ◌+◌, ◌-◌, ◌<◌, ◌≤◌, nat_lt, ◌&&◌, Bool, true, false, List, drop, Option, Some, None, MatchOption}
 use Rattle.std.proofs.Common.{IsSomeAnd, IsUtf8, refl, sym, ap, subst, ◌∙◌, arith, drop-drop, if◌then◌else◌}
 use Rattle.std.proofs.lemmas.Bool.{cases_lt}
@@ -32,7 +32,7 @@ no_mark_by true true false n o h = refl
 no_mark_by true false v n o h = refl
 no_mark_by false u v n o h = refl
 
--- where no `[^` stands none begins
+-- without a `[^` none begins
 pub no_mark : (around : Context) (p : Place) → footnote_mark_at around.options p ≡ None → footnote_head_at around p ≡ None
 unfolding footnote_head_at footnote_head
 no_mark around p h =
@@ -49,7 +49,7 @@ if_true : (t : Bool) (o : Option (ℕ × List ℕ)) → t ≡ true → (if t the
 if_true true o h = refl
 if_true false o h = cc
 
--- where it stands, what is there tells whether one begins
+-- with a `[^`, the bytes there decide whether one begins
 pub head_at_mark : (text : List ℕ) (around : Context) (p : Place) (n : ℕ) → IsPlaceOf text (unindented p) → footnote_mark_at around.options p ≡ Some n
     → (offset (unindented p) ≡ n) × (footnote_head_at around p ≡ footnote_at false around (drop n text)) × ((unindented p).rest.left ≡ drop n text)
 unfolding footnote_head_at
@@ -62,12 +62,12 @@ head_at_mark text around p n i h =
       left,
     )
 
--- a footnote definition is open at an offset whose head, as it is read, has so many bytes
+-- a footnote definition is open at an offset, with the length of its head as read
 abbrev pub IsRead : BlockPass → BlockPass → ℕ → ℕ × List ℕ → ℕ → Type 0
 IsRead old new start head n =
     (n ≡ head_read (gfm_footnotes (source_of old).options) head.0 (drop (start + head.0) (source_text old))) × OpenedFootnote start head old new
 
--- what the call says that reads a head
+-- the result of the call that reads a head
 pub none_found : (N : Type 0) (P : ℕ × List ℕ → ℕ → Type 0) (o : Option (ℕ × List ℕ)) (size : Option ℕ) → size ≡ None
     → MatchOption o ((size ≡ None) × N) (λ head. IsSomeAnd size (P head)) → (o ≡ None) × N
 none_found N P None size is says = (refl, says.1)
@@ -78,7 +78,7 @@ pub some_found : (N : Type 0) (P : ℕ × List ℕ → ℕ → Type 0) (o : Opti
 some_found N P None size n is says = let z : None ≡ Some n = sym says.0 ∙ is in cc
 some_found N P (Some head) size n is says = (head, refl, subst (λ (z : Option ℕ). IsSomeAnd z (P head)) is says)
 
--- a later offset is in no earlier line
+-- a later offset is not in an earlier line
 line_after : (text : List ℕ) (s e : ℕ) → s ≤ e → s + line_len (drop s text) ≤ e + line_len (drop e text)
 line_after text s e low =
     let k : ℕ = e - s in

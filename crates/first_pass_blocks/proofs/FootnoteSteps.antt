@@ -66,7 +66,7 @@ module _ (old new : BlockPass) (p q : Place) (head : ℕ × List ℕ) (utf8 : Is
       let last = opened.last in
       omega arith
 
-  -- the label as it stands in what is left of the line
+  -- the label in the rest of the line
   borrowed_at : (left : List ℕ) → left ≡ drop start text → text_of opened.text ≡ label_bytes head.0 left → Borrows (label_bytes head.0 left) opened.text
   borrowed_at left is = subst (λ (bs : List ℕ). text_of opened.text ≡ label_bytes head.0 bs → Borrows (label_bytes head.0 bs) opened.text) (sym is)
       opened.borrowed

@@ -1,4 +1,5 @@
--- A blank line that an HTML block hands on: the block ends after what the containers take of it, and reading continues at its start.
+-- A blank line at which an HTML block ends: the block ends after the prefixes of the containers, and reading
+-- continues at the start of the line.
 use Rattle.std.proofs.Common.{◌≡◌, ◌⊎◌, inl, inr, ℕ, ◌+◌, ◌<◌, ◌≤◌, Bool, true, false, List, [], ◌∷◌, length, drop, Option, Some, None, IsUtf8, IsCharBoundary}
 use Rattle.std.proofs.Common.{refl, sym, ap, subst, ◌∙◌, arith, if◌then◌else◌}
 use Rattle.std.proofs.lemmas.Bool.{cases_lt}
@@ -33,7 +34,8 @@ use Rattle.first_pass_blocks.proofs.OrderSteps.{ordered_tree, place_before_end}
 use Rattle.first_pass_lists.proofs.NoEmptyItem.{finished_none}
 use Rattle.first_pass_items.specs.declared.option_set.Options.{Options}
 
--- An extent ends where the lines begin that it leaves, or after what a path takes of the first of them, which is blank.
+-- An extent ends at the start of the remaining lines, or after the prefixes of a path in the first of them, which is
+-- blank.
 abbrev pub StopsBlank : ℕ → List Container → Extent → Type 0
 StopsBlank n path e =
     (e.«end» ≡ start_of n e.left)
@@ -61,11 +63,11 @@ stops_behind n path (line ∷ lines) =
 pub html_stops : (n : ℕ) (path : List Container) (p : Place) (lines : List Place) → StopsBlank n path (until_blank n path p lines)
 html_stops n path p lines = stops_behind n path lines
 
--- a block that is added changes no path
+-- an added block changes no path
 pub path_added : (options : Options) (f : Forest Item) (items : List (ℕ × Item)) → IsForest f → path_of options (added f items) ≡ path_of options f
 path_added options f items forest = path_in-append options f.nodes (at_depth (length f.spine + 1) items) f.spine (open_are_in f.nodes f.spine forest.opened)
 
--- no blank line counts after what a new block ends
+-- a new block leaves no counting blank line
 noted_blank : (r : Reading) (t : Bool) → r.blank ≡ t → (gap_noted r).blank ≡ false
 noted_blank r true is = rw is refl
 noted_blank r false is = rw is refl
@@ -78,7 +80,7 @@ line_by : (path : List Container) (line q : Place) (o : Option Rest) → option_
 line_by path line q None h = cc
 line_by path line q (Some r) h = let e : at_rest line r ≡ q = cc in (r, refl, sym e)
 
--- What is remembered after such a block is in order up to where reading continues, or the blank line is handed on there.
+-- The state after such a block is in order up to where reading continues, or such a blank line begins there.
 pub ordered_stopped : (options : Options) (text : List ℕ) (r : Reading) (path : List Container) (e : Extent) (next : ℕ)
     → IsCharBoundary text next → r.empty_item ≡ None → path_of options r.tree ≡ path
     → StopsBlank (length text) path e → lines_from text next ≡ e.left → IsOrderedAt text r e.«end» → IsOrderedFrom options text r next
@@ -99,7 +101,8 @@ ordered_stopped options text r path e next b none path_is (inr (line, lines, q, 
       ordered = subst (IsOrderedTo text r.tree) there (ordered_tree text r e.«end» none o);
     })
 
--- The same of what can be closed in order, where no list is innermost; no footnote definition in the old form ends before a line that is handed on.
+-- The same for closing in order, if no list is innermost; no footnote definition in the old form ends before such a
+-- line.
 pub read_stopped : (options : Options) (text : List ℕ) (r : Reading) (path : List Container) (e : Extent) (next : ℕ)
     → IsCharBoundary text next → r.empty_item ≡ None → (in_old_footnote (path_of options r.tree) ≡ true → r.blank ≡ false) → path_of options r.tree ≡ path
     → StopsBlank (length text) path e → lines_from text next ≡ e.left → AreNested r.tree.nodes r.tree.spine → is_list (top_body r.tree) ≡ false
@@ -110,7 +113,7 @@ read_stopped options text r path e next b none uncounted path_is stops left nest
       | inr handed ↦ inr (handed, nested, plain, uncounted)
     ]
 
--- A line that is handed on continues all that is open, and is blank after that.
+-- Such a line continues all open containers, and its rest is blank.
 pub handed_whole : (options : Options) (text : List ℕ) (r : Reading) (at kept : ℕ) (line left : Rest)
     → line ≡ line_rest (drop at text) → kept ≤ length r.tree.spine → after (path_in options r.tree.nodes (outer kept r.tree.spine)) line ≡ Some left
     → ((m : ℕ) → kept < m → m ≤ length r.tree.spine → after (path_in options r.tree.nodes (outer m r.tree.spine)) line ≡ None) → IsHandedOn options text r at
@@ -130,7 +133,7 @@ handed_whole options text r at kept line left is within took stops h =
           (same, ap is_blank_rest (sym rest_is) ∙ h.blank))
     ]
 
--- Once the blank line is read that was handed on, what is remembered is in order up to its end.
+-- After such a blank line is read, the state is in order up to its end.
 handed_read : (options : Options) (text : List ℕ) (r : Reading) (at : ℕ)
     → IsUtf8 text → IsCharBoundary text at → IsHandedOn options text r at → AreNested r.tree.nodes r.tree.spine → is_list (top_body r.tree) ≡ false
     → IsReadTo text (blank_read r) (at + line_len (drop at text))
@@ -142,7 +145,7 @@ handed_read options text r at u b h nested plain =
     read_blank_read text r (offset (place_at at h.rest)) (at + line_len (drop at text)) (omega arith) within
     (ordered_none text r (offset (place_at at h.rest)) h.none (omega arith) h.ordered, tree_closes text r.tree (offset (place_at at h.rest)) nested plain)
 
--- A line is entered where what the line doesn't continue was closed: a blank line is read,
+-- A line is entered after the containers that it does not continue were closed: a blank line is read,
 pub ordered_blank_line : (options : Options) (text : List ℕ) (old closed : Reading) (at : ℕ) → IsUtf8 text → at < length text → IsCharBoundary text at
     → (IsReadTo text old at → IsReadTo text closed at)
     → (IsHandedOn options text old at → (in_old_footnote (path_of options old.tree) ≡ true → old.blank ≡ false) → closed ≡ old)
@@ -153,7 +156,7 @@ ordered_blank_line options text old closed at u w b closes same (inl o) =
 ordered_blank_line options text old closed at u w b closes same (inr (h, nested, plain, uncounted)) =
     subst (λ r. IsReadTo text (blank_read r) (at + line_len (drop at text))) (sym (same h uncounted)) (handed_read options text old at u b h nested plain)
 
--- and before any other, which no block hands on, an empty item is closed that blank lines ended.
+-- and before any other line, at which no block has ended in this way, an empty item that blank lines ended is closed.
 pub ordered_other_line : (options : Options) (text : List ℕ) (old closed : Reading) (at : ℕ) → (IsReadTo text old at → IsReadTo text closed at)
     → (IsHandedOn options text old at → ⊥) → IsReadFrom options text old at → OrderedUpTo text (item_finished closed).tree at
 ordered_other_line options text old closed at closes none (inl o) =

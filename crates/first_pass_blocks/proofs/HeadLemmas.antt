@@ -1,4 +1,4 @@
--- Where blocks continue after the head of a footnote definition, and what a head that is read says.
+-- The place where blocks continue after the head of a footnote definition, and the contents of a head that is read.
 use Rattle.std.proofs.Common.{◌≡◌, ℕ, ◌+◌, ◌-◌, ◌<◌, ◌≤◌, nat_lt, Bool, true, false, List, [], ◌∷◌, length, drop, Option, Some, None, is_some, IsUtf8}
 use Rattle.std.proofs.Common.{IsCharBoundary}
 use Rattle.std.proofs.Common.{slice_index, refl, sym, ap, subst, ◌∙◌, arith, length-drop, if◌then◌else◌}
@@ -87,7 +87,7 @@ continues true text e skip u b is = continues_here true text e skip b is refl
 continues false text e skip u b is =
     continues_by text e skip (blank_len (drop e text)) (nat_lt (unwrap_or (blank_len (drop e text)) 0) (length (drop e text))) u b refl refl is
 
--- a head ends with its colon, which ends no line
+-- a head ends with its colon, which is no line ending
 first_byte : (c : ℕ) (bs : List ℕ) → begins c bs ≡ true → (slice_index bs 0 ≡ c) × (0 < length bs)
 first_byte c [] h = cc
 first_byte c (b ∷ bs) h = (eqb-true b c h, omega arith)
@@ -130,7 +130,7 @@ white_content : (bs : List ℕ) → prefix_len is_white bs ≤ prefix_len is_con
 white_content [] = omega arith
 white_content (b ∷ bs) = white_by (is_white b) b bs refl (white_content bs)
 
--- after the white space that is read with a head
+-- the offset after the white space that is read with a head
 white_after : (text : List ℕ) (e : ℕ) → (let w : ℕ = prefix_len is_white (drop e text) in
     (place_behind w (head_end text e), lines_from text (line_end (head_end text e))) ≡ after_head true text (e + w))
 white_after text e =
@@ -155,7 +155,7 @@ read_later : (gfm : Bool) (a n : ℕ) (bs : List ℕ) → head_read gfm (a + n) 
 read_later true a n bs = omega arith
 read_later false a n bs = refl
 
--- where blocks continue after the head of the footnote definition at a place, as it is read
+-- the place where blocks continue after the head of the footnote definition at a place, as it is read
 pub head_behind_is : (d : Document) (p : Place) (prefix : List ℕ → Option ℕ) (nested : Bool) (head : ℕ × List ℕ) (n : ℕ) → IsUtf8 d.text
     → IsPlaceOf d.text p → footnote_head prefix nested (unindented p).rest.left ≡ Some head
     → n ≡ head_read (gfm_footnotes d.options) head.0 (drop (offset (unindented p) + head.0) d.text)

@@ -1,4 +1,4 @@
--- A pass read an HTML block that a blank line ends, where a new block had ended what it ends (CommonMark 4.6).
+-- A pass read an HTML block that a blank line ends, after it ended what a new block ends (CommonMark 4.6).
 use Rattle.std.proofs.Common.{◌≡◌, inl, ℕ, ◌≤◌, min, false, List, length, drop, None, IsUtf8, IsCharBoundary, refl, sym, ap, subst, ◌∙◌, arith}
 use Rattle.first_pass_items.specs.declared.item.Item.{Item}
 use Rattle.first_pass_tree.specs.Forest.{Forest, IsForest}
@@ -34,7 +34,7 @@ use Rattle.first_pass_blocks.proofs.RawFits.{to_blank_between, to_blank_ends, to
 use Rattle.first_pass_order.proofs.WholeKept.{kept_of, list_finished_whole, block_whole, kind_whole}
 use Rattle.first_pass_blocks.proofs.WrittenLemmas.{written_stay}
 
--- the block's place, at the offset after the columns
+-- the block's place, at the offset after the indentation
 pub html_stands : (text : List ℕ) (p : Place) (at : ℕ) → IsUtf8 text → IsPlaceOf text p → at ≡ offset (unindented p) → IsPlaceAt text at (unindented p)
 html_stands text p at u i at_is =
     let j = all_keep text p.line p.rest u i in record { offset_is = sym at_is; left_is = j.left ∙ ap (λ n. drop n text) (sym at_is) }

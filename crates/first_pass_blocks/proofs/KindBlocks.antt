@@ -1,4 +1,4 @@
--- A leaf block that was added is what its kind opens at its place.
+-- An added leaf block is the one that its kind opens at its place.
 use Rattle.std.proofs.Common.{◌≡◌, ℕ, ◌+◌, ◌<◌, ◌≤◌, nat_lt, Bool, true, false, List, length, drop, Option, Some, None, refl, sym, ap, subst, ◌∙◌, arith, min}
 use Rattle.std.proofs.Common.{if◌then◌else◌}
 use Rattle.std.proofs.lemmas.Bool.Decides.{nat_tests}
@@ -66,7 +66,7 @@ code_added text options names p old new next blank place a =
       );
     }
 
--- what is said of a block at an offset, at the place that stands there
+-- the contract of a block at an offset, for the place there
 module _ (text : List ℕ) (options : Options) (names : Names) (p : Place) (old new : Forest Item) (at next : ℕ) (at_is : at ≡ offset (unindented p))
     (place : IsPlaceOf text (unindented p)) where
   pub ends_here : behind_line_at text at ≡ line_end p
@@ -211,14 +211,14 @@ ready_kind text options defined own names r new p kind gap next forest is other 
     (subst (λ k. OpensAs d (path_of options r.tree) p lines k o) (sym (kind_in_other (context_of options r.tree) p kind other)) opens) a.tree_is none ready
     empty blank e b)
 
--- the same of a kind that is this one, and blank lines or none at its end
+-- the same for a kind that equals this one, with blank lines at its end or none
 pub adds_so : (text : List ℕ) (options : Options) (names : Names) (p : Place) (k kind : Kind) (gap blank : Bool) (old new : Forest Item) (next : ℕ)
     → kind ≡ k → blank ≡ gap → AddsKind (document text options names) p k gap old new next → AddsKind (document text options names) p kind blank old new next
 adds_so text options names p k kind gap blank old new next is same a =
     subst (λ z. AddsKind (document text options names) p z blank old new next) (sym is)
     (subst (λ g. AddsKind (document text options names) p k g old new next) (sym same) a)
 
--- columns under four that were counted
+-- counted columns under four
 pub columns_are : (n m : ℕ) → n ≡ min 4 m → nat_lt m 4 ≡ true → (n ≡ m) × (n ≤ 3)
 columns_are n m is few = let low : m < 4 = grind (arith, nat_tests, few) in (omega arith, omega arith)
 

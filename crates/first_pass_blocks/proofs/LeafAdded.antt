@@ -1,4 +1,4 @@
--- A leaf block that a pass added at a place, from what the parser of its kind says of the offset after the columns.
+-- A leaf block that a pass added at a place, from the contract of its parser for the offset after the indentation.
 use Rattle.std.proofs.Common.{◌≡◌, ℕ, ◌≤◌, drop, Some, false, List, IsUtf8, IsCharBoundary, refl, sym, ap, subst, ◌∙◌, arith}
 use Rattle.first_pass_items.specs.declared.option_set.Options.{Options}
 use Rattle.first_pass_lines.specs.Places.{Place, offset, line_end, IsPlaceOf}
@@ -24,16 +24,16 @@ use Rattle.first_pass_blocks.proofs.OrderSteps.{unindented_later}
 use Rattle.first_pass_blocks.proofs.LeafLemmas.{line_end_of}
 use Rattle.first_pass_blocks.proofs.KindBlocks.{adds_so}
 
--- what stands where a marked leaf was found
+-- the bytes at which a marked leaf block was found
 pub found_says : (options : Options) (p : Place) (leaf : MarkedLeaf) (columns at : ℕ) → IsFoundAt options p (Marked leaf) columns at
     → Says p.rest (marked_kind leaf)
 found_says options p leaf columns at f = kind_says options p.rest (marked_kind leaf) f.kind
 
--- the offset after the columns stands between characters
+-- the offset after the indentation is a character boundary
 pub found_boundary : (text : List ℕ) (p : Place) (at : ℕ) → IsUtf8 text → IsPlaceOf text p → at ≡ offset (unindented p) → IsCharBoundary text at
 found_boundary text p at u i is = let j = all_keep text p.line p.rest u i in subst (IsCharBoundary text) (sym is) j.boundary
 
--- the fence, and the mark of a heading, stand at that offset
+-- the fence, and the mark of a heading, are at that offset
 pub fence_found : (pass : BlockPass) (p : Place) (count byte columns at : ℕ) → IsFoundIn pass p (FencedCode count byte) columns at
     → code_fence (drop at (source_text pass)) ≡ Some (count, byte)
 fence_found pass p count byte columns at f =

@@ -1,4 +1,4 @@
--- A leaf block read at a place where no container begins.
+-- A leaf block is read at a place where no container begins.
 use Rattle.std.proofs.Common.{◌≡◌, inl, inr, ℕ, suc, ◌+◌, Bool, true, false, ◌&&◌, not, is_some, if◌then◌else◌, List, [], ◌∷◌, ◌++◌, append-nil, length}
 use Rattle.std.proofs.Common.{map, Option, Some, None, refl, sym, ap, subst, ◌∙◌, arith}
 use Rattle.first_pass_items.specs.declared.item.Item.{Item}
@@ -68,14 +68,14 @@ use Rattle.first_pass_blocks.proofs.TagLemmas.{finishes_nothing, quote_counts}
 use Rattle.first_pass_order.proofs.WholeKept.{task_shows}
 use Rattle.first_pass_items.specs.declared.item.BlockQuoteKind.{BlockQuoteKind}
 
--- The line of a text ends where its line ends.
+-- The end of the line at an offset is that of the line of its place.
 pub line_end_of : (text : List ℕ) (p : Place) → IsPlaceOf text (unindented p) → line_end_at text (offset (unindented p)) ≡ line_end p
 line_end_of text p i =
     let e = columns_line_end (indent p.rest) p in
     let f = ap line_len i.left in
     omega arith
 
--- where no container begins, what the kind of the place says
+-- if no container begins, the block that the kind of the place opens
 pub no_container : (d : Document) (f : Forest Item) (run : Bool) (p : Place) (lines : List Place) (k : Kind) (o : Opening)
     → footnote_head_at (context_of d.options f) p ≡ None → start_at d.options (may_define d.options f) p ≡ None → IsKind d.options p.rest k
     → OpensAs d (path_of d.options f) p lines (kind_in (context_of d.options f) p k) o → Opens d (level_of d.options f run) p lines o
@@ -86,7 +86,7 @@ no_container d f run p lines k o bare no_start kind opens =
     let none : start_at d.options (may_begin d l) p ≡ None = ap (λ t. start_at d.options t p) may ∙ no_start in
     opens_bare d l p lines o bare (subst (λ q. OpensBy d l.path p lines q o) (sym none) (k, kind, opens))
 
--- a leaf block that is no paragraph ends any list at the place that it says
+-- a leaf block that is no paragraph ends any list at the place that it gives
 pub kind_away : (top : Option ItemBody) (closed : Closed) (at : ℕ) (block : LeafBlock) (left : List Place) → is_paragraph block.kind ≡ false
     → begins_paragraph block.items ≡ false → leaf_closes block ≡ at → EndsListAt at top closed (OpensLeaf (Block block) Line left)
 kind_away None closed at block left other begins closes = tt
@@ -98,7 +98,7 @@ kind_away (Some (DefinitionList flags)) (ParagraphAt place) at block left other 
 kind_away (Some (DefinitionList flags)) (TitleAt e place) at block left other begins closes = tt
 kind_away (Some b) closed at block left other begins closes = tt
 
--- any leaf block does where it isn't right after a definition
+-- any leaf block does so unless it is right after a definition
 items_away : (top : Option ItemBody) (closed : Closed) (at : ℕ) (block : LeafBlock) (left : List Place) → is_definition_list top ≡ false
     → leaf_closes block ≡ at → EndsListAt at top closed (OpensLeaf (Block block) Line left)
 items_away None closed at block left none closes = tt
@@ -128,7 +128,8 @@ pub text_away : (f : Forest Item) (at : ℕ) (block : LeafBlock) (left : List Pl
     → EndsListAt at (top_body f) (closed_in f) (OpensLeaf (Block block) Line left)
 text_away f at block left after closes = text_by f (possible_title f) at block left refl after closes
 
--- A leaf block was read after what is open in a tree, and no list is innermost: its items after the nodes can become a derivation.
+-- A leaf block was read into the open nodes of a tree, and no list is innermost: its items after the nodes can become
+-- a derivation.
 record IsRead (d : Document) (defined : Tables) (f : Forest Item) (block : LeafBlock) (left : List Place) : Type 0 where
   frames : List Frame
   are_open : AreOpen d.options f.nodes f.spine frames
@@ -163,7 +164,7 @@ block_ready d defined f block left other is =
           (subst (λ z. CompletesAt d now (tail after block.gap) is.frames (f.nodes ++ at_depth z block.items) os Line left) (depth_of f.spine) is.completes);
     }
 
--- link definitions alone add nothing
+-- link reference definitions by themselves add nothing
 run_ready : (d : Document) (defined : Tables) (f : Forest Item) (q : Place) (xs : List LinkEntry) (left : List Place)
     → IsRead d defined f (run_block q xs) left → ReadyAt d (told defined xs) f false Line left
 run_ready d defined f q xs left is =
@@ -175,13 +176,13 @@ run_ready d defined f q xs left is =
       completes = subst (λ z. CompletesAt d (told defined xs) (tail (closed_in f) false) is.frames z os Line left) (append-nil f.nodes) is.completes;
     }
 
--- what is remembered then, with no empty item
+-- the state then, with no empty item
 remembered_so : (d : Document) (defined : Tables) (new : Forest Item) (empty : Option ℕ) (blank gap : Bool) (left : List Place)
     → empty ≡ None → blank ≡ gap → ReadyAt d defined new gap Line left → Ready d defined (remembered new empty blank) left
 remembered_so d defined new empty blank gap left none same ready =
     ready_plain d defined (remembered new empty blank) left none (subst (λ t. ReadyAt d defined new t Line left) (sym same) ready)
 
--- what is read where a new block has ended what it ends
+-- the reading of a leaf block after a new block ended what it ends
 finished_read : (d : Document) (defined : Tables) (r : Reading) (p : Place) (lines left : List Place) (at : ℕ) (block : LeafBlock)
     → (begins_paragraph block.items ≡ true → AreEachNode ShowsNothing block.items)
     → EndsListAt at (top_body r.tree) (closed_in r.tree) (OpensLeaf (Block block) Line left) → IsForest r.tree
@@ -239,7 +240,7 @@ lazy_read d defined r p lines left at block shows opens none lazy =
     } in
     subst (λ (z : Reading). IsRead d defined z.tree block left) (sym (finishes_nothing at r lazy.kind lazy.quote lazy.blank none)) is
 
--- what is no paragraph as it is read is none
+-- a block that is not read as a paragraph is none
 begins_by : (block : LeafBlock) (t : Bool) → begins_paragraph block.items ≡ t → OwnParagraph block → is_paragraph block.kind ≡ false → t ≡ false
 begins_by block true begins own other = absurd (true≢false (sym (own.kind begins) ∙ other))
 begins_by block false begins own other = refl
@@ -255,7 +256,7 @@ leaf_read_by d defined r p lines left at block k shows away forest kind opens no
 leaf_read_by d defined r p lines left at block k shows away forest kind opens none (inr lazy) =
     lazy_read d defined r p lines left at block shows (k, kind, opens) none lazy
 
--- A leaf block that a kind opens at its place ends what a new block ends, at an offset.
+-- A leaf block that a kind opens at its place ends at an offset what a new block ends.
 leaf_is_read : (d : Document) (defined : Tables) (r : Reading) (p : Place) (lines left : List Place) (at : ℕ) (block : LeafBlock) (k : Kind)
     → ((is_paragraph block.kind ≡ false → begins_paragraph block.items ≡ false)
     → EndsListAt at (top_body r.tree) (closed_in r.tree) (OpensLeaf (Block block) Line left)) → IsForest r.tree → IsKind d.options p.rest k
@@ -315,7 +316,7 @@ ready_blank_leaf d defined r p lines kind none (inr lazy) =
     subst (λ q. Ready d defined q lines) (sym (kind_blank_is r (top_body r.tree) lazy.kind lazy.quote))
     (ready_plain d defined r lines none (subst (λ t. ReadyAt d defined f t Line lines) (sym lazy.blank) now))
 
--- a heading that was added is what opens at its place
+-- an added heading is the one that opens at its place
 pub opens_heading : (text : List ℕ) (options : Options) (names more : Names) (path : List Container) (old new : Forest Item) (p : Place) (at next : ℕ)
     (level : HeadingLevel) → at ≡ offset (unindented p)
     → IsPlaceOf text (unindented p) → (h : AddsHeading (document text options names) at level old new next) → Extends more names
@@ -343,7 +344,7 @@ opens_rule d path p at next size at_is next_is =
     ap (λ k. OpensLeaf (leaf_block (ThematicBreak size) p (rule_block k size) false) Line (lines_from d.text next)) at_is
     ∙ ap (λ n. OpensLeaf (leaf_block (ThematicBreak size) p (rule_block (offset (unindented p)) size) false) Line (lines_from d.text n)) next_is
 
--- what stands for a text, after a task list item marker or not, is what opens at its place
+-- a paragraph, heading or table, after a task list item marker or not, is the one that opens at its place
 opens_text : (d : Document) (path : List Container) (p : Place) (at next : ℕ) (marker : Option Item) (items : List (ℕ × Item))
     → at ≡ offset (unindented p) → IsPlaceOf d.text (unindented p) → IsTextAt d path at marker items next
     → OpensText d path p (lines_from d.text (line_end p)) marker (OpensLeaf (leaf_block Paragraph p items false) Line (lines_from d.text next))
@@ -355,17 +356,17 @@ opens_text d path p at next marker items at_is place is = (
   refl,
 )
 
--- where what is told changes nothing
+-- if nothing is defined, nothing changes
 pub told_none : (defined : Tables) → told defined [] ≡ defined
 unfolding with_links
 told_none defined = refl
 
--- what is no paragraph begins as what it is
+-- a kind that is no paragraph stays the same
 pub kind_in_other : (around : Context) (p : Place) (kind : Kind) → is_paragraph kind ≡ false → kind_in around p kind ≡ kind
 kind_in_other around p Paragraph h = absurd (true≢false h)
 kind_in_other around p kind h = refl
 
--- nor does a paragraph after no definition
+-- so does a paragraph without a definition before it
 kind_in_text : (around : Context) (p : Place) → definition_at around (unindented p) ≡ None → kind_in around p Paragraph ≡ Paragraph
 kind_in_text around p none = ap (λ (x : Option LinkEntry). if is_some x then LinkDefinitions else Paragraph) none
 
@@ -373,7 +374,7 @@ kind_in_text around p none = ap (λ (x : Option LinkEntry). if is_some x then Li
 kind_in_run : (around : Context) (p : Place) (x : LinkEntry) → definition_at around (unindented p) ≡ Some x → kind_in around p Paragraph ≡ LinkDefinitions
 kind_in_run around p x some = ap (λ (x : Option LinkEntry). if is_some x then LinkDefinitions else Paragraph) some
 
--- what opens after link definitions, or after none
+-- the opening after link reference definitions, or after none
 pub text_opens : (d : Document) (path : List Container) (p : Place) (lines : List Place) (xs : List LinkEntry) (b : Beyond) (o : Opening)
     → IsRun (around d path) (unindented p) lines xs b → OpensBeyond d path xs b o → OpensAs d path p lines (kind_in (around d path) p Paragraph) o
 unfolding IsRun OpensAs OpensRun OpensText
@@ -382,13 +383,13 @@ text_opens d path p lines [] b o (none, is) opens =
 text_opens d path p lines (x ∷ xs) b o (here, more) opens =
     subst (λ k. OpensAs d path p lines k o) (sym (kind_in_run (around d path) p x here)) (x ∷ xs, b, (here, more), opens)
 
--- what stands for a text at a place, after link definitions or none
+-- the paragraph, heading or table at a place, after link reference definitions or none
 pub opens_flow : (d : Document) (path : List Container) (q : Place) (at next : ℕ) (xs : List LinkEntry) (items : List (ℕ × Item))
     → at ≡ offset q → IsPlaceOf d.text q → IsTextAt d path at None items next
     → OpensBeyond d path xs (FlowsOn q (lines_from d.text (line_end q))) (OpensLeaf (Block (flowing_block q xs items)) Line (lines_from d.text next))
 opens_flow d path q at next xs items at_is place is = (taking items (lines_from d.text next), is q place (sym at_is), refl)
 
--- after a text, which stands after link definitions or none, and ends any list at an offset
+-- after such a text, which ends any list at an offset
 pub ready_flows : (d : Document) (defined : Tables) (r : Reading) (new : Forest Item) (p q : Place) (ends at next : ℕ) (xs : List LinkEntry)
     (items : List (ℕ × Item)) → IsForest r.tree → IsKind d.options p.rest Paragraph → IsPlaceOf d.text q → at ≡ offset q
     → IsRun (context_of d.options r.tree) (unindented p) (lines_from d.text (line_end p)) xs (FlowsOn q (lines_from d.text (line_end q)))
@@ -405,7 +406,7 @@ ready_flows d defined r new p q ends at next xs items forest kind place at_is ru
     (opens_flow d (path_of d.options r.tree) q at next xs items at_is place is) in
     ready_added d defined r new p lines left ends block refl Paragraph (λ begins. away) forest kind opens new_is none ready
 
--- after link definitions with no paragraph after them, the last of which begins at a place
+-- after link reference definitions without a paragraph after them, the last of which begins at a place
 pub ready_ended : (d : Document) (defined : Tables) (r : Reading) (p q : Place) (next : ℕ) (xs : List LinkEntry)
     → IsForest r.tree → IsKind d.options p.rest Paragraph
     → IsRun (context_of d.options r.tree) (unindented p) (lines_from d.text (line_end p)) xs (Ended q (lines_from d.text next)) → r.empty_item ≡ None

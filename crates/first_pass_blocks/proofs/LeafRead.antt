@@ -1,4 +1,4 @@
--- A pass read a leaf block, once it was added where a new block had ended what it ends.
+-- A pass read a leaf block, which was added after the pass ended what a new block ends.
 use Rattle.std.proofs.Common.{◌≡◌, inl, ℕ, false, None, refl, sym, ap, subst, arith}
 use Rattle.first_pass_tree.specs.Forest.{IsForest}
 use Rattle.first_pass_lines.specs.Places.{Place, offset, IsPlaceOf}
@@ -23,7 +23,7 @@ use Rattle.first_pass_order.proofs.WholeKept.{kept_of, list_finished_whole, bloc
 use Rattle.first_pass_blocks.proofs.FirstItems.{kind_silent}
 use Rattle.first_pass_order.proofs.CountLemmas.{list_finished_count, block_count, leaf_left, left_before}
 
--- a block that ends what the line's beginning ends
+-- a block that ends what is to end at the start of the line
 pub leaf_read : (old new : BlockPass) (p : Place) (kind : Kind) (next : ℕ) → IsPlaceOf (source_text old) p → (reading_of old).empty_item ≡ None
     → IsForest (tree_of old) → IsKind (source_options old) p.rest kind → (kind ≡ Blank → ⊥) → is_paragraph kind ≡ false → is_run kind ≡ false
     → AddsLeaf (record old { reading = list_finished p.line (reading_of old) }) new p kind next → ReadsLeaf old new p next

@@ -1,4 +1,4 @@
--- Where no column is owed and a byte is next with which no container begins, none does.
+-- If no column is owed and the next byte begins no container, no container begins.
 use Rattle.std.proofs.Common.{◌≡◌, inl, ℕ, nat_lt, ◌&&◌, Bool, true, false, Some, None, refl, if◌then◌else◌}
 use Rattle.std.proofs.Math.Bool.{and-false}
 use Rattle.first_pass_items.specs.Bytes.{colon, left_bracket}
@@ -51,7 +51,7 @@ pub none_starts : (options : Options) (may : Bool) (p : Place) → OpensNone p.r
 none_starts options may p h =
     start_none options may p (inert_item_at p.rest h.owed h.inert) (no_marker may p h) (inert_prefix p.rest h.owed h.inert)
 
--- so a leaf is there
+-- so a leaf block is there
 pub leaf_alone : (source : Source) (r : Reading) (p : Place) (line : ℕ) → OpensNone p.rest → ReadsTo source line r r (InLine p) (LeafAt p)
 leaf_alone source r p line h = record {
   ready = λ names defined ready. inl (no_footnote _ p h, none_starts _ _ p h, ready);

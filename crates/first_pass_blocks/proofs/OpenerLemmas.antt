@@ -1,4 +1,4 @@
--- A container opened at a place in a line: a block quote, or a list item in its list.
+-- A container is opened at a place in a line: a block quote, or a list item in its list.
 use Rattle.std.proofs.Common.{◌≡◌, ℕ, suc, ◌+◌, ◌==◌, Bool, true, false, ◌||◌, List, [], ◌∷◌, ◌++◌, length, map, slice_get, Option, Some, None}
 use Rattle.std.proofs.Common.{MatchOption, refl, sym, ap, subst, ◌∙◌, arith, if◌then◌else◌, append_assoc, length-append}
 use Rattle.std.proofs.lemmas.Bool.Decides.{nat_tests}
@@ -52,7 +52,7 @@ or_false : (a : Bool) → (a || false) ≡ a
 or_false true = refl
 or_false false = refl
 
--- what opens a quote opens a block, and ends any list at its line
+-- the opening of a quote opens a block, and ends any list at its line
 quote_away : (b : Option ItemBody) (closed : Closed) (p : Place) (kind : Option BlockQuoteKind) (behind : List Place) (inside : From)
     → EndsListAt p.line b closed (OpensNode (quote_head p kind) inside behind)
 quote_away None closed p kind behind inside = tt
@@ -63,7 +63,7 @@ quote_away (Some (DefinitionList flags)) (DefinitionClosed e blanks) p kind behi
 quote_away (Some (DefinitionList flags)) (TitleAt e at) p kind behind inside = tt
 quote_away (Some b) closed p kind behind inside = tt
 
--- what opens there over the frames
+-- the opening there, over the frames
 finished_opens : (d : Document) (defined : Tables) (old new : Reading) (p : Place) (lines : List Place) (opening : Opening)
     (done : Finished d defined old new p lines opening)
     → Opens d (lvl done.ready.0.frames (tail (closed_in new.tree) false)) p lines opening
@@ -75,7 +75,7 @@ finished_path : (d : Document) (defined : Tables) (old new : Reading) (p : Place
 finished_path d defined old new p lines opening done =
     sym (open_path d.options new.tree.nodes new.tree.spine done.ready.0.frames done.ready.0.are_open) ∙ done.path
 
--- a block quote of a kind opened, wherever blocks continue in it
+-- a block quote of a kind is open, for any place where blocks continue in it
 pub quote_is_open : (d : Document) (defined : Tables) (r : Reading) (p : Place) (lines behind : List Place) (kind : Option BlockQuoteKind) (inside : From)
     → IsForest r.tree → Opens d (level_of d.options r.tree r.blank) p lines (OpensNode (quote_head p kind) inside behind) → r.empty_item ≡ None
     → ReadyAt d defined r.tree r.blank (Inside p) lines
@@ -98,7 +98,7 @@ quote_is_open d defined r p lines behind kind inside forest opens none ready =
       none = done.none;
     }
 
--- what begins a container where one may
+-- the start of a container, if one may begin
 abbrev pub begins_at : Document → Reading → Place → Option Start
 begins_at d r p = start_at d.options (may_define d (level_of d.options r.tree r.blank)) p
 
@@ -133,7 +133,7 @@ ready_tagged d defined r p lines inside kind forest bare begins none ready =
           now.is_begun.ready;
     }
 
--- what opens an item opens a block, and ends a list of another byte and a definition list where the item starts
+-- the opening of an item opens a block. It ends a list of another byte, or a definition list, where the item starts.
 item_away : (b : Option ItemBody) (closed : Closed) (p : Place) (byte number columns : ℕ) (inside : From) (lines : List Place)
     → is_list_of byte b ≡ false → EndsListAt (offset p) b closed (OpensNode (item_head p byte number columns) inside lines)
 item_away None closed p byte number columns inside lines other = tt
@@ -156,7 +156,7 @@ module _ (d : Document) (defined : Tables) (r : Reading) (p : Place) (lines : Li
   abbrev opening : Opening
   opening = OpensNode (item_head p byte number columns) inside lines
 
-  -- in a list that begins with it
+  -- in a list that begins with the item
   in_new_list : is_list_of byte (top_body r.tree) ≡ false
       → ItemIsOpen (begun (offset p) (ListItemBody columns) (begun (offset p) (ListBody (list_flags true) byte number) (list_finished (offset p) r)))
   in_new_list other =
@@ -189,7 +189,7 @@ module _ (d : Document) (defined : Tables) (r : Reading) (p : Place) (lines : Li
         none = done.none;
       }
 
-  -- the list that continues, made loose where a blank line is before the item
+  -- the list that continues, loose if a blank line is before the item
   kept_by : (run : Bool) → r.blank ≡ run → (ix : TreeIndex) (rest : List TreeIndex) → r.tree.spine ≡ ix ∷ rest
       → (let q : Reading = if run then record r { tree = loosened_top r.tree r.tree.spine; blank = false } else r in
       (q.tree ≡ (if run then loosened_at r.tree ix else r.tree)) × (q.blank ≡ false) × (q.empty_item ≡ None))
@@ -283,7 +283,7 @@ module _ (d : Document) (defined : Tables) (r : Reading) (p : Place) (lines : Li
   item_is_open_by true is = in_list_by r.tree.spine (top_body r.tree) refl refl is
   item_is_open_by false is = in_new_list is
 
-  -- an item opened, in the list that continues or in a new one
+  -- an item is open, in the list that continues or in a new one
   pub item_is_open : ItemIsOpen (item_opened (offset p) byte number columns r)
   unfolding list_continued item_finished
   item_is_open =
@@ -293,7 +293,7 @@ module _ (d : Document) (defined : Tables) (r : Reading) (p : Place) (lines : Li
       (sym same)
       (item_is_open_by (is_list_of byte (top_body r.tree)) refl)
 
--- what a list item's marker that was taken says
+-- the marker of a list item that was read
 pub item_found : (o : Option ((ℕ × ℕ × ℕ) × Rest)) (found : Option ListMarker) (m : ListMarker) (old new : Rest) → found ≡ Some m
     → MatchOption o ((found ≡ None) × (new ≡ old)) (λ item. (found ≡ Some (marker_of item.0)) × (new ≡ item.1)) → o ≡ Some ((m.byte, m.number, m.indent), new)
 item_found None found m old new e h = (let z : None ≡ Some m = sym h.0 ∙ e in cc)
@@ -305,12 +305,12 @@ pub item_absent : (o : Option ((ℕ × ℕ × ℕ) × Rest)) (found : Option Lis
 item_absent None found old new e h = (refl, h.1)
 item_absent (Some item) found old new e h = (let z : None ≡ Some (marker_of item.0) = sym e ∙ h.0 in cc)
 
--- where blocks continue after the markers of an item
+-- the place where blocks continue after the markers of an item
 abbrev pub behind_task : Option Item → Place → From
 behind_task None p = Inside p
 behind_task (Some marker) p = At p (TextOf marker)
 
--- what the markers open
+-- the opening from the markers
 inside_by : (d : Document) (path : List Container) (p : Place) (lines : List Place) (byte number columns : ℕ) (marker : Option Item) (rest : Rest)
     → is_blank_rest rest ≡ false
     → opening_of d path p lines (item_start p (byte, number, columns) (marker, rest))
@@ -360,7 +360,7 @@ ready_definition d defined r p lines columns rest forest bare takes begins some 
     let now = definition_is_open d defined r p lines lines columns from forest takes opens none ready in
     subst (λ t. ReadyAt d defined q.tree t from lines) (sym now.blank) now.is_begun.ready
 
--- what stands after an item's marker where more of its line is left: blocks, or the text of a task
+-- what follows an item's marker if more of its line is left: blocks, or the text of a task
 pub after_opened : (marker : Option Item) (q : Reading) → ((x : Item) → marker ≡ Some x → is_task_marker x.body ≡ true) → q.empty_item ≡ None
     → is_in_item q.tree ≡ true → IsAfter (after_task marker) q
 after_opened None q mark none inside = none

@@ -1,4 +1,4 @@
--- Order at each step of reading a line: containers opened, and what is after them.
+-- Order at each step of reading a line: open containers, and what follows them.
 use Rattle.std.proofs.Common.{◌≡◌, ◌⊎◌, inl, inr, ℕ, ◌+◌, ◌<◌, ◌≤◌, Bool, true, false, List, [], ◌∷◌, length, drop, Option, Some, None, IsUtf8, IsCharBoundary}
 use Rattle.std.proofs.Common.{refl, sym, ap, subst, ◌∙◌, arith, length-append, if◌then◌else◌}
 use Rattle.std.specs.Option.{option_map}
@@ -44,7 +44,7 @@ use Rattle.first_pass_order.proofs.Nests.{list_continued_settled, list_finished_
 use Rattle.first_pass_order.proofs.Nests.{added_outside, settled_closes, outside_closes, tree_closes}
 use Rattle.first_pass_order.proofs.DefinitionBegun.{ordered_definition}
 
--- the less is left, the later is the place
+-- the shorter the rest, the later the place
 pub offset_later : (text : List ℕ) (line : ℕ) (r s : Rest)
     → IsPlaceOf text (place_at line r) → IsPlaceOf text (place_at line s) → length s.left ≤ length r.left → offset (place_at line r) ≤ offset (place_at line s)
 offset_later text line r s i j less =
@@ -52,7 +52,7 @@ offset_later text line r s i j less =
     let b = place_length text (place_at line s) j in
     omega arith
 
--- what is in order and can be closed so up to an offset is so up to a later one
+-- order and closing in order up to an offset hold up to a later one
 pub upto_later : (text : List ℕ) (f : Forest Item) (a b : ℕ) → a ≤ b → b ≤ length text → OrderedUpTo text f a → OrderedUpTo text f b
 upto_later text f a b low high (o, c) =
     (ordered_later text f a b low high o, record { nested = c.nested; last = c.last; title = title_later text f a b low c.title })
@@ -62,19 +62,19 @@ by_list : (t : Bool) (text : List ℕ) (f : Forest Item) (line at : ℕ)
 by_list true text f line at low high o = o
 by_list false text f line at low high o = upto_later text f line at low high o
 
--- in order up to where a line begins, and so up to a place in it
+-- order up to the start of a line is order up to a place in it
 pub ordered_in_line : (text : List ℕ) (f : Forest Item) (line at : ℕ)
     → line ≤ at → at ≤ length text → OrderedUpTo text f line → OrderedUpTo text f (line_or f line at)
 ordered_in_line text f line at low high o = by_list (is_list (top_body f)) text f line at low high o
 
--- the same at a place in the line, which begins between characters
+-- the same at a place in the line, which begins at a character boundary
 pub ordered_at_place : (text : List ℕ) (f : Forest Item) (start : ℕ) (p : Place) → p.line ≡ start → IsCharBoundary text start → IsPlaceOf text p
     → OrderedUpTo text f start → OrderedIn text f p
 ordered_at_place text f start p line boundary i o =
     let within = i.within in
     (subst (IsCharBoundary text) (sym line) boundary, ordered_in_line text f p.line (offset p) (omega arith) within (subst (OrderedUpTo text f) (sym line) o))
 
--- an offset after a line that begins before the text's end
+-- an offset after the start of a line that is before the end of the text
 pub line_later : (text : List ℕ) (start far next : ℕ)
     → start < length text → far ≡ start + line_len (drop start text) → far ≤ next → IsCharBoundary text next → (start < next) × (next ≤ length text)
 line_later text start far next within ends later boundary =
@@ -87,14 +87,14 @@ or_below : (t : Bool) (line at : ℕ) → line ≤ at → (if t then line else a
 or_below true line at h = h
 or_below false line at h = omega arith
 
--- at the latest up to the place
+-- not after the place
 pub line_or-below : (f : Forest Item) (line at : ℕ) → line ≤ at → line_or f line at ≤ at
 line_or-below f line at h = or_below (is_list (top_body f)) line at h
 
 line_or-list : (f : Forest Item) (line at : ℕ) → is_list (top_body f) ≡ true → line_or f line at ≤ line
 line_or-list f line at h = (let e : line_or f line at ≡ line = rw h refl in omega arith)
 
--- in order further on where no list is innermost
+-- order further on if no list is innermost
 pub ordered_on : (text : List ℕ) (f : Forest Item) (line a at : ℕ)
     → is_list (top_body f) ≡ false → a ≤ at → at ≤ length text → OrderedUpTo text f a → OrderedUpTo text f (line_or f line at)
 ordered_on text f line a at none low high o =
@@ -103,15 +103,15 @@ ordered_on text f line a at none low high o =
 none_reached : (o : Option ℕ) (at : ℕ) → o ≡ None → reached o at ≡ at
 none_reached o at none = ap (λ z. reached z at) none
 
--- what is remembered is in order where no item is empty
+-- the state is in order if no item is empty
 pub ordered_tree : (text : List ℕ) (r : Reading) (at : ℕ) → r.empty_item ≡ None → IsOrderedAt text r at → IsOrderedTo text r.tree at
 ordered_tree text r at none o = subst (IsOrderedTo text r.tree) (none_reached r.empty_item at none) o.ordered
 
--- what is innermost once it is opened
+-- the innermost open node after one is opened
 pub top_begun : (start : ℕ) (body : ItemBody) (r : Reading) → top_body (begun start body r).tree ≡ Some body
 top_begun start body r = get_end r.tree.nodes (length r.tree.spine + 1, node_of start 0 body) [] (length r.tree.nodes) refl
 
--- the same with a task list item marker in it
+-- the same with a task list item marker in that node
 pub top_marked : (start : ℕ) (body : ItemBody) (r : Reading) (marker : Option Item) → top_body (with_child (begun start body r).tree marker) ≡ Some body
 top_marked start body r None = top_begun start body r
 top_marked start body r (Some x) =
@@ -120,7 +120,7 @@ top_marked start body r (Some x) =
     let within : length r.tree.nodes < length f.nodes = omega arith in
     ap (option_map (λ (n : ℕ × Item). n.1.body)) (get_front f.nodes ((length f.spine + 1, x) ∷ []) (length r.tree.nodes) within) ∙ top_begun start body r
 
--- an item opened at a place in a line
+-- an item is opened at a place in a line
 pub ordered_item : (text : List ℕ) (r : Reading) (line start byte number columns : ℕ)
     → line ≤ start → start ≤ length text → IsCharBoundary text start → r.empty_item ≡ None
     → OrderedUpTo text r.tree (line_or r.tree line start) → OrderedUpTo text (item_opened start byte number columns r).tree start
@@ -136,7 +136,7 @@ ordered_item text r line start byte number columns low high boundary none (o, c)
           (begun_settled start (ListItemBody columns) list refl (λ list. refl) (list_continued_settled start byte number r c.nested).nested),
     )
 
--- a definition opened at a place in a line
+-- a definition is opened at a place in a line
 pub ordered_definition_in : (text : List ℕ) (r : Reading) (line start columns : ℕ) → IsForest r.tree → takes_definition r.tree ≡ true
     → line ≤ start → start ≤ length text → IsCharBoundary text start
     → OrderedUpTo text r.tree (line_or r.tree line start) → OrderedUpTo text (definition_begun start columns r).tree start
@@ -144,7 +144,8 @@ ordered_definition_in text r line start columns forest takes low high boundary (
     let d = ordered_definition text r (line_or r.tree line start) start columns forest takes (line_or-below r.tree line start low) high boundary o c.nested in
     (d.0, settled_closes text (definition_begun start columns r) start d.1)
 
--- where a new block begins, after what it ends: a list that is innermost, at the line's beginning or at the block's first byte
+-- the start of a new block, after what it ends: an innermost list, at the start of the line or at the block's first
+-- byte
 pub ordered_finished : (text : List ℕ) (r : Reading) (line at e start : ℕ)
     → line ≤ at → at ≤ start → (e ≡ line) × IsCharBoundary text line ⊎ (e ≡ start) → start ≤ length text → IsCharBoundary text start → r.empty_item ≡ None
     → OrderedUpTo text r.tree (line_or r.tree line at) → IsReadTo text (list_finished e r) start
@@ -164,7 +165,7 @@ ordered_finished text r line at e start low mid which high boundary none (o, c) 
     ] in
     (on, outside_closes text (list_finished e r) start (list_finished_outside e r c.nested))
 
--- a block quote opened at a place in a line
+-- a block quote is opened at a place in a line
 pub ordered_quote : (text : List ℕ) (r : Reading) (line at start : ℕ) (kind : Option BlockQuoteKind)
     → line ≤ at → at ≤ start → start ≤ length text → IsCharBoundary text line → IsCharBoundary text start → r.empty_item ≡ None
     → OrderedUpTo text r.tree (line_or r.tree line at) → OrderedUpTo text (begun start (BlockQuoteBody kind) (list_finished line r)).tree start
@@ -177,7 +178,7 @@ ordered_quote text r line at start kind low mid high first boundary none o =
           (begun_outside start (BlockQuoteBody kind) q refl (list_finished_outside line r o.1.nested)),
     )
 
--- a footnote definition opened at a place in a line
+-- a footnote definition is opened at a place in a line
 pub ordered_note_in : (text : List ℕ) (r : Reading) (at start : ℕ) (index : CowIndex) → at ≤ start → start ≤ length text
     → IsCharBoundary text start → r.empty_item ≡ None → OrderedUpTo text r.tree at → OrderedUpTo text (footnote_begun start index r).tree start
 ordered_note_in text r at start index low high boundary none (o, c) = (
@@ -185,7 +186,7 @@ ordered_note_in text r at start index low high boundary none (o, c) = (
   settled_closes text (footnote_begun start index r) start (footnote_begun_settled start index r c.nested),
 )
 
--- a task list item marker stands after an item's own
+-- a task list item marker is after an item's own
 mark_by : (text : List ℕ) (line : ℕ) (r : Rest) (o : Option (Bool × Rest)) (from : ℕ) (x : Item)
     → IsUtf8 text → ((task : Bool × Rest) → o ≡ Some task → task_of r ≡ Some task) → IsPlaceOf text (place_at line r) → from ≤ offset (place_at line r)
     → (task_by line r o).0 ≡ Some x → StandsBefore text from (offset (place_at line (task_by line r o).1)) (Some x)
@@ -227,7 +228,7 @@ item_no_list (ListItemBody columns) item = refl
 item_no_list (DefinitionListDefinition columns) item = refl
 item_no_list body item = cc
 
--- an item or a definition with nothing after them
+-- an item or a definition with nothing after its markers
 pub ordered_empty_item : (text : List ℕ) (start at next : ℕ) (body : ItemBody) (r : Reading) (marker : Option Item) (blank : Bool)
     → is_item (Some body) ≡ true → start ≤ next → at ≤ next → next ≤ length text → IsCharBoundary text next
     → OrderedUpTo text (begun start body r).tree start → ((x : Item) → marker ≡ Some x → StandsBefore text start at (Some x))
@@ -244,13 +245,13 @@ ordered_empty_item text start at next body r marker blank item low mid high boun
       tree_closes text (with_child f marker) next outside.0 outside.1,
     )
 
--- a block added
+-- a block is added
 pub ordered_block : (text : List ℕ) (old : Forest Item) (r : Reading) (from next : ℕ)
     → AddsBetween text from next old r.tree → next ≤ length text → r.empty_item ≡ None → IsOrderedTo text old from → IsOrderedAt text r next
 ordered_block text old r from next a high none o =
     ordered_none text r next none high (subst (λ f. IsOrderedTo text f next) (sym a.tree_is) (ordered_added text old from next a.items a.fits high o))
 
--- the same where what is innermost is no list
+-- the same if the innermost open node is no list
 pub read_block : (text : List ℕ) (old : Forest Item) (r : Reading) (from next : ℕ) → AreNested old.nodes old.spine → is_list (top_body old) ≡ false
     → AddsBetween text from next old r.tree → next ≤ length text → r.empty_item ≡ None → IsOrderedTo text old from → IsReadTo text r next
 read_block text old r from next nested plain a high none o =
@@ -259,14 +260,14 @@ read_block text old r from next nested plain a high none o =
       subst (λ f. CanClose text f next) (sym a.tree_is) (tree_closes text (added old a.items) next outside.0 outside.1),
     )
 
--- what stands for the text of a task
+-- the paragraph of a task
 pub ordered_text : (text : List ℕ) (f : Forest Item) (new : Reading) (marker : Item) (at next : ℕ)
     → ((from : ℕ) → StandsBefore text from at (Some marker) → AddsBetween text from next f new.tree) → next ≤ length text → new.empty_item ≡ None
     → OrderedText text f marker at → IsReadTo text new next
 ordered_text text f new marker at next fits within none o =
     read_block text f new o.from next o.nested o.plain (fits o.from o.stands) within none o.ordered
 
--- a block added where something is in order: an item that it is added to is empty no more
+-- a block is added to a state in order: an item that it is added to is not empty after that
 pub block_ordered : (text : List ℕ) (old new : Reading) (at start next : ℕ) → IsOrderedAt text old at → at ≤ start
     → ((from : ℕ) → from ≤ start → AddsBetween text from next old.tree new.tree) → next ≤ length text → new.empty_item ≡ None → IsOrderedAt text new next
 block_ordered text old new at start next o low fits within none =
@@ -275,7 +276,7 @@ block_ordered text old new at start next o low fits within none =
     let low' : e ≤ at = before in
     ordered_block text old.tree new e next (fits e (omega arith)) within none o.ordered
 
--- a marker that may stand from an offset on may stand from an earlier one on
+-- a marker that may be after an offset may be after an earlier one
 stands_earlier : (text : List ℕ) (a b to : ℕ) (marker : Option Item) → a ≤ b → StandsBefore text b to marker → StandsBefore text a to marker
 stands_earlier text a b to None low h = (let t : b ≤ to = h in omega arith)
 stands_earlier text a b to (Some x) low h =
@@ -293,7 +294,7 @@ quote_start_before : (r s : Rest) → prefix (BlockQuote None) r ≡ Some s → 
 unfolding prefix
 quote_start_before r s is = quote_less (after_columns 3 r) s (past_quote (after_columns 3 r)) refl is
 
--- where a block quote starts, between the place where it begins and the place inside
+-- the start of a block quote is between the place where it begins and the place inside it
 pub quote_stands : (text : List ℕ) (line at : ℕ) (r s : Rest)
     → IsUtf8 text → prefix (BlockQuote None) r ≡ Some s → IsPlaceOf text (place_at line r) → IsPlaceOf text (place_at line s) → at ≡ (after_columns 3 r).taken
     → (offset (place_at line r) ≤ line + at) × (line + at ≤ offset (place_at line s)) × IsCharBoundary text (line + at)
@@ -305,11 +306,11 @@ quote_stands text line at r s u is i j at_is =
     let b = offset_later text line q s k j (omega arith) in
     (omega arith, omega arith, subst (λ n. IsCharBoundary text (line + n)) (sym at_is) k.boundary)
 
--- a place is at the latest where its line ends
+-- a place is not after the end of its line
 pub place_before_end : (p : Place) → offset p ≤ line_end p
 place_before_end p = omega arith
 
--- a leaf block added at its place
+-- a leaf block is added at its place
 pub ordered_leaf : (text : List ℕ) (r new : Reading) (line at e start next : ℕ)
     → line ≤ at → at ≤ start → (e ≡ line) × IsCharBoundary text line ⊎ (e ≡ start) → start ≤ length text → IsCharBoundary text start → r.empty_item ≡ None
     → OrderedUpTo text r.tree (line_or r.tree line at) → AddsBetween text start next (list_finished e r).tree new.tree → next ≤ length text
@@ -320,7 +321,7 @@ ordered_leaf text r new line at e start next low mid which high boundary none o 
     read_block text q.tree new start next outside.0 outside.1 adds fits none'
     (ordered_tree text q start (list_finished_none e r) (ordered_finished text r line at e start low mid which high boundary none o).0)
 
--- the place after the columns of another
+-- the place after the indentation at another
 pub unindented_later : (text : List ℕ) (line : ℕ) (r : Rest)
     → IsUtf8 text → IsPlaceOf text (place_at line r) → offset (place_at line r) ≤ offset (unindented (place_at line r))
 unindented_later text line r u i = offset_later text line r (all_taken r) i (all_keep text line r u i) (columns_shorter (indent r) r)

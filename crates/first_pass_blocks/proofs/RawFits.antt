@@ -1,4 +1,4 @@
--- Raw leaf blocks fit where they stand.
+-- Raw leaf blocks fit at their places.
 use Rattle.std.proofs.Common.{◌≡◌, ℕ, ◌+◌, ◌<◌, ◌≤◌, Bool, true, List, ◌∷◌, length, drop, Some, IsUtf8, IsCharBoundary, refl, sym, ap, subst, ◌∙◌, arith}
 use Rattle.first_pass_items.specs.declared.option_set.Options.{Options}
 use Rattle.first_pass_items.specs.declared.item.Item.{Item}
@@ -27,7 +27,7 @@ use Rattle.first_pass_grammar.specs.Counting.{own_nodes}
 use Rattle.first_pass_grammar.proofs.Orders.{between-any}
 use Rattle.first_pass_grammar.proofs.OwnNodes.{own_added}
 
--- a place at an offset between characters
+-- a place at an offset that is a character boundary
 place_of : (text : List ℕ) (start : ℕ) (p : Place) → IsCharBoundary text start → IsPlaceAt text start p → IsPlaceOf text p
 place_of text start p b i = record {
   left = i.left_is ∙ ap (λ n. drop n text) (sym i.offset_is);
@@ -99,7 +99,7 @@ module _ (text : List ℕ) (options : Options) (names : Names) (old new : Forest
             (omega arith));
       }
 
-  -- up to where the lines begin that it leaves, at most four nodes of the tree's own are new for each byte
+  -- up to the start of the remaining lines, at most four nodes of the tree's own are new for each byte
   pub to_blank_few : (columns : ℕ) (p : Place) → IsPlaceAt text start p → (
       let e : Extent = html_to_blank text (path_of options old) p in
       AddsRaw (document text options names) (λ d. IsHtml d start columns e.places e.«end») e.left old new next)
@@ -117,7 +117,7 @@ module _ (text : List ℕ) (options : Options) (names : Names) (old new : Forest
       let more = own_added old.nodes a.items (length old.spine + 1) in
       omega arith
 
-  -- where it ends is between characters
+  -- its end is a character boundary
   pub to_blank_ends : (p : Place) → IsPlaceAt text start p → IsCharBoundary text (html_to_blank text (path_of options old) p).«end»
   to_blank_ends p i = (to_blank_placed text u (path_of options old) p (place_of text start p b i)).boundary
 

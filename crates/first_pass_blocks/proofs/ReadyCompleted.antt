@@ -1,4 +1,4 @@
--- What is ready can be completed.
+-- A ready state can be completed.
 use Rattle.std.proofs.Common.{◌≡◌, ℕ, Bool, true, false, List, [], ◌∷◌, length, map, slice_get, Option, Some, None, refl, sym, ap, ◌∙◌, subst, arith}
 use Rattle.std.specs.Option.{option_and_then}
 use Rattle.std.proofs.lemmas.Option.{same_Some}
@@ -25,7 +25,7 @@ use Rattle.first_pass_ready.proofs.ItemBodies.{item_body, columns_are, item_is, 
 use Rattle.first_pass_ready.proofs.OpenLemmas.{open_path}
 use Rattle.first_pass_items.specs.declared.option_set.Options.{Options}
 
--- open nodes are in one way what frames say
+-- the frames of open nodes are unique
 open_length : (options : Options) (nodes : List (ℕ × Item)) (spine : List TreeIndex) (frames : List Frame) → AreOpen options nodes spine frames
     → length frames ≡ length (map (λ (ix : TreeIndex). ix.0) spine)
 open_length options nodes [] [] o = refl
@@ -54,7 +54,7 @@ standing_of defined tree frames run = record {
   defined = defined;
 }
 
--- what is ready at a place, with all names
+-- ready at a place, under all names
 abbrev AlwaysReady : Document → Tables → Forest Item → Bool → From → List Place → Type 0
 AlwaysReady d defined tree run from lines = (more : Names) → Extends more d.names → ReadyAt (document d.text d.options more) defined tree run from lines
 

@@ -1,4 +1,4 @@
--- What is ready shows whole tables already.
+-- A ready state already has whole tables.
 use Rattle.std.proofs.Common.{◌≡◌, ℕ, zero, suc, Bool, true, false, List, [], ◌∷◌, map, Option, Some, None, refl, sym, ap, ◌∙◌}
 use Rattle.std.specs.Option.{option_and_then}
 use Rattle.std.proofs.lemmas.Option.{none-some}
@@ -31,7 +31,7 @@ use Rattle.first_pass_blocks.specs.Completed.{CompletedAt, CompletedBeforeLine, 
 use Rattle.first_pass_ready.proofs.ItemBodies.{item_body, item_container, item_frame}
 use Rattle.first_pass_blocks.proofs.ReadyCompleted.{standing_of, top_is, zero_is, ready_completed}
 
--- an open node is a container or a list, and shows nothing
+-- an open node is a container or a list, and has no part of a table
 frame_silent : (options : Options) (b : ItemBody) (frame : Frame) → frame_of options b ≡ Some frame → ShowsNothing b
 frame_silent options (BlockQuoteBody kind) frame h = λ names depth start end. refl
 frame_silent options (ListItemBody columns) frame h = λ names depth start end. refl
@@ -53,7 +53,7 @@ all_silent options nodes [] (frame ∷ frames) o = absurd o
 all_silent options nodes (ix ∷ spine) [] o = absurd o
 all_silent options nodes (ix ∷ spine) (frame ∷ frames) o = (open_silent options nodes ix.0 frame o.0, all_silent options nodes spine frames o.1)
 
--- under names that continue the present ones
+-- under names that extend the present ones
 abbrev IsWholeOnce : Names → List (ℕ × Item) → Type 0
 IsWholeOnce names nodes = (more : Names) × Extends more names × AreWholeTables more nodes
 
@@ -67,7 +67,7 @@ module _ (d : Document) (defined : Tables) (lines : List Place) (at : AreAt d.te
         (all_silent d.options tree.nodes tree.spine c.frames c.are_open) silent c.completion c.derives,
   )
 
-  -- an item that takes blank lines alone shows nothing either
+  -- nor has an item that takes only blank lines
   item_shows : (b : ItemBody) (n : ℕ) → ShowsNothing (item_body b n)
   item_shows (DefinitionListDefinition columns) n = λ names depth start end. refl
   item_shows b n = λ names depth start end. refl

@@ -1,4 +1,4 @@
--- A thematic break takes its line.
+-- A thematic break takes its whole line.
 use Rattle.std.proofs.Common.{◌≡◌, ℕ, ◌+◌, ◌≤◌, ◌==◌, ◌||◌, not, Bool, true, false, nat_le, List, [], ◌∷◌, take, drop, count_by, Option, Some, None, unwrap_or}
 use Rattle.std.proofs.Common.{refl, ap, ◌∙◌, arith, if◌then◌else◌}
 use Rattle.std.proofs.lemmas.Bool.Decides.{nat_tests}

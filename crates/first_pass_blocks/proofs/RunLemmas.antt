@@ -1,4 +1,4 @@
--- Link definitions that are read, one after the other.
+-- Link reference definitions that are read one after the other.
 use Rattle.std.proofs.Common.{◌≡◌, inl, inr, ℕ, zero, suc, ◌+◌, ◌-◌, ◌<◌, ◌≤◌, ◌==◌, ◌||◌, ◌&&◌, not, Bool, true, false, cond, nat_lt, List, [], ◌∷◌, ◌++◌}
 use Rattle.std.proofs.Common.{length, drop, slice_index, Some, None, IsUtf8, IsCharBoundary, refl, sym, ap, subst, ◌∙◌, arith, append_assoc, append-nil}
 use Rattle.std.proofs.Common.{if◌then◌else◌}
@@ -24,7 +24,7 @@ use Rattle.first_pass_blocks.specs.declared.definition.RunEnd.TheVariants.{NextL
 use Rattle.first_pass_blocks.specs.Runs.{RunSoFar, ReadsRun}
 use Rattle.first_pass_blocks.proofs.LeafLemmas.{told_none}
 
--- the last byte of a line before another is its end
+-- the last byte of a line before another line is its line ending
 either : (x y z : Bool) → (x || (y && not z)) ≡ true → (x || y) ≡ true
 either true y z h = refl
 either false true z h = refl
@@ -44,7 +44,7 @@ last_is_end [] n is more = absurd (omega arith)
 last_is_end (b ∷ bs) n is more =
     last_by b bs n (ends_line b bs) refl (sym (line_len-step b bs) ∙ is) (omega arith) (λ m here further. last_is_end bs m here further)
 
--- of lines that begin after an offset none is left out
+-- no line that begins after an offset is left out
 kept_by : (e l : ℕ) (line : Place) (lines : List Place) (t : Bool) → t ≡ false → (if t then lines_beyond e lines else line ∷ lines) ≡ line ∷ lines
 kept_by e l line lines t is = rw is refl
 
@@ -69,7 +69,7 @@ one_left_out text e l low within =
     let less : nat_lt l e ≡ true = grind (arith, nat_tests, low) in
     ap (lines_beyond e) first ∙ left_out e (line_place l (drop l text)) (lines_from text (l + line_len (drop l text))) (nat_lt l e) less
 
--- where no line ends between two offsets, the line that is read from both ends alike
+-- if no line ends between two offsets, the line that is read from either has the same end
 same_line_end : (text : List ℕ) (a e : ℕ) → a < e → e ≤ length text → e ≤ a + line_len (drop a text) → is_line_end (slice_index text (e - 1)) ≡ false
     → a + line_len (drop a text) ≡ e + line_len (drop e text)
 same_line_end text a e less within low no_end =
@@ -115,7 +115,7 @@ lines_behind_it text p e i less within no_end =
     let low = r.1 in
     (ap (λ n. lines_beyond e (lines_from text n)) ends ∙ r.0, omega arith)
 
--- at the start nothing is read
+-- nothing is read at the start
 pub run_begun : (text : List ℕ) (around : Context) (nested : Bool) (p : Place) (tables : Tables)
     → IsPlaceOf text p → RunSoFar text around nested p p tables tables
 run_begun text around nested p tables i = record {
@@ -127,7 +127,7 @@ run_begun text around nested p tables i = record {
   goes_on = λ open_none more beyond run. run;
 }
 
--- a definition that stands at a place, by its entry
+-- the definition at a place, by its entry
 pub defined_here : (text : List ℕ) (around : Context) (q : Place) (x : LinkReference)
     → IsPlaceOf text q → reference_at false around (drop (offset q) text) ≡ Some x → definition_at around q ≡ Some (entry_of (offset q) x)
 defined_here text around q x i is = ap (option_map (entry_of (offset q))) (ap (reference_at false around) i.left ∙ is)
@@ -136,7 +136,8 @@ pub defined_none : (text : List ℕ) (around : Context) (q : Place)
     → IsPlaceOf text q → reference_at false around (drop (offset q) text) ≡ None → definition_at around q ≡ None
 defined_none text around q i is = ap (option_map (entry_of (offset q))) (ap (reference_at false around) i.left ∙ is)
 
--- What a definition that is read is: where it ends, and what is told with it. The first holds of each, the second where no table is open.
+-- A definition that is read: its end, and the tables with what it defines. The first holds for each, the second if no
+-- table is open.
 pub record IsOneMore (text : List ℕ) (around : Context) (nested : Bool) (q : Place) (e : ℕ) (before now : Tables) : Type 0 where
   pub less : offset q < e
   pub within : e ≤ length text
@@ -147,20 +148,20 @@ pub record IsOneMore (text : List ℕ) (around : Context) (nested : Bool) (q : P
   pub ends : entry.«end» ≡ e
   pub defined : nested ≡ false → now ≡ told before (entry ∷ [])
 
--- the line after it, from the front of which the next one is read
+-- the line after it, at the place after the prefixes, at which the next definition is read
 abbrev pub text_at : List ℕ → List Container → ℕ → Place
 text_at text path next = unindented (place_at next (front path (line_rest (drop next text))))
 
 told_more : (before mid now : Tables) (a : List LinkEntry) (x : LinkEntry) → mid ≡ told before a → now ≡ told mid (x ∷ []) → now ≡ told before (a ++ x ∷ [])
 told_more before mid now a x h k = k ∙ ap (λ t. told t (x ∷ [])) h ∙ told-append before a (x ∷ [])
 
--- the lines after it, where its end is said by its entry
+-- the lines after it, if its entry gives its end
 behind_entry : (text : List ℕ) (q : Place) (e : ℕ) (x : LinkEntry)
     → x.«end» ≡ e → lines_beyond e (lines_from text (line_end q)) ≡ lines_from text (e + line_len (drop e text))
     → lines_beyond x.«end» (lines_from text (line_end q)) ≡ lines_from text (e + line_len (drop e text))
 behind_entry text q e x is lines = ap (λ n. lines_beyond n (lines_from text (line_end q))) is ∙ lines
 
--- One definition more, after which the line continues the run.
+-- One more definition, after which the line continues the run.
 pub run_goes_on : (text : List ℕ) (around : Context) (nested : Bool) (p q : Place) (e next : ℕ) (before mid now : Tables)
     → IsUtf8 text → next ≡ e + line_len (drop e text) → next < length text
     → (ends_tag around (line_rest (drop next text)) || is_blank_rest (all_taken (front around.path (line_rest (drop next text))))) ≡ false
@@ -195,7 +196,7 @@ run_goes_on text around nested p q e next before mid now u at within goes r one 
           ));
     }
 
--- One definition more, after which the run ends.
+-- One more definition, after which the run ends.
 run_ends_by : (around : Context) (text : List ℕ) (next : ℕ)
     → (next < length text → (ends_tag around (line_rest (drop next text)) || is_blank_rest (all_taken (front around.path (line_rest (drop next text))))) ≡ true)
     → ends_run around (lines_from text next) ≡ true
@@ -228,7 +229,7 @@ run_ends text around nested p q e line next before mid now at here ends r one =
           (one.here plain, inl (ap (ends_run around) lines ∙ run_ends_by around text next ends, refl, ap (Ended q) (sym lines)));
     }
 
--- No definition more: a paragraph's text begins there.
+-- No more definitions: the text of a paragraph begins there.
 pub run_flows : (text : List ℕ) (around : Context) (nested : Bool) (p q : Place) (at : ℕ) (before now : Tables)
     → at ≡ offset q → (nested ≡ false → definition_at around q ≡ None)
     → RunSoFar text around nested p q before now → ReadsRun text around nested p before now (Paragraph at)

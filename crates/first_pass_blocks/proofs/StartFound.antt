@@ -1,4 +1,4 @@
--- Which container begins at a place, as the calls tell it.
+-- The container that begins at a place, from the results of the calls.
 use Rattle.std.proofs.Common.{◌≡◌, ℕ, Bool, true, false, List, Option, Some, None, MatchOption, IsSomeAnd, refl, sym, ap, subst, ◌∙◌, if◌then◌else◌}
 use Rattle.first_pass_items.specs.declared.option_set.Options.{Options}
 use Rattle.std.specs.Option.{option_map}
@@ -17,14 +17,14 @@ use Rattle.first_pass_blocks.specs.Starts.{marker_of, TellsOpener, TellsStart}
 use Rattle.first_pass_grammar.specs.Blocks.{Opener as ContainerOpener, QuoteMarker, ItemMarker, FootnoteMarker, DefinitionMarker}
 use Rattle.first_pass_grammar.specs.declared.kind.AfterMarker.{AfterMarker}
 
--- what the call says that tells which container begins at a place
+-- the result of the call that finds the container at a place
 pub start_found : (o : Option Start) (found : Option ToldStart) (t : ToldStart) (old new : Place) → found ≡ Some t
     → MatchOption o ((found ≡ None) × (new ≡ old)) (λ s. IsSomeAnd found (TellsStart s) × (new ≡ at_rest old s.rest))
     → (s : Start) × (o ≡ Some s) × TellsStart s t × (new ≡ at_rest old s.rest)
 start_found None found t old new e h = (let z : None ≡ Some t = sym h.0 ∙ e in cc)
 start_found (Some s) found t old new e h = (s, refl, subst (λ f. IsSomeAnd f (TellsStart s)) e h.0, h.1)
 
--- the one word of the pass for what opens a container; for a footnote definition, which it has no word for, any
+-- the pass's opener for a container; any opener for a footnote definition, for which the pass has none
 abbrev pub opener_told : ContainerOpener → Opener
 opener_told (QuoteMarker kind) = Quote kind
 opener_told (ItemMarker byte number columns) = ItemOpener (marker_of (byte, number, columns))
@@ -57,7 +57,7 @@ matches N P o s is h = subst (λ x. MatchOption x N P) (sym is) h
 pub matches_none : {A : Type 0} (N : Type 0) (P : A → Type 0) (o : Option A) → o ≡ None → N → MatchOption o N P
 matches_none N P o is h = subst (λ x. MatchOption x N P) (sym is) h
 
--- what a definition's marker that was taken says
+-- the marker of a definition that was read
 pub definition_found : (o : Option (ℕ × Rest)) (found : Option ℕ) (n : ℕ) (old new : Rest) → found ≡ Some n
     → MatchOption o ((found ≡ None) × (new ≡ old)) (λ marker. (found ≡ Some marker.0) × (new ≡ marker.1)) → o ≡ Some (n, new)
 definition_found None found n old new e h = (let z : None ≡ Some n = sym h.0 ∙ e in cc)
@@ -69,7 +69,7 @@ pub definition_absent : (o : Option (ℕ × Rest)) (found : Option ℕ) (old new
 definition_absent None found old new e h = (refl, h.1)
 definition_absent (Some marker) found old new e h = (let z : None ≡ Some marker.0 = sym e ∙ h.0 in cc)
 
--- a block quote, of which nothing was taken before
+-- a block quote, before which nothing was read
 pub quote_here : (old mid new : Rest) (width : Option ℕ) (at : ℕ) → mid ≡ old → width ≡ Some at
     → MatchOption (prefix (BlockQuote None) mid) ((width ≡ None) × (new ≡ mid)) (λ next. (width ≡ Some (after_columns 3 mid).taken) × (new ≡ next))
     → (prefix (BlockQuote None) old ≡ Some new) × (at ≡ (after_columns 3 old).taken)
@@ -77,7 +77,7 @@ quote_here old mid new width at same taken says =
     let t = quote_taken (prefix (BlockQuote None) mid) width _ at mid new taken says in
     (ap (prefix (BlockQuote None)) (sym same) ∙ t.0, t.1 ∙ ap (λ (r : Rest). (after_columns 3 r).taken) same)
 
--- where a definition begins one may
+-- if a definition begins, one may begin
 none_begins : (options : Options) (p : Place) (marker : ℕ × Rest) (q : Option Rest) → prefix (BlockQuote None) p.rest ≡ q → item_at p.rest ≡ None
     → start_at options false p ≡ Some (definition_start p marker) → ⊥
 none_begins options p marker None quote item begins =
@@ -93,7 +93,7 @@ may_if options false p marker item begins = absurd (none_begins options p marker
 pub same_place : (text : List ℕ) (p q : Place) → p ≡ q → IsPlaceOf text q → IsPlaceOf text p
 same_place text p q same i = subst (IsPlaceOf text) (sym same) i
 
--- no definition begins at a place, and nothing was taken there
+-- no definition begins at a place, and nothing was read there
 abbrev pub IsUntaken : Bool → Place → Place → Type 0
 IsUntaken may p q = (marker_where may p ≡ None) × (q ≡ p)
 

@@ -1,4 +1,4 @@
--- A container that begins at a place is opened: what that keeps.
+-- A container that begins at a place is opened: the properties that this keeps.
 use Rattle.std.proofs.Common.{◌≡◌, inl, ℕ, ◌<◌, ◌≤◌, length, Bool, true, false, ◌&&◌, List, Option}
 use Rattle.std.proofs.Common.{Some, None, refl, sym, ap, subst, ◌∙◌, arith, IsUtf8, IsCharBoundary, if◌then◌else◌}
 use Rattle.std.proofs.lemmas.Bool.{and_parts}
@@ -68,7 +68,7 @@ mark_by b h = refl
 no_paragraph : (marker : Option Item) → ((x : Item) → marker ≡ Some x → is_task_marker x.body ≡ true) → IsNoParagraph marker
 no_paragraph marker task x some = mark_by x.body (task x some)
 
--- no item is empty once a definition is open
+-- no item is empty after a definition is opened
 kept_none : (t : Bool) (q : Reading) → q.empty_item ≡ None
     → (if t then record q { tree = loosened_top q.tree q.tree.spine; blank = false } else q).empty_item ≡ None
 kept_none true q none = none
@@ -89,7 +89,8 @@ ordered_empty_definition text start e columns r low high boundary o =
     let list : Reading = list_kept (with_tree r (definitions_opened r.tree r.tree.current)) in
     ordered_empty_item text start start e (DefinitionListDefinition columns) list None list.blank refl low low high boundary o (λ x is_mark. cc)
 
--- What is remembered once a container that begins at a place is open, and where reading has come to: of the line less is left.
+-- The state after a container that begins at a place is opened, and the position of reading: less of the line is
+-- left.
 abbrev IsOpened : Source → ℕ → Reading → Place → Start → Type 0
 IsOpened source line r p s =
     IsAfter s.after (start_opened p.line (start_told s) (line_end p) r) × (length s.rest.left < length p.rest.left)
@@ -105,7 +106,7 @@ module _ (source : Source) (r : Reading) (p : Place) (utf8 : IsUtf8 source.text.
   abbrev doc : Names → Document
   doc names = document source.text.now source.options names
 
-  -- where what is remembered begins a derivation no table is open, and so no footnote definition begins
+  -- if the state begins a derivation, no table is open, and so no footnote definition begins
   no_head : (names : Names) (defined : Tables) → ReadyAt (doc names) defined r.tree r.blank (Inside p) (lines_from text (line_end p))
       → footnote_head_at (around (doc names) (path_of source.options r.tree)) p ≡ None
   no_head names defined ready = bare (no_table source.options r.tree.nodes r.tree.spine ready.frames ready.are_open)
@@ -116,7 +117,7 @@ module _ (source : Source) (r : Reading) (p : Place) (utf8 : IsUtf8 source.text.
   abbrev may : Bool
   may = may_define source.options r.tree
 
-  -- what begins where one may, as the grammar says it
+  -- the container that begins if one may, in terms of the grammar
   begins_as : (names : Names) (s : Start) → start_at source.options may p ≡ Some s → begins_at (doc names) r p ≡ Some s
   begins_as names s is = ap (λ (t : Bool). start_at source.options (has source.options definition_list && t) p) (takes_same r.tree) ∙ is
 
@@ -182,7 +183,7 @@ module _ (source : Source) (r : Reading) (p : Place) (utf8 : IsUtf8 source.text.
           },
         )
 
-    -- its line is over
+    -- its line ends
     item_over : (marker : Option Item) → marker ≡ (task_behind source.options p.line behind).0 → is_blank_rest rest ≡ true
         → IsOpened source line r p (record { head = item_head p byte number columns; after = LineEnds marker; rest = rest })
     item_over marker same over =
@@ -354,7 +355,7 @@ module _ (source : Source) (r : Reading) (p : Place) (utf8 : IsUtf8 source.text.
     definition_by true over = definition_over over
     definition_by false some = definition_line some
 
-  -- what holds of a start that is found there
+  -- the properties of a start that is found there
   abbrev OpensIt : Start → Type 0
   OpensIt s = start_at source.options may p ≡ Some s → IsOpened source line r p s
 
@@ -382,7 +383,7 @@ module _ (source : Source) (r : Reading) (p : Place) (utf8 : IsUtf8 source.text.
     whole = λ names h. h;
   }
 
-  -- the same in the words of the calls that open it
+  -- the same in terms of the calls that open it
   pub opened_start : (s : Start) (new : Place) (t : ToldStart) (q : Reading) → start_at source.options may p ≡ Some s
       → TellsStart s t
       → new ≡ at_rest p s.rest → q ≡ start_opened new.line t (line_end new) r

@@ -1,4 +1,4 @@
--- A block quote with a tag: what it ends and counts, and the line after it.
+-- A block quote with a tag: what it ends, the blank lines that it counts, and the line after its tag.
 use Rattle.std.proofs.Common.{◌≡◌, inl, inr, ℕ, ◌+◌, nat_lt, ◌&&◌, Bool, true, false, List, [], ◌∷◌, length, drop, slice_get, Option, Some, None, refl}
 use Rattle.std.proofs.Common.{sym, ap, subst, ◌∙◌, if◌then◌else◌}
 use Rattle.std.proofs.lemmas.Bool.{cases_lt}
@@ -38,7 +38,7 @@ left_none at r t is = rw is refl
 noted_none : (r : Reading) (f : Forest Item) (t : Bool) → t ≡ false → (if t then record r { tree = f; blank = false } else r) ≡ r
 noted_none r f t is = rw is refl
 
--- Where a block quote is innermost, no item is empty and no blank line was read, a new block ends nothing.
+-- If a block quote is innermost, no item is empty and no blank line was read, a new block ends nothing.
 pub finishes_nothing : (at : ℕ) (r : Reading) (kind : Option BlockQuoteKind)
     → top_body r.tree ≡ Some (BlockQuoteBody kind) → r.blank ≡ false → r.empty_item ≡ None → list_finished at r ≡ r
 unfolding list_finished item_finished
@@ -47,7 +47,7 @@ finishes_nothing at r kind quote blank none =
     let left : list_left at r ≡ r = left_none at r (is_list (top_body r.tree)) (ap is_list quote) in
     ap (λ q. gap_noted (list_left at q)) item ∙ ap gap_noted left ∙ noted_none r (gap_tree r.tree r.tree.spine) r.blank blank
 
--- a blank line doesn't count directly in it
+-- a blank line directly in it does not count
 counts_quoted : (kind : Option BlockQuoteKind) (frames : List Frame) (closed : Closed)
     → counted_after (InContainer (BlockQuote kind) ∷ frames) (tail closed false) ≡ false
 counts_quoted kind frames OtherClosed = refl
@@ -65,7 +65,7 @@ quote_counts options nodes (ix ∷ s) (frame ∷ frames) kind closed quote o =
     let same : InContainer (BlockQuote kind) ≡ frame = cc in
     ap (λ f. counted_after (f ∷ frames) (tail closed false)) (sym same) ∙ counts_quoted kind frames closed
 
--- At the text's end no line belongs to it.
+-- At the end of the text no line belongs to it.
 end_by : (around : Context) (c : Continued) → (nat_lt (indent (line_rest [])) 4 && interrupts around c (line_rest [])) ≡ true
 unfolding interrupts
 end_by around c = refl
@@ -79,7 +79,7 @@ tag_by : (around : Context) (line : Place) (lines : List Place) (t : Bool) → e
     → behind_tag around (line ∷ lines) ≡ (if t then (Line, line ∷ lines) else (At (unindented (at_rest line (front around.path line.rest))) ALeafAlone, lines))
 tag_by around line lines t is = rw is refl
 
--- where blocks continue after its tag, at the line that begins at an offset
+-- the place where blocks continue after its tag, in the line at an offset
 tag_line : (around : Context) (text : List ℕ) (at : ℕ) (t : Bool) → ends_tag around (line_rest (drop at text)) ≡ t
     → (let lines : List Place = lines_from text at in
     behind_tag around lines ≡ (if t then (Line, lines)
@@ -99,7 +99,7 @@ tag_line around text at t is =
           (sym over))
     ]
 
--- the line after its tag, which is read as any other
+-- the line after its tag, if it is read like any other
 pub ready_any_line : (d : Document) (defined : Tables) (r : Reading) (at : ℕ) → ends_tag (context_of d.options r.tree) (line_rest (drop at d.text)) ≡ true
     → r.empty_item ≡ None → ReadyTagged d defined r (lines_from d.text at) → Ready d defined r (lines_from d.text at)
 ready_any_line d defined r at is none tagged =
@@ -108,7 +108,7 @@ ready_any_line d defined r at is none tagged =
     ready_plain d defined r lines none (subst (λ t. ReadyAt d defined r.tree t Line lines) (sym tagged.blank)
     (subst (λ (z : From × List Place). ReadyAt d defined r.tree false z.0 z.1) here tagged.ready))
 
--- the same, which belongs to the quote
+-- the same line, if it belongs to the quote
 pub ready_its_line : (d : Document) (defined : Tables) (r : Reading) (at : ℕ)
     → ends_tag (context_of d.options r.tree) (line_rest (drop at d.text)) ≡ false → ReadyTagged d defined r (lines_from d.text at)
     → ReadyLazy d defined r (unindented (place_at at (front (path_of d.options r.tree) (line_rest (drop at d.text)))))

@@ -1,4 +1,5 @@
--- A pass read the link definitions at a place, and the text that they flow into or the one that begins there.
+-- A pass read the link reference definitions at a place and the text that follows them, or the text that begins
+-- there.
 use Rattle.std.proofs.Common.{◌≡◌, inl, inr, ℕ, ◌+◌, ◌≤◌, ◌<◌, Bool, true, false, List, [], ◌∷◌, length, Option, Some, None, IsUtf8, IsCharBoundary, refl}
 use Rattle.std.proofs.Common.{sym, ap, subst, ◌∙◌, arith, if◌then◌else◌}
 use Rattle.std.specs.Option.{option_map_or}
@@ -65,7 +66,7 @@ pub leaf_plain : (d : Document) (defined : Tables) (r : Reading) (p : Place) (li
 leaf_plain d defined r p lines (inl (bare, no_start, ready)) = no_table d.options r.tree.nodes r.tree.spine ready.frames ready.are_open
 leaf_plain d defined r p lines (inr lazy) = no_table d.options r.tree.nodes r.tree.spine lazy.ready.frames lazy.ready.are_open
 
--- What is in order up to a place, or up to the beginning of its line where a list is innermost, is in order so at a later place.
+-- Order up to a place, or up to the start of its line if a list is innermost, is such an order at a later place.
 or_low : (t : Bool) (l a m b : ℕ) → l ≤ m → a ≤ b → (if t then l else a) ≤ (if t then m else b)
 or_low true l a m b low mid = low
 or_low false l a m b low mid = mid
@@ -99,12 +100,12 @@ later_than : (text : List ℕ) (p q : Place) → offset p ≤ offset (unindented
 later_than text p q mid (inl (same, low)) = omega arith
 later_than text p q mid (inr (low, there)) = (let ends = place_before_end (unindented p) in omega arith)
 
--- where the lines after a place begin that is read after its columns
+-- the start of the lines after a place that is read after its indentation
 run_from : (text : List ℕ) (around : Context) (p : Place) (xs : List LinkEntry) (b : Beyond)
     → IsRun around (unindented p) (lines_from text (line_end (unindented p))) xs b → IsRun around (unindented p) (lines_from text (line_end p)) xs b
 run_from text around p xs b run = subst (λ n. IsRun around (unindented p) (lines_from text n) xs b) (columns_line_end (indent p.rest) p) run
 
--- link definitions with no paragraph after them
+-- link reference definitions without a paragraph after them
 pub run_line : (old mid new : BlockPass) (p : Place) (nested : Bool) (line next : ℕ) → IsUtf8 (source_text old) → IsPlaceOf (source_text old) p
     → (reading_of old).empty_item ≡ None → IsForest (tree_of old) → IsKind (source_options old) p.rest Paragraph
     → nested ≡ in_table (tree_of old).nodes (tree_of old).spine → source_of mid ≡ source_of old → names_of (allocs_of mid) ≡ names_of (allocs_of old)
@@ -150,7 +151,7 @@ run_line old mid new p nested line next u i empty forest kind nest source names 
       few = omega arith;
     }
 
--- what a pass reads for a text that begins at an offset, whose place is found once the link definitions at another place are read
+-- what a pass reads for a text at an offset; its place is found after the link reference definitions at another place
 pub record ReadsText (old new : BlockPass) (p : Place) (at next : ℕ) : Type 0 where
   pub ready : (more : Names) → Extends more (names_of (allocs_of new)) → (q : Place) (xs : List LinkEntry) (defined : Tables)
       → IsPlaceOf (source_text old) q → at ≡ offset q
@@ -166,7 +167,7 @@ pub record ReadsText (old new : BlockPass) (p : Place) (at next : ℕ) : Type 0 
       → AreNamed (names_of (allocs_of old)) (tree_of old).nodes → HasWholeTables (names_of (allocs_of old)) (tree_of old)
       → HasWholeTables (names_of (allocs_of new)) (tree_of new)
 
--- the paragraph that they flow into, or that stands alone
+-- the paragraph that follows them, or that begins there
 pub run_text : (old mid new : BlockPass) (p : Place) (nested : Bool) (at next : ℕ) → IsUtf8 (source_text old) → IsPlaceOf (source_text old) p
     → IsKind (source_options old) p.rest Paragraph
     → nested ≡ in_table (tree_of old).nodes (tree_of old).spine → source_of mid ≡ source_of old → names_of (allocs_of mid) ≡ names_of (allocs_of old)
@@ -205,7 +206,7 @@ run_text old mid new p nested at next u i kind nest source names written w sourc
       few = t.few (offset p) (omega arith) (omega arith);
     }
 
--- a text that is added once a new block has ended any list, at an offset
+-- a text that is added after a new block ended any list, at an offset
 module _ (old new : BlockPass) (p : Place) (ends at next : ℕ) (empty : (reading_of old).empty_item ≡ None) (forest : IsForest (tree_of old))
     (kind : IsKind (source_options old) p.rest Paragraph) (none : (reading_of new).empty_item ≡ None) (blank : (reading_of new).blank ≡ false)
     (block : AddsText (document (source_text old) (source_options old) (names_of (allocs_of new))) at None (list_finished ends (reading_of old)).tree
@@ -261,7 +262,7 @@ plain_text old new p at next empty forest kind after none blank block fits =
     (λ from low apart. let grows = block_count text from next (list_finished at r).tree (tree_of new) (fits from low) apart in
     let same = list_finished_count at r in omega arith)
 
--- whether what was read is a paragraph
+-- whether a paragraph was read
 first_begins : (k : ℕ) (items : List (ℕ × Item)) → option_map_or is_paragraph_body (body_at (at_depth k items) 0) false ≡ begins_paragraph items
 first_begins k [] = refl
 first_begins k (x ∷ items) = refl
@@ -366,7 +367,7 @@ module _ (old new : BlockPass) (p : Place) (at next : ℕ) (empty : (reading_of 
   pub title_text : (q : Place) → IsPlaceOf text q → at ≡ offset q → reading_of new ≡ title_read last (with_tree r read) → ReadsText old new p at next
   title_text q stands at_is is = title_by q stands at_is (is_paragraph_last read) refl is
 
--- the text right after a definition that they flow into, or that stands alone
+-- the text right after a definition, after link reference definitions or none
 pub run_title : (old mid new : BlockPass) (p : Place) (nested : Bool) (at next : ℕ) → IsUtf8 (source_text old) → IsPlaceOf (source_text old) p
     → (reading_of old).empty_item ≡ None → IsForest (tree_of old) → IsKind (source_options old) p.rest Paragraph
     → nested ≡ in_table (tree_of old).nodes (tree_of old).spine → source_of mid ≡ source_of old → reading_of mid ≡ reading_of old

@@ -1,4 +1,4 @@
--- A paragraph or a table that was added stands for its text.
+-- An added paragraph or table is the one of its text.
 use Rattle.std.proofs.Common.{◌≡◌, ℕ, ◌+◌, ◌-◌, ◌≤◌, List, ◌++◌, length, drop, Option, Some, None, MatchOption, IsUtf8, IsCharBoundary, refl}
 use Rattle.std.proofs.Common.{sym, ap, subst, ◌∙◌, arith, inl, inr}
 use Rattle.std.proofs.lemmas.Bool.{cases_lt}
@@ -41,7 +41,7 @@ use Rattle.first_pass_tables.specs.Appends.{with_below, AppendsRows}
 use Rattle.first_pass_blocks.specs.TextsAdded.{AddsText}
 use Rattle.first_pass_tables.proofs.TableFits.{table_fits}
 
--- what a text is whose first line heads a table, or none
+-- a text whose first line heads a table, or none
 text_by : (d : Document) (path : List Container) (p : Place) (marker : Option Item) (lines : List Place) (t : Taken) (o : Option (List Alignment))
     → headed_table (context d.options path) p.rest.left ≡ o
     → MatchOption o (IsPlainText d path (offset p) marker lines t) (λ alignments. IsTable d path p alignments lines t) → IsText d path p marker lines t
@@ -49,7 +49,7 @@ unfolding IsText
 text_by d path p marker lines t o e h =
     subst (λ o. MatchOption o (IsPlainText d path (offset p) marker lines t) (λ alignments. IsTable d path p alignments lines t)) (sym e) h
 
--- where a line ends that has a place
+-- the end of a line with a place
 there_ends : (text : List ℕ) (p : Place) (start : ℕ) → IsPlaceOf text p → offset p ≡ start → line_end_at text start ≡ line_end p
 there_ends text p start i at = ap (line_end_at text) (sym at) ∙ ap (λ bs. offset p + line_len bs) (sym i.left)
 
@@ -57,7 +57,7 @@ headed_at : (context : Context) (text : List ℕ) (p : Place) (start : ℕ) (o :
     → IsPlaceOf text p → offset p ≡ start → headed_table context (drop start text) ≡ o → headed_table context p.rest.left ≡ o
 headed_at context text p start o i at h = ap (headed_table context) (i.left ∙ ap (λ n. drop n text) at) ∙ h
 
--- a paragraph, or a heading that is underlined, that was added
+-- an added paragraph or setext heading
 pub plain_text_added : (text : List ℕ) (options : Options) (names : Names) (start : ℕ) (marker : Option Item) (old new : Forest Item) (next : ℕ)
     → headed_table (context_of options old) (drop start text) ≡ None
     → AddsPlainText (document text options names) start marker old new next → AddsText (document text options names) start marker old new next
@@ -91,7 +91,7 @@ body_lines text mid =
       | inr past ↦ ap (drop 1) (lines_at-end text mid past) ∙ sym (lines_at-end text (line_end_at text mid) (omega arith))
     ]
 
--- where the lines after a header row and its delimiter row begin
+-- the start of the lines after a header row and its delimiter row
 pub line_bounds : (text : List ℕ) (start : ℕ) → IsUtf8 text → IsCharBoundary text start → IsCharBoundary text (line_end_at text start)
 line_bounds text start utf8 boundary =
     subst (IsCharBoundary text) (line_start_end text start) (place_end text (line_place start (drop start text)) utf8 (line_is_place text start boundary))
@@ -103,7 +103,7 @@ body_at text start len is =
     let both : start + len ≡ start + (n + line_len (drop (start + n) text)) = ap (λ k. start + k) (is ∙ ap (λ bs. n + line_len bs) after) in
     omega (arith, both)
 
--- a table that was added
+-- an added table
 module _ (text : List ℕ) (options : Options) (names : Names) (start body next : ℕ) (ix : AlignmentIndex) (alignments : List Alignment) (old new : Forest Item)
     (r : AppendsRows (document text options names) (length alignments) start body (opened_block old start (Table ix)) new next) where
   abbrev table_items : List (ℕ × Item)
@@ -166,7 +166,7 @@ module _ (text : List ℕ) (options : Options) (names : Names) (start body next 
     boundary = r.boundary;
   }
 
-  -- its nodes lie in order
+  -- its nodes are in order
   pub table_between : AreIn (length old.nodes) old.spine → ((more : Names) → Extends more names → NamesAlignments more ix alignments)
       → body ≡ line_end_at text (line_end_at text start)
       → headed_table (context_of options old) (drop start text) ≡ Some alignments → Extends names names → IsUtf8 text → IsCharBoundary text start → (from : ℕ)

@@ -1,4 +1,4 @@
--- What stands for a text has a first item, and if that is no paragraph, none of its items is one.
+-- The items of a text have a first one, and if that is no paragraph, none of them is one.
 use Rattle.std.proofs.Common.{◌≡◌, ℕ, ◌-◌, ◌++◌, true, false, List, [], ◌∷◌, length, drop, Option, Some, None, MatchOption, refl, sym}
 use Rattle.std.proofs.Common.{ap, subst, ◌∙◌}
 use Rattle.std.proofs.lemmas.Bool.{true≢false}
@@ -43,7 +43,7 @@ markup_flat texts _ h k = absurd (true≢false (sym h))
 tokens_flat : (texts : List CowStr) → HoldsOfTokens texts IsNoParagraph
 tokens_flat texts = record { text = λ escaped. refl; soft = refl; hard = λ by_backslash. refl; markup = markup_flat texts }
 
--- items of which there is a first, and where that is no paragraph, none is one
+-- items with a first one; if that is no paragraph, none is one
 pub record IsFlatText (items : List (ℕ × Item)) : Type 0 where
   pub first : ℕ × Item
   pub more : List (ℕ × Item)

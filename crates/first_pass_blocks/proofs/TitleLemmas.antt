@@ -51,7 +51,7 @@ use Rattle.first_pass_ready.proofs.StateLemmas.{ready_plain}
 use Rattle.first_pass_blocks.proofs.TextsFlat.{text_flat}
 use Rattle.first_pass_ready.proofs.TitlePops.{in_definitions}
 
--- right after a definition what is last is one, which ends where the current node does
+-- right after a definition, the last child is one and ends where the current node does
 last_by : (e place : ℕ) (x : Item) (ix : TreeIndex) (flags : ListFlags) (b : ItemBody) → title_by (Some (DefinitionList flags)) ix (Some b) ≡ None
     → (blanks : Bool) × (closed_in_definitions e place x.«end» b ≡ DefinitionClosed x.«end» blanks)
 last_by e place x ix flags MaybeDefinitionListTitle h = cc
@@ -80,7 +80,7 @@ behind_top f b = ap (λ (s : List TreeIndex). option_and_then (λ (ix : TreeInde
 pub behind_last : (f : Forest Item) → IsBehindDefinition f → (blanks : Bool) × (closed_in f ≡ DefinitionClosed (current_end f) blanks)
 behind_last f b = last_at f f.current b.flags (behind_top f b) b.none
 
--- what is at a place with another end, and the first of more nodes
+-- the node at a place with another end, and the first of further nodes
 end_of : (nodes : List (ℕ × Item)) (o e : ℕ) → o < length nodes
     → option_map_or (λ (y : Item). y.«end») (option_map (λ n. n.1) (slice_get (ended nodes o e) o)) 0 ≡ e
 unfolding ended
@@ -95,7 +95,8 @@ item_behind [] n more (suc i) h = absurd (omega arith)
 item_behind (m ∷ nodes) n more zero h = absurd (omega arith)
 item_behind (m ∷ nodes) n more (suc i) h = item_behind nodes n more i (omega arith)
 
--- The tree with a possible title: what was read after the definition, and the list's node ends where that does.
+-- The tree with a possible title: the nodes that were read after the definition, and the end of that as the recorded
+-- end of the list.
 module _ (f : Forest Item) (x : ℕ × Item) (items : List (ℕ × Item)) (e : ℕ) (ix : TreeIndex) (rest : List TreeIndex) (spine : f.spine ≡ ix ∷ rest)
     (low : ix.0 < length f.nodes) where
   abbrev title_item : Item
@@ -163,7 +164,7 @@ module _ (f : Forest Item) (x : ℕ × Item) (items : List (ℕ × Item)) (e : �
       open_below options f.nodes kept.nodes (length f.nodes) f.spine frames
       (λ i h. frame-append options (ended f.nodes ix.0 e) title_nodes i (inside i h) ∙ frame-ended options f.nodes ix.0 e i) below o
 
-  -- what can still become a derivation then
+  -- the nodes that can still become a derivation then
   kept_completes : (d : Document) (defined : Tables) (blanks run loose : Bool) (frames : List Frame) (p : Place) (lines left : List Place) (block : LeafBlock)
       → block.items ≡ x ∷ items → begins_paragraph block.items ≡ true
       → Opens d (lvl (InDefinitions loose ∷ frames) (tail (DefinitionClosed e blanks) run)) p lines (OpensLeaf (Block block) Line left)
@@ -189,7 +190,7 @@ module _ (f : Forest Item) (x : ℕ × Item) (items : List (ℕ × Item)) (e : �
       (subst (λ z. CompletesAt d now (tail (TitleAt e (length (ended f.nodes ix.0 e))) block.gap) here
       (ended f.nodes ix.0 e ++ at_depth (suc (suc (length os))) (as_possible z)) (ix.0 ∷ os) Line left) is done)))
 
--- what is ready with a possible title
+-- a ready state with a possible title
 module _ (d : Document) (defined : Tables) (r : Reading) (p : Place) (lines left : List Place) (block : LeafBlock) (x : ℕ × Item) (items : List (ℕ × Item))
     (is : block.items ≡ x ∷ items) (begins : begins_paragraph block.items ≡ true) (gap : block.gap ≡ false) (forest : IsForest r.tree)
     (b : IsBehindDefinition r.tree) (none : r.empty_item ≡ None) (shows : AreEachNode ShowsNothing items) where
@@ -227,7 +228,7 @@ module _ (d : Document) (defined : Tables) (r : Reading) (p : Place) (lines left
       subst (λ q. Ready d (told defined block.definitions) q left) (sym (kept_is f x items e ix rest b.spine low r))
       (ready_plain d (told defined block.definitions) (record r { tree = g; blank = false }) left none now)
 
--- a block quote is innermost nowhere right after a definition
+-- right after a definition no block quote is innermost
 not_quote : (f : Forest Item) (kind : Option BlockQuoteKind) → IsBehindDefinition f → top_body f ≡ Some (BlockQuoteBody kind) → ⊥
 not_quote f kind b quote = let z = sym (behind_top f b) ∙ quote in cc
 

@@ -1,4 +1,4 @@
--- What is said of a leaf block that is added at a place (private functions alone cite this).
+-- A leaf block that is added at a place (only private functions cite this).
 use Rattle.std.specs.Prelude.{◌≡◌, ℕ, ◌≤◌, false, None, IsUtf8, IsCharBoundary}
 use Rattle.first_pass_lines.specs.Places.{Place, offset, line_end, IsPlaceOf}
 use Rattle.first_pass_grammar.specs.Kinds.{Kind}
@@ -12,8 +12,9 @@ use Rattle.first_pass_blocks.specs.declared.state.BlockPass.{BlockPass}
 use Rattle.first_pass_blocks.specs.Views.{allocs_of, reading_of, source_of, source_options, source_text, tree_of}
 use Rattle.first_pass_order.specs.LeafBlocks.{AddsKind}
 
--- A pass added such a block: it reads the same text, what was named keeps its name, no entry of a table changed, and no item is empty. The nodes of the
--- block lie after any offset before the place, and reading continues at an offset after the line of the place, between characters.
+-- A pass added a leaf block. It reads the same text, earlier names are kept, no table entry changed, and no item is
+-- empty. The nodes of the block lie between any offset up to the place and the offset at which reading continues.
+-- That offset is a character boundary after the line of the place.
 pub record AddsLeaf (old new : BlockPass) (p : Place) (kind : Kind) (next : ℕ) : Type 0 where
   pub source : source_of new ≡ source_of old
   pub more : NamesMore (allocs_of old) (allocs_of new)
@@ -24,8 +25,8 @@ pub record AddsLeaf (old new : BlockPass) (p : Place) (kind : Kind) (next : ℕ)
   pub boundary : IsCharBoundary (source_text old) next
   pub fits : (from : ℕ) → from ≤ offset p → AddsBetween (source_text old) from next (tree_of old) (tree_of new)
 
--- A leaf block that is told by its mark is found at a place, after so many columns, at an offset, in a pass whose open list and empty item a new block has
--- ended.
+-- A leaf block that is recognised by its mark was found at a place, after these columns, at this offset. The pass has
+-- already ended the open list and the empty item, as before any new block.
 pub record IsFoundIn (pass : BlockPass) (p : Place) (leaf : MarkedLeaf) (columns at : ℕ) : Type 0 where
   pub utf8 : IsUtf8 (source_text pass)
   pub place : IsPlaceOf (source_text pass) p

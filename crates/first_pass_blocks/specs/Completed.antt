@@ -1,4 +1,4 @@
--- What the pass remembers between two blocks, completed.
+-- Completions of the state of the pass between two blocks.
 use Rattle.std.specs.Prelude.{ℕ, Bool, true, false, List, map, Option, Some, None}
 use Rattle.first_pass_items.specs.declared.item.Item.{Item}
 use Rattle.first_pass_tree.specs.Forest.{Forest}
@@ -11,7 +11,8 @@ use Rattle.first_pass_lists.specs.declared.reading.Reading.{Reading}
 use Rattle.first_pass_open.specs.Path.{path_of}
 use Rattle.first_pass_ready.specs.State.{closed_in, emptied_top, AreOpen}
 
--- Something completes the open nodes of a tree from a place or from these lines on, and the text derives the forest that they become.
+-- Blocks complete the open nodes of a tree, from a place or from these lines on, and the text derives the resulting
+-- forest.
 pub record CompletedAt (d : Document) (defined : Tables) (tree : Forest Item) (run : Bool) (from : From) (lines : List Place) : Type 0 where
   pub frames : List Frame
   pub are_open : AreOpen d.options tree.nodes tree.spine frames
@@ -24,7 +25,8 @@ pub record CompletedAt (d : Document) (defined : Tables) (tree : Forest Item) (r
       }) from lines
   pub derives : Derives (document d.text d.options completion.names) completion.forest completion.tables
 
--- the same with an empty item or definition innermost, whose marker's line ends at an offset: whether it takes blank lines alone is seen at the next line
+-- the same for an innermost item or definition that is empty and whose marker's line ends at an offset: the next line
+-- decides whether it takes only blank lines
 abbrev pub CompletedBeforeLine : Document → Tables → Forest Item → ℕ → List Place → Bool → Type 0
 CompletedBeforeLine d defined tree e lines true = CompletedAt d defined (emptied_top tree) false (Blanks e) lines
 CompletedBeforeLine d defined tree e lines false = CompletedAt d defined tree false Line lines
@@ -33,7 +35,7 @@ abbrev pub CompletedInItem : Document → Tables → Forest Item → ℕ → Lis
 CompletedInItem d defined tree e lines true = CompletedAt d defined tree true (Blanks e) lines
 CompletedInItem d defined tree e lines false = CompletedBeforeLine d defined tree e lines (next_is_blank (path_of d.options tree) lines)
 
--- the same of what the pass remembers, whose innermost open node may be such an item
+-- the same for a state; its innermost open node may be such an item
 abbrev pub CompletedWith : Document → Tables → Reading → List Place → Option ℕ → Type 0
 CompletedWith d defined r lines None = CompletedAt d defined r.tree r.blank Line lines
 CompletedWith d defined r lines (Some e) = CompletedInItem d defined r.tree e lines r.blank

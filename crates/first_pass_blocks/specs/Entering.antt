@@ -1,4 +1,4 @@
--- What is said of the open nodes that a line closes, and of a line that is entered (private functions alone cite this).
+-- The open nodes that a line closes, and a line that is entered (only private functions cite this).
 use Rattle.std.specs.Prelude.{◌≡◌, ℕ, ◌+◌, ◌≤◌, List, length, drop, Option, Some, None, IsCharBoundary}
 use Rattle.first_pass_items.specs.declared.option_set.Options.{Options}
 use Rattle.first_pass_tree.specs.declared.tree_index.TreeIndex.{TreeIndex}
@@ -16,9 +16,9 @@ use Rattle.first_pass_ready.specs.State.{NoMore, Ready}
 use Rattle.first_pass_order.specs.Ordered.{IsReadTo}
 use Rattle.first_pass_blocks.specs.Positions.{LineAt, InLine, IsInLine, ReadsTo}
 
--- Open nodes are closed at an offset, but the outermost of them, so many: what is open stays the same elsewhere; where the lines from there on continue no
--- more of them, a derivation stays begun; what is remembered is in order up to the offset if it was. No node is added; each index that names an entry still
--- does, and whole tables stay whole.
+-- The open nodes except the outermost `kept` are closed at an offset. No path of containers changes. If the lines
+-- from there on continue none of the closed nodes, the state still begins a derivation. If it was in order, it is in
+-- order up to the offset. No node is added, every index that named an entry still does, and whole tables stay whole.
 pub record ClosesAt (old new : Reading) (kept ix : ℕ) : Type 0 where
   pub paths : (options : Options) (s : List TreeIndex) → path_in options new.tree.nodes s ≡ path_in options old.tree.nodes s
   pub ready : (d : Document) (defined : Tables) (lines : List Place) → start_of (length d.text) lines ≡ ix → NoMore d.options old.tree kept lines
@@ -29,7 +29,8 @@ pub record ClosesAt (old new : Reading) (kept ix : ℕ) : Type 0 where
   pub whole : (names : Names) → HasWholeTables names old.tree → HasWholeTables names new.tree
   pub all_kept : kept ≡ length old.tree.spine → new ≡ old
 
--- The line that begins at an offset is entered, and no item is empty at the place that is left of it; or reading has passed it.
+-- The line at an offset is entered: reading is at a place in it, and no item is empty. Without a place, reading has
+-- passed the line.
 abbrev pub EntersLine : Source → Reading → Reading → ℕ → Option Place → Type 0
 EntersLine source old new start None = ReadsTo source start old new (LineAt start) (LineAt (start + line_len (drop start source.text.now)))
 EntersLine source old new start (Some p) =

@@ -1,4 +1,5 @@
--- The head of a footnote definition at a place, and the definition that it opens (of public calls `parse_footnote` alone cites this).
+-- The head of a footnote definition at a place, and the definition that it opens (the only public call that cites
+-- this is `parse_footnote`).
 use Rattle.std.specs.Prelude.{◌≡◌, ℕ, ◌+◌, ◌<◌, ◌≤◌, ◌&&◌, nat_lt, Bool, true, false, List, length, drop, Option, Some, None, MatchOption}
 use Rattle.std.specs.Prelude.{IsSomeAnd, IsCharBoundary, if◌then◌else◌}
 use Rattle.std.specs.List.{prefix_len}
@@ -27,22 +28,23 @@ use Rattle.first_pass_blocks.specs.Positions.{InLine, IsFrom}
 use Rattle.first_pass_blocks.specs.Progress.{PassesTo}
 use Rattle.first_pass_blocks.specs.Views.{allocs_of, context_in, reading_of, source_of, source_text, tree_of}
 
--- the offset at which `[^` stands at a place at under four columns, where the options have footnotes (this project)
+-- the offset of `[^` at a place, if the indentation is under four columns and the options include footnotes
+-- (this project)
 abbrev pub footnote_mark_at : Options → Place → Option ℕ
 footnote_mark_at options p =
     if has options footnotes && (nat_lt (indent p.rest) 4 && begins_footnote (unindented p).rest.left) then Some (offset (unindented p)) else None
 
--- how many bytes are read with a head that has so many, before these: as GitHub has footnotes the white space too (this project)
+-- the length of a head, given the bytes after it; in GitHub's form it includes the white space there (this project)
 abbrev pub head_read : Bool → ℕ → List ℕ → ℕ
 head_read true n bs = n + prefix_len is_white bs
 head_read false n bs = n
 
--- a pass remembers and names what another does, over the same text
+-- two passes have the same source, state, names and tables
 abbrev pub StaysSame : BlockPass → BlockPass → Type 0
 StaysSame old new = (source_of new ≡ source_of old) × (reading_of new ≡ reading_of old) × (allocs_of new ≡ allocs_of old)
 
--- A footnote definition with this head is open, which starts at an offset: its label is told, and an index names it, borrowed from the text where nothing in
--- it changes (this project).
+-- A footnote definition with this head is open, and starts at an offset. Its label is defined, and an index names it.
+-- The label is borrowed from the text if nothing in it changes (this project).
 pub record OpenedFootnote (start : ℕ) (head : ℕ × List ℕ) (old new : BlockPass) : Type 0 where
   pub index : CowIndex
   pub text : CowStr
@@ -55,8 +57,8 @@ pub record OpenedFootnote (start : ℕ) (head : ℕ × List ℕ) (old new : Bloc
   pub told : tables_of (allocs_of new) ≡ told_label (tables_of (allocs_of old)) head.1
   pub links : refdefs_of (allocs_of new) ≡ refdefs_of (allocs_of old)
 
--- What a pass does where the head of a footnote definition is sought at an offset, by how many bytes are read with it: none begins there, and nothing
--- changes; or its definition is open (this project).
+-- The search for the head of a footnote definition at an offset, with the length that it returns. If none begins
+-- there, nothing changes. Otherwise its definition is open (this project).
 abbrev pub ReadsFootnote : BlockPass → BlockPass → ℕ → Option ℕ → Type 0
 ReadsFootnote old new start size =
     MatchOption (footnote_at (in_table (tree_of old).nodes (tree_of old).spine) (context_in old) (drop start (source_text old)))
@@ -64,20 +66,21 @@ ReadsFootnote old new start size =
     (λ head. IsSomeAnd size (λ n.
     (n ≡ head_read (gfm_footnotes (source_of old).options) head.0 (drop (start + head.0) (source_text old))) × OpenedFootnote start head old new))
 
--- how many bytes of a blank rest are skipped after a head, with the line end, where something follows them (this project)
+-- the length of a blank rest after a head, with its line ending, if anything follows it; otherwise 0 (this project)
 abbrev pub blank_before_more : List ℕ → ℕ
 blank_before_more bs = if nat_lt (unwrap_or (blank_len bs) 0) (length bs) then unwrap_or (blank_len bs) 0 else 0
 
--- the place at which a head ends, and the lines after that of it (this project)
+-- the place at the end of a head (this project)
 abbrev pub head_end : List ℕ → ℕ → Place
 head_end text «end» = line_place «end» (drop «end» text)
 
--- where blocks continue after a head, with what is read with it, that ends at an offset, and the lines then (this project)
+-- the place where blocks continue after a head that ends at an offset, and the lines after that place (this project)
 abbrev pub after_head : Bool → List ℕ → ℕ → Place × List Place
 after_head true text «end» = (head_end text «end», lines_from text (line_end (head_end text «end»)))
 after_head false text «end» = behind_head false (head_end text «end») (lines_from text (line_end (head_end text «end»)))
 
--- A place is where blocks continue after such a head over a source, in no line before that in which the head ends (this project).
+-- Blocks continue at a place after such a head in a source; its line does not begin before the end of the head
+-- (this project).
 pub record IsAfterHead (over : Source) («end» : ℕ) (q : Place) : Type 0 where
   pub place : IsPlaceOf over.text.now q
   pub boundary : IsCharBoundary over.text.now q.line
@@ -85,11 +88,11 @@ pub record IsAfterHead (over : Source) («end» : ℕ) (q : Place) : Type 0 wher
   pub ends : line_end (head_end over.text.now «end») ≤ line_end q
   pub there : (q, lines_from over.text.now (line_end q)) ≡ after_head (gfm_footnotes over.options) over.text.now «end»
 
--- no footnote definition begins at a place, or, where a table is open, it may (this project)
+-- unless a table is open, no footnote definition begins at a place (this project)
 abbrev pub NoHead : BlockPass → Place → Type 0
 NoHead pass p = in_table (tree_of pass).nodes (tree_of pass).spine ≡ false → footnote_head_at (context_in pass) p ≡ None
 
--- The footnote definition that begins at a place is open, if one does; else nothing changed (this project).
+-- If a footnote definition begins at a place, it is open. Otherwise nothing changed (this project).
 abbrev pub TriesFootnote : BlockPass → BlockPass → Place → Place → Bool → Type 0
 TriesFootnote old new p q false = StaysSame old new × (q ≡ p) × NoHead old p
 TriesFootnote old new p q true =

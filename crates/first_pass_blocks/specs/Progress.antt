@@ -1,4 +1,4 @@
--- What is said of a pass that read a block (private functions alone cite this, and `parse_block`).
+-- A pass that read a block (only private functions and `parse_block` cite this).
 use Rattle.std.specs.Prelude.{◌≡◌, ℕ, ◌≤◌, List, IsCharBoundary}
 use Rattle.first_pass_items.specs.declared.item.Item.{Item}
 use Rattle.first_pass_lines.specs.Places.{Place, line_end}
@@ -15,10 +15,11 @@ use Rattle.first_pass_ready.specs.State.{Ready}
 use Rattle.first_pass_order.specs.Ordered.{IsReadFrom}
 use Rattle.first_pass_blocks.specs.Positions.{Position, LeafAt, ReadyOn, OrderedOn, GrowsTo, GrowsFrom}
 
--- A pass over a source came from a position to another, in a line that begins at an offset or after that line: it reads the same text, and what was named
--- keeps its name. Under all names under which what it remembers began a derivation at the first, it begins one at the second; it is in order there if it was,
--- and grew by at most four nodes for each byte. Each index names an entry if each did before, and each link definition of its table is written in the text
--- if each was. Where each index names an entry, its tables are whole, with no row of them open, if they were so before.
+-- A pass over a source came from one position to another, in a line that begins at an offset or after that line. It
+-- reads the same text, and names are kept. Under all names that extend the new ones: if the state began a derivation
+-- at the first position, it begins one at the second. If it was in order, it still is, and it grew by at most four
+-- nodes for each byte. If each index named an entry, each still does. If the entries of the tables were written in
+-- the text, they still are. If each index named an entry, and all tables were whole with no row open, they still are.
 pub record PassesTo (over : Source) (line : ℕ) (old new : BlockPass) (from to : Position) : Type 0 where
   pub source : source_of new ≡ source_of old
   pub names : Extends (names_of (allocs_of new)) (names_of (allocs_of old))
@@ -32,10 +33,12 @@ pub record PassesTo (over : Source) (line : ℕ) (old new : BlockPass) (from to 
   pub whole : AreNamed (names_of (allocs_of old)) (tree_of old).nodes → HasWholeTables (names_of (allocs_of old)) (tree_of old)
       → HasWholeTables (names_of (allocs_of new)) (tree_of new)
 
--- A pass over a source read a block from a position on, as far as one offset at least, and reading continues at another, between characters: it reads the
--- same text, and what was named keeps its name. Under all names under which what it remembers began a derivation at the position, it begins one there; it is
--- in order there if it was, and has at most four nodes more for each byte. Each index names an entry if each did before, and each link definition of its
--- table is written in the text if each was. Where each index names an entry, its tables are whole, with no row of them open, if they were so before.
+-- A pass over a source read a block from a position on. Reading continues at a character boundary, not before a given
+-- offset. The pass reads the same text, and names are kept. Under all names that extend the new ones: if the state
+-- began a derivation at the position, it begins one where reading continues. If it was in order, it still is, and it
+-- has at most four more nodes for each byte. If each index named an entry, each still does. If the entries of the
+-- tables were written in the text, they still are. If each index named an entry, and all tables were whole with no
+-- row open, they still are.
 pub record ReadsBlockOf (over : Source) (old new : BlockPass) (far : ℕ) (from : Position) (next : ℕ) : Type 0 where
   pub source : source_of new ≡ source_of old
   pub names : Extends (names_of (allocs_of new)) (names_of (allocs_of old))
@@ -51,10 +54,11 @@ pub record ReadsBlockOf (over : Source) (old new : BlockPass) (far : ℕ) (from 
   pub whole : AreNamed (names_of (allocs_of old)) (tree_of old).nodes → HasWholeTables (names_of (allocs_of old)) (tree_of old)
       → HasWholeTables (names_of (allocs_of new)) (tree_of new)
 
--- the same over the source that it had before
+-- the same over the source of the old pass
 abbrev pub ReadsBlock : BlockPass → BlockPass → ℕ → Position → ℕ → Type 0
 ReadsBlock old new far from next = ReadsBlockOf (source_of old) old new far from next
 
--- a pass read the leaf block that begins at a place where no container begins, or after the tag of a block quote
+-- a pass read the leaf block that begins at a place: no container begins there, or the line follows the tag of a
+-- block quote
 abbrev pub ReadsLeaf : BlockPass → BlockPass → Place → ℕ → Type 0
 ReadsLeaf old new p next = ReadsBlock old new (line_end p) (LeafAt p) next

@@ -1,4 +1,4 @@
--- What is said of link definitions that are read (private functions alone cite this).
+-- Link reference definitions that are read (only private functions cite this).
 use Rattle.std.specs.Prelude.{◌≡◌, ◌⊎◌, ◌≤◌, ℕ, Bool, false, List, ◌++◌, IsCharBoundary}
 use Rattle.first_pass_lines.specs.Places.{Place, offset, line_end, IsPlaceOf}
 use Rattle.first_pass_grammar.specs.Containers.{Context}
@@ -13,12 +13,12 @@ use Rattle.first_pass_blocks.specs.Written.{TablesAreWritten}
 use Rattle.first_pass_blocks.specs.declared.state.BlockPass.{BlockPass}
 use Rattle.first_pass_blocks.specs.Views.{allocs_of, reading_of, source_of, source_text}
 
--- a place is in the same line as another and not before it, or in a line after
+-- a place is not before another in the same line, or is in a later line
 abbrev pub IsLater : List ℕ → Place → Place → Type 0
 IsLater text p q = ((q.line ≡ p.line) × (offset p ≤ offset q)) ⊎ ((line_end p ≤ q.line) × IsCharBoundary text q.line)
 
--- The definitions from a place on are read up to another, and what they define is told: what is a run from there on, is one with them from the first on.
--- That is said where no table is open.
+-- The definitions from one place to another are read, and the tables have what they define. Together with them, every
+-- run from the second place on is a run from the first. This holds if no table is open.
 pub record RunSoFar (text : List ℕ) (around : Context) (nested : Bool) (p q : Place) (before now : Tables) : Type 0 where
   pub stands : IsPlaceOf text q
   pub later : IsLater text p q
@@ -28,17 +28,17 @@ pub record RunSoFar (text : List ℕ) (around : Context) (nested : Bool) (p q : 
   pub goes_on : nested ≡ false → (more : List LinkEntry) (beyond : Beyond)
       → IsRun around q (lines_from text (line_end q)) more beyond → IsRun around p (lines_from text (line_end p)) (definitions ++ more) beyond
 
--- what stands after the definitions, the last of which or the text after which begins at a place
+-- what follows the definitions, given the place of the last of them or of the paragraph text after them
 abbrev pub beyond_of : List ℕ → Place → RunEnd → Beyond
 beyond_of text q (NextLine line next) = Ended q (lines_from text next)
 beyond_of text q (Paragraph at) = FlowsOn q (lines_from text (line_end q))
 
--- the call returns where the line of the last definition begins and the next line; or where the text begins
+-- the call returns the start of the last definition's line and of the next line; or the start of the paragraph text
 abbrev pub SaysEnd : List ℕ → Place → RunEnd → Type 0
 SaysEnd text q (NextLine line next) = (line ≡ q.line) × (line_end q ≤ next) × IsCharBoundary text next
 SaysEnd text q (Paragraph at) = at ≡ offset q
 
--- The link definitions that begin at a place are read, as many as there are, and what they define is told.
+-- All link reference definitions from a place on are read, and the tables have what they define.
 pub record ReadsRun (text : List ℕ) (around : Context) (nested : Bool) (p : Place) (before now : Tables) (behind : RunEnd) : Type 0 where
   pub place : Place
   pub stands : IsPlaceOf text place
@@ -49,7 +49,8 @@ pub record ReadsRun (text : List ℕ) (around : Context) (nested : Bool) (p : Pl
   pub defined : nested ≡ false → now ≡ told before definitions
   pub run : nested ≡ false → IsRun around p (lines_from text (line_end p)) definitions (beyond_of text place behind)
 
--- Link definitions were put into a pass's table, and nothing else changed; each in the table is written in the text if each was.
+-- Link reference definitions were put into a pass's table, and nothing else changed. If the entries of the tables
+-- were written in the text, they still are.
 pub record PutsDefinitions (old new : BlockPass) : Type 0 where
   pub source : source_of new ≡ source_of old
   pub reading : reading_of new ≡ reading_of old

@@ -1,4 +1,5 @@
--- A container that begins at a place, as the pass tells it, and what the pass remembers once it is open (private functions alone cite this).
+-- A container that begins at a place, in terms of the pass, and the state after it is opened (only private functions
+-- cite this).
 use Rattle.std.specs.Prelude.{◌≡◌, ℕ, Bool, true, false, Option, Some, None, if◌then◌else◌}
 use Rattle.first_pass_items.specs.Bytes.{colon, left_bracket}
 use Rattle.first_pass_items.specs.declared.item.Item.{Item}
@@ -22,11 +23,11 @@ use Rattle.first_pass_blocks.specs.declared.openers.Opener.{Opener}
 use Rattle.first_pass_blocks.specs.declared.openers.Opener.TheVariants.{Quote, Item as ItemOpener, Definition as DefinitionOpener}
 use Rattle.first_pass_blocks.specs.declared.openers.Start.{Start}
 
--- the marker of a list item, of which these are the byte, the number and the indent
+-- the marker of a list item, from its byte, its number and its indent
 abbrev pub marker_of : ℕ × ℕ × ℕ → ListMarker
 marker_of m = record { byte = m.0; number = m.1; indent = m.2 }
 
--- the pass's word for what opens a container is the grammar's; a footnote definition has none there, and is opened apart
+-- the pass's opener matches the grammar's; the pass has none for footnote definitions, which it opens separately
 -- (this project)
 abbrev pub TellsOpener : ContainerOpener → Opener → Type 0
 TellsOpener (QuoteMarker kind) o = o ≡ Quote kind
@@ -34,7 +35,7 @@ TellsOpener (ItemMarker byte number columns) o = o ≡ ItemOpener (marker_of (by
 TellsOpener (FootnoteMarker columns index label) o = ⊥
 TellsOpener (DefinitionMarker columns) o = o ≡ DefinitionOpener columns
 
--- what begins at a place, as the pass tells it, is what the grammar says (this project)
+-- the start of a container in terms of the pass matches the grammar's (this project)
 pub record TellsStart (s : ContainerStart) (t : Start) : Type 0 where
   pub opener : TellsOpener s.head.opener t.opener
   pub start : t.start ≡ s.head.start
@@ -43,13 +44,14 @@ pub record TellsStart (s : ContainerStart) (t : Start) : Type 0 where
 abbrev pub item_after : Option Item → Bool → AfterMarker
 item_after marker is_over = if is_over then LineEnds marker else after_task marker
 
--- a container is open, with the list that it needs, which starts at an offset in the line that begins at another
+-- the state after a container is opened, with the list that it needs; it starts at the second offset, in the line at
+-- the first
 abbrev pub container_opened : ℕ → ℕ → Opener → Reading → Reading
 container_opened line start (Quote kind) r = begun start (BlockQuoteBody kind) (list_finished line r)
 container_opened line start (ItemOpener m) r = begun start (ListItemBody m.indent) (list_continued start m.byte m.number r)
 container_opened line start (DefinitionOpener columns) r = definition_begun start columns r
 
--- what stands alone after its marker is read, in the line that ends at an offset
+-- the state after a marker is read; if the line ends there, at an offset, the item is empty
 abbrev pub after_read : AfterMarker → ℕ → Reading → Reading
 after_read OnLine e r = r
 after_read (TaskText marker) e r = r
@@ -59,27 +61,27 @@ after_read TagAlone e r = r
 abbrev pub start_opened : ℕ → Start → ℕ → Reading → Reading
 start_opened line s e r = after_read s.after e (container_opened line s.start s.opener r)
 
--- where reading has come to after a marker, whose line's rest begins at a place and which ends at an offset
+-- the position after a marker, given the place of the rest of its line and the end of that line
 abbrev pub after_at : Place → ℕ → AfterMarker → Position
 after_at p e OnLine = InLine p
 after_at p e (TaskText marker) = TaskAt p marker
 after_at p e (LineEnds marker) = LineAt e
 after_at p e TagAlone = TaggedAt e
 
--- the same where no other container begins
+-- the same if no other container begins
 abbrev pub last_at : Place → ℕ → AfterMarker → Position
 last_at p e OnLine = LeafAt p
 last_at p e after = after_at p e after
 
--- no item is empty then, but one whose line is over after its marker; the marker of a task stands in an item
+-- no item is empty after a marker, unless its line ends there; the marker of a task is in an item
 abbrev pub IsAfter : AfterMarker → Reading → Type 0
 IsAfter OnLine r = r.empty_item ≡ None
 IsAfter (TaskText marker) r = (is_task_marker marker.body ≡ true) × (r.empty_item ≡ None) × (is_in_item r.tree ≡ true)
 IsAfter (LineEnds marker) r = Unit {0}
 IsAfter TagAlone r = r.empty_item ≡ None
 
--- No column is owed, and a byte is next that is no space or tab and with which no container begins: no bullet, digit or `>`, no `:` of a definition, and no
--- `[` of a footnote definition (this project).
+-- No column is owed, and the next byte is no space or tab and begins no container: no bullet, digit or `>`, no `:` of
+-- a definition, and no `[` of a footnote definition (this project).
 pub record OpensNone (r : Rest) : Type 0 where
   pub owed : r.owed ≡ 0
   pub inert : begins_inert r.left ≡ true

@@ -1,4 +1,5 @@
--- What stands for a text right after a definition, which may be the next title of the definition list (private functions alone cite this).
+-- A paragraph, heading or table right after a definition; a paragraph may be the next title of the definition list
+-- (only private functions cite this).
 use Rattle.std.specs.Prelude.{◌≡◌, ℕ, ◌≤◌, Bool, false, None, if◌then◌else◌}
 use Rattle.std.specs.Option.{option_and_then, option_map_or}
 use Rattle.first_pass_items.specs.declared.item.Item.{Item}
@@ -13,7 +14,7 @@ use Rattle.first_pass_blocks.specs.declared.state.BlockPass.{BlockPass}
 use Rattle.first_pass_blocks.specs.TextsAdded.{AddsText}
 use Rattle.first_pass_blocks.specs.Views.{allocs_of, reading_of, source_of, source_options, source_text, tree_of}
 
--- where the current node ends
+-- the end of the current node
 abbrev pub current_end : Forest Item → ℕ
 current_end f = option_map_or (λ x. x.«end») (option_and_then (item_at f) f.current) 0
 
@@ -21,12 +22,13 @@ current_end f = option_map_or (λ x. x.«end») (option_and_then (item_at f) f.c
 abbrev pub is_paragraph_last : Forest Item → Bool
 is_paragraph_last f = option_map_or is_paragraph_body (current_body f) false
 
--- The current node stands for a text right after a definition that ends at an offset. A paragraph may be the next title; a heading or a table ends the
--- definition list (this project).
+-- The current node was read right after a definition that ends at an offset. A paragraph may be the next title. A
+-- heading or a table ends the definition list (this project).
 abbrev pub title_read : ℕ → Reading → Reading
 title_read e r = if is_paragraph_last r.tree then title_kept e r else definitions_left e r
 
--- A pass read what stands for the text that begins at an offset right after a definition, and left the lines from another offset on (this project).
+-- A pass read the paragraph, heading or table whose text begins at an offset right after a definition. The remaining
+-- lines begin at another offset (this project).
 pub record ReadsTitle (old new : BlockPass) (start next : ℕ) : Type 0 where
   pub read : Forest Item
   pub forest : IsForest read

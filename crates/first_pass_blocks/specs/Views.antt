@@ -1,4 +1,4 @@
--- What is seen of a pass: the text and the options that it reads under, what it remembers between two lines, the tree in that, and what nodes name.
+-- The parts of a pass: its text and options, its state between two lines, the tree in that, and what nodes name.
 use Rattle.std.specs.Prelude.{ℕ, List}
 use Rattle.first_pass_items.specs.declared.item.Item.{Item}
 use Rattle.first_pass_items.specs.declared.option_set.Options.{Options}
@@ -28,6 +28,6 @@ tree_of pass = pass.reading.tree
 abbrev pub allocs_of : BlockPass → Allocations
 allocs_of pass = pass.allocs
 
--- what a line is read in by it
+-- the context in which a pass reads a line
 abbrev pub context_in : BlockPass → Context
 context_in pass = context_of pass.source.options pass.reading.tree

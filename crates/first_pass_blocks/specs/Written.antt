@@ -1,4 +1,5 @@
--- What stands in the tables of a pass: what the text says, borrowed from it where nothing changes (CommonMark 4.7, and this project).
+-- The entries of a pass's tables as the text has them, borrowed from it if nothing changes (CommonMark 4.7, and
+-- this project).
 use Rattle.std.specs.Prelude.{◌≡◌, ℕ, Bool, List, drop, Some, All}
 use Rattle.first_pass_items.specs.declared.cow_str.CowStr.{CowStr}
 use Rattle.first_pass_items.specs.CowText.{text_of}
@@ -10,8 +11,8 @@ use Rattle.first_pass_names.specs.TableEntries.{refdefs_of, footdefs_of}
 use Rattle.first_pass_names.specs.declared.items.Allocations.{Allocations}
 use Rattle.first_pass_definitions.specs.Found.{AreWritten}
 
--- An entry is the label of a head that stands in the text, read in lines of some containers, and inside a table of the text or not; it is borrowed from the
--- text where nothing in it changes, and no use of it is counted (this project).
+-- An entry is the label of a footnote head in the text, read in the lines of some containers, inside a table of the
+-- text or not. It is borrowed from the text if nothing in it changes, and no use of it is counted (this project).
 pub record IsFootnoteWritten (text : List ℕ) (entry : CowStr × FootnoteDef) : Type 0 where
   pub around : Context
   pub nested : Bool
@@ -22,7 +23,7 @@ pub record IsFootnoteWritten (text : List ℕ) (entry : CowStr × FootnoteDef) :
   pub borrowed : text_of entry.0 ≡ label_bytes head.0 (drop start text) → Borrows (label_bytes head.0 (drop start text)) entry.0
   pub unused : entry.1.use_count ≡ 0
 
--- each entry is so
+-- each entry is such a label
 abbrev pub AreFootnotesWritten : List ℕ → List (CowStr × FootnoteDef) → Type 0
 AreFootnotesWritten text entries = All (IsFootnoteWritten text) entries
 

@@ -26,7 +26,7 @@ use first_pass_scan::line_start::LineStart;
 use first_pass_text::paragraph::append_item;
 use std::alloc::AllocError;
 
-/// Closes the open nodes at the offset `ix`, but the outermost `kept` of them.
+/// Closes the open nodes at the offset `ix`, except the outermost `kept`.
 pub(crate) fn close_containers(reading: &mut Reading, kept: usize, ix: usize)
     requires { kept ≤ length reading.old.tree.spine }
     ensures spine { reading.new.tree.spine ≡ outer kept reading.old.tree.spine }
@@ -38,9 +38,9 @@ pub(crate) fn close_containers(reading: &mut Reading, kept: usize, ix: usize)
     }
 }
 
-/// Closes the containers that the line doesn't continue that begins at `start_ix`, and a footnote definition in the old
-/// form that is innermost then, where a blank line that counts is directly before. Returns the place after those that
-/// the line continues; `None` where it is a blank line, which is read then.
+/// Closes the containers that the line at `start_ix` does not continue. Then, if a counting blank line is directly
+/// before, closes an innermost footnote definition in the old form. Returns the place after the prefixes of the open
+/// containers. If the line is blank, reads it and returns `None`.
 pub(crate) fn enter_line<'a>(
     reading: &mut Reading,
     source: &Source<'a>,
@@ -65,10 +65,9 @@ pub(crate) fn enter_line<'a>(
     })
 }
 
-/// Reads the blank lines from the one on that begins at the offset `start`, as long as they change nothing of what is
-/// remembered: after a blank line that counts, those that continue all that is open, none of which ends then. Returns
-/// the offset at which the first line begins that is not read, or the text's length. It reads lines only where many
-/// containers are open: a line of which nothing is left costs here no walk over those.
+/// Skips blank lines from the offset `start` as long as they leave the state unchanged: a counting blank line came
+/// before, they continue every open node, and no node ends at them. Returns the start of the next unread line, or the
+/// end of the text. It skips lines only if many containers are open, to save the walk over these.
 pub(crate) fn read_blank_lines<'a>(reading: &Reading, source: &Source<'a>, start: usize) -> usize
     requires { IsCharBoundary source.now.text.now start }
     ensures later { start ≤ result }
@@ -98,21 +97,21 @@ pub(crate) fn read_blank_lines<'a>(reading: &Reading, source: &Source<'a>, start
     next
 }
 
-// Closes a footnote definition in the old form that is innermost, where a blank line that counts is directly before the
-// line that begins at `start_ix`.
+// Closes an innermost footnote definition in the old form at the line at `start_ix`, if a counting blank line is
+// directly before.
 fn end_old_footnote<'a>(reading: &mut Reading, source: &Source<'a>, start_ix: usize)
     ensures { reading.new ≡ footnote_ended source.now.options start_ix reading.old }
 {
-    // `finish_old_footnote` asks for a blank line too; here that spares most lines the call.
+    // `finish_old_footnote` also checks for a blank line; the check here spares most lines the call.
     if reading.blank && !source.options.has_gfm_footnotes() {
         reading.finish_old_footnote(start_ix);
     }
 }
 
 impl<'a> BlockPass<'a> {
-    /// Opens the containers that begin at a place, one inside the other, and takes their markers. Returns what stands
-    /// after the last: more of the line, in which no other begins, or what its marker ends with; the place is then
-    /// there (CommonMark 5).
+    /// Opens the containers that begin at a place, each in the one before, and moves the place past their markers.
+    /// Returns what follows the last marker; if that is more of the line, no other container begins there
+    /// (CommonMark 5).
     #[inline(always)]
     pub(crate) fn open_containers(
         &mut self,
@@ -126,15 +125,15 @@ impl<'a> BlockPass<'a> {
         ensures opened { IfOk result (λ after. PassesTo (source_of self.old) place.old.line self.old self.new
             (InLine place.old) (last_at place.new (line_end place.new) after)) }
     {
-        // A leaf block with no container before it needs no call.
+        // A leaf block without a container before it needs no call.
         if opens_none(&place.rest) {
             return Ok(AfterMarker::OnLine);
         }
         self.open_in_turn(place)
     }
 
-    // As `open_containers`, one container a turn. It doesn't ask at the first place what `opens_none` tells: the caller
-    // did.
+    // Like `open_containers`, one container in each turn. It skips the check of `opens_none` at the first place, which
+    // the caller has made.
     fn open_in_turn(&mut self, place: &mut Place<'a>) -> Result<AfterMarker, AllocError>
         requires utf8 { IsUtf8 (source_text self.old) }
         requires place { IsPlaceOf (source_text self.old) place.old }
@@ -164,8 +163,8 @@ impl<'a> BlockPass<'a> {
     }
 }
 
-// Whether no column is owed, and a byte is next that is no space or tab, and with which no container begins: no list
-// item, block quote, definition or footnote definition.
+// Whether no column is owed, and the next byte is no space or tab and begins no container: no list item, block quote,
+// definition or footnote definition.
 #[inline(always)]
 fn opens_none<'a>(rest: &LineStart<'a>) -> bool
     ensures { result ≡ true → OpensNone rest.now }
@@ -173,15 +172,15 @@ fn opens_none<'a>(rest: &LineStart<'a>) -> bool
     rest.is_at_inert() && !begins(b':', rest.left()) && !begins(b'[', rest.left())
 }
 
-// Whether a `:` may begin a definition after what is last.
+// Whether a `:` may begin a definition after the last block.
 fn may_define(source: &Source<'_>, reading: &Reading) -> bool
     ensures { result ≡ may_define source.now.options reading.now.tree }
 {
     source.options.contains(Options::ENABLE_DEFINITION_LIST) && reading.takes_definition()
 }
 
-// Opens a container that begins in the line of a place, the one after its marker: with the list that it needs, and
-// with the marker of a task that stands alone in it.
+// Opens a container that begins in the line of a place, which is after its marker. Also opens the list that it needs,
+// and appends the marker of a task without text.
 #[inline(always)]
 fn open_start<'a>(
     reading: &mut Reading,
@@ -204,7 +203,7 @@ fn open_start<'a>(
     Ok(())
 }
 
-/// Where the line of a place is over: the offset at which the next one begins.
+/// The end of the line of a place: the start of the next line.
 pub(crate) fn line_over<'a>(source: &Source<'a>, place: &Place<'a>) -> usize
     requires { IsPlaceOf source.now.text.now place.now }
     ensures { result ≡ line_end place.now }

@@ -1,4 +1,4 @@
-//! Link reference definitions, as many as stand one after the other (CommonMark 4.7).
+//! Runs of link reference definitions (CommonMark 4.7).
 
 ghost use Rattle.std.specs.Prelude.{◌≡◌, ◌||◌, IfOk, OnOk, OnErr, Some, None, IsUtf8, IsCharBoundary, true, if◌then◌else◌};
 ghost use Rattle.first_pass_lines.specs.Places.{Place, line_rest, offset, IsPlaceOf};
@@ -22,21 +22,20 @@ use first_pass_scan::line_start::LineStart;
 use first_pass_tree::forest::Tree;
 use std::alloc::AllocError;
 
-/// What stands after link definitions.
+/// What follows a run of link reference definitions.
 #[derive(Clone, Copy)]
 pub(crate) enum RunEnd {
-    /// Nothing of their run: the last of them is in the line that begins at the first offset, and the next line begins
-    /// at the second.
+    /// A line that is not part of the run: the start of the last definition's line, and the start of the next line.
     NextLine(usize, usize),
-    /// Text of a paragraph, which begins at an offset.
+    /// The text of a paragraph, which begins at an offset.
     Paragraph(usize),
 }
 
-/// Enters the line that `bytes` begin with, all that the text has from the line on: a line that continues a run of
-/// link reference definitions, whatever open containers it continues. Returns what is left of it after what it has of
-/// their prefixes and after its columns. `None` where it ends the run: where after the tag of a block quote it would be
-/// read as any other, and where what is left is blank, as at the text's end. The error is want of memory, where the
-/// line may head a table (CommonMark 4.7, 4.8, 5.1).
+/// Returns the rest of the first line of `bytes` (the rest of the text), after the prefixes of the containers that it
+/// continues and after its indentation. The line may continue a run of link reference definitions, and any number of
+/// open containers. Returns `None` if it ends the run: if it would be read like any other line after the tag of a
+/// block quote, or if its rest is blank, as at the end of the text. Fails only if an allocation fails, which can
+/// happen only if the line may head a table (CommonMark 4.7, 4.8, 5.1).
 pub fn scan_next_line_or_lazy_continuation<'input>(
     source: &Source<'_>,
     bytes: &'input [u8],
@@ -61,8 +60,8 @@ pub fn scan_next_line_or_lazy_continuation<'input>(
 }
 
 impl<'a> BlockPass<'a> {
-    // Reads the link definitions that begin at the offset `at`, in the line that begins at `line`, as many as there
-    // are, and puts them into the table beside the tree.
+    // Reads all link reference definitions from the offset `at` on, in the line at `line`, and puts them into the
+    // table beside the tree.
     pub(crate) fn parse_definitions(&mut self, line: usize, at: usize) -> Result<RunEnd, AllocError>
         requires utf8 { IsUtf8 (source_text self.old) }
         requires boundary { IsCharBoundary (source_text self.old) at }

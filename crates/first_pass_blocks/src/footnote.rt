@@ -1,4 +1,4 @@
-//! Footnote definitions: which begins at a place, and how it is opened (this project).
+//! Footnote definitions: the one that begins at a place, and how it is opened (this project).
 
 ghost use Rattle.std.specs.Prelude.{◌≡◌, ◌≤◌, ◌+◌, ◌<◌, length, drop, None, IfOk, IfSome, IsUtf8, IsCharBoundary, if◌then◌else◌};
 ghost use Rattle.first_pass_items.specs.OptionWords.{gfm_footnotes};
@@ -20,9 +20,9 @@ use first_pass_scan::line_start::LineStart;
 use std::alloc::AllocError;
 
 impl<'a> BlockPass<'a> {
-    /// Opens the footnote definition that begins at a place, where one does at under four columns and the options have
-    /// footnotes, and takes its head; says whether it does. What is innermost ends there, a list and then another
-    /// footnote definition.
+    /// Opens the footnote definition that begins at a place, if the indentation is under four columns and the options
+    /// include footnotes, and moves the place past its head. Returns whether one begins. An innermost list ends there,
+    /// and then another footnote definition.
     pub(crate) fn open_footnote(&mut self, place: &mut Place<'a>) -> Result<bool, AllocError>
         requires utf8 { IsUtf8 (source_text self.old) }
         requires place { IsPlaceOf (source_text self.old) place.old }
@@ -43,12 +43,12 @@ impl<'a> BlockPass<'a> {
         }
     }
 
-    /// Opens the footnote definition that begins at the offset `start` into the text, where one does: what is innermost
-    /// ends there, a list and then another footnote definition, and the label is put into the table, unless one of its
-    /// folding stands there. Returns how many bytes its head has: up to after its colon, or as GitHub has footnotes up
-    /// to after the white space there without line ends; `None` where none begins, and then nothing changes. Whether
-    /// the options have footnotes isn't asked; without GitHub's form the head is read in the old one. The error is that
-    /// a request for memory was refused (this project).
+    /// Opens the footnote definition that begins at the offset `start` into the text, and returns the length of its
+    /// head in bytes; `None` if none begins. The head extends to after its colon, and in GitHub's form to after the
+    /// white space there, without line endings. An innermost list ends at `start`, and then another footnote
+    /// definition. The label is added to the table, unless that has one with the same folding. If none begins, nothing
+    /// changes. The call does not check whether the options include footnotes; without GitHub's form it reads the head
+    /// in the old form. Fails only if an allocation fails (this project).
     pub fn parse_footnote(&mut self, start: usize) -> Result<Option<usize>, AllocError>
         requires boundary { IsCharBoundary (source_text self.old) start }
         ensures source { source_of self.new ≡ source_of self.old }
@@ -70,7 +70,7 @@ impl<'a> BlockPass<'a> {
     }
 }
 
-// The offset into the text at which `[^` stands at a place, after under four columns, where the options have footnotes.
+// The offset of `[^` in the text, if the indentation is under four columns and the options include footnotes.
 #[inline(always)]
 fn footnote_mark<'a>(source: &Source<'a>, place: &Place<'a>) -> Option<usize>
     requires utf8 { IsUtf8 source.now.text.now }
@@ -89,8 +89,8 @@ fn footnote_mark<'a>(source: &Source<'a>, place: &Place<'a>) -> Option<usize>
     Some(next.offset())
 }
 
-// Where blocks continue after the head of a footnote definition that ends at the offset `end`: there; in the old form,
-// where the rest of that line is blank and another line follows, at the start of that one.
+// The place where blocks continue after the head of a footnote definition: at its end, the offset `end`; in the old
+// form, if the rest of that line is blank and another line follows, at the start of the next line.
 fn place_behind_head<'a>(source: &Source<'a>, end: usize) -> Place<'a>
     requires utf8 { IsUtf8 source.now.text.now }
     requires boundary { IsCharBoundary source.now.text.now end }
@@ -104,8 +104,8 @@ fn place_behind_head<'a>(source: &Source<'a>, end: usize) -> Place<'a>
     }
 }
 
-// How many bytes are skipped after the head of a footnote definition that ends at the offset `end`: in the old form a
-// blank rest of its line with the line end, where a line follows.
+// The number of bytes that are skipped after the head of a footnote definition, which ends at the offset `end`: in the
+// old form a blank rest of its line with the line ending, if a line follows.
 fn skipped_rest(source: &Source<'_>, end: usize) -> usize
     requires { end ≤ length source.now.text.now }
     ensures { result ≡ (if gfm_footnotes source.now.options

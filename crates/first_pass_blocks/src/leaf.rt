@@ -1,4 +1,4 @@
-//! Leaf blocks that are told by their mark (CommonMark 4.1, 4.2, 4.4 to 4.6, and metadata).
+//! Leaf blocks that are recognised by their mark (CommonMark 4.1, 4.2, 4.4 to 4.6, and metadata).
 
 ghost use Rattle.std.specs.Prelude.{IfOk, ℕ};
 ghost use Rattle.first_pass_lines.specs.Places.{Place};
@@ -21,8 +21,8 @@ use first_pass_text::rule::parse_hrule;
 use std::alloc::AllocError;
 
 impl<'a> BlockPass<'a> {
-    /// Appends the leaf block that is told by its mark, at a place, after so many columns, at the offset `at`. Returns
-    /// the offset at which the line begins that is not read.
+    /// Appends the leaf block that was recognised by its mark at a place, after `columns` columns, at the offset `at`.
+    /// Returns the start of the next unread line, or the end of the text.
     #[inline(always)]
     pub(crate) fn append_marked(
         &mut self,
@@ -67,7 +67,7 @@ impl<'a> BlockPass<'a> {
         }
     }
 
-    // Appends the indented code that is found at a place.
+    // Appends the indented code at a place.
     fn append_code(&mut self, place: Place<'a>) -> Result<usize, AllocError>
         requires { (columns : ℕ) × (at : ℕ) × IsFoundIn self.old place IndentedCode columns at }
         ensures { IfOk result (λ next. AddsLeaf self.old self.new place.entry (marked_kind IndentedCode) next) }
@@ -87,7 +87,7 @@ impl<'a> BlockPass<'a> {
         Ok(next)
     }
 
-    // Appends the metadata block of this byte that is found at the offset `at`.
+    // Appends the metadata block with this byte at the offset `at`.
     fn append_metadata(&mut self, byte: u8, at: usize) -> Result<usize, AllocError>
         requires { (p : Place) × (columns : ℕ) × IsFoundIn self.old p (Metadata byte) columns at }
         ensures { IfOk result (λ next. (p : Place) (columns : ℕ) → IsFoundIn self.old p (Metadata byte) columns at
@@ -103,7 +103,7 @@ impl<'a> BlockPass<'a> {
         Ok(next)
     }
 
-    // Appends the HTML block with this end, after so many columns, which is found at the offset `at`.
+    // Appends the HTML block with this end at the offset `at`, after `columns` columns.
     fn append_html(&mut self, end: HtmlEnd, columns: usize, at: usize) -> Result<usize, AllocError>
         requires { (p : Place) × IsFoundIn self.old p (HtmlToEnd end) columns at }
         ensures { IfOk result (λ next. (p : Place) → IsFoundIn self.old p (HtmlToEnd end) columns at
@@ -119,7 +119,7 @@ impl<'a> BlockPass<'a> {
         Ok(next)
     }
 
-    // Appends the thematic break of so many bytes that is found at the offset `at`.
+    // Appends the thematic break of `size` bytes at the offset `at`.
     fn append_rule(&mut self, size: usize, at: usize) -> Result<usize, AllocError>
         requires { (p : Place) × (columns : ℕ) × IsFoundIn self.old p (ThematicBreak size) columns at }
         ensures { IfOk result (λ next. (p : Place) (columns : ℕ) → IsFoundIn self.old p (ThematicBreak size) columns at
@@ -130,7 +130,7 @@ impl<'a> BlockPass<'a> {
         Ok(next)
     }
 
-    // Appends the ATX heading of this level that is found at the offset `at`.
+    // Appends the ATX heading of this level at the offset `at`.
     fn append_heading(&mut self, level: HeadingLevel, at: usize) -> Result<usize, AllocError>
         requires { (p : Place) × (columns : ℕ) × IsFoundIn self.old p (AtxHeading level) columns at }
         ensures { IfOk result (λ next. (p : Place) (columns : ℕ) → IsFoundIn self.old p (AtxHeading level) columns at
@@ -146,7 +146,7 @@ impl<'a> BlockPass<'a> {
         Ok(next)
     }
 
-    // Appends the fenced code block with this fence, which is found at the offset `at`.
+    // Appends the fenced code block with this fence at the offset `at`.
     fn append_fenced_code(&mut self, fence: Fence, at: usize) -> Result<usize, AllocError>
         requires { (p : Place) × IsFoundIn self.old p (FencedCode fence.count fence.byte) fence.indent at }
         ensures { IfOk result (λ next. (p : Place)

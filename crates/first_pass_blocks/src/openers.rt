@@ -1,4 +1,4 @@
-//! Which list item, definition or block quote begins at a place (CommonMark 5.1, 5.2, and this project).
+//! The list item, definition or block quote that begins at a place (CommonMark 5.1, 5.2, and this project).
 
 ghost use Rattle.std.specs.Prelude.{◌≡◌, Some, None, MatchOption, IsSomeAnd, IsUtf8};
 ghost use Rattle.first_pass_lines.specs.Places.{IsPlaceOf};
@@ -19,7 +19,7 @@ use first_pass_open::place::Place;
 use first_pass_open::source::Source;
 use first_pass_scan::line_start::LineStart;
 
-/// What opens a list item, a definition or a block quote; a footnote definition is opened apart.
+/// The opener of a list item, a definition or a block quote; footnote definitions are opened separately.
 #[derive(Clone, Copy, Drop)]
 pub(crate) enum Opener {
     /// A block quote's `>`, with the kind that a tag after it gives the quote.
@@ -39,8 +39,9 @@ pub(crate) struct Start {
     pub(crate) after: AfterMarker,
 }
 
-/// What begins at a place: a list item where one does, else a definition where one may and does, else a block quote
-/// where one does. Its marker is taken, and that of a task; `None` where none begins there, and then nothing is taken.
+/// The container that begins at a place: a list item; otherwise a definition, if one may begin; otherwise a block
+/// quote. Moves the place past its marker, and past that of a task. If none begins, returns `None` and leaves the
+/// place unchanged.
 #[inline(always)]
 pub(crate) fn start_at<'a>(
     source: &Source<'a>,
@@ -83,7 +84,7 @@ pub(crate) fn start_at<'a>(
     })
 }
 
-// What stands after an item's marker, with the marker of a task or without one, whose line is over there or not.
+// What follows an item's marker, with the marker of a task or without one; `is_over` if the line ends there.
 #[inline(always)]
 fn item_after(task: Option<Item>, is_over: bool) -> AfterMarker
     ensures { result ≡ item_after task is_over }
@@ -95,7 +96,7 @@ fn item_after(task: Option<Item>, is_over: bool) -> AfterMarker
     }
 }
 
-// What stands after a block quote's marker, with a tag or without one.
+// What follows a block quote's marker, with a tag or without one.
 #[inline(always)]
 fn after_quote(tag: Option<BlockQuoteKind>) -> AfterMarker
     ensures { result ≡ after_quote tag }
@@ -107,7 +108,7 @@ fn after_quote(tag: Option<BlockQuoteKind>) -> AfterMarker
     }
 }
 
-// The kind that a tag here gives a block quote, where one is there and the option is on.
+// The kind that a tag here gives a block quote, if there is a tag and the option is on.
 fn scan_tag<'a>(options: Options, line_start: &LineStart<'a>) -> Option<BlockQuoteKind>
     ensures { result ≡ tag_behind options line_start.now }
 {
@@ -117,8 +118,8 @@ fn scan_tag<'a>(options: Options, line_start: &LineStart<'a>) -> Option<BlockQuo
     line_start.copy().scan_blockquote_tag()
 }
 
-// Takes the task list item marker after an item's own, where one is there and the option is on, and returns it; else
-// takes nothing.
+// Reads the task list item marker after an item's own and returns it, if there is one and the option is on. Otherwise
+// reads nothing.
 fn scan_task<'a>(source: &Source<'a>, place: &mut Place<'a>) -> Option<Item>
     requires utf8 { IsUtf8 source.now.text.now }
     requires place { IsPlaceOf source.now.text.now place.old }
@@ -139,8 +140,8 @@ fn scan_task<'a>(source: &Source<'a>, place: &mut Place<'a>) -> Option<Item>
     })
 }
 
-// Takes the list item marker here and the columns before it, where an item begins at under four columns, and
-// returns it; takes nothing where none does.
+// Reads the list item marker here with its indentation and returns it, if an item begins at under four columns.
+// Otherwise reads nothing.
 #[tactic(auto, unfolding(first_pass_grammar::specs::Kinds::item_at))]
 fn scan_item<'a>(line_start: &mut LineStart<'a>) -> Option<ListMarker>
     ensures { MatchOption (item_at line_start.old) ((result ≡ None) × (line_start.new ≡ line_start.old))
@@ -163,8 +164,8 @@ fn scan_item<'a>(line_start: &mut LineStart<'a>) -> Option<ListMarker>
     })
 }
 
-// Takes the `:` of a definition here and the columns before it, where one begins at under four columns, and returns the
-// definition's indent; takes nothing where none does.
+// Reads the `:` of a definition here with its indentation and returns the definition's indent, if one begins at under
+// four columns. Otherwise reads nothing.
 #[tactic(auto, unfolding(first_pass_grammar::specs::Kinds::definition_marker_at))]
 fn scan_definition<'a>(line_start: &mut LineStart<'a>) -> Option<usize>
     ensures { MatchOption (definition_marker_at line_start.old) ((result ≡ None) × (line_start.new ≡ line_start.old))

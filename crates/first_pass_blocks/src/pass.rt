@@ -57,8 +57,8 @@ impl<'a> BlockPass<'a> {
         ensures named { IfOk result (λ pass. AreNamed (names_of (allocs_of pass)) (tree_of pass).nodes) }
         ensures whole { IfOk result (λ pass. HasWholeTables (names_of (allocs_of pass)) (tree_of pass)) }
     {
-        // A guess at how many nodes the text will have: pages of it that are never reached cost nothing. It stays
-        // under 32 MiB, above which the C library maps such a block anew in each pass.
+        // An estimate of the number of nodes: pages of memory that are never reached cost nothing. It stays under 32
+        // MiB, since the C library maps a larger block anew in each pass.
         let capacity = max(128, (text.len() / 6).min(640_000));
         let mut tree = Tree::with_capacity(alloc, capacity)?;
         let root = tree.root();
@@ -75,21 +75,21 @@ impl<'a> BlockPass<'a> {
         })
     }
 
-    /// Reads the block that begins at the line's start `start_ix`, an offset into the text before its
-    /// end, and returns the offset at which the next line begins that is not read, or the text's length.
-    /// Open containers that the line doesn't continue are closed, and those that begin in it are opened.
+    /// Reads the block in the line at `start_ix`, an offset into the text before its end. Returns the start of the
+    /// next unread line, or the end of the text. Closes the open containers that the line does not continue, and opens
+    /// those that begin in it.
     ///
-    /// Where the nodes so far begin a derivation of the text that continues at `start_ix`, they begin one
-    /// then that continues at the answer. At most four nodes are added for each byte that is read, cells apart
-    /// that rows of tables are filled with.
+    /// If the nodes so far begin a derivation of the text that continues at `start_ix`, the new nodes begin one that
+    /// continues at the returned offset. At most four nodes are added for each byte read, not counting cells that fill
+    /// rows of tables.
     ///
-    /// Where each entry of the tables is written in the text, each is so then: the label of a link definition, its
-    /// destination and a title of one line, and the label of a footnote, are borrowed from the text where nothing in
-    /// them changes (CommonMark 4.7, and this project).
+    /// If each entry of the definition tables was written in the text, each still is. Its parts are borrowed from the
+    /// text if nothing in them changes: the label, the destination and a title of one line of a link definition, and
+    /// the label of a footnote (CommonMark 4.7, and this project).
     ///
-    /// Where each index that they keep names an entry, and no row of a table is open, tables that are whole stay so:
-    /// their rows stand one deeper, the cells of these two deeper, and none elsewhere; each row has as many cells as
-    /// its table has columns, and of the cells of a table at most 262,144 are filled in (GFM 4.10, and this project).
+    /// If each index in the nodes names an entry and no row of a table is open, whole tables stay whole: their rows
+    /// are one deeper, the cells of these two deeper, and none are elsewhere. Each row has as many cells as its table
+    /// has columns, and at most 262,144 cells of a table are filled in (GFM 4.10, and this project).
     pub fn parse_block(&mut self, start_ix: usize) -> Result<usize, AllocError>
         requires within { start_ix < length (source_text self.old) }
         requires boundary { IsCharBoundary (source_text self.old) start_ix }
@@ -116,8 +116,8 @@ impl<'a> BlockPass<'a> {
         }
     }
 
-    // Reads the line that begins at `start`, after the tag of the block quote that is innermost, where it
-    // belongs to that quote; returns as `parse_block`, or `start` where the line is read as any other.
+    // Reads the line at `start`, after the tag of the innermost block quote, if it belongs to that quote, and returns
+    // as `parse_block`. Returns `start` if the line is read like any other.
     fn parse_tagged(&mut self, start: usize) -> Result<usize, AllocError>
         requires boundary { IsCharBoundary (source_text self.old) start }
         requires no_empty { (reading_of self.old).empty_item ≡ None }
@@ -133,7 +133,7 @@ impl<'a> BlockPass<'a> {
         }
     }
 
-    // Reads the paragraph after the marker of a task list item, at a place; returns as `parse_block`.
+    // Reads the paragraph at a place after the marker of a task list item; returns as `parse_block`.
     fn parse_task_text(&mut self, place: Place<'a>, marker: Item) -> Result<usize, AllocError>
         requires utf8 { IsUtf8 (source_text self.old) }
         requires place { IsPlaceOf (source_text self.old) place }
@@ -154,8 +154,8 @@ impl<'a> BlockPass<'a> {
         Ok(next)
     }
 
-    // Reads the leaf block that begins at a place where no container begins, or after a block quote's tag; returns as
-    // `parse_block`.
+    // Reads the leaf block at a place at which no container begins, or in the line after a block quote's tag; returns
+    // as `parse_block`.
     fn parse_leaf(&mut self, place: Place<'a>) -> Result<usize, AllocError>
         requires utf8 { IsUtf8 (source_text self.old) }
         requires place { IsPlaceOf (source_text self.old) place }
@@ -169,7 +169,7 @@ impl<'a> BlockPass<'a> {
         Ok(next)
     }
 
-    // Reads the leaf block that was found at a place, after so many columns, at the offset `at`; returns as
+    // Reads the leaf block that was found at a place, after `columns` columns, at the offset `at`; returns as
     // `parse_block`.
     #[inline(always)]
     fn parse_kind(
@@ -214,8 +214,8 @@ impl<'a> BlockPass<'a> {
         }
     }
 
-    // Reads the link definitions at a place whose text begins at the offset `at`, and the paragraph that they flow
-    // into, or the paragraph that begins there; returns as `parse_block`.
+    // Reads the link reference definitions at a place, whose text begins at the offset `at`, and the paragraph that
+    // follows them; or the paragraph that begins there. Returns as `parse_block`.
     fn parse_text(&mut self, place: Place<'a>, at: usize) -> Result<usize, AllocError>
         requires utf8 { IsUtf8 (source_text self.old) }
         requires place { IsPlaceOf (source_text self.old) place }
@@ -249,15 +249,14 @@ impl<'a> BlockPass<'a> {
     }
 }
 
-/// Reads the blocks of a text. Returns the finished tree that the block grammar derives from the text's lines under
-/// these options, and the tables of what the text defines. The grammar derives nothing else from them, as the law
-/// `one_derivation` says of any two derivations. Nothing is open in the tree, and no paragraph in it may still become
-/// a title. Besides its root and its filled cells, those that start at their row's end, it has at most four nodes for
-/// each byte. Each row has as many cells as its table has columns, each of which starts after the one before it or is
-/// a filled cell, and a table has at most 262,144 filled cells. Each link definition in the tables is the one at its
-/// range. Its label, its destination and a title of one line, and the label of each footnote, are borrowed from the
-/// text if nothing in them changes. No use of a footnote is counted. The one error is that a request for memory was
-/// refused.
+/// Returns the finished tree of the blocks of a text, and the tables of what the text defines. The block grammar
+/// derives the tree from the text's lines under these options, and derives no other: see the law `one_derivation`.
+/// Nothing is open in the tree, and no paragraph in it may still become a title. It has at most four nodes for each
+/// byte, not counting its root and its filled cells, which start at their row's end. Each row has as many cells as its
+/// table has columns. Each cell starts after the one before it or is a filled cell, and a table has at most 262,144
+/// filled cells. Each link definition in the tables is the one at its range. Its label, its destination and a title of
+/// one line, and the label of each footnote, are borrowed from the text if nothing in them changes. No use of a
+/// footnote is counted. Fails only if an allocation fails.
 pub fn run_first_pass<'a>(
     alloc: Global,
     text: &'a str,

@@ -1,4 +1,4 @@
-//! What the block pass holds.
+//! The fields of the block pass.
 
 ghost use Rattle.first_pass_metadata.specs.MetadataSearch.{IsKnownOf};
 ghost use Rattle.first_pass_metadata.proofs.KnownFacts.{known_prop};
@@ -8,13 +8,13 @@ use first_pass_metadata::metadata_search::MetadataEnds;
 use first_pass_names::items::Allocations;
 use first_pass_open::source::Source;
 
-/// A pass over the blocks of a text: what it reads, the tree so far, and what the tree's nodes name.
+/// A pass over the blocks of a text: its source, the state so far, and what the tree's nodes name.
 #[derive(Drop)]
 pub struct BlockPass<'a> {
     pub source: Source<'a>,
     pub reading: Reading,
     pub allocs: Allocations<'a>,
-    /// What is known of the lines that close metadata.
+    /// The results of earlier searches for lines that close metadata.
     pub metadata_ends: MetadataEnds,
     ghost known: { IsKnownOf source.text.now metadata_ends } by { known_prop source.text.now metadata_ends },
 }

@@ -1,5 +1,5 @@
-//! What stands for a text where no other block begins: a paragraph, a heading that is underlined, or the table that
-//! its first line heads (CommonMark 4.3, 4.8, GFM 4.10).
+//! Paragraphs, setext headings, and tables that the first line of a text heads, at places where no other block begins
+//! (CommonMark 4.3, 4.8, GFM 4.10).
 
 ghost use Rattle.std.specs.Prelude.{◌≡◌, ◌≤◌, ◌+◌, false, ℕ, length, drop, Option, Some, IfOk, IfSome, OnOk, IsUtf8, IsCharBoundary};
 ghost use Rattle.first_pass_items.specs.declared.item.Item.{Item};
@@ -22,9 +22,8 @@ use first_pass_text::paragraph;
 use first_pass_tree::forest::Tree;
 use std::alloc::AllocError;
 
-// Appends the table whose header row begins at the offset `start`, and which it heads, to the innermost open node.
-// Returns the offset at which the line begins that ends the table, or the text's length. The alignments and the texts
-// that tokens name are put among `allocs`.
+// Appends the table whose header row begins at the offset `start` to the innermost open node. Returns the start of the
+// line that ends the table, or the end of the text. Adds the alignments, and the texts that tokens name, to `allocs`.
 fn append_table(
     source: &Source<'_>,
     tree: &mut Tree<Item>,
@@ -57,11 +56,11 @@ fn append_table(
     Ok(next)
 }
 
-/// Appends what stands for the text that begins at the offset `start_ix` into the text to the innermost open node: the
-/// table that its first line heads, with tables; else a heading that is underlined or a paragraph, with the marker of
-/// its task list item, if it has one, as its first child. Returns the offset at which the line begins that is after
-/// it, or the text's length. The alignments of a table's columns, or the attributes of a heading, and the texts that
-/// tokens name are put among `allocs`. The error is want of memory (CommonMark 4.3, 4.8, GFM 4.10).
+/// Appends the paragraph, setext heading or table that begins at the offset `start_ix` into the text to the innermost
+/// open node. With tables, a first line that heads a table begins one. Otherwise the block is a paragraph or a
+/// heading; the marker of its task list item, if it has one, is its first child. Returns the start of the next unread
+/// line, or the end of the text. Adds the alignments of a table or the attributes of a heading, and the texts that
+/// tokens name, to `allocs`. Fails only if an allocation fails (CommonMark 4.3, 4.8, GFM 4.10).
 pub fn parse_paragraph<'a>(
     source: &Source<'a>,
     tree: &mut Tree<Item>,

@@ -11,7 +11,7 @@ use first_pass_items::item::{Item, ItemBody};
 use first_pass_tree::forest::Tree;
 use std::alloc::AllocError;
 
-// Where the current node ends; 0 where there is none.
+// The end of the current node; 0 if there is none.
 fn current_end(tree: &Tree<Item>) -> usize
     ensures { result ≡ current_end tree.now }
 {
@@ -34,9 +34,9 @@ fn is_paragraph_last(tree: &Tree<Item>) -> bool
 }
 
 impl<'a> BlockPass<'a> {
-    /// Reads the paragraph, heading or table whose text begins at the offset `text`, right after a definition, and
-    /// returns the offset at which the line after it begins, or the text's length. A paragraph may be the next title of
-    /// the definition list; a heading or a table ends the list where its last definition ends (this project).
+    /// Reads the paragraph, heading or table that begins at the offset `text`, right after a definition. Returns the
+    /// start of the next unread line, or the end of the text. A paragraph may be the next title of the definition
+    /// list; a heading or a table ends the list where its last definition ends (this project).
     pub(crate) fn parse_possible_title(&mut self, text: usize) -> Result<usize, AllocError>
         requires boundary { IsCharBoundary (source_text self.old) text }
         requires after { is_after_definition (tree_of self.old) ≡ true }

@@ -6,7 +6,7 @@ use Rattle.first_pass_order.specs.Ordered.{IsReadTo}
 use Rattle.first_pass_ready.proofs.StateLemmas.{ClosedSoFar}
 use Rattle.first_pass_blocks.proofs.containers.close_containers.Given as goal
 
--- the others are still to be closed
+-- the others are not yet closed
 abbrev pub invariant-loop-reading : goal.invariant-loop-reading
 invariant-loop-reading l = record {
   closed : ClosedSoFar l.initial.reading l.reading l.kept l.ix;

@@ -24,7 +24,7 @@ use Rattle.first_pass_blocks.proofs.EndedLemmas.{ended_count, ended_named, ended
 use Rattle.first_pass_blocks.proofs.containers.enter_line.Goals as goal
 use Rattle.first_pass_blocks.proofs.containers.enter_line.Goals.{After-is_some}
 
--- what is left of the line, and whether that is blank
+-- the rest of the line, and whether it is blank
 abbrev left : After-is_some → Rest
 left c = c.scan_front-front.result.rest
 

@@ -8,7 +8,7 @@ use Rattle.first_pass_blocks.proofs.HeadLemmas.{ContinuesAt, continues}
 use Rattle.first_pass_blocks.proofs.footnote.place_behind_head.Goals as goal
 use Rattle.first_pass_blocks.proofs.footnote.place_behind_head.Goals.{After-new}
 
--- blocks continue at the place that is found
+-- blocks continue at the place that was found
 there : (c : After-new) → ContinuesAt (gfm_footnotes c.args.source.now.options) c.args.source.now.text.now c.args.end (c.args.end + c.skipped_rest.result)
 there c =
     continues (gfm_footnotes c.args.source.now.options) c.args.source.now.text.now c.args.end c.skipped_rest.result c.requires.utf8 c.requires.boundary

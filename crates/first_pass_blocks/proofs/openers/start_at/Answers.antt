@@ -19,7 +19,7 @@ use Rattle.first_pass_blocks.proofs.StartFound.{definition_found, IsUntaken, unt
 use Rattle.first_pass_blocks.proofs.openers.start_at.Goals as goal
 use Rattle.first_pass_blocks.proofs.openers.start_at.Goals.{In-Some, then-may_define+in_default-scan_definition, else-may_define}
 
--- a start that is told as it is
+-- a start in terms of the pass
 tells : (s : ContainerStart) (r : Option Start) (t : Start) → r ≡ Some t → TellsStart s t → IsSomeAnd r (TellsStart s)
 tells s r t is h = subst (λ (f : Option Start). IsSomeAnd f (TellsStart s)) (sym is) h
 
@@ -77,7 +77,7 @@ returns-in-Some-scan_definition c =
       refl,
     ))
 
--- no definition was taken before a block quote is sought
+-- no definition was read before the search for a block quote
 pub returns-in_err-quote : goal.returns-in_err-quote
 returns-in_err-quote c =
     let p : Place = place_at c.place.inside.line c.place.inside.rest in

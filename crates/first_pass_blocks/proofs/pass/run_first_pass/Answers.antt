@@ -74,7 +74,7 @@ loop-ix-preserved c =
       few = (let read = i.few in let grows = e.few in let later = e.later in let on = more_lines.later in omega arith);
     }
 
--- At the end of the text no line is handed on.
+-- At the end of the text no block has ended at a blank line.
 at_end : (options : Options) (text : List ℕ) (r : Reading) (at : ℕ) → length text ≤ at → IsReadFrom options text r at → IsReadTo text r at
 at_end options text r at past (inl o) = o
 at_end options text r at past (inr h) = (let within = h.0.within in absurd (omega arith))

@@ -20,7 +20,7 @@ parse_table-requires-clause-body c =
 pub parse_table-requires-clause-open : goal.parse_table-requires-clause-open
 parse_table-requires-clause-open c = opened_alone c.args.tree.now c.open_block.new.tree c.args.start c.in_ok-index.index c.in_ok-open_block.ensures.tree
 
--- what is named once the table's rows are read continues its alignments
+-- the names after the table's rows are read extend those with its alignments
 grown_table : (c : goal.In_ok-next) → Extends (names_of c.parse_table.new.allocs) (names_of c.allocate_alignment.new.self)
 grown_table c = c.in_ok-next.ensures.more.names
 

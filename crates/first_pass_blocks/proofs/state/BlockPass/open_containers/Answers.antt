@@ -7,7 +7,7 @@ use Rattle.first_pass_blocks.proofs.BlockRead.{passes_reading}
 use Rattle.first_pass_blocks.proofs.NoContainer.{leaf_alone}
 use Rattle.first_pass_blocks.proofs.state.BlockPass.open_containers.Goals as goal
 
--- with the byte that is next no container begins
+-- the next byte begins no container
 pub returns-then-opens_none-clause-opened : goal.returns-then-opens_none-clause-opened
 returns-then-opens_none-clause-opened c =
     let self : BlockPass = c.args.self.now in

@@ -15,7 +15,7 @@ returns-in_default c =
     let bare = no_mark (context_in self) c.args.place.now (sym c.footnote_mark.ensures.value ∙ c.in_default.is) in
     ((refl, refl, refl), refl, λ no_table. bare)
 
--- how long the head is that was read
+-- the length of the head that was read
 read : (c : In-Some-2)
     → (3 < c.in-Some-2.size) × IsCharBoundary c.args.self.now.source.text.now (c.in-Some.start + c.in-Some-2.size)
 read c =

@@ -26,7 +26,7 @@ use Rattle.first_pass_blocks.proofs.state.BlockPass.open_in_turn.Goals as goal
 use Rattle.first_pass_blocks.proofs.state.BlockPass.open_in_turn.Goals.{Then-not-branch, Joined-not-branch}
 use Rattle.first_pass_blocks.proofs.state.BlockPass.open_in_turn.Goals.{then-not-branch+in-Some+in_ok-open_start+in-OnLine, else-not-branch}
 
--- where less of a line is left is after where more is
+-- the shorter rest of a line is at the later place
 rest_later : (text : List ℕ) (p new : Place) → IsPlaceOf text p → IsPlaceOf text new → length new.rest.left < length p.rest.left → offset p ≤ offset new
 rest_later text p new i j less = let a = place_length text p i in let b = place_length text new j in omega (arith, a, b, less)
 
@@ -41,7 +41,7 @@ loop-self-init c =
           (reads_none self.source first.line self.reading (InLine first));
     }
 
--- no footnote definition begins at the place, and another container is sought
+-- no footnote definition begins at the place, and the search for another container begins
 record IsTried (over : Source) (first : Place) (old mid : BlockPass) (p : Place) : Type 0 where
   here : IsFrom over.text.now first p
   no_empty : (reading_of mid).empty_item ≡ None
@@ -70,7 +70,7 @@ tried over first old now mid p q t is here none source opened tries =
           ∙ no.2 (ap (λ (r : Reading). in_table r.tree.nodes r.tree.spine) (sym same.1) ∙ no_table);
     }
 
--- one more container is open at the place, of which less of the line is left
+-- one more container is open at the place, and less of its line is left
 record IsNested (over : Source) (first : Place) (old mid : BlockPass) (p q : Place) : Type 0 where
   here : IsFrom over.text.now first q
   no_empty : (reading_of mid).empty_item ≡ None
@@ -96,18 +96,18 @@ opens_note over first old now mid p q t is here source opened tries =
       opened = passes_both over first.line old now mid (InLine first) (InLine p) (InLine q) opened steps;
     }
 
--- at the place where another container is sought
+-- at the place of the search for another container
 at_place : (c : Then-not-branch) → IsTried c.args.self.now.source c.args.place.now c.args.self.now c.open_footnote.new.self c.open_footnote.new.place
 at_place c =
     let i = c.loop-self.invariant in
     tried c.args.self.now.source c.args.place.now c.args.self.now c.loop-self.self c.open_footnote.new.self c.loop-self.place c.open_footnote.new.place
     c.in_ok-open_footnote.field-0 c.if-not-branch.true i.here i.no_empty i.opened.source i.opened c.in_ok-open_footnote.ensures
 
--- whether a definition may begin at a place, as the calls tell it
+-- whether a definition may begin at a place, from the results of the calls
 abbrev may_in : Source → BlockPass → Bool
 may_in over pass = may_define over.options (tree_of pass)
 
--- no container begins any more
+-- no further container begins
 absent : (over : Source) (now : BlockPass) (may : Bool) (p new : Place) (r : Option Start) → source_of now ≡ over → may ≡ may_in (source_of now) now → r ≡ None
     → MatchOption (start_at (source_of now).options may p) ((r ≡ None) × (new ≡ p)) (λ s. IsSomeAnd r (TellsStart s) × (new ≡ at_rest p s.rest))
     → (start_at over.options (may_in over now) p ≡ None) × (new ≡ p)
@@ -204,7 +204,7 @@ begun over first old mid p new may r told q utf8 forest i same may_is is says op
       reads = subst (λ (e : ℕ). ReadsTo over first.line (reading_of mid) q (InLine p) (after_at new e told.after)) (sym stop) s.3;
     }
 
--- a marker that more of the line doesn't follow stands last
+-- a marker after which the line ends is the last
 last_is : (p : Place) (e : ℕ) (a : AfterMarker) → (a ≡ OnLine → ⊥) → after_at p e a ≡ last_at p e a
 last_is p e OnLine other = absurd (other refl)
 last_is p e (TaskText marker) other = refl
@@ -272,7 +272,7 @@ loop-self-preserved c =
     let n = nested (goal.at.loop-self-preserved c).Joined-not-branch in
     record { no_empty = n.no_empty; here = n.here; opened = n.opened }
 
--- with the byte that is next no container begins
+-- the next byte begins no container
 pub returns-then-opens_none-clause-after : goal.returns-then-opens_none-clause-after
 returns-then-opens_none-clause-after c = (nested (goal.at.returns-then-opens_none-clause-after c).Joined-not-branch).no_empty
 

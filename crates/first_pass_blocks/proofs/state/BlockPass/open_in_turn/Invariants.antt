@@ -3,7 +3,7 @@ use Rattle.first_pass_blocks.specs.Positions.{InLine, IsFrom}
 use Rattle.first_pass_blocks.specs.Progress.{PassesTo}
 use Rattle.first_pass_blocks.proofs.state.BlockPass.open_in_turn.Given as goal
 
--- the containers are open that begin before this place
+-- the containers that begin before this place are open
 abbrev pub invariant-loop-self : goal.invariant-loop-self
 invariant-loop-self l = record {
   no_empty : l.self.reading.empty_item ≡ None;

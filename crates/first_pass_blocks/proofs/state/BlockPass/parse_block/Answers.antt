@@ -16,7 +16,7 @@ use Rattle.first_pass_blocks.proofs.OrderSteps.{line_later}
 use Rattle.first_pass_blocks.proofs.state.BlockPass.parse_block.Goals as goal
 use Rattle.first_pass_blocks.proofs.state.BlockPass.parse_block.Goals.{In_ok-open_containers}
 
--- the containers are open that begin in the line or where they continue
+-- the containers that begin in the line, or where they continue, are open
 opened : (c : In_ok-open_containers) (mid : BlockPass) (after here : AfterMarker) → mid.source ≡ c.args.self.now.source → mid.allocs ≡ c.args.self.now.allocs
     → mid.reading ≡ c.enter_line.new.reading → IsAfter after c.open_containers.new.self.reading
     → PassesTo c.args.self.now.source c.in-Some.place.line mid c.open_containers.new.self (InLine c.in-Some.place)

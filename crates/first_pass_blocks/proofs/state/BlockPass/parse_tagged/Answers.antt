@@ -19,7 +19,7 @@ use Rattle.first_pass_names.proofs.NameLemmas.{extends_none}
 use Rattle.first_pass_blocks.proofs.TagLemmas.{ready_any_line, ready_its_line}
 use Rattle.first_pass_blocks.proofs.state.BlockPass.parse_tagged.Goals as goal
 
--- what was said of the line that bytes begin with, read from the text
+-- the property of the first line of some bytes, in terms of the text
 said : (found : Option Rest) (around : Context) (text all bytes : List ℕ) (at : ℕ) → all ≡ text → bytes ≡ drop at all
     → found ≡ (if ends_tag around (line_rest bytes) then None else Some (all_taken (front around.path (line_rest bytes))))
     → found ≡ (if ends_tag around (line_rest (drop at text)) then None else Some (all_taken (front around.path (line_rest (drop at text)))))
