@@ -25,6 +25,7 @@ use Rattle.first_pass_open.proofs.PathLemmas.{get_front}
 use Rattle.first_pass_text.specs.CutTexts.{BecomesHeading, CutsChildren}
 use Rattle.first_pass_order.proofs.OrderLemmas.{extents-body, flags_of, ordered_same}
 use Rattle.first_pass.specs.Holds.{StandsAfterBackslash, AreTokens, HoldsTokens}
+use Rattle.first_pass_tree.proofs.BodyLemmas.{body_of}
 
 -- the nodes up to a place, and those after it
 split_places : (nodes : List (ℕ × Item)) (before : List (ℕ × Extent)) (n : ℕ × Extent) (more : List (ℕ × Extent)) (k : ℕ)
@@ -319,15 +320,10 @@ block_kept f e block x spine there =
     ∙ ap (λ (ns : List (ℕ × Item)). slice_get ns block.0) (take-append-drop k f.nodes) ∙ at in
     ap (option_map (λ (m : ℕ × Item). m.1.body)) same ∙ ap (λ (y : Item). Some y.body) is
 
-body_kept : (f : Forest Item) (block : TreeIndex) (x : Item) → item_at f block ≡ Some x → body_at f.nodes block.0 ≡ Some x.body
-body_kept f block x there =
-    let (n, at, is) = some_node (slice_get f.nodes block.0) x there in
-    ap (option_map (λ (m : ℕ × Item). m.1.body)) at ∙ ap (λ (y : Item). Some y.body) is
-
 body_left : (text : List ℕ) (start : ℕ) (f cut : Forest Item) (block : TreeIndex) (x : Item) → slice_get f.spine 0 ≡ Some block → item_at f block ≡ Some x
     → CutsChildren text start f cut → body_at cut.nodes block.0 ≡ Some x.body
 body_left text start f cut block x spine there (inl same) =
-    ap (λ (g : Forest Item). body_at g.nodes block.0) same ∙ body_kept f block x there
+    ap (λ (g : Forest Item). body_at g.nodes block.0) same ∙ body_of f block x there
 body_left text start f cut block x spine there (inr (e, low, b, is)) =
     ap (λ (g : Forest Item). body_at g.nodes block.0) is ∙ block_kept f e block x spine there
 

@@ -13,7 +13,7 @@ use Rattle.first_pass_lines.specs.Places.{start_of}
 use Rattle.first_pass_lines.proofs.PlaceFacts.{start_of-lines}
 use Rattle.first_pass_tokens.proofs.InOrder.{AreInOrder}
 use Rattle.first_pass_tokens.specs.TreeTokens.{chained, leaves}
-use Rattle.first_pass_tokens.proofs.ChainLemmas.{chained-nodes}
+use Rattle.first_pass_tokens.proofs.ChainLemmas.{chained-nodes, chained-spine}
 use Rattle.first_pass_tokens.proofs.Escapes.{EscapesStand}
 use Rattle.first_pass_tokens.proofs.OrderLemmas.{order_bound}
 use Rattle.first_pass_grammar.specs.Leaves.{Document, TextLines, marker_items}
@@ -44,10 +44,6 @@ front_kept f chain ix within =
 marked_is : (f : Forest Item) (marker : Option Item) (chain : List Item) → chained f (marker_items marker ++ chain) ≡ chained (with_child f marker) chain
 marked_is f None chain = refl
 marked_is f (Some m) chain = refl
-
-chained_spine : (f : Forest Item) (chain : List Item) → (chained f chain).spine ≡ f.spine
-chained_spine f [] = refl
-chained_spine f (x ∷ xs) = chained_spine (appended f x) xs
 
 -- a chain in order, in which each escaped text follows its backslash
 chain_tokens : (text : List ℕ) (d from to : ℕ) (chain : List Item) → AreInOrder text from to chain → EscapesStand text from chain
@@ -112,7 +108,7 @@ module _ (d : Document) (utf8 : IsUtf8 d.text) (f : Forest Item) (block : TreeIn
   -- Its children are tokens.
   pub open_tokens : HoldsTokens d.text f block
   open_tokens =
-      let spine : f.spine ≡ h.before.spine = ap (λ (g : Forest Item). g.spine) h.tree_is ∙ chained_spine h.before whole_chain in
+      let spine : f.spine ≡ h.before.spine = ap (λ (g : Forest Item). g.spine) h.tree_is ∙ chained-spine h.before whole_chain in
       let depth : length f.spine + 1 ≡ length h.before.spine + 1 = ap (λ (s : List TreeIndex). length s + 1) spine in
       let rest : List (ℕ × Item) = at_depth (length h.before.spine + 1) (leaves whole_chain) in
       let behind : drop (block.0 + 1) f.nodes ≡ rest =

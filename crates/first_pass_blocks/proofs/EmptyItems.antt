@@ -4,7 +4,7 @@ use Rattle.std.proofs.Common.{refl, sym, ap, subst, ◌∙◌, arith, if◌then�
 use Rattle.std.specs.Option.{option_map, option_and_then}
 use Rattle.first_pass_items.specs.declared.item.Item.{Item}
 use Rattle.first_pass_items.specs.declared.item.ItemBody.{ItemBody}
-use Rattle.first_pass_items.specs.declared.item.ItemBody.TheVariants.{Paragraph as ParagraphBody, ListItem as ListItemBody, DefinitionListDefinition}
+use Rattle.first_pass_items.specs.declared.item.ItemBody.TheVariants.{ListItem as ListItemBody, DefinitionListDefinition}
 use Rattle.first_pass_items.specs.declared.option_set.Options.{Options}
 use Rattle.first_pass_tree.specs.declared.tree_index.TreeIndex.{TreeIndex}
 use Rattle.first_pass_tree.specs.Forest.{Forest, IsForest, modify, with_body_at, body_at, appended}
@@ -32,9 +32,9 @@ use Rattle.first_pass_open.proofs.PathLemmas.{get_front}
 use Rattle.first_pass_lists.specs.Closing.{top_body, is_list, is_definition_list, takes_definition, list_continued, list_kept, with_tree, definitions_opened}
 use Rattle.first_pass_lists.specs.Closing.{definition_begun}
 use Rattle.first_pass_lists.specs.declared.reading.Reading.{Reading}
-use Rattle.first_pass_ready.specs.State.{closed_elsewhere, closed_in, item_columns, emptied_as, emptied_top, ReadyAt, ReadyBeforeLine, ReadyInItem}
+use Rattle.first_pass_ready.specs.State.{closed_in, item_columns, emptied_as, emptied_top, ReadyAt, ReadyBeforeLine, ReadyInItem}
 use Rattle.first_pass_ready.specs.State.{ReadyEmpty, Ready}
-use Rattle.first_pass_ready.proofs.ClosedIn.{level_of, closed_at_body}
+use Rattle.first_pass_ready.proofs.ClosedIn.{level_of, closed_at_body, no_paragraph}
 use Rattle.first_pass_ready.proofs.ItemBodies.{item_body, item_container, item_columns_of, item_path, emptied_is}
 use Rattle.first_pass_ready.proofs.OpenLemmas.{open_below, frame-append, get_end}
 use Rattle.first_pass_ready.proofs.PopLemmas.{ready_as}
@@ -47,10 +47,6 @@ use Rattle.first_pass_lists.proofs.NoEmptyItem.{item_opened}
 item_not_list : (b : ItemBody) (n : ℕ) → is_list (Some (item_body b n)) ≡ false
 item_not_list (DefinitionListDefinition columns) n = refl
 item_not_list b n = refl
-
-no_paragraph : (i : ℕ) (b : ItemBody) → is_paragraph_body b ≡ false → closed_elsewhere i b ≡ OtherClosed
-no_paragraph i ParagraphBody h = cc
-no_paragraph i b h = refl
 
 -- the marker of a task, if there is one, is no paragraph
 abbrev pub IsNoParagraph : Option Item → Type 0

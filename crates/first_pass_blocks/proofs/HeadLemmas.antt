@@ -15,7 +15,7 @@ use Rattle.first_pass_blocks.proofs.RunLemmas.{lines_behind_it}
 use Rattle.first_pass_ready.proofs.FootnoteLemmas.{behind_note}
 use Rattle.std.proofs.lemmas.Bool.Decides.{nat_tests}
 use Rattle.std.specs.Option.{unwrap_or, option_and_then}
-use Rattle.first_pass_lines.specs.Lines.{begins, is_line_end, is_content, is_white, blank_len, line_len}
+use Rattle.first_pass_lines.specs.Lines.{begins, is_line_end, is_white, blank_len, line_len}
 use Rattle.first_pass_lines.specs.Places.{Place, offset, line_place, line_end, IsPlaceOf}
 use Rattle.first_pass_lines.proofs.LineFacts.{line_len-blank, lines_at-line, lines_at-end}
 use Rattle.first_pass_lines.proofs.PlaceFacts.{place_length, columns_line_end, bytes_line_end, line_end_boundary}
@@ -24,6 +24,7 @@ use Rattle.first_pass_grammar.specs.Kinds.{unindented, is_blank_rest}
 use Rattle.first_pass_grammar.specs.Completion.{lines_from}
 use Rattle.first_pass_grammar.specs.Footnotes.{place_behind, behind_head}
 use Rattle.first_pass_blocks.specs.FootnoteHeads.{head_read, blank_before_more, head_end, after_head}
+use Rattle.first_pass_grammar.proofs.RowEnds.{white_content}
 
 behind_last : (q : Place) (lines : List Place) → lines ≡ [] → behind_head false q lines ≡ (q, lines)
 behind_last q [] h = refl
@@ -115,20 +116,6 @@ head_ends : (prefix : List ℕ → Option ℕ) (nested : Bool) (bs : List ℕ) (
     → (3 ≤ head.0) × (head.0 ≤ length bs) × (slice_index bs (head.0 - 1) ≡ 58)
 unfolding footnote_head
 head_ends prefix nested bs head is = head_by bs (label_at prefix nested (drop 2 bs)) head (begins_footnote bs) is
-
--- white space is in the content of a line
-white_by : (t : Bool) (b : ℕ) (bs : List ℕ) → is_white b ≡ t → prefix_len is_white bs ≤ prefix_len is_content bs
-    → prefix_len is_white (b ∷ bs) ≤ prefix_len is_content (b ∷ bs)
-white_by true b bs h less =
-    let c : is_content b ≡ true = grind (arith, nat_tests, h) in
-    let w : prefix_len is_white (b ∷ bs) ≡ prefix_len is_white bs + 1 = rw h (omega arith) in
-    let k : prefix_len is_content (b ∷ bs) ≡ prefix_len is_content bs + 1 = rw c (omega arith) in
-    omega arith
-white_by false b bs h less = (let w : prefix_len is_white (b ∷ bs) ≡ 0 = rw h in omega arith)
-
-white_content : (bs : List ℕ) → prefix_len is_white bs ≤ prefix_len is_content bs
-white_content [] = omega arith
-white_content (b ∷ bs) = white_by (is_white b) b bs refl (white_content bs)
 
 -- the offset after the white space that is read with a head
 white_after : (text : List ℕ) (e : ℕ) → (let w : ℕ = prefix_len is_white (drop e text) in

@@ -3,7 +3,7 @@ use Rattle.std.proofs.Common.{◌≡◌, inl, inr, ℕ, suc, ◌+◌, Bool, true
 use Rattle.std.proofs.Common.{map, Option, Some, None, refl, sym, ap, subst, ◌∙◌, arith}
 use Rattle.first_pass_items.specs.declared.item.Item.{Item}
 use Rattle.first_pass_items.specs.declared.item.ItemBody.{ItemBody}
-use Rattle.first_pass_items.specs.declared.item.ItemBody.TheVariants.{BlockQuote as BlockQuoteBody, List as ListBody, DefinitionList, TaskListMarker}
+use Rattle.first_pass_items.specs.declared.item.ItemBody.TheVariants.{BlockQuote as BlockQuoteBody, List as ListBody, DefinitionList}
 use Rattle.first_pass_items.specs.declared.item.HeadingLevel.{HeadingLevel}
 use Rattle.first_pass_items.specs.OptionWords.{has, definition_list}
 use Rattle.first_pass_tree.specs.declared.tree_index.TreeIndex.{TreeIndex}
@@ -13,7 +13,7 @@ use Rattle.first_pass_scan.specs.LeafLines.{hrule_len}
 use Rattle.first_pass_lines.specs.Rest.{indent}
 use Rattle.first_pass_lines.specs.Places.{Place, offset, line_end, IsPlaceOf}
 use Rattle.first_pass_lines.proofs.PlaceFacts.{columns_line_end}
-use Rattle.first_pass_grammar.specs.Before.{is_paragraph_body, begins_paragraph, is_run}
+use Rattle.first_pass_grammar.specs.Before.{begins_paragraph, is_run}
 use Rattle.first_pass_grammar.specs.Derivation.{Tables, told}
 use Rattle.first_pass_grammar.specs.LinkTables.{LinkEntry, with_links}
 use Rattle.first_pass_grammar.specs.LinkRuns.{definition_at, kind_in, Beyond, Ended, FlowsOn, IsRun}
@@ -67,6 +67,7 @@ use Rattle.first_pass_ready.proofs.EnterLemmas.{ready_blank}
 use Rattle.first_pass_blocks.proofs.TagLemmas.{finishes_nothing, quote_counts}
 use Rattle.first_pass_order.proofs.WholeKept.{task_shows}
 use Rattle.first_pass_items.specs.declared.item.BlockQuoteKind.{BlockQuoteKind}
+use Rattle.first_pass_blocks.proofs.StartLemmas.{mark_by}
 
 -- The end of the line at an offset is that of the line of its place.
 pub line_end_of : (text : List ℕ) (p : Place) → IsPlaceOf text (unindented p) → line_end_at text (offset (unindented p)) ≡ line_end p
@@ -423,11 +424,6 @@ ready_ended d defined r p q next xs forest kind run none ready =
     (subst (λ t. ReadyAt d (told defined xs) now.tree t Line left) (sym (list_finished_blank q.line r))
     (run_ready d defined now.tree q xs left is))
 
--- the marker of a task is no paragraph
-mark_plain : (body : ItemBody) → is_task_marker body ≡ true → is_paragraph_body body ≡ false
-mark_plain (TaskListMarker checked) is = refl
-mark_plain body is = cc
-
 -- after the text of a task list item
 pub ready_text : (d : Document) (defined : Tables) (r : Reading) (new : Forest Item) (p : Place) (at next : ℕ) (marker : Item) (items : List (ℕ × Item))
     → is_task_marker marker.body ≡ true → at ≡ offset (unindented p) → IsPlaceOf d.text (unindented p)
@@ -455,7 +451,7 @@ ready_text d defined r new p at next marker items mark at_is place is new_is non
       silent = ready.silent;
       shows = opened_silent d l (At p (TextOf marker)) lines block Line left (task_shows marker.body mark) first;
       below = ready.completes.below;
-      completes = completes-text d defined (closed_in f) frames f.nodes os marker p lines left block text.plain (mark_plain marker.body mark) opens
+      completes = completes-text d defined (closed_in f) frames f.nodes os marker p lines left block text.plain (mark_by marker.body mark) opens
           ready.completes;
     } in
     let now : ReadyAt d (told defined []) (added f items) false Line left = block_ready d defined f block left refl read in

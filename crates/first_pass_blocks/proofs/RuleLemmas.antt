@@ -1,34 +1,19 @@
 -- A thematic break takes its whole line.
-use Rattle.std.proofs.Common.{◌≡◌, ℕ, ◌+◌, ◌≤◌, ◌==◌, ◌||◌, not, Bool, true, false, nat_le, List, [], ◌∷◌, take, drop, count_by, Option, Some, None, unwrap_or}
-use Rattle.std.proofs.Common.{refl, ap, ◌∙◌, arith, if◌then◌else◌}
+use Rattle.std.proofs.Common.{◌≡◌, ℕ, ◌+◌, ◌≤◌, ◌==◌, Bool, true, false, nat_le, List, [], ◌∷◌, take, drop, count_by, Option, Some, None}
+use Rattle.std.proofs.Common.{refl, arith, if◌then◌else◌}
 use Rattle.std.proofs.lemmas.Bool.Decides.{nat_tests}
 use Rattle.std.proofs.lemmas.Option.{none-some}
 use Rattle.std.specs.Option.{option_map}
 use Rattle.std.specs.List.{prefix_len}
-use Rattle.first_pass_lines.specs.Lines.{is_content, begins, eol_len, line_len}
+use Rattle.first_pass_lines.specs.Lines.{is_content, eol_len, line_len}
 use Rattle.first_pass_scan.specs.LeafLines.{is_rule_byte, in_rule, rule_len, hrule_len}
 use Rattle.first_pass_lines.specs.Places.{line_place}
 use Rattle.first_pass_lines.proofs.PlaceFacts.{bytes_line_end}
 use Rattle.first_pass_text.proofs.HeadingLemmas.{prefix_in}
+use Rattle.first_pass_lines.proofs.LineFacts.{line_len-eol}
 
 rule_content : (c b : ℕ) → is_rule_byte c ≡ true → in_rule c b ≡ true → is_content b ≡ true
 rule_content c b h e = grind (arith, nat_tests, h, e)
-
-ends_by : (t u : Bool) (j k : ℕ) → (if t then Some 1 else (if u then Some j else None)) ≡ Some k → not (t || u) ≡ false
-ends_by true u j k h = refl
-ends_by false true j k h = refl
-ends_by false false j k h = absurd (none-some k h)
-
-content_len : (bs : List ℕ) (n k : ℕ) → prefix_len is_content bs ≡ n → eol_len (drop n bs) ≡ Some k → line_len bs ≡ n + k
-unfolding line_len
-content_len bs n k e h = ap (λ m. m + unwrap_or (eol_len (drop m bs)) 0) e ∙ ap (λ o. n + unwrap_or o 0) h
-
--- a line that ends here
-end_len : (bs : List ℕ) (k : ℕ) → eol_len bs ≡ Some k → line_len bs ≡ k
-end_len [] k h = content_len [] 0 k refl h ∙ omega arith
-end_len (b ∷ bs) k h =
-    let c : is_content b ≡ false = ends_by (b == 10) (b == 13) (if begins 10 bs then 2 else 1) k h in
-    content_len (b ∷ bs) 0 k (rw c) h ∙ omega arith
 
 -- the bytes of a rule, and its end
 line_by : (bs : List ℕ) (n : ℕ) (o : Option ℕ) (size : ℕ)
@@ -36,7 +21,7 @@ line_by : (bs : List ℕ) (n : ℕ) (o : Option ℕ) (size : ℕ)
 line_by bs n None size w e h = absurd (none-some size h)
 line_by bs n (Some k) size w e h =
     let s : n + k ≡ size = cc in
-    let l = end_len (drop n bs) k e in
+    let l = line_len-eol (drop n bs) k e in
     let m = bytes_line_end n (line_place 0 bs) w in
     omega arith
 

@@ -61,7 +61,7 @@ use Rattle.first_pass_grammar.specs.Skeleton.{Inside}
 use Rattle.first_pass_blocks.specs.declared.openers.Start.{Start as ToldStart}
 
 -- the marker of a task is no paragraph
-mark_by : (b : ItemBody) → is_task_marker b ≡ true → is_paragraph_body b ≡ false
+pub mark_by : (b : ItemBody) → is_task_marker b ≡ true → is_paragraph_body b ≡ false
 mark_by ParagraphBody h = cc
 mark_by b h = refl
 

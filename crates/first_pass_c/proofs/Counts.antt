@@ -2,22 +2,15 @@
 use Rattle.std.proofs.Common.{◌≡◌, ℕ, suc, ◌+◌, ◌≤◌, List, [], ◌∷◌, length, refl, sym, ap, subst, ◌∙◌}
 use Rattle.std.specs.List.{flat_map}
 use Rattle.first_pass_items.specs.declared.item.Item.{Item}
-use Rattle.first_pass_grammar.specs.Names.{Names}
 use Rattle.first_pass_names.specs.TableEntries.{names_of}
-use Rattle.first_pass_flat.specs.declared.nodes.FlatPlace.{FlatPlace}
 use Rattle.first_pass_flat.specs.FlatForm.{FlatForm}
 use Rattle.first_pass_flat.specs.FlatAttributes.{OneAttribute, attribute_bytes, attributes_by, flat_attributes}
-use Rattle.first_pass_flat.specs.FlatNodes.{first_place, flat_nodes, place_after}
+use Rattle.first_pass_flat.specs.FlatNodes.{first_place}
 use Rattle.first_pass_c.specs.declared.reading.FlatCounts.{FlatCounts}
 use Rattle.first_pass_c.specs.declared.reading.Parsed.{Parsed}
 use Rattle.first_pass_c.specs.Parsed.{HasSides, form_of}
 use Rattle.first_pass_c.specs.Reading.{counts_of}
-
--- a record for each node
-nodes_counted : (names : Names) (at : FlatPlace) (nodes : List (ℕ × Item)) → length (flat_nodes names at nodes) ≡ length nodes
-unfolding flat_nodes
-nodes_counted names at [] = refl
-nodes_counted names at (x ∷ nodes) = ap suc (nodes_counted names (place_after names x.1.body at) nodes)
+use Rattle.first_pass_flat.proofs.Filling.{records_counted}
 
 -- a record for each attribute
 attributes_counted : (at : ℕ) (xs : List OneAttribute) → length (flat_attributes at xs) ≡ length xs
@@ -27,7 +20,7 @@ attributes_counted at (x ∷ xs) = ap suc (attributes_counted (at + length (attr
 
 -- a tree that was read and its flat form have equally many nodes
 pub tree_counted : (parsed : Parsed) (tree : List (ℕ × Item)) → tree ≡ parsed.tree.nodes → length tree ≡ length (form_of parsed).nodes
-tree_counted parsed tree is = ap length is ∙ sym (nodes_counted (names_of parsed.allocs) first_place parsed.tree.nodes)
+tree_counted parsed tree is = ap length is ∙ sym (records_counted (names_of parsed.allocs) first_place parsed.tree.nodes)
 
 -- an array that is at least as long as its count has room for the nodes of the tree
 pub tree_fits : (parsed : Parsed) (tree : List (ℕ × Item)) (counts : FlatCounts) (room : ℕ)

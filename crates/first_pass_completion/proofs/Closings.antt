@@ -17,7 +17,7 @@ use Rattle.first_pass_grammar.specs.Skeleton.{From, Inside, Opening, OpensLeaf, 
 use Rattle.first_pass_grammar.specs.Kinds.{Kind}
 use Rattle.first_pass_grammar.specs.Rows.{ALeaf, Joins, ItemsOf, DefinitionsTo, Rows, End, OneOf, Definitions, any_gap, is_loose, is_paragraph}
 use Rattle.first_pass_grammar.specs.Rows.{closing_place, list_until, items_behind, list_behind, what_of, row_of, row_of_leaf, titled, gap_before}
-use Rattle.first_pass_grammar.specs.Rows.{container_row, rows_of, is_untitled, definitions_first, ADefinitionList, WithTitle, Apart}
+use Rattle.first_pass_grammar.specs.Rows.{container_row, rows_of, definitions_first}
 use Rattle.first_pass_grammar.specs.Derivation.{Tables, items_of}
 use Rattle.first_pass_grammar.specs.Completion.{title_left, list_closed, OtherClosed, ParagraphAt, DefinitionClosed, TitleAt, Pending, NoList, OneList}
 use Rattle.first_pass_grammar.specs.Completion.{OneTitle, rows_beyond, rendered, Frame, InList, InDefinitions, containers_of}
@@ -32,7 +32,7 @@ use Rattle.first_pass_completion.proofs.Moved.{same_back}
 use Rattle.first_pass_completion.proofs.Moved.{rows_moved, counts_moved, Known, FirstHas, known_first, OpensBlock, FirstIsOther, first_is_other}
 use Rattle.first_pass_completion.proofs.PoppedLists.{last_in, closed_below, title_below}
 use Rattle.first_pass_grammar.proofs.RowsAlike.{begins_alike}
-use Rattle.first_pass_completion.proofs.Titles.{BeginsOther, title_stays}
+use Rattle.first_pass_completion.proofs.Titles.{BeginsOther, title_stays, titled_by}
 
 -- where a list of items ends before a leaf block; the next definition: before a container (this project)
 abbrev pub leaf_closes : LeafBlock → ℕ
@@ -264,10 +264,6 @@ completes-close_definitions d defined e blanks run loose frames nodes o os p lin
       (close_step d defined frames (DefinitionsTo e) run blanks loose nodes o os p lines at opening forest tables k.shape.0 stays opens away fin));
 }
 
-titled_other : (t : Bool) (e : ℕ) → is_untitled (ADefinitionList (if t then Apart else WithTitle) e) ≡ false
-titled_other true e = refl
-titled_other false e = refl
-
 container_other : (last : ℕ) (o : Opener) (line start e : ℕ) (gap : Bool) (inner next : Rows) → is_definition o ≡ false
     → BeginsOther (container_row last o (row_of (record { opener = o; line = line; start = start }) e gap) inner next)
 container_other last (QuoteMarker kind) line start e gap inner next other = refl
@@ -278,7 +274,7 @@ container_other last (DefinitionMarker columns) line start e gap inner next othe
 -- the rows of a leaf block, or of a container that is no definition, do not begin with definitions
 leaf_other : (b : LeafBlock) (gap : Bool) (r : Rows) (o : Option Definitions) → BeginsOther (option_map_or (titled b gap) o (OneOf (row_of_leaf b gap) End r))
 leaf_other b gap r None = refl
-leaf_other b gap r (Some ds) = titled_other ds.apart ds.«end»
+leaf_other b gap r (Some ds) = titled_by ds.apart ds.«end»
 
 rows_other : (quoted : Bool) (before : Before) (last : ℕ) (s : Skeleton) → FirstIsOther s → BeginsOther (rows_of quoted before last s)
 unfolding rows_of

@@ -19,9 +19,9 @@ use Rattle.first_pass_grammar.specs.LinkTables.{LinkEntry, with_link, with_links
 use Rattle.first_pass_grammar.specs.Derivation.{Tables, told, definitions_of, footnotes_of, told_by}
 use Rattle.first_pass_grammar.specs.Completion.{ended, Closed, Pending, NoList, OneList, rows_beyond, rendered, Frame, InContainer, InList, InDefinitions}
 use Rattle.first_pass_grammar.specs.Completion.{closed_as, definitions_open, containers_of, loosened, AreBelow, IsPlain, last_plain, last_of}
-use Rattle.first_pass_grammar.proofs.Tightening.{length-modify}
 use Rattle.first_pass_grammar.proofs.Finishes.{Finish, containers-loosened, Tail, before_of}
 use Rattle.first_pass_grammar.proofs.Goings.{begins_inside, enters}
+use Rattle.first_pass_tokens.proofs.BytesLemmas.{length-modify}
 
 -- blank lines that include a counting one or not, after the last child
 abbrev pub tail : Closed → Bool → Tail

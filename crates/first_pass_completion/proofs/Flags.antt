@@ -16,10 +16,10 @@ use Rattle.first_pass_grammar.specs.Completion.{NoList, OneList, rows_beyond, re
 use Rattle.first_pass_grammar.specs.Completion.{definitions_open, containers_of, IsPlain}
 use Rattle.first_pass_completion.proofs.Extending.{AreBelow-more, length-ended, loosened_in-false, extend}
 use Rattle.first_pass_grammar.proofs.Finishes.{Finish, Tail, before_of, CompletesAt, finish_derives, whole_by}
-use Rattle.first_pass_grammar.proofs.Tightening.{length-modify}
 use Rattle.first_pass_completion.proofs.TitleNodes.{reflagged, swapped}
 use Rattle.first_pass_completion.proofs.EarlierNodes.{IsBefore, reflagged-rendered}
 use Rattle.first_pass_completion.proofs.JoinedNodes.{list-ended, title-ended, list-reflagged}
+use Rattle.first_pass_tokens.proofs.BytesLemmas.{length-modify}
 
 pub length-reflagged : (nodes : List (ℕ × Item)) (o : ℕ) (l : Bool) → length (reflagged nodes o l) ≡ length nodes
 unfolding reflagged

@@ -13,7 +13,8 @@ use Rattle.first_pass_grammar.specs.Before.{is_paragraph_body, begins_paragraph}
 use Rattle.first_pass_grammar.specs.Derivation.{node_of, list_flags, as_title}
 use Rattle.first_pass_grammar.specs.Completion.{ended, flagged, with_title, title_taken, title_left, list_closed}
 use Rattle.first_pass_completion.proofs.FlatBlocks.{NoParagraph, BeginsAt}
-use Rattle.first_pass_grammar.proofs.Tightening.{length-modify, list_closed-append, length-closed}
+use Rattle.first_pass_grammar.proofs.Tightening.{list_closed-append, length-closed}
+use Rattle.first_pass_tokens.proofs.BytesLemmas.{length-modify}
 
 -- the items of a paragraph that may become the next title of a definition list
 abbrev pub as_possible : List (ℕ × Item) → List (ℕ × Item)
@@ -25,16 +26,16 @@ unfoldable pub reflagged : List (ℕ × Item) → ℕ → Bool → List (ℕ × 
 reflagged nodes place loose = modify nodes place (λ x. record x { body = flagged loose x.body })
 
 -- In a tight list only paragraphs change.
-not_tight : (b : ItemBody) → is_paragraph_body b ≡ false → tight_body b ≡ b
+pub not_tight : (b : ItemBody) → is_paragraph_body b ≡ false → tight_body b ≡ b
 not_tight ParagraphBody h = cc
 not_tight b h = refl
 
-kept_by : (t : Bool) (x : Item) → is_paragraph_body x.body ≡ false
+pub kept_by : (t : Bool) (x : Item) → is_paragraph_body x.body ≡ false
     → (if t then record { start = x.start; «end» = x.«end»; body = tight_body x.body } else x) ≡ x
 kept_by true x h = ap (λ z. node_of x.start x.«end» z) (not_tight x.body h)
 kept_by false x h = refl
 
-kept_node : (d : ℕ) (n : ℕ × Item) → is_paragraph_body n.1.body ≡ false → tightened d n ≡ n
+pub kept_node : (d : ℕ) (n : ℕ × Item) → is_paragraph_body n.1.body ≡ false → tightened d n ≡ n
 kept_node d n h = ap (λ (z : Item). let r : ℕ × Item = (n.0, z) in r) (kept_by (n.0 == d) n.1 h)
 
 kept_nodes : (d : ℕ) (nodes : List (ℕ × Item)) → NoParagraph nodes → map (tightened d) nodes ≡ nodes
@@ -50,7 +51,7 @@ deeper_at : (k : ℕ) (items : List (ℕ × Item)) → map deeper (at_depth k it
 deeper_at k [] = refl
 deeper_at k (x ∷ items) = let a : (k + x.0) + 1 ≡ suc k + x.0 = omega arith in let b = deeper_at k items in cc
 
-shallower_at : (k : ℕ) (items : List (ℕ × Item)) → map shallower (at_depth (suc k) items) ≡ at_depth k items
+pub shallower_at : (k : ℕ) (items : List (ℕ × Item)) → map shallower (at_depth (suc k) items) ≡ at_depth k items
 shallower_at k [] = refl
 shallower_at k (x ∷ items) = let a : (suc k + x.0) - 1 ≡ k + x.0 = omega arith in let b = shallower_at k items in cc
 

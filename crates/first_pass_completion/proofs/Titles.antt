@@ -62,7 +62,7 @@ no_run : (items : List (ℕ × Item)) (t : Bool) → begins_paragraph items ≡ 
 no_run items false is none = refl
 no_run items true is none = let e : items ≡ [] = none refl in absurd (true≢false (sym is ∙ ap begins_paragraph e))
 
-titled_by : (t : Bool) (e : ℕ) → is_untitled (ADefinitionList (if t then Apart else WithTitle) e) ≡ false
+pub titled_by : (t : Bool) (e : ℕ) → is_untitled (ADefinitionList (if t then Apart else WithTitle) e) ≡ false
 titled_by true e = refl
 titled_by false e = refl
 

@@ -1,5 +1,5 @@
 -- Titles line by line.
-use Rattle.std.proofs.Common.{◌≡◌, inl, inr, ℕ, zero, suc, ◌+◌, ◌-◌, ◌<◌, ◌≤◌, ◌==◌, ◌&&◌, ◌||◌, Bool, true, false, List, [], ◌∷◌, ◌++◌, length, take, drop}
+use Rattle.std.proofs.Common.{◌≡◌, inl, inr, ℕ, suc, ◌+◌, ◌-◌, ◌<◌, ◌≤◌, ◌==◌, ◌&&◌, ◌||◌, Bool, true, false, List, [], ◌∷◌, ◌++◌, length, take, drop}
 use Rattle.std.proofs.Common.{slice_index, slice_get, IsUtf8, MatchOption, IsSomeAnd, length-drop, Option, Some, None, refl, sym, ap, subst, ◌∙◌, arith}
 use Rattle.std.proofs.Common.{append_assoc, IsCharBoundary, if◌then◌else◌}
 use Rattle.std.specs.Bool.{⊤}
@@ -21,6 +21,7 @@ use Rattle.std.proofs.lemmas.Str.{IsCharBoundary-after_ascii}
 use Rattle.first_pass_grammar.specs.Containers.{Context}
 use Rattle.first_pass_grammar.specs.Definitions.{with_line_feeds, ends_title, title_end, title_text, title_prefix, title_at}
 use Rattle.first_pass_definitions.specs.Reading.{ClosesTitle, stops_title, goes_on_at}
+use Rattle.first_pass_links.proofs.Labels.{joined_behind}
 
 -- the bytes of a title from an offset on, each after its offset
 pub left_of : (List ℕ → Option ℕ) → ℕ → List ℕ → List (ℕ × ℕ)
@@ -237,13 +238,6 @@ as_it_stands prefix close at (b ∷ []) c = stands_last (stops_title close b) pr
 as_it_stands prefix close at (b ∷ p ∷ bs) c =
     stands_by (stops_title close b) (begins_escape (b ∷ p ∷ bs)) prefix close at b p bs c refl refl (as_it_stands prefix close (at + 1) (p ∷ bs) c)
     (as_it_stands prefix close (at + 1 + 1) bs c)
-
--- after a prefix
-joined_behind : (h : List ℕ → Option ℕ) (at n : ℕ) (bs : List ℕ) → joined h at n bs ≡ joined h (at + n) 0 (drop n bs)
-unfolding joined
-joined_behind h at zero bs = let e : at + zero ≡ at = omega arith in rw e
-joined_behind h at (suc n) [] = refl
-joined_behind h at (suc n) (b ∷ bs) = let e : at + suc n ≡ at + 1 + n = omega arith in rw e (joined_behind h (at + 1) n bs)
 
 -- no line feed comes first if none is first in the bytes
 no_feed_by : (t : Bool) (o : Option ℕ) (h : List ℕ → Option ℕ) (at b : ℕ) (bs : List ℕ) → ends_line b bs ≡ t → h bs ≡ o → (b == 10) ≡ false

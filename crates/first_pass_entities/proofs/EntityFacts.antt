@@ -192,7 +192,7 @@ unfolding name_at
 name_facts bs n c e = name_by _ bs n c _ (named_facts _ c) refl e
 
 -- a reference after k bytes: its own length is k less
-behind_some : (k n c : ℕ) (o : Option (ℕ × ℕ)) → behind k o ≡ Some (n, c) → (m : ℕ) × (o ≡ Some (m, c)) × (n ≡ k + m)
+pub behind_some : (k n c : ℕ) (o : Option (ℕ × ℕ)) → behind k o ≡ Some (n, c) → (m : ℕ) × (o ≡ Some (m, c)) × (n ≡ k + m)
 behind_some k n c None e = cc
 behind_some k n c (Some r) e = let parts = some_pair_parts (k + r.0) n r.1 c e in (r.0, ap (λ x. Some (both r.0 x)) parts.1, sym parts.0)
 

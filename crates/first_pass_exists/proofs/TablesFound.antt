@@ -34,6 +34,7 @@ use Rattle.first_pass_grammar.proofs.MoreNames.{extends_none, extends_both, with
 use Rattle.first_pass_grammar.proofs.TextsMore.{cell_later, text_lines_more, cells_more, row_more, rows_more}
 use Rattle.first_pass_exists.proofs.LinesFound.{lines_found}
 use Rattle.first_pass_items.specs.declared.item.HeadingLevel.{HeadingLevel}
+use Rattle.first_pass_grammar.proofs.RowEnds.{text_behind}
 
 -- a byte at which no line ends
 no_end_byte : (t u : Bool) (n : ℕ) → (if t then Some 1 else (if u then Some n else None)) ≡ None → (t || u) ≡ false
@@ -126,14 +127,10 @@ cells_by names text options p most None h e f =
       are = (ap is_some e, cell.tokens, stop, cell_later further.more mid _ cell.tokens cell.end further.extends cell.cell, refl, further.are);
     }
 
-start_behind : (text : List ℕ) (at : ℕ) (t : Bool) → (slice_index text at == pipe) ≡ t → at ≤ cell_text text at
-start_behind text at true here = let begins : cell_start text at ≡ at + 1 = ap (λ (t : Bool). if t then at + 1 else at) here in omega arith
-start_behind text at false here = let begins : cell_start text at ≡ at = ap (λ (t : Bool). if t then at + 1 else at) here in omega arith
-
 cells_at : (names : Names) (text : List ℕ) (options : Options) (most : ℕ) (p : Spot) → length text ≤ p.at + most → CellsFrom names text options p
 unfolding AreCells
 cells_at names text options zero p h =
-    let behind = start_behind text p.at (slice_index text p.at == pipe) refl in
+    let behind = text_behind text p.at (slice_index text p.at == pipe) refl in
     record {
       cells = [];
       to = spot (cell_text text p.at + 0) p.braces;

@@ -20,11 +20,6 @@ cut_at xs k x here =
     let one : suc k ≡ k + 1 = omega arith in
     drop-cons xs k x inside ∙ ap (λ y. y ∷ drop (suc k) xs) (get_or_from_slice_get xs k x x here) ∙ ap (λ i. x ∷ drop i xs) one
 
--- the place of the node after the first k ones
-abbrev pub place_at : Names → List (ℕ × Item) → ℕ → FlatPlace
-place_at names nodes k =
-    record { node = k; name = length (flat_map (name_by names) (take k nodes)); attribute = length (flat_map (attributes_by names) (take k nodes)) }
-
 more_of : {X : Type 0} (f : ℕ × Item → List X) (nodes : List (ℕ × Item)) (k : ℕ) (n : ℕ × Item) → slice_get nodes k ≡ Some n
     → length (flat_map f (take (k + 1) nodes)) ≡ length (flat_map f (take k nodes)) + length (f n)
 more_of f nodes k n here =
@@ -37,10 +32,6 @@ more_of f nodes k n here =
 place_by : (k k' a a' b b' : ℕ) → k ≡ k' → a ≡ a' → b ≡ b'
     → ◌≡◌ {A = FlatPlace} (record { node = k; name = a; attribute = b }) (record { node = k'; name = a'; attribute = b' })
 place_by k k' a a' b b' e f g = cc
-
-pub next_place_at : (names : Names) (nodes : List (ℕ × Item)) (k : ℕ) (n : ℕ × Item) → slice_get nodes k ≡ Some n
-    → place_at names nodes (k + 1) ≡ place_after names n.1.body (place_at names nodes k)
-next_place_at names nodes k n here = place_by _ _ _ _ _ _ refl (more_of (name_by names) nodes k n here) (more_of (attributes_by names) nodes k n here)
 
 -- the records from a place on are written
 pub record AreFilled (names : Names) (nodes : List (ℕ × Item)) (flat : List FlatNode) (at : FlatPlace) : Type 0 where
@@ -65,25 +56,6 @@ none_filled names nodes flat at room last name attribute =
       written = drop_all at.node flat (omega arith) ∙ sym (ap (flat_nodes names at) none);
       linked = λ k n r h e f. let inside = slice_get_within nodes k n e in absurd (omega arith);
     }
-
--- the names before the node that is written next
-pub enough_names : (names : Names) (nodes : List (ℕ × Item)) (flat : List FlatNode) (at : FlatPlace) (n : ℕ × Item) → AreFilled names nodes flat at
-    → 0 < at.node → slice_get nodes (at.node - 1) ≡ Some n → length (name_by names n) ≤ at.name
-enough_names names nodes flat at n f h here =
-    let e = more_of (name_by names) nodes (at.node - 1) n here in
-    let d : (at.node - 1) + 1 ≡ at.node = omega arith in
-    let g = ap (λ k. length (flat_map (name_by names) (take k nodes))) d in
-    let i = f.name_is in
-    omega arith
-
-pub enough_attributes : (names : Names) (nodes : List (ℕ × Item)) (flat : List FlatNode) (at : FlatPlace) (n : ℕ × Item) → AreFilled names nodes flat at
-    → 0 < at.node → slice_get nodes (at.node - 1) ≡ Some n → length (attributes_by names n) ≤ at.attribute
-enough_attributes names nodes flat at n f h here =
-    let e = more_of (attributes_by names) nodes (at.node - 1) n here in
-    let d : (at.node - 1) + 1 ≡ at.node = omega arith in
-    let g = ap (λ k. length (flat_map (attributes_by names) (take k nodes))) d in
-    let i = f.attribute_is in
-    omega arith
 
 -- another element of a list in which one is set
 in_set : {X : Type 0} (xs : List X) (i j : ℕ) (y x : X) → slice_get (set xs i y) j ≡ Some x → j ≢ i → slice_get xs j ≡ Some x
@@ -147,15 +119,6 @@ one_filled names nodes flat at before n r f at_is here r_is =
           (subst (AreLinked nodes flat) k_is f.linked);
     }
 
--- all records are written
-pub all_filled : (names : Names) (nodes : List (ℕ × Item)) (flat : List FlatNode) (at : FlatPlace) → AreFilled names nodes flat at → at.node ≡ 0
-    → flat ≡ flat_nodes names first_place nodes
-all_filled names nodes flat at f e =
-    let name : at.name ≡ 0 = f.name_is ∙ ap (λ k. length (flat_map (name_by names) (take k nodes))) e in
-    let attribute : at.attribute ≡ 0 = f.attribute_is ∙ ap (λ k. length (flat_map (attributes_by names) (take k nodes))) e in
-    let is : at ≡ first_place = place_by at.node 0 at.name 0 at.attribute 0 e name attribute in
-    ap (λ k. drop k flat) (sym e) ∙ f.written ∙ ap (λ k. flat_nodes names at (drop k nodes)) e ∙ ap (λ p. flat_nodes names p nodes) is
-
 -- the place after the first k nodes from a place on
 place_from : Names → FlatPlace → List (ℕ × Item) → ℕ → FlatPlace
 place_from names at nodes zero = at
@@ -186,7 +149,7 @@ record_at names at [] k n d e = cc
 record_at names at (x ∷ nodes) zero n d e = let is : x ≡ n = cc in ap (λ m. flat_node names at m nodes) is
 record_at names at (x ∷ nodes) (suc k) n d e = record_at names (place_after names x.1.body at) nodes k n d e
 
-records_counted : (names : Names) (at : FlatPlace) (nodes : List (ℕ × Item)) → length (flat_nodes names at nodes) ≡ length nodes
+pub records_counted : (names : Names) (at : FlatPlace) (nodes : List (ℕ × Item)) → length (flat_nodes names at nodes) ≡ length nodes
 unfolding flat_nodes
 records_counted names at [] = refl
 records_counted names at (x ∷ nodes) = ap suc (records_counted names (place_after names x.1.body at) nodes)

@@ -3,7 +3,7 @@ use Rattle.std.proofs.Common.{◌≡◌, ℕ, suc, ◌+◌, ◌-◌, ◌<◌, �
 use Rattle.std.proofs.lemmas.Bool.{lt-ltb, ltb-true}
 use Rattle.std.proofs.lemmas.List.{drop-drop}
 use Rattle.std.proofs.lemmas.Option.{slice_get_within, get_or_from_slice_get, slice_get-get_or}
-use Rattle.std.proofs.lemmas.List.Sums.{prefix_len-drop_yes, prefix_len-drop_all, prefix_len-le-length}
+use Rattle.std.proofs.lemmas.List.Sums.{prefix_len-drop_yes, prefix_len-le-length}
 use Rattle.std.specs.List.{prefix_len}
 use Rattle.first_pass_items.specs.declared.item.Item.{Item}
 use Rattle.first_pass_flat.specs.FlatNodes.{deeper_before}
@@ -42,9 +42,6 @@ pub record GoesOn (nodes : List (ℕ × Item)) (depth from at : ℕ) : Type 0 wh
   pub within : at ≤ length nodes
   pub same : from + deeper_before depth (drop from nodes) ≡ at + deeper_before depth (drop at nodes)
 
-pub goes_from : (nodes : List (ℕ × Item)) (depth from : ℕ) → from ≤ length nodes → GoesOn nodes depth from from
-goes_from nodes depth from h = record { behind = omega arith; within = h; same = refl }
-
 -- One deeper node and its descendants are passed.
 pub one_passed : (nodes : List (ℕ × Item)) (depth from at next : ℕ) (n : ℕ × Item) → slice_get nodes at ≡ Some n → depth < n.0
     → next ≡ (at + 1) + deeper_before n.0 (drop (at + 1) nodes) → GoesOn nodes depth from at → (at < next) × GoesOn nodes depth from next
@@ -65,14 +62,6 @@ one_passed nodes depth from at next n here deeper next_is g =
     let front = g.same in
     let low = g.behind in
     (omega arith, record { behind = omega arith; within = omega arith; same = omega arith })
-
--- The run ends if no node is left, or if the next is not deeper.
-pub ends_here : (nodes : List (ℕ × Item)) (depth from at : ℕ) → deeper_before depth (drop at nodes) ≡ 0 → GoesOn nodes depth from at
-    → at ≡ from + deeper_before depth (drop from nodes)
-ends_here nodes depth from at none g = let same = g.same in omega arith
-
-pub none_left : (nodes : List (ℕ × Item)) (depth at : ℕ) → length nodes ≤ at → deeper_before depth (drop at nodes) ≡ 0
-none_left nodes depth at h = prefix_len-drop_all (λ n. nat_lt depth n.0) nodes at h
 
 -- The node at a place is deeper, and its record has its next node: it and its descendants are passed.
 pub next_passed : (nodes : List (ℕ × Item)) (flat : List FlatNode) (depth from at : ℕ) (n : ℕ × Item) (r : FlatNode) → at < length nodes

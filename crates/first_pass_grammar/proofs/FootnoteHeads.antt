@@ -26,7 +26,7 @@ abbrev with_old : List Container → List Container
 with_old path = FootnoteDefinition 0 ∷ path
 
 -- such a definition has no prefix in a line
-after_by : (o : Option Rest) → option_and_then (prefix (FootnoteDefinition 0)) o ≡ o
+pub after_by : (o : Option Rest) → option_and_then (prefix (FootnoteDefinition 0)) o ≡ o
 unfolding prefix
 after_by None = refl
 after_by (Some r) = ap (λ (t : Bool). if t || at_line_end r.left then Some r else None) (leb-zero (indent r))

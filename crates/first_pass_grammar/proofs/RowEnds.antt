@@ -1,6 +1,6 @@
 -- A row ends where its line does, and each of its cells takes at least one byte.
 use Rattle.std.proofs.Common.{◌≡◌, inl, inr, ℕ, ◌+◌, ◌-◌, ◌<◌, ◌≤◌, ◌==◌, Bool, true, false, true≢false, List, [], ◌∷◌, length, drop, slice_index, refl, sym}
-use Rattle.std.proofs.Common.{ap, subst, ◌∙◌, arith, length-drop, if◌then◌else◌}
+use Rattle.std.proofs.Common.{ap, subst, ◌∙◌, arith, if◌then◌else◌}
 use Rattle.std.specs.List.{prefix_len}
 use Rattle.std.proofs.lemmas.Bool.{cases_lt, and_parts, eqb-true}
 use Rattle.std.proofs.lemmas.Bool.Decides.{nat_tests}
@@ -10,7 +10,7 @@ use Rattle.first_pass_items.specs.OptionWords.{has, tables}
 use Rattle.first_pass_items.specs.declared.item.Item.{Item}
 use Rattle.first_pass_lines.specs.Lines.{is_line_end, is_content, is_white, at_line_end, line_len}
 use Rattle.first_pass_lines.specs.Places.{Place, line_place, offset, line_end, IsPlaceOf}
-use Rattle.first_pass_lines.proofs.LineFacts.{line_len-eol, line_len-fits}
+use Rattle.first_pass_lines.proofs.LineFacts.{line_len-eol}
 use Rattle.first_pass_lines.proofs.PlaceFacts.{bytes_line_end}
 use Rattle.first_pass_tokens.specs.Braces.{MathBraces}
 use Rattle.first_pass_tokens.specs.Pieces.{Inline}
@@ -18,6 +18,7 @@ use Rattle.first_pass_tokens.specs.LineTokens.{Spot, spot, IsCell}
 use Rattle.first_pass_tokens.proofs.LineLemmas.{cell_ends, ended_by}
 use Rattle.first_pass_grammar.specs.Leaves.{Document}
 use Rattle.first_pass_grammar.specs.Tables.{cell_content, cell_start, cell_text, AreCells}
+use Rattle.first_pass_grammar.proofs.TableEnds.{text_within}
 
 -- after content of a line, the end of the line is the same
 along : (text : List ℕ) (at n : ℕ) → n ≤ prefix_len is_content (drop at text) → at + n + line_len (drop (at + n) text) ≡ at + line_len (drop at text)
@@ -27,7 +28,7 @@ along text at n within =
     omega arith
 
 -- white space is content
-white_by : (t : Bool) (b : ℕ) (bs : List ℕ) → is_white b ≡ t → prefix_len is_white bs ≤ prefix_len is_content bs
+pub white_by : (t : Bool) (b : ℕ) (bs : List ℕ) → is_white b ≡ t → prefix_len is_white bs ≤ prefix_len is_content bs
     → prefix_len is_white (b ∷ bs) ≤ prefix_len is_content (b ∷ bs)
 white_by true b bs h less =
     let plain : is_content b ≡ true = grind (arith, nat_tests, h) in
@@ -36,7 +37,7 @@ white_by true b bs h less =
     omega arith
 white_by false b bs h less = (let white : prefix_len is_white (b ∷ bs) ≡ 0 = rw h in omega arith)
 
-white_content : (bs : List ℕ) → prefix_len is_white bs ≤ prefix_len is_content bs
+pub white_content : (bs : List ℕ) → prefix_len is_white bs ≤ prefix_len is_content bs
 white_content [] = omega arith
 white_content (b ∷ bs) = white_by (is_white b) b bs refl (white_content bs)
 
@@ -72,16 +73,9 @@ text_along text at =
     ∙ start_along text at (slice_index text at == pipe) refl
 
 -- It begins in the text, and not before that place.
-text_behind : (text : List ℕ) (at : ℕ) (t : Bool) → (slice_index text at == pipe) ≡ t → at ≤ cell_text text at
+pub text_behind : (text : List ℕ) (at : ℕ) (t : Bool) → (slice_index text at == pipe) ≡ t → at ≤ cell_text text at
 text_behind text at true here = let begins : cell_start text at ≡ at + 1 = ap (λ (t : Bool). if t then at + 1 else at) here in omega arith
 text_behind text at false here = let begins : cell_start text at ≡ at = ap (λ (t : Bool). if t then at + 1 else at) here in omega arith
-
-pub text_in_line : (text : List ℕ) (at : ℕ) → at ≤ length text → (at ≤ cell_text text at) × (cell_text text at ≤ length text)
-text_in_line text at within =
-    let same = text_along text at in
-    let fits = line_len-fits (drop at text) in
-    let rest = length-drop at text in
-    (text_behind text at (slice_index text at == pipe) refl, omega arith)
 
 -- The row whose cells begin at a place ends after the line ending there: its line has the same end.
 pub row_ends_its_line : (d : Document) (p : Spot) (cells : List (List (ℕ × Item))) (to : Spot) → p.at ≤ length d.text → AreCells d p cells to
@@ -93,7 +87,7 @@ row_ends_its_line d p [] to within (n, h, is) =
     let stop : to.at ≡ cell_text d.text p.at + n = ap (λ (z : Spot). z.at) is in
     omega arith
 row_ends_its_line d p (cell ∷ cells) to within (on, tokens, next, is, same, more) =
-    let start = text_in_line d.text p.at within in
+    let start = text_within d.text p.at within in
     let ends = cell_ends start.1 is in
     let from : cell_text d.text p.at ≤ next.at = ends.from in
     let reach : next.at ≤ cell_text d.text p.at + prefix_len is_content (drop (cell_text d.text p.at) d.text) = ends.in_line in
@@ -142,13 +136,13 @@ later_by : {after : MathBraces} (d : Document) (at : ℕ) (before : MathBraces) 
     → at ≤ length d.text → at_line_end (drop (cell_text d.text at) d.text) ≡ false → IsCell d.names.texts (begun_there d (spot at before)) tokens stop after
     → at < stop
 later_by d at before tokens stop true here within on cell =
-    let start = text_in_line d.text at within in
+    let start = text_within d.text at within in
     let ends = cell_ends start.1 cell in
     let from : cell_text d.text at ≤ stop = ends.from in
     let begins : cell_start d.text at ≡ at + 1 = ap (λ (t : Bool). if t then at + 1 else at) here in
     omega arith
 later_by {after} d at before tokens stop false here within on cell =
-    let start = text_in_line d.text at within in
+    let start = text_within d.text at within in
     let low = start.0 in
     let ends = cell_ends start.1 cell in
     let from : cell_text d.text at ≤ stop = ends.from in

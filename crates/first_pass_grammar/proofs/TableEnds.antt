@@ -41,7 +41,7 @@ start_within text at true here within =
 start_within text at false here within =
     let begins : cell_start text at ≡ at = ap (λ (t : Bool). if t then at + 1 else at) here in (omega arith, omega arith)
 
-text_within : (text : List ℕ) (at : ℕ) → at ≤ length text → (at ≤ cell_text text at) × (cell_text text at ≤ length text)
+pub text_within : (text : List ℕ) (at : ℕ) → at ≤ length text → (at ≤ cell_text text at) × (cell_text text at ≤ length text)
 text_within text at within =
     let start = start_within text at (slice_index text at == pipe) refl within in
     let white = prefix_len-le-length is_white (drop (cell_start text at) text) in

@@ -22,6 +22,7 @@ use Rattle.first_pass_grammar.specs.Rows.{gap_before}
 use Rattle.first_pass_grammar.specs.Before.{begins_paragraph}
 use Rattle.first_pass_grammar.specs.Derivation.{as_title}
 use Rattle.first_pass_items.specs.declared.item.ItemBody.TheVariants.{DefinitionList as DefinitionListBody, DefinitionListDefinition as DefinitionBody}
+use Rattle.first_pass_tokens.proofs.BytesLemmas.{length-modify}
 
 pub eqb-same : (n : ℕ) → eqb n n ≡ true
 eqb-same n = eq-eqb n n refl
@@ -194,11 +195,6 @@ pub modify-append : (nodes more : List (ℕ × Item)) (k : ℕ) (g : Item → It
 modify-append [] more k g h = absurd (omega arith)
 modify-append (n ∷ nodes) more zero g h = refl
 modify-append (n ∷ nodes) more (suc k) g h = ap (λ z. n ∷ z) (modify-append nodes more k g (omega arith))
-
-pub length-modify : (nodes : List (ℕ × Item)) (k : ℕ) (g : Item → Item) → length (modify nodes k g) ≡ length nodes
-length-modify [] k g = refl
-length-modify (n ∷ nodes) zero g = refl
-length-modify (n ∷ nodes) (suc k) g = ap suc (length-modify nodes k g)
 
 -- a list that is closed with more nodes after some nodes
 pub list_closed-append : (nodes more : List (ℕ × Item)) (o d : ℕ) (loose : Bool) (e : ℕ) → o < length nodes

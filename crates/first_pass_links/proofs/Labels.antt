@@ -22,7 +22,7 @@ use Rattle.first_pass_links.proofs.Destinations.{upto-nil, upto-stop, upto-byte,
 use Rattle.first_pass_links.proofs.Parts.{part-none, part-one, part-two, weight-length, weight-nil, weight-space, weight-other}
 
 -- the joined text of a label, byte by byte
-joined_behind : (h : List ℕ → Option ℕ) (at n : ℕ) (bs : List ℕ) → joined h at n bs ≡ joined h (at + n) 0 (drop n bs)
+pub joined_behind : (h : List ℕ → Option ℕ) (at n : ℕ) (bs : List ℕ) → joined h at n bs ≡ joined h (at + n) 0 (drop n bs)
 unfolding joined
 joined_behind h at zero bs = let e : at + zero ≡ at = omega arith in rw e
 joined_behind h at (suc n) [] = refl

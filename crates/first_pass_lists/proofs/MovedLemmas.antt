@@ -85,7 +85,7 @@ lower [] (suc place) k l = omega arith
 lower (n ∷ ns) (suc place) zero l = absurd (omega arith)
 lower (n ∷ ns) (suc place) (suc k) l = lower ns place k (omega arith)
 
-lower_length : (ns : List (ℕ × Item)) (place : ℕ) → length (map_from shallower place ns) ≡ length ns
+pub lower_length : (ns : List (ℕ × Item)) (place : ℕ) → length (map_from shallower place ns) ≡ length ns
 lower_length ns zero = length-map ns shallower
 lower_length [] (suc place) = refl
 lower_length (n ∷ ns) (suc place) = ap suc (lower_length ns place)

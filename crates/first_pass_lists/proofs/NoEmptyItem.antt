@@ -33,7 +33,7 @@ popped_by_none r f ix (Some (ListItemBody columns)) none = refl
 popped_by_none r f ix (Some (DefinitionListDefinition columns)) none = refl
 popped_by_none r f ix (Some b) none = none
 
-popped_at_none : (e : ℕ) (r : Reading) (s : List TreeIndex) → r.empty_item ≡ None → (popped_at e r s).empty_item ≡ None
+pub popped_at_none : (e : ℕ) (r : Reading) (s : List TreeIndex) → r.empty_item ≡ None → (popped_at e r s).empty_item ≡ None
 popped_at_none e r [] none = none
 popped_at_none e r (ix ∷ rest) none = popped_by_none r (closed_by r.tree e (ix ∷ rest)) ix (body_at (closed_by r.tree e (ix ∷ rest)).nodes ix.0) none
 
@@ -41,7 +41,7 @@ moved_none : (r : Reading) (c : Option TreeIndex) → r.empty_item ≡ None → 
 moved_none r None none = none
 moved_none r (Some c) none = none
 
-closed_none : (e : ℕ) (r : Reading) → r.empty_item ≡ None → (definitions_closed e r).empty_item ≡ None
+pub closed_none : (e : ℕ) (r : Reading) → r.empty_item ≡ None → (definitions_closed e r).empty_item ≡ None
 unfolding definitions_closed
 closed_none e r none = moved_none (popped_at e r r.tree.spine) r.tree.current (popped_at_none e r r.tree.spine none)
 

@@ -7,6 +7,7 @@ use Rattle.first_pass_tree.specs.declared.tree_index.TreeIndex.{TreeIndex}
 use Rattle.first_pass_tree.specs.Forest.{Forest, IsForest, IsOpenPath, depths, modify, body_at}
 use Rattle.first_pass_open.specs.OpenBlock.{closed_by}
 use Rattle.first_pass_lists.specs.Closing.{top_body, is_list, is_item}
+use Rattle.first_pass_open.proofs.BlockLemmas.{open_node_in}
 
 top_by : (ds : List ℕ) (spine : List TreeIndex) (ix : TreeIndex) → IsOpenPath ds spine → slice_get spine 0 ≡ Some ix → ix.0 < length ds
 top_by ds [] ix p h = cc
@@ -15,10 +16,6 @@ top_by ds (i ∷ spine) ix p h = (let e : i ≡ ix = cc in subst (λ z. z.0 < le
 second_by : (ds : List ℕ) (spine : List TreeIndex) (ix : TreeIndex) → IsOpenPath ds spine → slice_get spine 1 ≡ Some ix → ix.0 < length ds
 second_by ds [] ix p h = cc
 second_by ds (i ∷ spine) ix p h = top_by ds spine ix p.1 h
-
--- the innermost open node
-pub top_within : (f : Forest Item) (ix : TreeIndex) → IsForest f → slice_get f.spine 0 ≡ Some ix → ix.0 < length f.nodes
-top_within f ix forest h = subst (λ n. ix.0 < n) (length-map f.nodes (λ n. n.0)) (top_by (depths f.nodes) f.spine ix forest.opened h)
 
 -- the open node around it
 pub second_within : (f : Forest Item) (ix : TreeIndex) → IsForest f → slice_get f.spine 1 ≡ Some ix → ix.0 < length f.nodes
@@ -37,7 +34,7 @@ closed_length f e (ix ∷ rest) = length-modify f.nodes ix.0 _
 pub closed_within : (f g : Forest Item) (e : ℕ) (ix : TreeIndex)
     → IsForest f → slice_get f.spine 0 ≡ Some ix → g ≡ closed_by f e f.spine → ix.0 < length g.nodes
 closed_within f g e ix forest h is =
-    subst (λ n. ix.0 < n) (sym (ap (λ (t : Forest Item). length t.nodes) is ∙ closed_length f e f.spine)) (top_within f ix forest h)
+    subst (λ n. ix.0 < n) (sym (ap (λ (t : Forest Item). length t.nodes) is ∙ closed_length f e f.spine)) (open_node_in f ix forest h)
 
 -- if an item is the innermost open node, one is open
 item_open : (nodes : List (ℕ × Item)) (spine : List TreeIndex)

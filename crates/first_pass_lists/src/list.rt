@@ -120,7 +120,7 @@ impl Reading {
     }
 
     // The end that is recorded in the innermost open node; 0 if only the root is open.
-    #[tactic(auto, using(crate::proofs::WithinLemmas::top_within))]
+    #[tactic(auto, using(first_pass_open::proofs::BlockLemmas::open_node_in))]
     fn innermost_end(&self) -> usize
         ensures { result ≡ top_end self.now.tree }
     {
@@ -159,7 +159,7 @@ impl Reading {
 
     /// Makes the current node, a paragraph right after a definition that ends at the offset `end`, a possible title: a
     /// `:` after it makes it a title. A blank line before it does not count (this project).
-    #[tactic(auto, using(crate::proofs::WithinLemmas::top_within), unfolding(crate::specs::Closing::title_kept))]
+    #[tactic(auto, using(first_pass_open::proofs::BlockLemmas::open_node_in), unfolding(crate::specs::Closing::title_kept))]
     pub fn keep_possible_title(&mut self, end: usize)
         ensures { self.new ≡ title_kept end self.old }
     {
@@ -201,7 +201,7 @@ impl Reading {
     }
 
     // Whether the innermost open node is a definition list.
-    #[tactic(auto, using(crate::proofs::WithinLemmas::top_within))]
+    #[tactic(auto, using(first_pass_open::proofs::BlockLemmas::open_node_in))]
     fn is_in_definitions(&self) -> bool
         ensures { result ≡ is_definition_list (top_body self.now.tree) }
     {
@@ -213,7 +213,7 @@ impl Reading {
     }
 
     // Whether the innermost open node is a list, of items or of definitions.
-    #[tactic(auto, using(crate::proofs::WithinLemmas::top_within))]
+    #[tactic(auto, using(first_pass_open::proofs::BlockLemmas::open_node_in))]
     fn is_in_list(&self) -> bool
         ensures { result ≡ is_list (top_body self.now.tree) }
     {
@@ -290,7 +290,7 @@ impl Reading {
     }
 
     // Whether the innermost open node is an item or a definition.
-    #[tactic(auto, using(crate::proofs::WithinLemmas::top_within))]
+    #[tactic(auto, using(first_pass_open::proofs::BlockLemmas::open_node_in))]
     fn is_in_item(&self) -> bool
         ensures { result ≡ is_item (top_body self.now.tree) }
     {
@@ -339,7 +339,7 @@ impl Reading {
     }
 
     // Closes the innermost open node, if it is a footnote definition, at the offset `ix`.
-    #[tactic(auto, using(crate::proofs::WithinLemmas::top_within))]
+    #[tactic(auto, using(first_pass_open::proofs::BlockLemmas::open_node_in))]
     fn leave_footnote(&mut self, ix: usize)
         ensures { self.new ≡ footnote_left ix self.old }
     {
@@ -367,7 +367,7 @@ impl Reading {
 
     /// Reads a blank line, which does not count directly in a block quote. An item or a definition that was empty
     /// takes only blank lines from then on.
-    #[tactic(auto, using(crate::proofs::WithinLemmas::top_within), unfolding(crate::specs::Closing::blank_read))]
+    #[tactic(auto, using(first_pass_open::proofs::BlockLemmas::open_node_in), unfolding(crate::specs::Closing::blank_read))]
     pub fn read_blank_line(&mut self)
         ensures { self.new ≡ blank_read self.old }
     {
@@ -390,7 +390,7 @@ impl Reading {
 
     /// Returns true only if one more blank line leaves the state unchanged: a counting one is directly before, and an
     /// empty item or definition already takes only blank lines.
-    #[tactic(auto, using(crate::proofs::WithinLemmas::top_within))]
+    #[tactic(auto, using(first_pass_open::proofs::BlockLemmas::open_node_in))]
     pub fn keeps_blank_lines(&self) -> bool
         ensures { result ≡ true → blank_read self.now ≡ self.now }
     {
@@ -412,7 +412,7 @@ impl Reading {
     }
 
     /// Whether the innermost open node is a footnote definition.
-    #[tactic(auto, using(crate::proofs::WithinLemmas::top_within))]
+    #[tactic(auto, using(first_pass_open::proofs::BlockLemmas::open_node_in))]
     pub fn is_in_footnote(&self) -> bool
         ensures { result ≡ is_footnote (top_body self.now.tree) }
     {
@@ -445,7 +445,7 @@ impl Reading {
     }
 
     // Whether the innermost open node is a list with the byte `ch`.
-    #[tactic(auto, using(crate::proofs::WithinLemmas::top_within))]
+    #[tactic(auto, using(first_pass_open::proofs::BlockLemmas::open_node_in))]
     fn is_in_list_of(&self, ch: u8) -> bool
         ensures { result ≡ is_list_of ch (top_body self.now.tree) }
     {
@@ -460,7 +460,7 @@ impl Reading {
     }
 
     // Continues the innermost open node, a list; a blank line before makes it loose.
-    #[tactic(auto, using(crate::proofs::WithinLemmas::top_within))]
+    #[tactic(auto, using(first_pass_open::proofs::BlockLemmas::open_node_in))]
     fn keep_list(&mut self)
         ensures { self.new ≡ list_kept self.old }
     {

@@ -32,10 +32,12 @@ use Rattle.first_pass_order.proofs.Nests.{classes_body, classes_ended, nested_sa
 use Rattle.first_pass_order.proofs.Nests.{title_there, definitions_closed_outside, noted_outside, outside_closes, nested_front, top_front}
 use Rattle.first_pass_order.proofs.OrderLemmas.{ordered_same, ordered_added, ordered_none}
 use Rattle.first_pass_order.proofs.OrderLemmas.{extents-body}
-use Rattle.first_pass_order.proofs.PopOrder.{ordered_gap_noted, closed_empty, noted_empty}
+use Rattle.first_pass_order.proofs.PopOrder.{ordered_gap_noted, noted_empty}
 use Rattle.first_pass_order.proofs.AlikeNodes.{LooksAlike, like_itself}
 use Rattle.first_pass_order.proofs.PropertyKept.{IsLeft, is_left}
-use Rattle.first_pass_order.proofs.LeftOrder.{extents-end, modify-front, length-changed, end_there, left_ordered}
+use Rattle.first_pass_order.proofs.LeftOrder.{extents-end, modify-front, end_there, left_ordered}
+use Rattle.first_pass_tokens.proofs.BytesLemmas.{length-modify}
+use Rattle.first_pass_lists.proofs.NoEmptyItem.{closed_none}
 
 -- If the last child is no task list item marker, the tree is in order up to its end.
 pub ordered_to_last : (text : List ℕ) (f : Forest Item) (a : ℕ) (c : TreeIndex) (y : Item) → IsForest f → f.current ≡ Some c → item_at f c ≡ Some y
@@ -164,7 +166,7 @@ module _ (text : List ℕ) (old : Forest Item) (ix : TreeIndex) (rest : List Tre
         extents-end m ix.0 e ∙ ap (λ xs. modify xs ix.0 (λ x. ended_at x e)) as_possible_title ∙ sym (extents-end a ix.0 e) ∙ added_extents
 
     place_is : length old.nodes ≡ length (extents ended)
-    place_is = sym (length-extents ended ∙ length-changed old.nodes ix.0 (λ x. record x { «end» = e }))
+    place_is = sym (length-extents ended ∙ length-modify old.nodes ix.0 (λ x. record x { «end» = e }))
 
     extents_before : extents (take (length old.nodes) kept_tree.nodes) ≡ extents ended
     extents_before =
@@ -182,7 +184,7 @@ module _ (text : List ℕ) (old : Forest Item) (ix : TreeIndex) (rest : List Tre
     unfolding kept_tree
     kept_end =
         let m : List (ℕ × Item) = modify (added old items).nodes (length old.nodes) (λ x. record x { body = MaybeDefinitionListTitle }) in
-        let n = length-changed (added old items).nodes (length old.nodes) (λ x. record x { body = MaybeDefinitionListTitle }) in
+        let n = length-modify (added old items).nodes (length old.nodes) (λ x. record x { body = MaybeDefinitionListTitle }) in
         let k = length-append old.nodes (at_depth (length old.spine + 1) items) in
         let within_m : ix.0 < length m = omega arith in
         ap (λ (s : List TreeIndex). option_map_or (λ x. x.«end») (option_and_then (λ ix. item_at kept_tree ix) (slice_get s 0)) 0) spine
@@ -318,7 +320,7 @@ module _ (text : List ℕ) (r : Reading) (read : Forest Item) (at start next : �
       let top = ap is_definitions (top_front r.tree.nodes (at_depth (length r.tree.spine + 1) items) r.tree.spine closes.nested) ∙ list_top in
       let outside = noted_outside shut (definitions_closed_outside e a more top) in
       subst (λ (z : Forest Item). IsReadTo text (definitions_left e (with_tree r z)) next) (sym the_block.tree_is) (
-        ordered_none text (gap_noted shut) next (noted_empty shut ∙ closed_empty e a none) within (ordered_gap_noted text shut next closed),
+        ordered_none text (gap_noted shut) next (noted_empty shut ∙ closed_none e a none) within (ordered_gap_noted text shut next closed),
         outside_closes text (gap_noted shut) next outside,
       )
 

@@ -24,6 +24,7 @@ use Rattle.first_pass_order.specs.Ordered.{reached, IsOrderedAt}
 use Rattle.first_pass_order.proofs.OrderLemmas.{flags_of, ordered_same, ordered_later, ordered_begun}
 use Rattle.first_pass_order.proofs.AlikeNodes.{AreAlike, NoNodes, OneMore}
 use Rattle.first_pass_order.proofs.PropertyKept.{IsLeft, Property, MayLeave, HoldsAt}
+use Rattle.first_pass_tokens.proofs.BytesLemmas.{length-modify}
 
 -- an end at a place, in the extents
 pub extents-end : (nodes : List (ℕ × Item)) (k e : ℕ) → extents (modify nodes k (λ x. record x { «end» = e })) ≡ modify (extents nodes) k (λ x. ended_at x e)
@@ -35,11 +36,6 @@ pub modify-front : {T : Type 0} (nodes more : List (ℕ × T)) (k : ℕ) (g : T 
 modify-front [] more k g low = absurd (omega arith)
 modify-front (n ∷ nodes) more zero g low = refl
 modify-front (n ∷ nodes) more (suc k) g low = ap (λ z. n ∷ z) (modify-front nodes more k g (omega arith))
-
-pub length-changed : (nodes : List (ℕ × Item)) (k : ℕ) (g : Item → Item) → length (modify nodes k g) ≡ length nodes
-length-changed [] k g = refl
-length-changed (n ∷ nodes) zero g = refl
-length-changed (n ∷ nodes) (suc k) g = ap suc (length-changed nodes k g)
 
 pub end_there : (nodes : List (ℕ × Item)) (k e : ℕ) → k < length nodes
     → option_map_or (λ x. x.«end») (option_map (λ n. n.1) (slice_get (modify nodes k (λ x. record x { «end» = e })) k)) 0 ≡ e
@@ -104,7 +100,7 @@ left_ordered text f g at e c l h within =
     let ended : List (ℕ × Extent) → List (ℕ × Extent) = λ xs. modify xs ix.0 (λ x. ended_at x e) in
     let shut : Forest Item = closed_by old e (ix ∷ rest) in
     let front : List (ℕ × Extent) = extents shut.nodes in
-    let at_front : c.0 ≡ length front = place ∙ sym (length-extents shut.nodes ∙ length-changed old.nodes ix.0 (λ x. record x { «end» = e })) in
+    let at_front : c.0 ≡ length front = place ∙ sym (length-extents shut.nodes ∙ length-modify old.nodes ix.0 (λ x. record x { «end» = e })) in
     let split : extents f.nodes ≡ extents old.nodes ++ more =
     ap (λ (z : List (ℕ × Item)). extents z) (sym (take-append-drop c.0 f.nodes)) ∙ extents-append old.nodes (drop c.0 f.nodes)
     ∙ ap (λ (z : List (ℕ × Extent)). extents old.nodes ++ z) h.last in

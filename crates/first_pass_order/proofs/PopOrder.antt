@@ -6,7 +6,7 @@ use Rattle.std.specs.Option.{option_and_then}
 use Rattle.first_pass_items.specs.declared.item.Item.{Item}
 use Rattle.first_pass_items.specs.declared.item.ItemBody.{ItemBody}
 use Rattle.first_pass_items.specs.declared.item.ItemBody.TheVariants.{BlockQuote as BlockQuoteBody, ListItem as ListItemBody}
-use Rattle.first_pass_items.specs.declared.item.ItemBody.TheVariants.{DefinitionList, DefinitionListDefinition, Paragraph}
+use Rattle.first_pass_items.specs.declared.item.ItemBody.TheVariants.{DefinitionListDefinition, Paragraph}
 use Rattle.first_pass_tree.specs.declared.tree_index.TreeIndex.{TreeIndex}
 use Rattle.first_pass_tree.specs.Forest.{Forest, with_body_at, body_at}
 use Rattle.first_pass_grammar.specs.OpenOrder.{IsOrderedTo}
@@ -16,7 +16,6 @@ use Rattle.first_pass_lists.specs.Closing.{definitions_closed, top_end, possible
 use Rattle.first_pass_lists.specs.Closing.{gap_tree, list_finished, list_kept, list_continued}
 use Rattle.first_pass_lists.specs.Closing.{blank_read_by, blank_read, gap_noted, footnote_begun}
 use Rattle.first_pass_items.specs.declared.item.CowIndex.{CowIndex}
-use Rattle.first_pass_lists.specs.Closing.{is_definition_list as is_definitions}
 use Rattle.first_pass_lists.specs.declared.reading.Reading.{Reading}
 use Rattle.first_pass_order.specs.Ordered.{reached, IsOrderedAt, EndsBeforeTitle, IsReadTo}
 use Rattle.first_pass_order.proofs.AlikeNodes.{like_blank}
@@ -25,8 +24,8 @@ use Rattle.first_pass_order.proofs.Nests.{item_finished_last, blank_last, settle
 use Rattle.first_pass_order.proofs.Nests.{footnote_begun_settled}
 use Rattle.first_pass_order.proofs.LeftOrder.{title_later, order_kept, ordered_at, may_leave}
 use Rattle.std.proofs.lemmas.Bool.{true≢false}
-use Rattle.first_pass_order.proofs.PropertyKept.{popped_here, item_finished_keeps, item_finished_leaves, noted_keeps, kept_keeps, blank_keeps}
-use Rattle.first_pass_lists.proofs.NoEmptyItem.{finished_none}
+use Rattle.first_pass_order.proofs.PropertyKept.{popped_here, item_finished_keeps, item_finished_leaves, noted_keeps, kept_keeps, blank_keeps, no_item_list}
+use Rattle.first_pass_lists.proofs.NoEmptyItem.{finished_none, popped_at_none}
 use Rattle.first_pass_order.proofs.PropertyKept.{list_finished_keeps, list_continued_keeps, note_keeps}
 use Rattle.first_pass_lists.proofs.NoEmptyItem.{list_finished_none, list_continued_none}
 use Rattle.first_pass_tree.proofs.BodyLemmas.{body-kept}
@@ -37,33 +36,19 @@ empty_moved : (q : Reading) (o : Option TreeIndex) → (current_moved q o).empty
 empty_moved q None = refl
 empty_moved q (Some c) = refl
 
-empty_at : (e : ℕ) (r : Reading) (s : List TreeIndex) → r.empty_item ≡ None → (popped_at e r s).empty_item ≡ None
-empty_at e r [] none = none
-empty_at e r (ix ∷ rest) none = popped_empty r (closed_by r.tree e (ix ∷ rest)) ix (body_at (closed_by r.tree e (ix ∷ rest)).nodes ix.0) (inl none)
-
 title_empty : (r : Reading) (title : TreeIndex) → r.empty_item ≡ None → (title_closed r title).empty_item ≡ None
 unfolding definitions_closed
 title_empty r title none =
     let g : Forest Item = with_body_at r.tree title Paragraph in
-    empty_moved (popped_at (top_end r.tree) (with_tree r g) g.spine) g.current ∙ empty_at (top_end r.tree) (with_tree r g) g.spine none
-
--- the same for a list that ends before its last child
-pub closed_empty : (e : ℕ) (r : Reading) → r.empty_item ≡ None → (definitions_closed e r).empty_item ≡ None
-unfolding definitions_closed
-closed_empty e r none = empty_moved (popped_at e r r.tree.spine) r.tree.current ∙ empty_at e r r.tree.spine none
+    empty_moved (popped_at (top_end r.tree) (with_tree r g) g.spine) g.current ∙ popped_at_none (top_end r.tree) (with_tree r g) g.spine none
 
 pub noted_empty : (r : Reading) → (gap_noted r).empty_item ≡ r.empty_item
 noted_empty r =
     cond_both r.blank (record r { tree = gap_tree r.tree r.tree.spine; blank = false }) r (λ (q : Reading). q.empty_item ≡ r.empty_item) (λ b. refl) (λ b. refl)
 
-list_no_item : (b : Option ItemBody) → is_definitions b ≡ true → is_item b ≡ true → ⊥
-list_no_item None a b = cc
-list_no_item (Some (DefinitionList flags)) a b = cc
-list_no_item (Some b) a c = cc
-
 -- no possible title is last in an item
 pub untitled_item : (text : List ℕ) (f : Forest Item) (at : ℕ) → is_item (top_body f) ≡ true → EndsBeforeTitle text f at
-untitled_item text f at item title is = absurd (list_no_item (top_body f) (title_there f title is).list item)
+untitled_item text f at item title is = absurd (no_item_list (top_body f) (title_there f title is).list item)
 
 empty_by : (text : List ℕ) (r : Reading) (at : ℕ) (o : Option ℕ)
     → r.empty_item ≡ o → IsOrderedAt text r at → (r.empty_item ≡ None) ⊎ (is_item (top_body r.tree) ≡ true)
@@ -84,10 +69,10 @@ item_closed e r (ix ∷ rest) spine item =
 
 after_empty : (e : ℕ) (r : Reading) (o : Option TreeIndex) → possible_title r.tree ≡ o → (r.empty_item ≡ None) ⊎ (is_item (top_body r.tree) ≡ true)
     → (popped_after e r o).empty_item ≡ None
-after_empty e r None is (inl none) = empty_at e r r.tree.spine none
+after_empty e r None is (inl none) = popped_at_none e r r.tree.spine none
 after_empty e r None is (inr item) = item_closed e r r.tree.spine refl item
 after_empty e r (Some title) is (inl none) = title_empty r title none
-after_empty e r (Some title) is (inr item) = absurd (list_no_item (top_body r.tree) (title_there r.tree title is).list item)
+after_empty e r (Some title) is (inr item) = absurd (no_item_list (top_body r.tree) (title_there r.tree title is).list item)
 
 closes_empty : (e : ℕ) (r : Reading) → (r.empty_item ≡ None) ⊎ (is_item (top_body r.tree) ≡ true) → (popped e r).empty_item ≡ None
 unfolding popped

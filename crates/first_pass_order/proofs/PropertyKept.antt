@@ -57,7 +57,7 @@ pub record Property : Type 1 where
       → Holds start (suc k) (opened_block f start body)
 
 -- an item is no definition list, nor is a footnote definition
-no_item_list : (b : Option ItemBody) → is_definition_list b ≡ true → is_item b ≡ true → ⊥
+pub no_item_list : (b : Option ItemBody) → is_definition_list b ≡ true → is_item b ≡ true → ⊥
 no_item_list None a b = cc
 no_item_list (Some (DefinitionList flags)) a b = cc
 no_item_list (Some b) a c = cc

@@ -112,7 +112,7 @@ open_level options f frames run o =
     ∙ ap (λ l. level (containers_of frames) (record { last = l; counted = run })) (sym (open_last options f.nodes f.spine frames (closed_in f) o))
 
 -- Whether a `:` may begin a definition depends on the tree as in the grammar.
-body_by : (o : Option (ℕ × Item)) → option_map (λ n. n.1.body) o ≡ option_map (λ (x : Item). x.body) (option_map (λ n. n.1) o)
+pub body_by : (o : Option (ℕ × Item)) → option_map (λ n. n.1.body) o ≡ option_map (λ (x : Item). x.body) (option_map (λ n. n.1) o)
 body_by None = refl
 body_by (Some n) = refl
 
@@ -206,7 +206,7 @@ closed_same f g old new current h =
     ∙ sym (closed_elsewhere_in f old)
 
 -- a body that is no paragraph changes to another that is none
-no_paragraph : (i : ℕ) (b : ItemBody) → is_paragraph_body b ≡ false → closed_elsewhere i b ≡ OtherClosed
+pub no_paragraph : (i : ℕ) (b : ItemBody) → is_paragraph_body b ≡ false → closed_elsewhere i b ≡ OtherClosed
 no_paragraph i ParagraphBody h = cc
 no_paragraph i b h = refl
 
@@ -379,7 +379,7 @@ title_body top ix title None h = cc
 title_body top ix title (Some MaybeDefinitionListTitle) h = let r = title_if (is_definition_list top) ix title h in (r.0, r.1, refl)
 title_body top ix title (Some b) h = cc
 
-definition_list_is : (top : Option ItemBody) → is_definition_list top ≡ true → (flags : ListFlags) × (top ≡ Some (DefinitionList flags))
+pub definition_list_is : (top : Option ItemBody) → is_definition_list top ≡ true → (flags : ListFlags) × (top ≡ Some (DefinitionList flags))
 definition_list_is None h = cc
 definition_list_is (Some (DefinitionList flags)) h = (flags, refl)
 definition_list_is (Some b) h = cc

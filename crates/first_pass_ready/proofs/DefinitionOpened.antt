@@ -28,7 +28,7 @@ use Rattle.first_pass_completion.proofs.DefinitionSteps.{definition_node, comple
 use Rattle.first_pass_completion.proofs.Extending.{tail, lvl}
 use Rattle.first_pass_grammar.proofs.Finishes.{CompletesAt}
 use Rattle.first_pass_completion.proofs.Flags.{completes-reflag_definition}
-use Rattle.first_pass_grammar.proofs.Tightening.{modify-append, length-modify}
+use Rattle.first_pass_grammar.proofs.Tightening.{modify-append}
 use Rattle.first_pass_completion.proofs.TitleNodes.{reflagged, length-with_title}
 use Rattle.first_pass_open.specs.Path.{path_of}
 use Rattle.first_pass_lists.specs.Closing.{with_tree, loosened_by, top_body, top_end, is_definition_list, is_list, possible_title, title_by}
@@ -37,9 +37,10 @@ use Rattle.first_pass_lists.specs.Closing.{definitions_opened, definition_begun}
 use Rattle.first_pass_lists.specs.declared.reading.Reading.{Reading}
 use Rattle.first_pass_ready.specs.State.{frame_of, frame_at, AreOpen, closed_in, ReadyAt}
 use Rattle.first_pass_ready.proofs.ClosedIn.{definitions_no_items, definitions_no_container, definitions_at as definitions_framed, level_of, open_level}
-use Rattle.first_pass_ready.proofs.ClosedIn.{closed_at_body, closed_definition, title_is}
+use Rattle.first_pass_ready.proofs.ClosedIn.{closed_at_body, closed_definition, title_is, body_by, definition_list_is}
 use Rattle.first_pass_ready.proofs.OpenLemmas.{open_path, open_below}
 use Rattle.first_pass_ready.proofs.BegunLemmas.{with_open, IsBegun, HasBegun, begun_ready, plain_open, current_after}
+use Rattle.first_pass_tokens.proofs.BytesLemmas.{length-modify}
 
 -- A definition list is open for a definition, and every completion of the nodes with it is derived by the text. The
 -- list is loose so far or not.
@@ -68,11 +69,6 @@ record IsInnermost (f : Forest Item) (frames : List Frame) : Type 0 where
   top : top_body f ≡ Some (DefinitionList flags)
   frames_are : frames ≡ InDefinitions loose ∷ outer
 
-list_is : (b : Option ItemBody) → is_definition_list b ≡ true → (flags : ListFlags) × (b ≡ Some (DefinitionList flags))
-list_is None h = cc
-list_is (Some (DefinitionList flags)) h = (flags, refl)
-list_is (Some b) h = cc
-
 list_frames : (options : Options) (b : Option ItemBody) (flags : ListFlags) (frame : Frame) → b ≡ Some (DefinitionList flags)
     → option_and_then (frame_of options) b ≡ Some frame → (loose : Bool) × (frame ≡ InDefinitions loose)
 list_frames options b flags (InContainer c) is h =
@@ -86,7 +82,7 @@ innermost_by : (options : Options) (f : Forest Item) (s : List TreeIndex) (frame
 innermost_by options f [] frames spine o inside = cc
 innermost_by options f (ix ∷ rest) [] spine o inside = absurd o
 innermost_by options f (ix ∷ rest) (frame ∷ frames) spine o inside =
-    let b = list_is (body_at f.nodes ix.0) inside in
+    let b = definition_list_is (body_at f.nodes ix.0) inside in
     let l = list_frames options (body_at f.nodes ix.0) b.0 frame b.1 o.0 in
     record {
       ix = ix;
@@ -102,10 +98,6 @@ innermost_by options f (ix ∷ rest) (frame ∷ frames) spine o inside =
 not_true : (t : Bool) → not t ≡ true → t ≡ false
 not_true true h = cc
 not_true false h = refl
-
-body_item : (o : Option (ℕ × Item)) → option_map (λ n. n.1.body) o ≡ option_map (λ (y : Item). y.body) (option_map (λ n. n.1) o)
-body_item None = refl
-body_item (Some n) = refl
 
 -- a title among nodes
 title_length : (nodes : List (ℕ × Item)) (k : ℕ) (x : Item) → option_map (λ n. n.1) (slice_get nodes k) ≡ Some x → k < length nodes
@@ -302,7 +294,7 @@ module _ (d : Document) (defined : Tables) (f : Forest Item) (run : Bool) (p : P
       → Opened (definitions_opened f o)
   opened_with None current may = absurd (true≢false (sym may))
   opened_with (Some c) current may =
-      opened_at c (item_at f c) current refl (ap (precedes_definition (top_body f)) (sym (body_item (slice_get f.nodes c.0))) ∙ may)
+      opened_at c (item_at f c) current refl (ap (precedes_definition (top_body f)) (sym (body_by (slice_get f.nodes c.0))) ∙ may)
 
 -- the list becomes loose if a blank line is before the definition
 begun_in : (d : Document) (defined : Tables) (path : List Container) (h : Forest Item) (columns start : ℕ) (from : From) (lines : List Place)

@@ -8,18 +8,18 @@ use Rattle.std.specs.Int.RustNames.{bit_and}
 use Rattle.std.specs.Option.{option_map, option_and_then}
 use Rattle.first_pass_items.specs.declared.item.Item.{Item}
 use Rattle.first_pass_items.specs.declared.item.ItemBody.{ItemBody}
-use Rattle.first_pass_items.specs.declared.item.ItemBody.TheVariants.{Paragraph as ParagraphBody, List as ListBody, DefinitionList}
+use Rattle.first_pass_items.specs.declared.item.ItemBody.TheVariants.{List as ListBody, DefinitionList}
 use Rattle.first_pass_items.specs.declared.item.ListFlags.{ListFlags}
 use Rattle.first_pass_tree.specs.declared.tree_index.TreeIndex.{TreeIndex}
 use Rattle.first_pass_tree.specs.Forest.{Forest, IsForest, IsLastAt, added, at_depth, body_at, depths, last_before, map_from, modify, moved_from}
 use Rattle.first_pass_tree.specs.Forest.{shallower, with_body_at}
-use Rattle.first_pass_tree.specs.Tight.{tight_at, tight_body, tight_items, tight_run, tightened}
+use Rattle.first_pass_tree.specs.Tight.{tight_at, tight_items, tight_run, tightened}
 use Rattle.first_pass_tree.proofs.BodyLemmas.{body-kept}
 use Rattle.first_pass_tree.proofs.Keeps.{depths-modify}
 use Rattle.first_pass_grammar.specs.Before.{is_paragraph_body}
 use Rattle.first_pass_grammar.specs.Derivation.{list_flags}
 use Rattle.first_pass_completion.proofs.FlatBlocks.{NoParagraph}
-use Rattle.first_pass_grammar.proofs.Tightening.{modify-append, length-modify}
+use Rattle.first_pass_grammar.proofs.Tightening.{modify-append}
 use Rattle.first_pass_open.specs.OpenBlock.{closed_by}
 use Rattle.first_pass_open.proofs.PathLemmas.{AreIn, get_front, open_are_in}
 use Rattle.first_pass_lists.specs.Closing.{with_tree, loosened_by, top_body, is_definition_list, is_list, popped_by, popped_at, popped, popped_after}
@@ -28,23 +28,13 @@ use Rattle.first_pass_lists.specs.Closing.{item_finished, list_left, list_finish
 use Rattle.first_pass_lists.specs.declared.reading.Reading.{Reading}
 use Rattle.first_pass_ready.proofs.PopLemmas.{list_popped, list_spine}
 use Rattle.first_pass_ready.proofs.TitleMoved.{last_child, moved_current}
-
--- making paragraphs tight does not change nodes without a paragraph
-body_kept : (b : ItemBody) → is_paragraph_body b ≡ false → tight_body b ≡ b
-body_kept ParagraphBody h = cc
-body_kept b h = refl
-
-item_kept : (t : Bool) (x : Item) → is_paragraph_body x.body ≡ false
-    → (if t then record { start = x.start; «end» = x.«end»; body = tight_body x.body } else x) ≡ x
-item_kept true x h = ap (λ b. record { start = x.start; «end» = x.«end»; body = b }) (body_kept x.body h)
-item_kept false x h = refl
-
-node_kept : (depth : ℕ) (n : ℕ × Item) → is_paragraph_body n.1.body ≡ false → tightened depth n ≡ n
-node_kept depth n h = ap (λ x. (n.0, x)) (item_kept (n.0 == depth) n.1 h)
+use Rattle.first_pass_completion.proofs.TitleNodes.{kept_node, shallower_at}
+use Rattle.first_pass_tokens.proofs.BytesLemmas.{length-modify}
+use Rattle.first_pass_ready.proofs.ClosedIn.{definition_list_is}
 
 run_by : (t : Bool) (depth : ℕ) (n : ℕ × Item) (now more : List (ℕ × Item)) → is_paragraph_body n.1.body ≡ false → now ≡ more
     → (if t then tightened depth n ∷ now else n ∷ more) ≡ n ∷ more
-run_by true depth n now more h is = ap (λ z. z ∷ now) (node_kept depth n h) ∙ ap (λ z. n ∷ z) is
+run_by true depth n now more h is = ap (λ z. z ∷ now) (kept_node depth n h) ∙ ap (λ z. n ∷ z) is
 run_by false depth n now more h is = refl
 
 run_kept : (depth : ℕ) (more : List (ℕ × Item)) → NoParagraph more → tight_run depth more ≡ more
@@ -109,11 +99,6 @@ moved_mid : (nodes more : List (ℕ × Item)) → map_from shallower (length nod
 moved_mid [] more = refl
 moved_mid (n ∷ nodes) more = ap (λ z. n ∷ z) (moved_mid nodes more)
 
-moved_up : (k : ℕ) (items : List (ℕ × Item)) → map shallower (at_depth (suc k) items) ≡ at_depth k items
-moved_up k [] = refl
-moved_up k (x ∷ items) = let z : (suc k + x.0) - 1 ≡ k + x.0 = omega arith in ap (λ n. (n, x.1) ∷ map shallower (at_depth (suc k) items)) z
-    ∙ ap (λ ns. (k + x.0, x.1) ∷ ns) (moved_up k items)
-
 module _ (f : Forest Item) (items : List (ℕ × Item)) (e : ℕ) (ix : TreeIndex) (rest : List TreeIndex) (flags : ListFlags) (spine : f.spine ≡ ix ∷ rest)
     (flat : NoParagraph items) (low : ix.0 < length f.nodes) where
   abbrev more : List (ℕ × Item)
@@ -151,7 +136,7 @@ module _ (f : Forest Item) (items : List (ℕ × Item)) (e : ℕ) (ix : TreeInde
       let nodes : List (ℕ × Item) = (list_popped f e ix rest flags).nodes in
       let deep : length f.spine + 1 ≡ suc (length rest + 1) = ap (λ (s : List TreeIndex). length s + 1) spine ∙ omega arith in
       ap (map_from shallower (length f.nodes)) closed_nodes ∙ ap (λ k. map_from shallower k (nodes ++ more)) (sym closed_length) ∙ moved_mid nodes more
-      ∙ ap (λ k. nodes ++ map shallower (at_depth k items)) deep ∙ ap (λ z. nodes ++ z) (moved_up (length rest + 1) items)
+      ∙ ap (λ k. nodes ++ map shallower (at_depth k items)) deep ∙ ap (λ z. nodes ++ z) (shallower_at (length rest + 1) items)
 
   moved_last : IsForest (added f items)
       → (let ns : List (ℕ × Item) = map_from shallower (length f.nodes) (list_popped (added f items) e ix rest flags).nodes in
@@ -202,16 +187,11 @@ no_title : (o : Option TreeIndex) → not (is_some o) ≡ true → o ≡ None
 no_title None h = refl
 no_title (Some t) h = cc
 
-list_body : (o : Option ItemBody) → is_definition_list o ≡ true → (flags : ListFlags) × (o ≡ Some (DefinitionList flags))
-list_body None h = cc
-list_body (Some (DefinitionList flags)) h = (flags, refl)
-list_body (Some b) h = cc
-
 behind_by : (f : Forest Item) (s : List TreeIndex) → f.spine ≡ s
     → is_definition_list (option_and_then (λ (ix : TreeIndex). body_at f.nodes ix.0) (slice_get s 0)) ≡ true → possible_title f ≡ None → IsBehindDefinition f
 behind_by f [] spine is none = cc
 behind_by f (ix ∷ rest) spine is none =
-    let b = list_body (body_at f.nodes ix.0) is in record { place = ix; outer = rest; flags = b.0; spine = spine; body = b.1; none = none }
+    let b = definition_list_is (body_at f.nodes ix.0) is in record { place = ix; outer = rest; flags = b.0; spine = spine; body = b.1; none = none }
 
 pub behind_definition : (f : Forest Item) → is_after_definition f ≡ true → IsBehindDefinition f
 behind_definition f h =

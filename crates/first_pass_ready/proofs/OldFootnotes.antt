@@ -1,7 +1,6 @@
 -- A footnote definition in the old form ends at a line, after a counting blank line.
-use Rattle.std.proofs.Common.{◌≡◌, ◌⊎◌, inl, inr, ℕ, ◌==◌, Bool, true, false, not, ◌||◌, ◌&&◌, List, [], ◌∷◌, Option, Some, None, refl, sym}
+use Rattle.std.proofs.Common.{◌≡◌, ◌⊎◌, inl, inr, ℕ, ◌==◌, Bool, true, false, not, ◌&&◌, List, [], ◌∷◌, Option, Some, None, refl, sym}
 use Rattle.std.proofs.Common.{ap, subst, ◌∙◌, if◌then◌else◌}
-use Rattle.std.proofs.Math.Dec.{leb-zero}
 use Rattle.std.proofs.lemmas.Bool.{true≢false}
 use Rattle.std.specs.Option.{option_and_then}
 use Rattle.first_pass_items.specs.declared.item.Item.{Item}
@@ -13,13 +12,12 @@ use Rattle.first_pass_items.specs.declared.option_set.Options.{Options}
 use Rattle.first_pass_items.specs.OptionWords.{gfm_footnotes}
 use Rattle.first_pass_tree.specs.declared.tree_index.TreeIndex.{TreeIndex}
 use Rattle.first_pass_tree.specs.Forest.{Forest, body_at}
-use Rattle.first_pass_lines.specs.Lines.{at_line_end}
-use Rattle.first_pass_lines.specs.Rest.{Rest, indent}
+use Rattle.first_pass_lines.specs.Rest.{Rest}
 use Rattle.first_pass_lines.specs.Places.{Place, line_place}
 use Rattle.first_pass_grammar.specs.declared.kind.Container.{Container}
 use Rattle.first_pass_grammar.specs.declared.kind.Container.TheVariants.{BlockQuote, ListItem, FootnoteDefinition, Definition}
 use Rattle.first_pass_grammar.specs.Before.{Before}
-use Rattle.first_pass_grammar.specs.Containers.{footnote_columns, prefix, after, in_footnote, in_old_footnote}
+use Rattle.first_pass_grammar.specs.Containers.{footnote_columns, after, in_footnote, in_old_footnote}
 use Rattle.first_pass_grammar.specs.Leaves.{Document}
 use Rattle.first_pass_grammar.specs.Skeleton.{Line, level, ends_old_footnote}
 use Rattle.first_pass_grammar.specs.Derivation.{Tables, no_tables}
@@ -37,6 +35,7 @@ use Rattle.first_pass_ready.proofs.ClosedIn.{defined_open, plain_not_open}
 use Rattle.first_pass_ready.proofs.ItemBodies.{item_container}
 use Rattle.first_pass_ready.proofs.PopLemmas.{leave_container}
 use Rattle.first_pass_ready.proofs.StateLemmas.{ready_plain, popped_as, popped_paths, popped_spine}
+use Rattle.first_pass_grammar.proofs.FootnoteHeads.{after_by}
 
 pub and_no : (b : Bool) → (b && false) ≡ false
 and_no true = refl
@@ -189,11 +188,6 @@ in_old options r old top =
     let inner : path_of options r.tree ≡ FootnoteDefinition (footnote_columns options) ∷ path =
     ap (path_in options r.tree.nodes) t.3 ∙ ap (λ o. with_container (option_and_then (container_of options) o) path) t.4 in
     ap in_old_footnote (inner ∙ ap (λ (n : ℕ). FootnoteDefinition n ∷ path) (columns_none options false old refl))
-
-after_by : (o : Option Rest) → option_and_then (prefix (FootnoteDefinition 0)) o ≡ o
-unfolding prefix
-after_by None = refl
-after_by (Some r) = ap (λ (t : Bool). if t || at_line_end r.left then Some r else None) (leb-zero (indent r))
 
 after_old : (path : List Container) (r : Rest) → after (FootnoteDefinition 0 ∷ path) r ≡ after path r
 unfolding after

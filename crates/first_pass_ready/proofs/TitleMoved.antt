@@ -9,6 +9,7 @@ use Rattle.first_pass_tree.specs.Tight.{tight_body, tightened}
 use Rattle.first_pass_tree.proofs.Depths.{last-order}
 use Rattle.first_pass_tree.proofs.Moves.{last_before-is}
 use Rattle.first_pass_grammar.specs.Completion.{flagged, list_closed}
+use Rattle.first_pass_lists.proofs.MovedLemmas.{lower_length}
 
 -- the innermost open node and its last child, the current node
 pub record IsLastChild (f : Forest Item) (ix : TreeIndex) (rest : List TreeIndex) (c : TreeIndex) : Type 0 where
@@ -74,11 +75,6 @@ lower_behind ns zero k l = lower_map ns k
 lower_behind [] (suc e) k l = omega arith
 lower_behind (n ∷ ns) (suc e) zero l = absurd (omega arith)
 lower_behind (n ∷ ns) (suc e) (suc k) l = lower_behind ns e k (omega arith)
-
-lower_length : (ns : List (ℕ × Item)) (e : ℕ) → length (map_from shallower e ns) ≡ length ns
-lower_length ns zero = length-map ns shallower
-lower_length [] (suc e) = refl
-lower_length (n ∷ ns) (suc e) = ap suc (lower_length ns e)
 
 -- a moved node is the last of its depth, if all nodes after it were deeper
 pub moved_current : (ns : List (ℕ × Item)) (d at : ℕ) → IsLastAt (depths ns) (d + 1) at

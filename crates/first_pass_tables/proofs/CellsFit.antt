@@ -1,6 +1,6 @@
 -- The cells of a row, and the row itself, are in order between the start and the end of the row.
 use Rattle.std.proofs.Common.{◌≡◌, inl, inr, ℕ, zero, suc, ◌+◌, ◌-◌, ◌*◌, ◌<◌, ◌≤◌, ◌==◌, Bool, true, false, true≢false, List, [], ◌∷◌, ◌++◌, length, take}
-use Rattle.std.proofs.Common.{drop, replicate, slice_index, None, IsUtf8, IsCharBoundary, refl, sym, ap, subst, ◌∙◌, arith, append_assoc, if◌then◌else◌}
+use Rattle.std.proofs.Common.{drop, replicate, slice_index, None, IsUtf8, IsCharBoundary, refl, sym, ap, subst, ◌∙◌, arith, if◌then◌else◌}
 use Rattle.std.specs.List.{prefix_len}
 use Rattle.std.proofs.lemmas.Bool.{cases_lt, eqb-true}
 use Rattle.std.proofs.lemmas.List.{append-nil, get_or_past}
@@ -27,9 +27,10 @@ use Rattle.first_pass_grammar.specs.Tables.{cell_start, cell_text, cell_block, A
 use Rattle.first_pass_grammar.proofs.Orders.{beside, extents-append, extents-at_depth, laid-beside, laid-at_depth, fits-order, fits-later, fits-any}
 use Rattle.first_pass_grammar.proofs.Orders.{fits-beside, row_of, row_of-fits, length-block}
 use Rattle.first_pass_grammar.proofs.OwnNodes.{own_at_most, own_join, own_at_depth, AreCellsAt, own_filled}
-use Rattle.first_pass_grammar.proofs.RowEnds.{text_in_line, row_ends_its_line, begun_there, cell_takes_a_byte}
-use Rattle.first_pass_grammar.proofs.TableEnds.{cells_end}
+use Rattle.first_pass_grammar.proofs.RowEnds.{row_ends_its_line, begun_there, cell_takes_a_byte}
+use Rattle.first_pass_grammar.proofs.TableEnds.{cells_end, text_within}
 use Rattle.first_pass_open.proofs.PlaceLemmas.{place_end, line_start_end}
+use Rattle.first_pass_tables.proofs.RowCells.{side_more}
 
 -- the nodes of blocks side by side are between two offsets in order, in no list item (this project)
 abbrev pub AreBetween : List ℕ → ℕ → ℕ → List (ℕ × Item) → Type 0
@@ -123,7 +124,7 @@ one_cell : {after : MathBraces} (d : Document) (p : Spot) (tokens : List Item) (
     → OneCell d p.at stop (cell_block (cell_start d.text p.at) stop tokens)
 one_cell d p tokens stop utf8 boundary on cell =
     let at : ℕ = p.at in
-    let text = text_in_line d.text at boundary.0 in
+    let text = text_within d.text at boundary.0 in
     let starts = start_boundary d.text at (slice_index d.text at == pipe) refl utf8 boundary in
     let begins = white_boundary d.text (cell_start d.text at) utf8 starts in
     let behind = start_behind d.text at (slice_index d.text at == pipe) refl in
@@ -207,10 +208,6 @@ unfolding AreCellsAt
 empty_at at zero = tt
 empty_at at (suc n) = (refl, refl, empty_at at n)
 
-side-append : (xs ys : List (List (ℕ × Item))) → side_by_side (xs ++ ys) ≡ side_by_side xs ++ side_by_side ys
-side-append [] ys = refl
-side-append (block ∷ xs) ys = ap (λ (z : List (ℕ × Item)). block ++ z) (side-append xs ys) ∙ sym (append_assoc block (side_by_side xs) (side_by_side ys))
-
 -- A row is in order between its start and its end. It has at most two nodes of its own, and two for each byte.
 pub record OneRow (text : List ℕ) (from to : ℕ) (items : List (ℕ × Item)) : Type 0 where
   pub between : AreBetween text from to items
@@ -225,7 +222,7 @@ row_fits d body columns p cells to utf8 boundary are =
     let ends = row_boundary d p cells to utf8 boundary are in
     let order = (cells_end d p cells to boundary.0 are).0 in
     let missing : List (List (ℕ × Item)) = replicate (filled columns cells) (cell_block stop stop []) in
-    let parts = side-append (take columns cells) missing in
+    let parts = side_more (take columns cells) missing in
     let x : Item = record { start = start; «end» = stop; body = body } in
     let inside : AreBetween d.text start stop (row_cells columns cells stop) = subst (AreBetween d.text start stop) (sym parts)
     (between-join d.text start stop stop (side_by_side (take columns cells)) (side_by_side missing) kept.between

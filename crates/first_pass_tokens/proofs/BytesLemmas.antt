@@ -162,14 +162,14 @@ few_in_line {texts} {s} {tokens} {answer} {after} line =
     let answer_is : answer.0 ≡ end + line_end_len s end = ap (λ (a : ℕ × Option Item). a.0) line.answer_is in
     omega arith
 
-ended_length : (nodes : List (ℕ × Item)) (i : ℕ) (g : Item → Item) → length (modify nodes i g) ≡ length nodes
-ended_length [] i g = refl
-ended_length (n ∷ nodes) zero g = refl
-ended_length (n ∷ nodes) (suc i) g = ap suc (ended_length nodes i g)
+pub length-modify : (nodes : List (ℕ × Item)) (i : ℕ) (g : Item → Item) → length (modify nodes i g) ≡ length nodes
+length-modify [] i g = refl
+length-modify (n ∷ nodes) zero g = refl
+length-modify (n ∷ nodes) (suc i) g = ap suc (length-modify nodes i g)
 
 few_ended : (f : Forest Item) (e : ℕ) (c : Option TreeIndex) → length (with_end f e c).nodes ≤ length f.nodes + 1
 few_ended f e None = omega arith
-few_ended f e (Some c) = (let same = ended_length f.nodes c.0 (λ (x : Item). record x { «end» = e }) in omega arith)
+few_ended f e (Some c) = (let same = length-modify f.nodes c.0 (λ (x : Item). record x { «end» = e }) in omega arith)
 
 few_token : (f : Forest Item) (x : Item) → length (with_token f x).nodes ≤ length f.nodes + 1
 few_token f x =
