@@ -1,6 +1,7 @@
 -- After each call, each index in the nodes names an entry, if each did before.
 use Rattle.std.proofs.Common.{◌≡◌, ◌⊎◌, inl, inr, ℕ, zero, suc, ◌+◌, ◌-◌, ◌<◌, ◌==◌, ◌&&◌, nat_lt, Bool, true, false, if◌then◌else◌, List, [], ◌∷◌, ◌++◌}
-use Rattle.std.proofs.Common.{length, length-append, take, drop, Option, Some, None, IfSome, IsSomeAnd, MatchOption, IsCharBoundary, sym, ap, subst, ◌∙◌, arith}
+use Rattle.std.proofs.Common.{length, length-append, take, drop, Option, Some, None, IfSome, IsSomeAnd, MatchOption, IsCharBoundary, sym, ap, subst, ◌∙◌}
+use Rattle.std.proofs.Common.{arith}
 use Rattle.std.proofs.lemmas.Bool.{cond_both}
 use Rattle.std.proofs.lemmas.Option.{slice_get_within}
 use Rattle.first_pass_items.specs.declared.item.HeadingLevel.{HeadingLevel}
@@ -25,7 +26,8 @@ use Rattle.first_pass_grammar.specs.RawLines.{AreColumns, range_text, range_html
 use Rattle.first_pass_grammar.specs.Tables.{AreCells, row_block, table_so_far, filled, most_filled, taking}
 use Rattle.first_pass_grammar.proofs.EachToken.{AreEach, both_each, cell_each, heading_each, line_each, raw_each, range_text_each}
 use Rattle.first_pass_grammar.proofs.MoreNames.{extends_none, extends_named}
-use Rattle.first_pass_grammar.proofs.NamedItems.{HasEntry, IsNamed, block_named, each_named, html_is_free, lines_named, named_both, named_deeper, named_modified}
+use Rattle.first_pass_grammar.proofs.NamedItems.{HasEntry, IsNamed, block_named, each_named, html_is_free, lines_named, named_both, named_deeper}
+use Rattle.first_pass_grammar.proofs.NamedItems.{named_modified}
 use Rattle.first_pass_grammar.proofs.NamedItems.{named_more, text_is_free, tokens_entered}
 use Rattle.first_pass_grammar.proofs.TableItems.{both_nodes, cells_nodes, nodes_named, row_nodes, rows_nodes}
 use Rattle.first_pass_grammar.proofs.TextsNamed.{given_entry, text_named}

@@ -18,7 +18,8 @@ use Rattle.first_pass_tree.specs.declared.tree_index.TreeIndex.{TreeIndex}
 use Rattle.first_pass_tree.specs.Forest.{Forest, body_at, cut_item, cut_siblings, cut_tokens, is_escaped, item_at, open_place, with_body_at}
 use Rattle.first_pass_grammar.specs.Leaves.{Document}
 use Rattle.first_pass_grammar.specs.OpenOrder.{laid_open, AreAt, open_within, FitsOpen, IsOrderedTo}
-use Rattle.first_pass_grammar.specs.Order.{Extent, extent_of, extents, is_text_block, Siblings, Empty, Node, laid, IsBetween, Within, Elsewhere, InItem, InText}
+use Rattle.first_pass_grammar.specs.Order.{Extent, extent_of, extents, is_text_block, Siblings, Empty, Node, laid, IsBetween, Within, Elsewhere, InItem}
+use Rattle.first_pass_grammar.specs.Order.{InText}
 use Rattle.first_pass_grammar.specs.Order.{InFirst, below, beyond, IsLead, Fits}
 use Rattle.first_pass_grammar.proofs.Orders.{ended_at, extents-append, fits-one, fits-order, laid-one, length-places}
 use Rattle.first_pass_open.proofs.PathLemmas.{get_front}

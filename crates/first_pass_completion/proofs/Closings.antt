@@ -27,7 +27,8 @@ use Rattle.first_pass_completion.proofs.Extending.{tail, lvl, finish_moved, loos
 use Rattle.first_pass_completion.proofs.Extending.{extend, StaysAt}
 use Rattle.first_pass_grammar.proofs.Finishes.{Finish, Tail, CompletesAt, FinishesAt, finish_derives, whole_by}
 use Rattle.first_pass_completion.proofs.FlatBlocks.{OwnParagraph}
-use Rattle.first_pass_completion.proofs.Moved.{is_definition, opens_definition, OpensAlike, takes_alike, other_alike, SameAfter, seq_moved, SameFirst, same_after}
+use Rattle.first_pass_completion.proofs.Moved.{is_definition, opens_definition, OpensAlike, takes_alike, other_alike, SameAfter, seq_moved, SameFirst}
+use Rattle.first_pass_completion.proofs.Moved.{same_after}
 use Rattle.first_pass_completion.proofs.Moved.{same_back}
 use Rattle.first_pass_completion.proofs.Moved.{rows_moved, counts_moved, Known, FirstHas, known_first, OpensBlock, FirstIsOther, first_is_other}
 use Rattle.first_pass_completion.proofs.PoppedLists.{last_in, closed_below, title_below}

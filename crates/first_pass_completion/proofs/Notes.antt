@@ -14,7 +14,8 @@ use Rattle.first_pass_grammar.specs.Before.{Before, is_after_definition, begins_
 use Rattle.first_pass_grammar.specs.Skeleton.{Inside, Opening, Opens, level}
 use Rattle.first_pass_grammar.specs.Rows.{Rows, any_gap, row_of, leaf_row, gap_before, container_row, definitions_first, rows_of}
 use Rattle.first_pass_grammar.specs.Derivation.{Tables, items_of}
-use Rattle.first_pass_grammar.specs.Completion.{Closed, OtherClosed, ParagraphAt, DefinitionClosed, TitleAt, NoList, rows_beyond, rendered, Frame, InContainer}
+use Rattle.first_pass_grammar.specs.Completion.{Closed, OtherClosed, ParagraphAt, DefinitionClosed, TitleAt, NoList, rows_beyond, rendered, Frame}
+use Rattle.first_pass_grammar.specs.Completion.{InContainer}
 use Rattle.first_pass_grammar.specs.Completion.{InList, InDefinitions, containers_of, loosened, IsPlain, last_plain, StandsIn, IsShaped}
 use Rattle.first_pass_completion.proofs.Completions.{beside_all}
 use Rattle.first_pass_completion.proofs.Extending.{tail, lvl, loosened_in, stands_after, plain_before, extend, StaysAt}

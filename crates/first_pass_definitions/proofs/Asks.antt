@@ -20,7 +20,8 @@ use Rattle.first_pass_kinds.specs.Memory.{line_may_head}
 use Rattle.first_pass_labels.specs.declared.label_table.LinkDef.{LinkDef}
 use Rattle.first_pass_definitions.specs.Reading.{stops_title, goes_on_at}
 use Rattle.first_pass_items.specs.declared.cow_str.CowStr.{CowStr}
-use Rattle.first_pass_definitions.proofs.Targets.{shifted, IsLabelAnswer, IsReferenceAnswer, label_found, IsTitleRead, read_to, IsDest, space_found, dest_found}
+use Rattle.first_pass_definitions.proofs.Targets.{shifted, IsLabelAnswer, IsReferenceAnswer, label_found, IsTitleRead, read_to, IsDest, space_found}
+use Rattle.first_pass_definitions.proofs.Targets.{dest_found}
 use Rattle.first_pass_definitions.proofs.Targets.{TargetFound}
 use Rattle.first_pass_definitions.specs.Memory.{LabelAsks, TargetAsks, ReferenceAsks, BehindAsks, PartsAsk, line_asks, text_asks}
 use Rattle.first_pass_definitions.specs.Memory.{behind_asks, MeetsTable}

@@ -1,5 +1,6 @@
 -- The ends of definitions.
-use Rattle.std.proofs.Common.{◌≡◌, ◌⊎◌, inl, inr, ℕ, zero, suc, ◌+◌, ◌-◌, ◌<◌, ◌==◌, nat_lt, Bool, true, false, List, [], ◌∷◌, take, drop, slice_index, Option}
+use Rattle.std.proofs.Common.{◌≡◌, ◌⊎◌, inl, inr, ℕ, zero, suc, ◌+◌, ◌-◌, ◌<◌, ◌==◌, nat_lt, Bool, true, false, List, [], ◌∷◌, take, drop, slice_index}
+use Rattle.std.proofs.Common.{Option}
 use Rattle.std.proofs.Common.{Some, None, is_some, refl, sym, ap, subst, ◌∙◌, arith, if◌then◌else◌}
 use Rattle.std.specs.Bool.{⊤}
 use Rattle.std.specs.Char.{is_ascii_punctuation}
@@ -9,14 +10,16 @@ use Rattle.std.specs.Option.{option_map, option_and_then, option_map_or}
 use Rattle.std.proofs.lemmas.List.{drop-drop, get_or-drop}
 use Rattle.std.proofs.lemmas.Option.{cond_some}
 use Rattle.first_pass_lines.specs.Lines.{is_line_end, ends_line, begins, blank_len}
-use Rattle.first_pass_links.specs.Destinations.{unescaped_upto, ends_brackets, bracketed_at, ends_run, longer, if_closed, closes_none, nesting_behind, run_len}
+use Rattle.first_pass_links.specs.Destinations.{unescaped_upto, ends_brackets, bracketed_at, ends_run, longer, if_closed, closes_none, nesting_behind}
+use Rattle.first_pass_links.specs.Destinations.{run_len}
 use Rattle.first_pass_links.specs.Destinations.{unbracketed, destination_at}
 use Rattle.first_pass_links.specs.Escapes.{begins_escape}
 use Rattle.first_pass_links.proofs.Destinations.{first_byte}
 use Rattle.first_pass_links.specs.Labels.{joined, bytes_of, offsets_of, label_at}
 use Rattle.first_pass_grammar.specs.Containers.{Context}
 use Rattle.first_pass_grammar.specs.Definitions.{prefix_crossed, space_at, with_line_feeds, ends_title, title_end, title_text, title_prefix, title_at}
-use Rattle.first_pass_grammar.specs.Definitions.{alone_behind, title_beyond, title_behind, behind_destination, deepest_nesting, Target, target_of, target_from}
+use Rattle.first_pass_grammar.specs.Definitions.{alone_behind, title_beyond, title_behind, behind_destination, deepest_nesting, Target, target_of}
+use Rattle.first_pass_grammar.specs.Definitions.{target_from}
 use Rattle.first_pass_grammar.specs.Definitions.{target_beyond, target_at, LinkReference, reference_of, reference_behind, reference_at}
 
 -- the parts of a result

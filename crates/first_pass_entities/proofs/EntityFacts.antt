@@ -13,7 +13,8 @@ use Rattle.std.proofs.lemmas.Option.{some_pair_parts}
 use Rattle.std.proofs.lemmas.List.{get_or-drop}
 use Rattle.std.proofs.lemmas.List.Folds.{length-prefix_len}
 use Rattle.first_pass_lines.specs.Lines.{begins}
-use Rattle.first_pass_entities.specs.Entities.{referred, behind, number_at, numeric_at, named_in_xml, named_sign, named_punctuation, named, name_at, entity_at}
+use Rattle.first_pass_entities.specs.Entities.{referred, behind, number_at, numeric_at, named_in_xml, named_sign, named_punctuation, named, name_at}
+use Rattle.first_pass_entities.specs.Entities.{entity_at}
 
 -- a byte other than a backslash
 abbrev pub is_plain : ℕ → Bool

@@ -11,7 +11,8 @@ use Rattle.first_pass_grammar.specs.Skeleton.{From, Line, level, Left, Lines, In
 use Rattle.first_pass_grammar.specs.Before.{Before, nothing, after_container, before_end}
 use Rattle.first_pass_grammar.specs.Rows.{ItemsOf, Rows, any_gap, rows_of}
 use Rattle.first_pass_grammar.specs.Derivation.{Tables, Derives, no_tables, told_by, root_of, items_of}
-use Rattle.first_pass_grammar.specs.Completion.{OneList, Standing, Further, AreFurther, rows_on, rows_beyond, rendered, Frame, InContainer, InList, InDefinitions, definitions_open}
+use Rattle.first_pass_grammar.specs.Completion.{OneList, Standing, Further, AreFurther, rows_on, rows_beyond, rendered, Frame, InContainer, InList}
+use Rattle.first_pass_grammar.specs.Completion.{InDefinitions, definitions_open}
 use Rattle.first_pass_grammar.specs.Completion.{containers_of, loosened, container_closed, Becomes, Completes, CanGoOn, Completion}
 use Rattle.first_pass_exists.proofs.Found.{Found}
 use Rattle.first_pass_grammar.proofs.MoreNames.{extends_none, extends_both}

@@ -1,5 +1,6 @@
 -- The flat form read back.
-use Rattle.std.proofs.Common.{◌≡◌, ℕ, ◌+◌, Option, Some, None, List, [], ◌∷◌, ◌++◌, length, map, take, drop, unwrap_or, refl, sym, ap, ◌∙◌, cond, append_assoc}
+use Rattle.std.proofs.Common.{◌≡◌, ℕ, ◌+◌, Option, Some, None, List, [], ◌∷◌, ◌++◌, length, map, take, drop, unwrap_or, refl, sym, ap, ◌∙◌, cond}
+use Rattle.std.proofs.Common.{append_assoc}
 use Rattle.std.specs.Prelude.{is_some}
 use Rattle.std.specs.List.{flat_map}
 use Rattle.std.proofs.Math.Seq.{take-append_seam, drop-append_seam}
@@ -20,7 +21,8 @@ use Rattle.first_pass_flat.specs.declared.nodes.FlatPlace.{FlatPlace}
 use Rattle.first_pass_flat.specs.declared.records.FlatAttribute.{FlatAttribute}
 use Rattle.first_pass_flat.specs.declared.records.FlatDefinition.{FlatDefinition}
 use Rattle.first_pass_flat.specs.declared.records.FlatNode.{FlatNode}
-use Rattle.first_pass_flat.proofs.Bodies.{is_set, body_from, body_kept, named_from, named_kept, bytes_named, bytes_counted, attributes_counted, attributes_kept}
+use Rattle.first_pass_flat.proofs.Bodies.{is_set, body_from, body_kept, named_from, named_kept, bytes_named, bytes_counted, attributes_counted}
+use Rattle.first_pass_flat.proofs.Bodies.{attributes_kept}
 
 module _ {X : Type 0} where
   -- the first part of bytes that are grouped otherwise, and the rest

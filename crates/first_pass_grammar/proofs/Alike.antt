@@ -1,5 +1,6 @@
 -- Items that read alike: they differ at most in indices that name the same text, alignments or attributes.
-use Rattle.std.proofs.Common.{◌≡◌, ℕ, zero, suc, ◌+◌, ◌==◌, Bool, true, false, List, [], ◌∷◌, ◌++◌, map, Option, Some, None, refl, sym, ap, ◌∙◌, if◌then◌else◌}
+use Rattle.std.proofs.Common.{◌≡◌, ℕ, zero, suc, ◌+◌, ◌==◌, Bool, true, false, List, [], ◌∷◌, ◌++◌, map, Option, Some, None, refl, sym, ap, ◌∙◌}
+use Rattle.std.proofs.Common.{if◌then◌else◌}
 use Rattle.std.specs.Option.{option_and_then, option_map}
 use Rattle.std.proofs.lemmas.List.{map-append}
 use Rattle.first_pass_items.specs.declared.item.Alignment.{Alignment}
@@ -21,7 +22,8 @@ use Rattle.first_pass_grammar.specs.Names.{Names, NamesText, NamesAlignments, Na
 use Rattle.first_pass_grammar.specs.Names.{OfHeading, index_of, kind_alone, named, read, read_nodes}
 use Rattle.first_pass_grammar.specs.Leaves.{Document, document, block_with}
 use Rattle.first_pass_grammar.specs.RawLines.{AreColumns, Ranges, range_text, range_html, raw_items, AreRawLines, spaces}
-use Rattle.first_pass_grammar.specs.Blocks.{LeafBlock, Leaf, BlankLine, Block, Opener, QuoteMarker, ItemMarker, FootnoteMarker, DefinitionMarker, label_of, Head, opened}
+use Rattle.first_pass_grammar.specs.Blocks.{LeafBlock, Leaf, BlankLine, Block, Opener, QuoteMarker, ItemMarker, FootnoteMarker, DefinitionMarker, label_of}
+use Rattle.first_pass_grammar.specs.Blocks.{Head, opened}
 use Rattle.first_pass_grammar.specs.Blocks.{Skeleton, Nil, Then, Node}
 use Rattle.first_pass_grammar.specs.Skeleton.{From, Line, Blanks, At, Anything, ALeafAlone, TextOf, MarkAlone, Opening, OpensLeaf, OpensNode}
 use Rattle.first_pass_grammar.specs.Kinds.{Kind}

@@ -10,7 +10,8 @@ use Rattle.first_pass_grammar.specs.Skeleton.{From, level, Left, Lines, onward, 
 use Rattle.first_pass_grammar.specs.Rows.{ItemsOf, Rows, any_gap, rows_of}
 use Rattle.first_pass_grammar.specs.Derivation.{Tables, Derives, told_by}
 use Rattle.first_pass_grammar.specs.Completion.{ended, Pending, NoList, OneList, Standing, Further, AreFurther, rows_beyond, rendered, Frame, InContainer}
-use Rattle.first_pass_grammar.specs.Completion.{Closed, InDefinitions, closed_as, definitions_open, InList, containers_of, loosened, last_of, Becomes, Completes}
+use Rattle.first_pass_grammar.specs.Completion.{Closed, InDefinitions, closed_as, definitions_open, InList, containers_of, loosened, last_of, Becomes}
+use Rattle.first_pass_grammar.specs.Completion.{Completes}
 use Rattle.first_pass_grammar.specs.Containers.{is_quote}
 
 -- some remaining sequence of the innermost container, and so on outwards

@@ -16,7 +16,8 @@ use Rattle.first_pass_table_scan.specs.TableHead.{head_columns, delimiter_row_of
 use Rattle.first_pass_grammar.specs.declared.kind.Container.{Container}
 use Rattle.first_pass_grammar.specs.declared.kind.Container.TheVariants.{FootnoteDefinition}
 use Rattle.first_pass_grammar.specs.Containers.{context, footnote_columns, prefix, after, or_shorter, front, is_definition, at_definition}
-use Rattle.first_pass_grammar.specs.Kinds.{all_taken, unindented, interrupts_with, footnote_interrupts, definition_interrupts, Continued, continued, interrupts, ends_paragraph}
+use Rattle.first_pass_grammar.specs.Kinds.{all_taken, unindented, interrupts_with, footnote_interrupts, definition_interrupts, Continued, continued}
+use Rattle.first_pass_grammar.specs.Kinds.{interrupts, ends_paragraph}
 use Rattle.first_pass_grammar.specs.TableHeads.{if_as_many, table_at}
 use Rattle.first_pass_grammar.specs.Definitions.{is_underline, crossed}
 use Rattle.first_pass_grammar.specs.Footnotes.{footnote_prefix, footnote_head_at}

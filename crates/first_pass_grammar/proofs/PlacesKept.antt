@@ -1,12 +1,14 @@
 -- The rest at a place is the text from its offset on. This holds for the lines of a text; after columns, markers and
 -- container prefixes; and for the places and lines after a leaf block.
-use Rattle.std.proofs.Common.{◌≡◌, ℕ, zero, suc, ◌+◌, ◌-◌, ◌%◌, ◌==◌, nat_lt, Bool, true, false, List, [], ◌∷◌, drop, Option, Some, None, refl, sym, ap, subst}
+use Rattle.std.proofs.Common.{◌≡◌, ℕ, zero, suc, ◌+◌, ◌-◌, ◌%◌, ◌==◌, nat_lt, Bool, true, false, List, [], ◌∷◌, drop, Option, Some, None, refl, sym, ap}
+use Rattle.std.proofs.Common.{subst}
 use Rattle.std.proofs.Common.{◌∙◌, arith, drop-drop, if◌then◌else◌}
 use Rattle.std.specs.Option.{option_map, option_and_then}
 use Rattle.std.proofs.lemmas.Option.{none-some, same_Some}
 use Rattle.first_pass_items.specs.declared.option_set.Options.{Options}
 use Rattle.first_pass_items.specs.OptionWords.{has, tasklists}
-use Rattle.first_pass_lines.specs.Rest.{Rest, indent, past_byte, past_bytes, past_quote_byte, past_quote, column_of_byte, column_of, next_column, after_columns}
+use Rattle.first_pass_lines.specs.Rest.{Rest, indent, past_byte, past_bytes, past_quote_byte, past_quote, column_of_byte, column_of, next_column}
+use Rattle.first_pass_lines.specs.Rest.{after_columns}
 use Rattle.first_pass_lines.specs.Places.{Place, place_at, offset}
 use Rattle.first_pass_lines.proofs.Columns.{after-more, after-none}
 use Rattle.first_pass_scan.specs.Markers.{item_of, task_of, definition_of}

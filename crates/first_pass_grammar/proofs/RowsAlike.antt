@@ -1,5 +1,6 @@
 -- The rows of skeletons that are alike are alike too, and their items read alike.
-use Rattle.std.proofs.Common.{◌≡◌, ℕ, suc, ◌||◌, ◌&&◌, not, Bool, true, false, List, [], ◌∷◌, ◌++◌, map, Option, Some, None, refl, sym, ap, ◌∙◌, subst, if◌then◌else◌}
+use Rattle.std.proofs.Common.{◌≡◌, ℕ, suc, ◌||◌, ◌&&◌, not, Bool, true, false, List, [], ◌∷◌, ◌++◌, map, Option, Some, None, refl, sym, ap, ◌∙◌, subst}
+use Rattle.std.proofs.Common.{if◌then◌else◌}
 use Rattle.first_pass_items.specs.declared.item.Item.{Item}
 use Rattle.first_pass_items.specs.declared.item.ItemBody.TheVariants.{BlockQuote as BlockQuoteBody, List as ListBody, ListItem as ListItemBody}
 use Rattle.first_pass_items.specs.declared.item.ItemBody.TheVariants.{FootnoteDefinition as FootnoteDefinitionBody}
@@ -7,13 +8,15 @@ use Rattle.first_pass_tree.specs.Forest.{at_depth}
 use Rattle.first_pass_grammar.specs.declared.kind.Container.{Container}
 use Rattle.first_pass_grammar.specs.Names.{Names, Named, read_nodes}
 use Rattle.first_pass_grammar.specs.Kinds.{Kind}
-use Rattle.first_pass_grammar.specs.Blocks.{LeafBlock, BlankLine, Block, Head, Opener, QuoteMarker, ItemMarker, FootnoteMarker, DefinitionMarker, opened, label_of, Skeleton, Nil}
+use Rattle.first_pass_grammar.specs.Blocks.{LeafBlock, BlankLine, Block, Head, Opener, QuoteMarker, ItemMarker, FootnoteMarker, DefinitionMarker, opened}
+use Rattle.first_pass_grammar.specs.Blocks.{label_of, Skeleton, Nil}
 use Rattle.first_pass_grammar.specs.Blocks.{Then, Node}
 use Rattle.first_pass_grammar.specs.LinkTables.{LinkEntry, with_links, with_labels}
 use Rattle.first_pass_grammar.specs.Before.{Before, LastOther, nothing, after_blank, after_block, after_container, before_end}
 use Rattle.first_pass_grammar.specs.Containers.{is_quote}
 use Rattle.first_pass_grammar.specs.Rows.{What, ALeaf, AQuote, AList, AnItem, AFootnote, Row, Rows, End, OneOf, gapped, any_gap, is_loose}
-use Rattle.first_pass_grammar.specs.Rows.{Joins, ItemsOf, DefinitionsTo, Untitled, WithTitle, Apart, ADefinitionList, ATitle, ADefinition, is_list_of, ends_at}
+use Rattle.first_pass_grammar.specs.Rows.{Joins, ItemsOf, DefinitionsTo, Untitled, WithTitle, Apart, ADefinitionList, ATitle, ADefinition, is_list_of}
+use Rattle.first_pass_grammar.specs.Rows.{ends_at}
 use Rattle.first_pass_grammar.specs.Rows.{Definitions, apart_after, definitions_of_row, is_untitled, is_run_row, definitions_first, titled, leaf_row}
 use Rattle.first_pass_grammar.specs.Rows.{gap_before}
 use Rattle.first_pass_grammar.specs.Before.{LastParagraph, is_paragraph_body, begins_paragraph, is_run, is_after_definition, last_after_run}
@@ -25,7 +28,8 @@ use Rattle.first_pass_items.specs.declared.item.ItemBody.TheVariants.{Definition
 use Rattle.first_pass_items.specs.declared.item.ItemBody.TheVariants.{DefinitionListTitle, SynthesizeText, FencedCodeBlock, Table, Heading}
 use Rattle.first_pass_grammar.specs.Rows.{end_of, list_until, items_behind, list_behind, row_of, row_of_leaf, container_row, rows_of}
 use Rattle.first_pass_grammar.specs.Derivation.{Tables, definitions_of, footnotes_of, told_by, node_of, list_flags, row_items, tight_in, items_of}
-use Rattle.first_pass_grammar.proofs.Alike.{AlikeNodes, stands, head_alone, label_node, opened_alike, label_alike, Alike, nodes_append, tight_read, read_tight}
+use Rattle.first_pass_grammar.proofs.Alike.{AlikeNodes, stands, head_alone, label_node, opened_alike, label_alike, Alike, nodes_append, tight_read}
+use Rattle.first_pass_grammar.proofs.Alike.{read_tight}
 use Rattle.first_pass_grammar.proofs.Alike.{read_at_depth}
 
 -- a row without the items of its leaf block and the index of its label; the next definition: only these

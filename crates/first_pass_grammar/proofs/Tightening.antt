@@ -12,7 +12,8 @@ use Rattle.first_pass_items.specs.declared.item.ItemBody.TheVariants.{FootnoteDe
 use Rattle.first_pass_tree.specs.Forest.{modify, map_from, at_depth}
 use Rattle.first_pass_tree.specs.Tight.{tightened}
 use Rattle.first_pass_grammar.specs.Before.{Before, nothing, after_blank, after_block}
-use Rattle.first_pass_grammar.specs.Blocks.{LeafBlock, BlankLine, Block, Opener, QuoteMarker, ItemMarker, Skeleton, Nil, Then, Node, FootnoteMarker, DefinitionMarker}
+use Rattle.first_pass_grammar.specs.Blocks.{LeafBlock, BlankLine, Block, Opener, QuoteMarker, ItemMarker, Skeleton, Nil, Then, Node, FootnoteMarker}
+use Rattle.first_pass_grammar.specs.Blocks.{DefinitionMarker}
 use Rattle.first_pass_grammar.specs.Rows.{What, ALeaf, AQuote, AList, AnItem, Row, Rows, End, OneOf, is_loose, list_behind, row_of, container_row, rows_of}
 use Rattle.first_pass_grammar.specs.Derivation.{node_of, list_flags, row_items, tight_in, items_of}
 use Rattle.first_pass_grammar.specs.Completion.{flagged, list_closed}

@@ -17,7 +17,8 @@ use Rattle.first_pass_links.specs.Escapes.{unescaped}
 use Rattle.first_pass_grammar.specs.declared.kind.Container.{Container}
 use Rattle.first_pass_grammar.specs.Names.{Names, Named, read_nodes}
 use Rattle.first_pass_grammar.specs.Containers.{Context, at_rest, front, footnote_columns}
-use Rattle.first_pass_grammar.specs.Kinds.{Kind, Blank, IndentedCode, Metadata, HtmlToEnd, HtmlToBlank, ThematicBreak, AtxHeading, FencedCode, LinkDefinitions}
+use Rattle.first_pass_grammar.specs.Kinds.{Kind, Blank, IndentedCode, Metadata, HtmlToEnd, HtmlToBlank, ThematicBreak, AtxHeading, FencedCode}
+use Rattle.first_pass_grammar.specs.Kinds.{LinkDefinitions}
 use Rattle.first_pass_grammar.specs.Kinds.{Paragraph, unindented, is_blank_rest, first_kind, IsKindBy, IsKind, ends_tag}
 use Rattle.first_pass_grammar.specs.Headings.{heading_attributes_of}
 use Rattle.first_pass_grammar.specs.Leaves.{Document, document, around, line_bytes, heading_text_at, heading_block}
@@ -29,13 +30,15 @@ use Rattle.first_pass_grammar.specs.LinkTables.{LinkEntry}
 use Rattle.first_pass_grammar.specs.LinkRuns.{kind_in, lines_beyond, ends_run, Beyond, Ended, FlowsOn, IsRun}
 use Rattle.std.proofs.lemmas.Bool.{true≢false}
 use Rattle.std.proofs.lemmas.Option.{none-some, same_Some}
-use Rattle.first_pass_grammar.specs.Blocks.{leaf_block, Leaf, BlankLine, Block, Opener, QuoteMarker, ItemMarker, FootnoteMarker, DefinitionMarker, Head, opened, Skeleton, Nil}
+use Rattle.first_pass_grammar.specs.Blocks.{leaf_block, Leaf, BlankLine, Block, Opener, QuoteMarker, ItemMarker, FootnoteMarker, DefinitionMarker, Head}
+use Rattle.first_pass_grammar.specs.Blocks.{opened, Skeleton, Nil}
 use Rattle.first_pass_grammar.specs.Blocks.{Then, Node}
 use Rattle.first_pass_grammar.specs.Skeleton.{OpensBeyond, OpensRun, From, Line, Blanks, At, Anything, ALeafAlone, TextOf, MarkAlone, behind_marker, Opening}
 use Rattle.first_pass_grammar.specs.Skeleton.{OpensLeaf, OpensNode, OpensText, OpensExtent, OpensAs, OpensBlockAt, next_is_blank}
 use Rattle.first_pass_grammar.specs.Skeleton.{task_alone, behind_tag}
 use Rattle.first_pass_grammar.specs.Openers.{task_by, task_behind, tag_behind}
-use Rattle.first_pass_grammar.specs.Skeleton.{Opens, OpensAt, may_define, Level, level, level_in, level_after_leaf, level_after, Left, Lines, InLine, Going, Begins, Ends}
+use Rattle.first_pass_grammar.specs.Skeleton.{Opens, OpensAt, may_define, Level, level, level_in, level_after_leaf, level_after, Left, Lines, InLine, Going}
+use Rattle.first_pass_grammar.specs.Skeleton.{Begins, Ends}
 use Rattle.first_pass_grammar.specs.Skeleton.{going, onward, behind_first, end_before, IsFirst, IsSequence}
 use Rattle.first_pass_grammar.specs.Derivation.{Tables, no_tables, node_of, Derives, IsOnlyDerived}
 use Rattle.first_pass_grammar.proofs.NoIndex.{HasNoIndex, read_alone}

@@ -17,7 +17,8 @@ use Rattle.first_pass_tokens.specs.LineTokens.{spot}
 use Rattle.first_pass_grammar.specs.declared.kind.Container.{Container}
 use Rattle.first_pass_grammar.specs.Names.{Names}
 use Rattle.first_pass_grammar.specs.Containers.{Context, at_rest, front}
-use Rattle.first_pass_grammar.specs.Kinds.{Kind, Blank, IndentedCode, Metadata, HtmlToEnd, HtmlToBlank, ThematicBreak, AtxHeading, FencedCode, LinkDefinitions}
+use Rattle.first_pass_grammar.specs.Kinds.{Kind, Blank, IndentedCode, Metadata, HtmlToEnd, HtmlToBlank, ThematicBreak, AtxHeading, FencedCode}
+use Rattle.first_pass_grammar.specs.Kinds.{LinkDefinitions}
 use Rattle.first_pass_grammar.specs.Kinds.{Paragraph, unindented, is_blank_rest, ends_tag}
 use Rattle.first_pass_grammar.specs.Leaves.{Document, around, heading_text_at, block_with, TextLines}
 use Rattle.first_pass_grammar.specs.CodeBlocks.{fence_judge, metadata_judge, metadata_kind}
@@ -35,13 +36,15 @@ use Rattle.first_pass_grammar.specs.Skeleton.{Opening, OpensLeaf, OpensNode, Ope
 use Rattle.first_pass_grammar.specs.Openers.{task_by, task_behind}
 use Rattle.first_pass_grammar.specs.Skeleton.{task_alone, behind_tag, OpensIf}
 use Rattle.first_pass_grammar.specs.Openers.{tag_behind}
-use Rattle.first_pass_grammar.specs.Skeleton.{may_define, OpensAt, Level, Left, Lines, InLine, onward, level_in, level_after_leaf, level_after, behind_first, IsFirst}
+use Rattle.first_pass_grammar.specs.Skeleton.{may_define, OpensAt, Level, Left, Lines, InLine, onward, level_in, level_after_leaf, level_after}
+use Rattle.first_pass_grammar.specs.Skeleton.{behind_first, IsFirst}
 use Rattle.first_pass_grammar.specs.Skeleton.{IsSequence}
 use Rattle.first_pass_grammar.specs.WholeTables.{Mark, marks, table_marks, AreFull, AreWholeTables}
 use Rattle.first_pass_grammar.proofs.EachLeaf.{HoldsOfLeaf, HoldsOfEachLeaf}
 use Rattle.first_pass_grammar.proofs.EachToken.{AreEach, heading_each, range_text_each, range_html_each, raw_lines_each, lines_each, children_each}
 use Rattle.first_pass_grammar.proofs.EachToken.{heading_children_each}
-use Rattle.first_pass_grammar.proofs.PlacesKept.{IsAt, AreAt, at_unindented, at_front, at_taken, at_quote, at_item, at_marker, extent_at, tag_left_at, code_at}
+use Rattle.first_pass_grammar.proofs.PlacesKept.{IsAt, AreAt, at_unindented, at_front, at_taken, at_quote, at_item, at_marker, extent_at, tag_left_at}
+use Rattle.first_pass_grammar.proofs.PlacesKept.{code_at}
 use Rattle.first_pass_grammar.proofs.LinesLeft.{BeyondAt, run_at, text_left, beyond_at, place_behind_at, head_at}
 use Rattle.first_pass_items.specs.OptionWords.{gfm_footnotes}
 use Rattle.first_pass_grammar.specs.Footnotes.{footnote_head_at, place_behind}

@@ -6,7 +6,8 @@ use Rattle.first_pass_items.specs.declared.item.BlockQuoteKind.{BlockQuoteKind}
 use Rattle.first_pass_grammar.specs.Kinds.{Kind, Paragraph}
 use Rattle.first_pass_grammar.specs.Blocks.{LeafBlock, BlankLine, Block, Opener, QuoteMarker, ItemMarker, FootnoteMarker, DefinitionMarker, Head, opened}
 use Rattle.first_pass_grammar.specs.Blocks.{Skeleton, Nil, Then, Node}
-use Rattle.first_pass_grammar.specs.Before.{Before, nothing, is_after_definition, begins_paragraph, is_run, after_blank, after_block, after_container, before_end}
+use Rattle.first_pass_grammar.specs.Before.{Before, nothing, is_after_definition, begins_paragraph, is_run, after_blank, after_block, after_container}
+use Rattle.first_pass_grammar.specs.Before.{before_end}
 use Rattle.first_pass_grammar.specs.Containers.{is_quote}
 
 -- A definition list so far: without a title; with one; or with one that link reference definitions separate from the

@@ -1,6 +1,7 @@
 -- Facts on places in the text, and on the columns of a rest.
 use Rattle.std.proofs.Common.{◌≡◌, ◌⊎◌, inl, inr, ℕ, zero, suc, ◌+◌, ◌-◌, ◌<◌, ◌≤◌, Bool, true, false, ◌==◌, List, ◌∷◌, length, drop, get_or, slice_index, []}
-use Rattle.std.proofs.Common.{Option, Some, None, IsUtf8, IsCharBoundary, if◌then◌else◌, refl, sym, ap, subst, ◌∙◌, arith, length-drop, get_or-drop, drop-drop}
+use Rattle.std.proofs.Common.{Option, Some, None, IsUtf8, IsCharBoundary, if◌then◌else◌, refl, sym, ap, subst, ◌∙◌, arith, length-drop, get_or-drop}
+use Rattle.std.proofs.Common.{drop-drop}
 use Rattle.std.proofs.lemmas.Option.{none-some}
 use Rattle.std.specs.List.{prefix_len}
 use Rattle.std.proofs.lemmas.Str.{IsCharBoundary-after_ascii, IsCharBoundary-end}
@@ -8,10 +9,12 @@ use Rattle.std.proofs.lemmas.List.Sums.{prefix_len_passes, prefix_len-le-length}
 use Rattle.std.proofs.lemmas.Bool.{eqb-true, cases_lt}
 use Rattle.std.proofs.lemmas.Bool.Decides.{nat_tests}
 use Rattle.first_pass_lines.specs.Lines.{begins, ends_line, line_len, is_content, is_white, is_number_sign}
-use Rattle.first_pass_lines.specs.Rest.{Rest, past_byte, past_bytes, past_quote_byte, past_quote, column_of_byte, column_of, next_column, after_columns, indent}
+use Rattle.first_pass_lines.specs.Rest.{Rest, past_byte, past_bytes, past_quote_byte, past_quote, column_of_byte, column_of, next_column, after_columns}
+use Rattle.first_pass_lines.specs.Rest.{indent}
 use Rattle.first_pass_lines.specs.Places.{Place, place_at, offset, line_place, IsPlaceOf, moved_columns, moved_bytes, line_end}
 use Rattle.first_pass_lines.specs.Places.{start_of, lines_at}
-use Rattle.first_pass_lines.proofs.LineFacts.{line_len-none, line_len-step, line_len-some, line_len-within, line_len-content_first, lines_at-line, lines_at-end}
+use Rattle.first_pass_lines.proofs.LineFacts.{line_len-none, line_len-step, line_len-some, line_len-within, line_len-content_first, lines_at-line}
+use Rattle.first_pass_lines.proofs.LineFacts.{lines_at-end}
 use Rattle.first_pass_lines.proofs.Columns.{after-more, after-none, indent-some, all-more, all-none}
 
 -- all columns are taken: no column is owed, and neither a space nor a tab is left

@@ -8,7 +8,8 @@ use Rattle.std.proofs.lemmas.List.{map-append, length-map, append-nil}
 use Rattle.first_pass_lines.specs.Lines.{begins, ends_line, is_ascii_white}
 use Rattle.first_pass_links.specs.Escapes.{without_pipe_escapes}
 use Rattle.first_pass_links.specs.declared.label.Unit.{Unit}
-use Rattle.first_pass_links.specs.Labels.{is_bracket, AnswersWith, CanErr, IsRewritten, HasNoBracket, before_bracket, bytes_of, label_len, single_spaced, shown}
+use Rattle.first_pass_links.specs.Labels.{is_bracket, AnswersWith, CanErr, IsRewritten, HasNoBracket, before_bracket, bytes_of, label_len, single_spaced}
+use Rattle.first_pass_links.specs.Labels.{shown}
 use Rattle.first_pass_links.specs.Units.{read_of, left_at, Reads, IsWhiteRun, StopsByError, weight}
 use Rattle.first_pass_links.proofs.Parts.{weight-append, weight-length, weight-nil, weight-space, weight-other}
 use Rattle.std.proofs.lemmas.Bool.Decides.{nat_tests}

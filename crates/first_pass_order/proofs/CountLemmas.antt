@@ -37,7 +37,8 @@ use Rattle.first_pass_items.specs.declared.item.CowIndex.{CowIndex}
 use Rattle.first_pass_lists.specs.declared.reading.Reading.{Reading}
 use Rattle.first_pass_open.specs.OpenBlock.{begun_item}
 use Rattle.first_pass_order.proofs.AlikeNodes.{AreAlike, NoNodes, OneMore}
-use Rattle.first_pass_order.proofs.PropertyKept.{IsLeft, Property, HoldsAt, popped_at_keeps, popped_keeps, item_finished_keeps, noted_keeps, kept_keeps, blank_keeps}
+use Rattle.first_pass_order.proofs.PropertyKept.{IsLeft, Property, HoldsAt, popped_at_keeps, popped_keeps, item_finished_keeps, noted_keeps, kept_keeps}
+use Rattle.first_pass_order.proofs.PropertyKept.{blank_keeps}
 use Rattle.first_pass_order.proofs.PropertyKept.{list_finished_keeps, quote_keeps, item_keeps, note_keeps}
 use Rattle.first_pass_open.specs.Between.{AddsBetween}
 use Rattle.first_pass_lists.proofs.NoEmptyItem.{item_opened}

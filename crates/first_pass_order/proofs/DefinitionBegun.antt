@@ -14,7 +14,8 @@ use Rattle.first_pass_tree.specs.declared.tree_index.TreeIndex.{TreeIndex}
 use Rattle.first_pass_tree.specs.Forest.{Forest, IsForest, IsLastAt, depths, modify, with_body_at, body_at, item_at, deeper, pushed, wrapped}
 use Rattle.first_pass_tree.proofs.BodyLemmas.{body-other, body_of}
 use Rattle.first_pass_grammar.specs.Derivation.{list_flags}
-use Rattle.first_pass_grammar.specs.Order.{Extent, extent_of, extents, is_task_marker, is_list_item, is_text_block, is_definition_list, Siblings, Empty, Node, laid}
+use Rattle.first_pass_grammar.specs.Order.{Extent, extent_of, extents, is_task_marker, is_list_item, is_text_block, is_definition_list, Siblings, Empty}
+use Rattle.first_pass_grammar.specs.Order.{Node, laid}
 use Rattle.first_pass_grammar.specs.OpenOrder.{laid_open, AreAt, FitsOpen, IsOrderedTo}
 use Rattle.first_pass_grammar.proofs.Orders.{laid_open-beside, laid_open-level, length-places}
 use Rattle.first_pass_order.proofs.RowSplits.{last_child, fits_open_titled, as_list, open_definitions, laid-deeper, extents-deeper}

@@ -28,7 +28,8 @@ use Rattle.first_pass_lists.specs.Closing.{popped, item_finished_by, item_finish
 use Rattle.first_pass_lists.specs.Closing.{loosened_top, list_kept, begun, footnote_begun, list_continued, blank_read_by}
 use Rattle.first_pass_lists.specs.Closing.{blank_read}
 use Rattle.first_pass_lists.specs.declared.reading.Reading.{Reading}
-use Rattle.first_pass_order.proofs.AlikeNodes.{class_of, AreAlike, NoNodes, OneMore, LooksAlike, like_popped, like_loosened, like_noted, like_kept, like_blank}
+use Rattle.first_pass_order.proofs.AlikeNodes.{class_of, AreAlike, NoNodes, OneMore, LooksAlike, like_popped, like_loosened, like_noted, like_kept}
+use Rattle.first_pass_order.proofs.AlikeNodes.{like_blank}
 use Rattle.first_pass_order.specs.Ordered.{top_of, AreNested, HasDefinition, CanClose}
 
 abbrev pub classes : List (ℕ × Item) → List (Bool × Bool)

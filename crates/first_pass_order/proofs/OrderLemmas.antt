@@ -9,7 +9,8 @@ use Rattle.first_pass_items.specs.declared.item.ItemBody.TheVariants.{List as Li
 use Rattle.first_pass_items.specs.declared.item.ItemBody.TheVariants.{DefinitionList, DefinitionListDefinition}
 use Rattle.first_pass_tree.specs.declared.tree_index.TreeIndex.{TreeIndex}
 use Rattle.first_pass_tree.specs.Forest.{Forest, empty_forest, with_end_at, body_at, modify, at_depth, appended, added}
-use Rattle.first_pass_grammar.specs.Order.{Extent, is_text_block, is_task_marker, is_list_item, is_definition_list, extent_of, extents, Siblings, Empty, Node, laid}
+use Rattle.first_pass_grammar.specs.Order.{Extent, is_text_block, is_task_marker, is_list_item, is_definition_list, extent_of, extents, Siblings, Empty}
+use Rattle.first_pass_grammar.specs.Order.{Node, laid}
 use Rattle.first_pass_grammar.specs.Order.{IsBetween, Elsewhere, InItem, Fits, FitsBetween, IsOrdered}
 use Rattle.first_pass_grammar.specs.OpenOrder.{laid_open, AreAt, open_within, FitsOpen, item_on_top, within_top, IsOrderedTo}
 use Rattle.first_pass_grammar.proofs.Orders.{beside, ended_at, extents-append, length-extents, extents-at_depth, laid-at_depth, laid-one, laid_open-beside}

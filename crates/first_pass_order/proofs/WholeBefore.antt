@@ -14,7 +14,8 @@ use Rattle.first_pass_grammar.specs.Derivation.{Tables, Derives}
 use Rattle.first_pass_grammar.specs.Completion.{ended, Pending, OneList, Standing, Further, AreFurther, rows_on, rows_beyond, rendered, Frame, InContainer}
 use Rattle.first_pass_grammar.specs.Completion.{InList, InDefinitions, definitions_open, containers_of, loosened, container_closed, Becomes, Completion}
 use Rattle.first_pass_grammar.specs.Containers.{is_quote}
-use Rattle.first_pass_grammar.specs.WholeTables.{Mark, ATable, ARow, ACell, shown, marks, RowCells, row_marks, TableRows, table_marks, AreFull, AreWholeTables}
+use Rattle.first_pass_grammar.specs.WholeTables.{Mark, ATable, ARow, ACell, shown, marks, RowCells, row_marks, TableRows, table_marks, AreFull}
+use Rattle.first_pass_grammar.specs.WholeTables.{AreWholeTables}
 use Rattle.first_pass_grammar.proofs.EachRow.{each_row}
 use Rattle.first_pass_grammar.proofs.Finishes.{containers-loosened}
 use Rattle.first_pass_grammar.proofs.FullHeads.{heads_are_full}

@@ -16,7 +16,8 @@ use Rattle.first_pass_items.specs.declared.item.MetadataBlockKind.TheVariants.{Y
 use Rattle.first_pass_items.specs.declared.item.ItemBody.{ItemBody}
 use Rattle.first_pass_items.specs.declared.item.ItemBody.TheVariants.{Root, Paragraph, TightParagraph, Rule, Heading, FencedCodeBlock, IndentCodeBlock}
 use Rattle.first_pass_items.specs.declared.item.ItemBody.TheVariants.{HtmlBlock, BlockQuote, FootnoteDefinition, MetadataBlock, DefinitionList}
-use Rattle.first_pass_items.specs.declared.item.ItemBody.TheVariants.{MaybeDefinitionListTitle, DefinitionListTitle, DefinitionListDefinition, Table, TableHead}
+use Rattle.first_pass_items.specs.declared.item.ItemBody.TheVariants.{MaybeDefinitionListTitle, DefinitionListTitle, DefinitionListDefinition, Table}
+use Rattle.first_pass_items.specs.declared.item.ItemBody.TheVariants.{TableHead}
 use Rattle.first_pass_items.specs.declared.item.ItemBody.TheVariants.{TableRow, TableCell, Text, SoftBreak, HardBreak, MaybeEmphasis, MaybeMath}
 use Rattle.first_pass_items.specs.declared.item.ItemBody.TheVariants.{MaybeSmartQuote, MaybeCode, MaybeHtml, MaybeLinkOpen, MaybeLinkClose, MaybeImage, Html}
 use Rattle.first_pass_items.specs.declared.item.ItemBody.TheVariants.{SynthesizeText, SynthesizeChar, TaskListMarker, ListItem, List as ListBody}

@@ -15,7 +15,8 @@ use Rattle.first_pass_grammar.specs.Leaves.{Document}
 use Rattle.first_pass_grammar.specs.Before.{is_paragraph_body, takes_definition as takes_after}
 use Rattle.first_pass_grammar.specs.Skeleton.{Inside, Opening, Opens}
 use Rattle.first_pass_grammar.specs.Derivation.{Tables, node_of, list_flags}
-use Rattle.first_pass_grammar.specs.Completion.{flagged, Closed, OtherClosed, ParagraphAt, DefinitionClosed, TitleAt, Frame, InContainer, InList, InDefinitions}
+use Rattle.first_pass_grammar.specs.Completion.{flagged, Closed, OtherClosed, ParagraphAt, DefinitionClosed, TitleAt, Frame, InContainer, InList}
+use Rattle.first_pass_grammar.specs.Completion.{InDefinitions}
 use Rattle.first_pass_grammar.specs.Completion.{IsPlain, last_defined}
 use Rattle.first_pass_grammar.specs.WholeTables.{ShowsNothing, SilentClosed}
 use Rattle.first_pass_grammar.proofs.Finishes.{CompletesAt, Tail}

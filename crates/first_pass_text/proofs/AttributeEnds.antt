@@ -1,6 +1,7 @@
 -- The attribute block at the end of a heading's text.
 use Rattle.std.proofs.Common.{◌≡◌, inl, inr, ℕ, ◌+◌, ◌-◌, ◌≤◌, ◌<◌, ◌==◌, ◌&&◌, nat_lt, Bool, true, false, List, ◌∷◌, ◌++◌, length, take, drop, get_or, []}
-use Rattle.std.proofs.Common.{slice_index, Option, Some, None, is_some, IsSomeAnd, min, IsUtf8, IsCharBoundary, refl, sym, ap, subst, ◌∙◌, arith, length-append}
+use Rattle.std.proofs.Common.{slice_index, Option, Some, None, is_some, IsSomeAnd, min, IsUtf8, IsCharBoundary, refl, sym, ap, subst, ◌∙◌, arith}
+use Rattle.std.proofs.Common.{length-append}
 use Rattle.std.proofs.Common.{length-drop, length-take, length-take-le, get_or-drop, if◌then◌else◌}
 use Rattle.std.specs.List.{slice_range, suffix_len}
 use Rattle.std.specs.Option.{option_map, option_map_or}

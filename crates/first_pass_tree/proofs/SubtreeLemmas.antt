@@ -6,7 +6,8 @@ use Rattle.std.proofs.lemmas.List.{reverse-append, length-reverse, take_all, tak
 use Rattle.std.proofs.lemmas.List.{take-append-le, take-take, take-map, get_or-take}
 use Rattle.first_pass_tree.specs.declared.subtrees.Subtree.{Subtree}
 use Rattle.first_pass_tree.specs.declared.tree_index.TreeIndex.{TreeIndex}
-use Rattle.first_pass_tree.specs.Subtrees.{IsSubtree, AreSubtrees, IsTree, subtree, within_first, ended_last, ended, stands_outside, last_between, left_between}
+use Rattle.first_pass_tree.specs.Subtrees.{IsSubtree, AreSubtrees, IsTree, subtree, within_first, ended_last, ended, stands_outside, last_between}
+use Rattle.first_pass_tree.specs.Subtrees.{left_between}
 use Rattle.first_pass_tree.specs.Forest.{Forest, IsForest, IsLastAt, depths, map_from}
 use Rattle.first_pass_tree.proofs.Keeps.{rev_take, set-is, modify-set, depths-modify}
 

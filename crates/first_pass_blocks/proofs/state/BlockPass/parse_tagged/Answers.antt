@@ -1,4 +1,5 @@
-use Rattle.std.proofs.Common.{◌≡◌, IsUtf8, inl, inr, ℕ, ◌+◌, List, drop, Bool, Option, true, false, Some, None, refl, sym, subst, ◌∙◌, if◌then◌else◌, ap, arith}
+use Rattle.std.proofs.Common.{◌≡◌, IsUtf8, inl, inr, ℕ, ◌+◌, List, drop, Bool, Option, true, false, Some, None, refl, sym, subst, ◌∙◌, if◌then◌else◌, ap}
+use Rattle.std.proofs.Common.{arith}
 use Rattle.first_pass_lines.specs.Lines.{line_len}
 use Rattle.first_pass_lines.specs.Rest.{Rest}
 use Rattle.first_pass_lines.specs.Places.{Place, line_rest, place_at, line_end, IsPlaceOf}
