@@ -52,7 +52,8 @@ fn append_attributes(line: &mut Vec<u8>, given: &HeadingAttributes<'_>) -> Resul
 
 /// Appends classes as an array.
 fn append_classes(line: &mut Vec<u8>, classes: &[&str]) -> Result<(), AllocError>
-    ensures { OnOk result (line.new.items ≡ line.old.items ++ array json_string (map (λ class. class.now) classes.now)) }
+    ensures { OnOk result (line.new.items
+        ≡ line.old.items ++ array json_string (map (λ class. class.now) classes.now)) }
 {
     line.push(b'[')?;
     append_strings(line, classes)?;

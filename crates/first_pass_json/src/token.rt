@@ -51,7 +51,8 @@ pub fn append_token(
 /// Appends whether a delimiter run can open and close.
 fn append_sides(line: &mut Vec<u8>, can_open: bool, can_close: bool) -> Result<(), AllocError>
     ensures { OnOk result (line.new.items
-        ≡ line.old.items ++ codes ",\"can_open\":" ++ boolean can_open ++ codes ",\"can_close\":" ++ boolean can_close) }
+        ≡ line.old.items ++ codes ",\"can_open\":" ++ boolean can_open
+        ++ codes ",\"can_close\":" ++ boolean can_close) }
 {
     append_flag_after(line, b",\"can_open\":", can_open)?;
     append_flag_after(line, b",\"can_close\":", can_close)
@@ -114,7 +115,8 @@ fn append_code(line: &mut Vec<u8>, count: usize, escaped: bool) -> Result<(), Al
 
 /// Appends the text of one character.
 fn append_text_of(line: &mut Vec<u8>, character: char) -> Result<(), AllocError>
-    ensures { OnOk result (line.new.items ≡ line.old.items ++ codes ",\"text\":" ++ json_string (encode_utf8 character)) }
+    ensures { OnOk result (line.new.items
+        ≡ line.old.items ++ codes ",\"text\":" ++ json_string (encode_utf8 character)) }
 {
     line.extend_from_slice(b",\"text\":")?;
     append_character(line, character)

@@ -176,7 +176,8 @@ emptied_like f [] columns is = like_itself f
 emptied_like f (ix ∷ rest) columns is = like_body f ix (ListItemBody columns) (ListItemBody 0) is (refl, λ h. h)
 
 emptied_definition_like : (f : Forest Item) (s : List TreeIndex) (columns : ℕ)
-    → option_and_then (λ (ix : TreeIndex). body_at f.nodes ix.0) (slice_get s 0) ≡ Some (DefinitionListDefinition columns) → LooksAlike f (emptied_definition f s)
+    → option_and_then (λ (ix : TreeIndex). body_at f.nodes ix.0) (slice_get s 0) ≡ Some (DefinitionListDefinition columns)
+    → LooksAlike f (emptied_definition f s)
 emptied_definition_like f [] columns is = like_itself f
 emptied_definition_like f (ix ∷ rest) columns is =
     like_body f ix (DefinitionListDefinition columns) (DefinitionListDefinition 0) is (refl, λ h. h)

@@ -60,12 +60,25 @@ counted_with : (names : Names) (cell : Option ℕ) (depth start e : ℕ) (b : It
     → own cell ((depth, record { start = start; «end» = e; body = b }) ∷ nodes) + repeated cell (shown names depth start e b ++ marks names nodes)
     ≡ suc (length nodes)
 unfolding own repeated
-counted_with names cell depth start e (Table ix) nodes h = (let rest = h cell in let not = plain_behind cell (record { start = start; «end» = e; body = Table ix }) refl in rw not (omega arith))
-counted_with names cell depth start e TableHead nodes h = (let rest = h None in let not = plain_behind cell (record { start = start; «end» = e; body = TableHead }) refl in rw not (omega arith))
-counted_with names cell depth start e TableRow nodes h = (let rest = h None in let not = plain_behind cell (record { start = start; «end» = e; body = TableRow }) refl in rw not (omega arith))
+counted_with names cell depth start e (Table ix) nodes h =
+    let rest = h cell in
+    let not = plain_behind cell (record { start = start; «end» = e; body = Table ix }) refl in
+    rw not (omega arith)
+counted_with names cell depth start e TableHead nodes h =
+    let rest = h None in
+    let not = plain_behind cell (record { start = start; «end» = e; body = TableHead }) refl in
+    rw not (omega arith)
+counted_with names cell depth start e TableRow nodes h =
+    let rest = h None in
+    let not = plain_behind cell (record { start = start; «end» = e; body = TableRow }) refl in
+    rw not (omega arith)
 counted_with names cell depth start e TableCell nodes h =
-    rw (filled_is cell start e) (one_or_other (is_at cell start) (own (Some start) nodes) (repeated (Some start) (marks names nodes)) (length nodes) (h (Some start)))
-counted_with names cell depth start e b nodes h = (let rest = h cell in let not = plain_behind cell (record { start = start; «end» = e; body = b }) refl in rw not (omega arith))
+    rw (filled_is cell start e)
+    (one_or_other (is_at cell start) (own (Some start) nodes) (repeated (Some start) (marks names nodes)) (length nodes) (h (Some start)))
+counted_with names cell depth start e b nodes h =
+    let rest = h cell in
+    let not = plain_behind cell (record { start = start; «end» = e; body = b }) refl in
+    rw not (omega arith)
 
 counted : (names : Names) (cell : Option ℕ) (nodes : List (ℕ × Item)) → own cell nodes + repeated cell (marks names nodes) ≡ length nodes
 unfolding own repeated marks

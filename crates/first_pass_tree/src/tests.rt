@@ -61,7 +61,8 @@ fn remembers_subtrees_until_they_are_cut(rt: HostRuntime) -> Result<(), Fail> {
     Ok(())
 }
 
-// A definition list in a quote: its last child is moved out, after its end was noted, or once it ends before that child.
+// A definition list in a quote: its last child is moved out, after its end was noted or once it ends before that
+// child.
 #[test]
 fn keeps_a_subtree_that_ends_before_a_child_that_leaves(rt: HostRuntime) -> Result<(), Fail> {
     for ends_before in [false, true] {
