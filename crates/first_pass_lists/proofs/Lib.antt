@@ -1,3 +1,4 @@
 pub mod MovedLemmas
 pub mod WithinLemmas
 pub mod BlankLemmas
+pub mod NoEmptyItem
