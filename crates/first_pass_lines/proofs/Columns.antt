@@ -21,7 +21,7 @@ owed-some (suc o) r s h = let e : record r { owed = o } ≡ s = cc in omega (ari
 pub indent-some : (r s : Rest) → next_column r ≡ Some s → indent r ≡ 1 + indent s
 indent-some r s h = owed-some r.owed r s h
 
--- what a call that takes a column says, where it is yes and where it is no
+-- the result of a call that takes one column: `true` if there is one, `false` otherwise
 pub taken-yes : (o : Option Rest) (old new : Rest) (b : Bool)
     → MatchOption o ((b ≡ false) × (new ≡ old)) (λ next. (b ≡ true) × (new ≡ next)) → b ≡ true → o ≡ Some new
 taken-yes None old new b h e = cc

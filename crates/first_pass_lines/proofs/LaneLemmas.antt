@@ -52,7 +52,7 @@ module _ (q : ℕ → Bool) (d : List ℕ) (i n r : ℕ) (z : List ℕ) (room : 
       let at = get_or-chunk i n d (k - i) 0 (omega (arith, counted, long)) ∙ ap (λ j. get_or d j 0) back in
       subst (λ x. stops x ≡ false) at (not-true _ (prefix_len_passes (λ x. not (stops x)) (chunk i n d) (k - i) 0 (omega (arith, counted))))
 
-  -- a lane stops just where q fails
+  -- `stops` holds of a lane exactly if q fails
   pub run_in : agree_below stops (λ x. not (q x)) 256 ≡ true → IsRunIn q d i n r
   run_in all = (
     omega (arith, counted, long, prefix_len-le-length (λ x. not (stops x)) (chunk i n d)),

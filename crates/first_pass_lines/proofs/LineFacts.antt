@@ -12,7 +12,7 @@ use Rattle.std.proofs.lemmas.Bool.Decides.{nat_tests}
 use Rattle.first_pass_lines.specs.Lines.{begins, ends_line, is_white, is_content, eol_len, blank_len, line_len, IsLineEnd, IsLine}
 use Rattle.first_pass_lines.specs.Places.{Place, line_place, IsLinePlace, lines_behind, lines_at, line_of, IsDivision}
 
--- the length of a line from its first byte on
+-- the length of a line, by its first byte
 pub line_len-none : line_len [] ≡ 0
 unfolding line_len
 line_len-none = refl
@@ -60,7 +60,7 @@ line_len-fits (b ∷ bs) =
     let r = line_len-fits bs in
     rw (line_len-step b bs) (elim (ends_line b bs) as (λ t. cond t 1 (line_len bs + 1) ≤ suc (length bs)) [ true ↦ omega arith | false ↦ omega arith ])
 
--- the first line, and the lines from its end on
+-- the first line, and the lines after it
 pub lines_at-none : (s : ℕ) → lines_at s [] ≡ []
 unfolding lines_at lines_behind
 lines_at-none s = refl
@@ -110,7 +110,7 @@ line_len-within text s h =
     let fits = line_len-fits (drop s text) in
     (some, omega arith)
 
--- a line has the length of the first line of what begins with it
+-- a line, before further bytes, has the length of their first line
 line_len-end : (bs behind : List ℕ) → IsLineEnd bs behind → line_len (bs ++ behind) ≡ length bs
 line_len-end bs behind (inl h) = rw h (line_len-step 10 behind)
 line_len-end bs behind (inr (inl h)) = rw h (line_len-step 13 (10 ∷ behind) ∙ ap (λ k. k + 1) (line_len-step 10 behind))
@@ -130,7 +130,7 @@ line_len-line line behind i =
     let f = line_len-end i.ending behind i.ends in
     rw i.parts (grind (arith, common_steps, e, f))
 
--- the first line is a line before what is after it
+-- the first line is a line before the bytes after it
 record Front (bs : List ℕ) (n : ℕ) : Type 0 where
   content : List ℕ
   ending : List ℕ
@@ -200,7 +200,7 @@ divide_by (suc most) s (b ∷ bs) h =
 pub lines_divide : (s : ℕ) (bs : List ℕ) → IsDivision bs (map line_of (lines_at s bs))
 lines_divide s bs = divide_by (length bs) s bs (omega arith)
 
--- and no other pieces do
+-- and this is the only division
 front-empty : (xs ys : List ℕ) → xs ++ ys ≡ [] → xs ≡ []
 front-empty [] ys h = refl
 front-empty (x ∷ xs) ys h = cc
@@ -237,7 +237,7 @@ unfolding lines_at
 lines_at-places [] = All-nil (IsLinePlace [])
 lines_at-places (b ∷ bs) = All-cons (IsLinePlace (b ∷ bs)) (line_place 0 (b ∷ bs)) _ refl (places_by (b ∷ bs) b 1 bs refl)
 
--- at a place inside a line, what is left of the line ends where the line ends
+-- at a place inside a line, the rest of the line ends at the end of the line
 pub line_len-inside : (bs : List ℕ) (k : ℕ) → k < line_len bs → k + line_len (drop k bs) ≡ line_len bs
 line_len-inside [] k h = absurd (omega (arith, line_len-none))
 line_len-inside (b ∷ bs) zero h = omega arith
@@ -247,7 +247,7 @@ line_len-inside (b ∷ bs) (suc k) h =
       | false ↦ λ e. let r = line_len-inside bs k (omega arith) in omega arith
     ]) (line_len-step b bs)
 
--- where a line ends at once, where its content ends, and a blank line
+-- the length of a line by its content, of a line that is only a line ending, and of a blank line
 pub line_len-content_end : (bs : List ℕ) → let n : ℕ = prefix_len is_content bs in line_len bs ≡ n + unwrap_or (eol_len (drop n bs)) 0
 unfolding line_len
 line_len-content_end bs = refl

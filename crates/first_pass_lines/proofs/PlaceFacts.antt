@@ -17,7 +17,7 @@ use Rattle.first_pass_lines.proofs.LineFacts.{line_len-none, line_len-step, line
 use Rattle.first_pass_lines.proofs.LineFacts.{lines_at-end}
 use Rattle.first_pass_lines.proofs.Columns.{after-more, after-none, indent-some, all-more, all-none}
 
--- all columns are taken: no column is owed, and neither a space nor a tab is left
+-- after all columns are taken: no column is owed, and the next byte is neither a space nor a tab
 byte_none : (r : Rest) (bs : List ℕ) → column_of_byte r bs ≡ None → (begins 32 bs ≡ false) × (begins 9 bs ≡ false)
 byte_none r [] h = (refl, refl)
 byte_none r (b ∷ bs) h = (grind (arith, h), grind (arith, h))
@@ -45,7 +45,7 @@ no_more (suc k) r h = no_more_step k r (next_column r) refl h (no_more k)
 pub all_columns : (r : Rest) → let s : Rest = after_columns (indent r) r in (s.owed ≡ 0) × (begins 32 s.left ≡ false) × (begins 9 s.left ≡ false)
 all_columns r = none_left (after_columns (indent r) r) (no_more (indent r) r (omega arith))
 
--- as many columns as there are, up to a number that is no less
+-- as many columns as there are, up to a limit that is no less than their number
 up_to_step : (k : ℕ) (r : Rest) (o : Option Rest) → next_column r ≡ o → indent r ≤ suc k
     → ((s : Rest) → indent s ≤ k → after_columns k s ≡ after_columns (indent s) s) → after_columns (suc k) r ≡ after_columns (indent r) r
 up_to_step k r None e h f = after-none (suc k) r e ∙ sym (all-none r e)
@@ -55,7 +55,7 @@ pub all_columns_up_to : (k : ℕ) (r : Rest) → indent r ≤ k → after_column
 all_columns_up_to zero r h = let e : indent r ≡ 0 = omega arith in rw e
 all_columns_up_to (suc k) r h = up_to_step k r (next_column r) refl h (all_columns_up_to k)
 
--- the columns that are left after some
+-- the columns that remain after some are taken
 
 -- the bytes after the one at an offset
 next_bytes : (text : List ℕ) (o b : ℕ) (bs : List ℕ) → b ∷ bs ≡ drop o text → bs ≡ drop (o + 1) text
@@ -70,13 +70,13 @@ next_within text o b bs h =
 byte_at : (text : List ℕ) (o k : ℕ) (bs : List ℕ) → bs ≡ drop o text → get_or text (o + k) 0 ≡ get_or bs k 0
 byte_at text o k bs h = sym (get_or-drop o text k 0) ∙ ap (λ xs. get_or xs k 0) (sym h)
 
--- a line's start is a place of the text
+-- the start of a line is a place of the text
 pub line_is_place : (text : List ℕ) (s : ℕ) → IsCharBoundary text s → IsPlaceOf text (line_place s (drop s text))
 line_is_place text s h =
     let e : s + 0 ≡ s = omega arith in
     record { left = rw e; within = rw e h.0; boundary = rw e h }
 
--- a place stays one of the text after bytes that end between characters
+-- after bytes that end on a character boundary, a place is still a place of the text
 pub bytes_keep : (text : List ℕ) (p : Place) (n : ℕ) → IsPlaceOf text p → IsCharBoundary text (offset p + n) → IsPlaceOf text (moved_bytes n p)
 bytes_keep text p n i h =
     let e : p.line + (p.rest.taken + n) ≡ offset p + n = omega arith in
@@ -86,7 +86,7 @@ bytes_keep text p n i h =
       boundary = rw e h;
     }
 
--- the more so after bytes of which the last is ASCII
+-- so it is after bytes whose last is ASCII
 pub ascii_boundary : (text : List ℕ) (p : Place) (n : ℕ)
     → IsUtf8 text → IsPlaceOf text p → n < length p.rest.left → slice_index p.rest.left n < 128 → IsCharBoundary text (offset p + (n + 1))
 ascii_boundary text p n u i l h =
@@ -108,7 +108,7 @@ prefix_by test ascii text p (suc n) u i e =
     let s : suc n ≡ n + 1 = omega arith in
     rw s (ascii_keeps text p n u i (omega arith) (ascii _ passes))
 
--- and after the first bytes that pass a test that only ASCII passes
+-- and after the longest prefix of bytes that pass a test that only ASCII bytes pass
 pub prefix_keeps : (test : ℕ → Bool) → ((b : ℕ) → test b ≡ true → b < 128) → (text : List ℕ) (p : Place) → IsUtf8 text → IsPlaceOf text p
     → IsPlaceOf text (moved_bytes (prefix_len test p.rest.left) p)
 prefix_keeps test ascii text p u i = prefix_by test ascii text p (prefix_len test p.rest.left) u i refl
@@ -208,22 +208,22 @@ line_end_boundary text s u h l =
 
 -- the content of a line ends before an ASCII byte, or with the text
 
--- the same from a place in the line on
+-- the same from a later place in the line
 pub place_line_end : (text : List ℕ) (p : Place)
     → IsUtf8 text → IsPlaceOf text p → 0 < length p.rest.left → IsCharBoundary text (offset p + line_len p.rest.left)
 place_line_end text p u i h =
     let d : length p.rest.left ≡ length text - offset p = ap length i.left ∙ length-drop (offset p) text in
     rw i.left (line_end_boundary text (offset p) u i.boundary (omega arith))
 
--- how many bytes of the text are left at a place
+-- the number of bytes from a place to the end of the text
 pub place_length : (text : List ℕ) (p : Place) → IsPlaceOf text p → offset p + length p.rest.left ≡ length text
 place_length text p i =
     let d : length p.rest.left ≡ length text - offset p = ap length i.left ∙ length-drop (offset p) text in
     let w = i.within in
     omega arith
 
--- where the line of a place ends, and where its content does, stays the same after columns and after content:
--- both are so many content bytes away
+-- the end of a line, and of its content, is the same before and after columns or content bytes are taken: both are a
+-- number of content bytes away
 content_by_step : (f : List ℕ → ℕ) → ((b : ℕ) (bs : List ℕ) → is_content b ≡ true → f (b ∷ bs) ≡ f bs + 1) → (r s : Rest) (bs : List ℕ)
     → column_of_byte r bs ≡ Some s → s.taken + f s.left ≡ r.taken + f bs
 content_by_step f step r s [] h = cc
@@ -275,7 +275,7 @@ bytes_away f step (suc n) (b ∷ bs) w = bytes_step f step (is_content b) b n bs
 pub bytes_line_end : (n : ℕ) (p : Place) → n ≤ prefix_len is_content p.rest.left → line_end (moved_bytes n p) ≡ line_end p
 bytes_line_end n p w = let e = bytes_away line_len line_len-content_first n p.rest.left w in omega arith
 
--- where the lines from an offset on begin, and that each begins between characters
+-- the starts of the lines from an offset on, each on a character boundary
 start_by : (text : List ℕ) (s : ℕ) → s ≤ length text → (s < length text) ⊎ (length text ≤ s) → start_of (length text) (lines_at s (drop s text)) ≡ s
 start_by text s h (inl l) = ap (start_of (length text)) (lines_at-line text s l)
 start_by text s h (inr l) = ap (start_of (length text)) (lines_at-end text s l) ∙ omega arith
@@ -341,12 +341,12 @@ shorter_step k r (Some s) e f =
     let h = column_shorter r.owed r s e in
     omega arith
 
--- Columns taken leave no more bytes.
+-- Taking columns adds no bytes to the rest.
 pub columns_shorter : (k : ℕ) (r : Rest) → length (after_columns k r).left ≤ length r.left
 columns_shorter zero r = omega arith
 columns_shorter (suc k) r = shorter_step k r (next_column r) refl (columns_shorter k)
 
--- A block quote marker has a byte.
+-- A block quote marker takes at least one byte.
 pub quote_shorter : (r s : Rest) → past_quote r ≡ Some s → length s.left < length r.left
 quote_shorter r s q =
     let f = quote_by (r.owed == 0) r s q in

@@ -1,13 +1,14 @@
--- What is found by a look at 16 bytes at once.
+-- The result of reading 16 bytes at once.
 use Rattle.std.specs.Prelude.{◌≡◌, ℕ, ◌+◌, ◌<◌, ◌≤◌, ◌==◌, Bool, true, false, List, slice_index, if◌then◌else◌}
 use Rattle.std.specs.Int.{w64, trailing_zeros}
 use Rattle.first_pass_items.specs.Bytes.{space}
 
--- the place of the lowest bit that is set, or n (this project)
+-- the position of the lowest set bit, or n if no bit is set (this project)
 abbrev pub first_set : ℕ → ℕ → ℕ
 first_set mask n = if mask == 0 then n else trailing_zeros w64 mask
 
--- of the n bytes from a place on the first r pass the test, and the next one, if it is among the n, fails it (this project)
+-- of the n bytes from an offset on, the first r pass the test; the next one fails it, if it is one of the n
+-- (this project)
 abbrev pub IsRunIn : (ℕ → Bool) → List ℕ → ℕ → ℕ → ℕ → Type 0
 IsRunIn test bytes at n r = (r ≤ n) × ((k : ℕ) → at ≤ k → k < at + r → test (slice_index bytes k) ≡ true) × (r < n → test (slice_index bytes (at + r)) ≡ false)
 

@@ -1,4 +1,4 @@
--- Classes of bytes; line ends, blank lines, and where an ATX heading begins, of the bytes from a place in the text on.
+-- Classes of bytes, line endings, blank lines and ATX headings. The bytes run from a position in the text to its end.
 use Rattle.std.specs.Prelude.{◌≡◌, ◌⊎◌, ℕ, ◌+◌, ◌==◌, ◌&&◌, ◌||◌, not, Bool, true, false, List, [], ◌∷◌, ◌++◌, drop, Option, Some, None, is_some, unwrap_or}
 use Rattle.std.specs.Prelude.{if◌then◌else◌}
 use Rattle.std.specs.Option.{option_map}
@@ -11,12 +11,12 @@ use Rattle.first_pass_items.specs.declared.item.HeadingLevel.TheVariants.{H1, H2
 abbrev pub is_line_end : ℕ → Bool
 is_line_end b = (b == line_feed) || (b == carriage_return)
 
--- a byte of a line that is no part of its end (CommonMark 2.1)
+-- a byte that is not part of a line ending (CommonMark 2.1)
 abbrev pub is_content : ℕ → Bool
 is_content b = not (is_line_end b)
 
--- White space without line ends: tab, 0x0B, 0x0C and space (this project). The rules of CommonMark have only spaces and tabs: if a definition that cites
--- one has white space, 0x0B and 0x0C in it are this project's.
+-- White space without line endings: tab, 0x0B, 0x0C and space (this project). The rules of CommonMark have only spaces
+-- and tabs. If a definition that cites one has white space, its 0x0B and 0x0C are this project's.
 abbrev pub is_white : ℕ → Bool
 is_white b = (b == tab) || (b == line_tabulation) || (b == form_feed) || (b == space)
 
@@ -24,7 +24,7 @@ is_white b = (b == tab) || (b == line_tabulation) || (b == form_feed) || (b == s
 abbrev pub is_blank : ℕ → Bool
 is_blank b = (b == tab) || (b == space)
 
--- ASCII white space: with the line ends (this project)
+-- ASCII white space, including `\n` and `\r` (this project)
 abbrev pub is_ascii_white : ℕ → Bool
 is_ascii_white b = is_white b || is_line_end b
 
@@ -33,16 +33,16 @@ abbrev pub begins : ℕ → List ℕ → Bool
 begins c [] = false
 begins c (b ∷ bs) = b == c
 
--- a line ends after `\n`, and after `\r` unless `\n` follows (CommonMark 2.1, line ending)
+-- a line ends after `\n`, and after a `\r` that no `\n` follows (CommonMark 2.1, line ending)
 abbrev pub ends_line : ℕ → List ℕ → Bool
 ends_line b bs = (b == line_feed) || ((b == carriage_return) && not (begins line_feed bs))
 
--- how many bytes the line end here has: `\n`, `\r\n` or `\r`, and none at the end of the text (CommonMark 2.1, line ending)
+-- the length of the line ending here: `\n`, `\r\n` or `\r`; zero at the end of the text (CommonMark 2.1, line ending)
 abbrev pub eol_len : List ℕ → Option ℕ
 eol_len [] = Some 0
 eol_len (b ∷ bs) = if b == line_feed then Some 1 else (if b == carriage_return then Some (if begins line_feed bs then 2 else 1) else None)
 
--- how many bytes a blank line has, its end too: only white space (CommonMark 2.1, blank line)
+-- the length of the blank line here, with its line ending: it has only white space (CommonMark 2.1, blank line)
 abbrev pub blank_len : List ℕ → Option ℕ
 blank_len bs = let n = prefix_len is_white bs in option_map (λ k. n + k) (eol_len (drop n bs))
 
@@ -50,7 +50,7 @@ blank_len bs = let n = prefix_len is_white bs in option_map (λ k. n + k) (eol_l
 abbrev pub is_blank_line : List ℕ → Bool
 is_blank_line bs = is_some (blank_len bs)
 
--- how many bytes a line has, its end too (CommonMark 2.1, line)
+-- the length of the line here, with its line ending (CommonMark 2.1, line)
 unfoldable pub line_len : List ℕ → ℕ
 line_len bs = let n = prefix_len is_content bs in n + unwrap_or (eol_len (drop n bs)) 0
 
@@ -58,13 +58,14 @@ line_len bs = let n = prefix_len is_content bs in n + unwrap_or (eol_len (drop n
 abbrev pub at_line_end : List ℕ → Bool
 at_line_end bs = is_some (eol_len bs)
 
--- the end of a line before the bytes after it: `\n`, `\r\n`, `\r` where no `\n` is after it, or nothing at the end of the text (CommonMark 2.1)
+-- a line ending before the bytes that follow it: `\n`, `\r\n`, a `\r` that no `\n` follows, or nothing at the end of
+-- the text (CommonMark 2.1)
 abbrev pub IsLineEnd : List ℕ → List ℕ → Type 0
 IsLineEnd bs behind =
     (bs ≡ line_feed ∷ []) ⊎ (bs ≡ carriage_return ∷ line_feed ∷ [])
     ⊎ ((bs ≡ carriage_return ∷ []) × (begins line_feed behind ≡ false)) ⊎ ((bs ≡ []) × (behind ≡ []))
 
--- a line before the bytes after it: bytes without `\n` and `\r`, and then its end (CommonMark 2.1, line)
+-- a line before the bytes that follow it: bytes other than `\n` and `\r`, then a line ending (CommonMark 2.1, line)
 pub record IsLine (line : List ℕ) (behind : List ℕ) : Type 0 where
   pub content : List ℕ
   pub ending : List ℕ
@@ -86,7 +87,7 @@ level_number H4 = 4
 level_number H5 = 5
 level_number H6 = 6
 
--- the heading level that a number of signs gives: 1 to 6 (CommonMark 4.2)
+-- the heading level for this many number signs, 1 to 6 (CommonMark 4.2)
 abbrev pub level_of : ℕ → Option HeadingLevel
 level_of n =
     if n == 1 then Some H1
@@ -97,7 +98,7 @@ level_of n =
     else (if n == 6 then Some H6
     else None)))))
 
--- the opening sequence of an ATX heading ends here: at a space, a tab or the end of the line (CommonMark 4.2)
+-- the opening sequence of an ATX heading ends here: a space, a tab or the end of the line follows (CommonMark 4.2)
 abbrev pub ends_signs : List ℕ → Bool
 ends_signs bs = at_line_end bs || begins space bs || begins tab bs
 

@@ -1,47 +1,48 @@
--- Places in the text, and its lines.
+-- Places in a text, and its lines.
 use Rattle.std.specs.Prelude.{◌≡◌, ◌≤◌, ℕ, ◌+◌, List, ◌∷◌, length, take, drop, IsCharBoundary, if◌then◌else◌, []}
 use Rattle.std.specs.List.{concat}
 use Rattle.first_pass_lines.specs.Lines.{ends_line, line_len, IsLine}
 use Rattle.first_pass_lines.specs.Rest.{Rest, after_columns, past_bytes}
 
--- a place in the text: where the reading of its line began, and what is left of the text from there (this project)
+-- a place in the text: the offset at which the reading of its line began, and the rest of the text from the place on
+-- (this project)
 pub record Place : Type 0 where
   pub line : ℕ
   pub rest : Rest
 
--- a place in the line whose reading began at an offset (this project)
+-- a place in the line whose reading began at this offset (this project)
 abbrev pub place_at : ℕ → Rest → Place
 place_at line rest = record { line = line; rest = rest }
 
--- how many bytes of the text stand before a place (this project)
+-- the offset of a place: the number of bytes before it in the text (this project)
 abbrev pub offset : Place → ℕ
 offset p = p.line + p.rest.taken
 
--- what a line has at its start: nothing is taken (this project)
+-- the rest at the start of a line: no byte is taken (this project)
 abbrev pub line_rest : List ℕ → Rest
 line_rest left = record { left = left; taken = 0; owed = 0; column = 0 }
 
--- where a line begins (this project)
+-- the place at the start of a line (this project)
 abbrev pub line_place : ℕ → List ℕ → Place
 line_place start left = record { line = start; rest = line_rest left }
 
--- a place where a line may begin in the text (this project)
+-- the place can be the start of a line of the text: nothing of its line is taken (this project)
 abbrev pub IsLinePlace : List ℕ → Place → Type 0
 IsLinePlace text p = p ≡ line_place p.line (drop p.line text)
 
--- the lines that begin in these bytes, which begin at an offset after the byte b (CommonMark 2.1, line)
+-- the lines that begin in these bytes, given their offset and the byte b before them (CommonMark 2.1, line)
 unfoldable pub lines_behind : ℕ → ℕ → List ℕ → List Place
 lines_behind b start [] = []
 lines_behind b start (c ∷ cs) =
     let further = lines_behind c (start + 1) cs in
     if ends_line b (c ∷ cs) then line_place start (c ∷ cs) ∷ further else further
 
--- the lines of the bytes that begin at an offset (CommonMark 2.1, line)
+-- the lines of these bytes, given their offset (CommonMark 2.1, line)
 unfoldable pub lines_at : ℕ → List ℕ → List Place
 lines_at start [] = []
 lines_at start (b ∷ bs) = line_place start (b ∷ bs) ∷ lines_behind b (start + 1) bs
 
--- where lines begin in a text of n bytes: its end, if there are none (this project)
+-- the start of the first of these lines in a text of n bytes; without lines, the end of the text (this project)
 abbrev pub start_of : ℕ → List Place → ℕ
 start_of n [] = n
 start_of n (p ∷ ps) = p.line
@@ -50,7 +51,7 @@ start_of n (p ∷ ps) = p.line
 abbrev pub line_of : Place → List ℕ
 line_of p = take (line_len p.rest.left) p.rest.left
 
--- each piece is a line before those after it (CommonMark 2.1, line)
+-- each piece is a line before the pieces that follow it (CommonMark 2.1, line)
 abbrev pub AreLines : List (List ℕ) → Type 0
 AreLines [] = Unit
 AreLines (piece ∷ pieces) = IsLine piece (concat pieces) × AreLines pieces
@@ -60,20 +61,20 @@ pub record IsDivision (text : List ℕ) (pieces : List (List ℕ)) : Type 0 wher
   pub whole : concat pieces ≡ text
   pub lines : AreLines pieces
 
--- the offset at which the line of a place ends, its end too (CommonMark 2.1, line)
+-- the end of the line of a place, after its line ending (CommonMark 2.1, line)
 abbrev pub line_end : Place → ℕ
 line_end p = offset p + line_len p.rest.left
 
--- the place stands in the text, between characters (this project)
+-- the place is in the text and on a character boundary (this project)
 pub record IsPlaceOf (text : List ℕ) (p : Place) : Type 0 where
   pub left : p.rest.left ≡ drop (offset p) text
   pub within : offset p ≤ length text
   pub boundary : IsCharBoundary text (offset p)
 
--- a place after as many columns as there are, up to k (CommonMark 2.2)
+-- the place after as many columns as there are, up to k (CommonMark 2.2)
 abbrev pub moved_columns : ℕ → Place → Place
 moved_columns k p = record { line = p.line; rest = after_columns k p.rest }
 
--- a place n bytes further on (this project)
+-- the place n bytes later (this project)
 abbrev pub moved_bytes : ℕ → Place → Place
 moved_bytes n p = record { line = p.line; rest = past_bytes n p.rest }

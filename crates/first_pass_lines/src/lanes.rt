@@ -1,4 +1,4 @@
-//! Runs of bytes of one kind, looked at 16 at once.
+//! Runs of bytes of one kind, found 16 bytes at a time.
 
 ghost use Rattle.std.specs.Prelude.{◌≡◌, ◌+◌, ◌≤◌, length};
 ghost use Rattle.first_pass_lines.specs.Lines.{is_content};
@@ -6,10 +6,10 @@ ghost use Rattle.first_pass_lines.specs.Lanes.{first_set as lowest, is_space, Is
 
 use std::simd::prelude::*;
 
-/// How many bytes a look takes.
+/// The number of bytes read at once.
 pub const LANES: usize = 16;
 
-/// How many of the first 16 bytes are spaces, up to the first that isn't.
+/// The number of spaces at the start of the first 16 bytes: the position of the first other byte, or 16.
 #[inline(always)]
 pub fn space_run(bytes: &[u8]) -> usize
     requires { 16 ≤ length bytes.now }
@@ -19,7 +19,7 @@ pub fn space_run(bytes: &[u8]) -> usize
     first_set(lanes.simd_ne(u8x16::splat(b' ')).to_bitmask())
 }
 
-/// How many of the 16 bytes from an offset on end no line, up to the first that does.
+/// The number of bytes before the first `\n` or `\r` among the 16 bytes from the offset `at` on, or 16.
 #[inline(always)]
 pub fn content_run(bytes: &[u8], at: usize) -> usize
     requires { at + 16 ≤ length bytes.now }
@@ -30,7 +30,7 @@ pub fn content_run(bytes: &[u8], at: usize) -> usize
     first_set(ends.to_bitmask())
 }
 
-/// The place of the lowest bit that is set, or 16.
+/// The position of the lowest set bit, or 16 if no bit is set.
 #[inline(always)]
 pub fn first_set(mask: u64) -> usize
     ensures { result ≡ lowest mask 16 }

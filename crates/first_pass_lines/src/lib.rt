@@ -1,4 +1,4 @@
-//! Lines: their ends, blank ones, headings, where each begins in a text, and runs of spaces.
+//! Lines of a text: line endings, blank lines, ATX headings, the starts of lines, and runs of spaces.
 #![tactic(auto)]
 
 pub mod lanes;

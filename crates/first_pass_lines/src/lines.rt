@@ -1,4 +1,4 @@
-//! Classes of bytes, line ends, blank lines, and where an ATX heading begins.
+//! Classes of bytes, line endings, blank lines and ATX headings.
 
 ghost use Rattle.std.specs.List.{prefix_len};
 ghost use Rattle.std.specs.Prelude.{◌≡◌, ◌<◌, ◌≤◌, length, true, IfSome};
@@ -16,7 +16,7 @@ pub fn is_line_end(byte: u8) -> bool
     byte == b'\n' || byte == b'\r'
 }
 
-/// Whether the byte is white space without line ends: tab, 0x0B, 0x0C or space.
+/// Whether the byte is white space other than a line ending: tab, 0x0B, 0x0C or space.
 pub fn is_white(byte: u8) -> bool
     ensures { result ≡ is_white byte }
 {
@@ -30,14 +30,14 @@ pub fn is_blank(byte: u8) -> bool
     byte == b'\t' || byte == b' '
 }
 
-/// Whether the byte is ASCII white space: tab, 0x0B, 0x0C, space or a line end.
+/// Whether the byte is ASCII white space: tab, 0x0B, 0x0C, space, `\n` or `\r`.
 pub fn is_ascii_white(byte: u8) -> bool
     ensures { result ≡ is_ascii_white byte }
 {
     is_white(byte) || is_line_end(byte)
 }
 
-/// Whether `byte` stands first in `bytes`.
+/// Whether `bytes` begins with `byte`.
 pub fn begins(byte: u8, bytes: &[u8]) -> bool
     ensures value { result ≡ begins byte bytes.now }
     ensures some { result ≡ true → 0 < length bytes.now }
@@ -48,8 +48,8 @@ pub fn begins(byte: u8, bytes: &[u8]) -> bool
     }
 }
 
-/// Whether a letter or a byte of a character past ASCII stands first: with such a byte no block begins but
-/// a paragraph.
+/// Whether `bytes` begins with an ASCII letter or a non-ASCII byte. No block except a paragraph begins with
+/// such a byte.
 #[inline(always)]
 #[tactic(auto, unfolding(crate::specs::Plain::is_plain))]
 pub fn is_plain_front(bytes: &[u8]) -> bool
@@ -61,7 +61,8 @@ pub fn is_plain_front(bytes: &[u8]) -> bool
     }
 }
 
-/// Whether a byte stands first that is no space or tab, and with which no list item and no block quote begins.
+/// Whether `bytes` begins with a byte that is no space or tab, and with which no list item or block quote
+/// begins.
 #[inline(always)]
 #[tactic(auto, unfolding(crate::specs::Plain::is_inert))]
 pub fn is_inert_front(bytes: &[u8]) -> bool
@@ -76,8 +77,8 @@ pub fn is_inert_front(bytes: &[u8]) -> bool
     }
 }
 
-/// How many bytes the line end at the start of `bytes` has: `\n`, `\r\n` or `\r`, and 0 where `bytes`
-/// is empty. `None` where no line ends here. CommonMark 2.1.
+/// The length in bytes of the line ending at the start of `bytes`: `\n`, `\r\n` or `\r`; 0 if `bytes` is empty.
+/// Otherwise `None`. CommonMark 2.1.
 pub fn scan_eol(bytes: &[u8]) -> Option<usize>
     ensures value { result ≡ eol_len bytes.now }
     ensures within { IfSome result (λ n. n ≤ length bytes.now) }
@@ -91,7 +92,7 @@ pub fn scan_eol(bytes: &[u8]) -> Option<usize>
     }
 }
 
-/// How many spaces and tabs `bytes` begins with. CommonMark 2.1.
+/// The number of spaces and tabs at the start of `bytes`. CommonMark 2.1.
 pub fn scan_blanks(bytes: &[u8]) -> usize
     ensures value { result ≡ prefix_len is_blank bytes.now }
     ensures within { result ≤ length bytes.now }
@@ -99,13 +100,13 @@ pub fn scan_blanks(bytes: &[u8]) -> usize
     bytes.iter().take_while(|b| is_blank(**b)).count()
 }
 
-/// How many bytes of white space without line ends (tab, 0x0B, 0x0C and space) `bytes` begins with.
+/// The number of bytes of white space at the start of `bytes`, without line endings: tab, 0x0B, 0x0C and space.
 /// CommonMark 2.1.
 pub fn scan_whitespace_no_nl(bytes: &[u8]) -> usize
     ensures value { result ≡ prefix_len is_white bytes.now }
     ensures within { result ≤ length bytes.now }
 {
-    // None and one space are the commonest.
+    // Most often there is none, or one space.
     match bytes {
         [first, ..] if *first > b' ' => 0,
         [b' ', next, ..] if *next > b' ' => 1,
@@ -113,14 +114,13 @@ pub fn scan_whitespace_no_nl(bytes: &[u8]) -> usize
     }
 }
 
-/// How many bytes the blank line at the start of `bytes` has, its end too; at the end of the text it
-/// needs no line end. `None` where something else than white space stands before the line end.
-/// CommonMark 2.1.
+/// The length in bytes of the blank line at the start of `bytes`, with its line ending, which it may lack at
+/// the end of the text. `None` if the line is not blank. CommonMark 2.1.
 pub fn scan_blank_line(bytes: &[u8]) -> Option<usize>
     ensures value { result ≡ blank_len bytes.now }
     ensures within { IfSome result (λ n. n ≤ length bytes.now) }
 {
-    // Most lines that are not blank are told by their first byte.
+    // The first byte rules out most lines that are not blank.
     if let [first, ..] = bytes {
         if *first > b' ' {
             return None;
@@ -133,11 +133,11 @@ pub fn scan_blank_line(bytes: &[u8]) -> Option<usize>
     }
 }
 
-// So many bytes are looked at for a line end 16 at a time: most lines are shorter, and `memchr2` costs more before its
-// first look.
+// The number of bytes that are searched for a line ending 16 at a time. Most lines are shorter, and `memchr2`
+// has a higher cost to start.
 const NEAR: usize = 128;
 
-/// How many bytes stand before the first line end. CommonMark 2.1.
+/// The number of bytes before the first line ending, or the length of `bytes`. CommonMark 2.1.
 pub fn content_len(bytes: &[u8]) -> usize
     ensures value { result ≡ prefix_len is_content bytes.now }
     ensures within { result ≤ length bytes.now }
@@ -154,7 +154,7 @@ pub fn content_len(bytes: &[u8]) -> usize
     from + far_content_len(&bytes[from..])
 }
 
-// The same of what is left after a near look.
+// The same for the bytes after those.
 #[inline(never)]
 fn far_content_len(bytes: &[u8]) -> usize
     ensures value { result ≡ prefix_len is_content bytes.now }
@@ -166,8 +166,8 @@ fn far_content_len(bytes: &[u8]) -> usize
     }
 }
 
-/// How many bytes the line at the start of `bytes` has, its end too: up to the first line end, else
-/// all. CommonMark 2.1.
+/// The length in bytes of the line at the start of `bytes`, with its line ending. Without a line ending, the
+/// length of `bytes`. CommonMark 2.1.
 #[tactic(auto, unfolding(crate::specs::Lines::line_len))]
 pub fn scan_nextline(bytes: &[u8]) -> usize
     ensures value { result ≡ line_len bytes.now }
@@ -183,7 +183,7 @@ pub fn scan_nextline(bytes: &[u8]) -> usize
     }
 }
 
-// How many number signs stand first.
+// The number of `#` at the start.
 fn scan_number_signs(bytes: &[u8]) -> usize
     ensures value { result ≡ prefix_len is_number_sign bytes.now }
     ensures within { result ≤ length bytes.now }
@@ -191,7 +191,7 @@ fn scan_number_signs(bytes: &[u8]) -> usize
     bytes.iter().take_while(|b| **b == b'#').count()
 }
 
-// The heading level of so many number signs.
+// The heading level for this number of `#`.
 fn heading_level(signs: usize) -> Option<HeadingLevel>
     ensures { result ≡ level_of signs }
 {
@@ -206,8 +206,8 @@ fn heading_level(signs: usize) -> Option<HeadingLevel>
     }
 }
 
-/// The level of the ATX heading that `bytes` begins with: 1 to 6 number signs, then a space, a tab, the
-/// end of the line or of the text. Else `None`. CommonMark 4.2.
+/// The level of the ATX heading at the start of `bytes`: 1 to 6 number signs, then a space, a tab, or the end
+/// of the line or of the text. Otherwise `None`. CommonMark 4.2.
 #[tactic(auto, unfolding(crate::specs::Lines::atx_level))]
 pub fn scan_atx_heading(bytes: &[u8]) -> Option<HeadingLevel>
     ensures value { result ≡ atx_level bytes.now }
@@ -221,7 +221,7 @@ pub fn scan_atx_heading(bytes: &[u8]) -> Option<HeadingLevel>
     }
 }
 
-/// How many number signs open a heading of the level: 1 to 6. CommonMark 4.2.
+/// The number of number signs that open a heading of this level: 1 to 6. CommonMark 4.2.
 pub fn level_number(level: HeadingLevel) -> usize
     ensures value { result ≡ number_of level }
 {

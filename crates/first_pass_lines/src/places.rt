@@ -1,4 +1,4 @@
-//! The lines of a text, and what is left of it from a place on.
+//! The lines of a text, and the rest of the text from an offset on.
 
 ghost use Rattle.std.specs.Prelude.{◌≡◌, map, ℕ, ◌+◌, ◌<◌, ◌≤◌, List, [], ◌∷◌, length, drop, All};
 ghost use Rattle.first_pass_lines.specs.Lines.{line_len};
@@ -15,8 +15,8 @@ pub fn rest_of(text: &[u8], start: usize) -> &[u8]
     &text[start..]
 }
 
-/// The offset at which the line ends, its end too, that begins at the offset `start`: there the next
-/// line begins, or the text ends. CommonMark 2.1.
+/// The end of the line that begins at the offset `start`, after its line ending. The next line begins there, or
+/// the text ends. CommonMark 2.1.
 pub fn next_line(text: &[u8], start: usize) -> usize
     requires { start ≤ length text.now }
     ensures value { result ≡ start + line_len (drop start text.now) }
@@ -29,7 +29,7 @@ pub fn next_line(text: &[u8], start: usize) -> usize
     start + scan_nextline(rest_of(text, start))
 }
 
-/// The lines of a text divide it, and no other pieces do (CommonMark 2.1).
+/// The lines of a text divide it, and this is the only division into lines (CommonMark 2.1).
 pub fn law_of_lines(text: &[u8])
     ensures division { IsDivision text.now (map line_of (lines_at 0 text.now)) }
     ensures places { All (IsLinePlace text.now) (lines_at 0 text.now) }

@@ -7,7 +7,7 @@ use Rattle.std.specs.List.{prefix_len}
 use Rattle.first_pass_lines.specs.Lines.{is_content}
 use Rattle.first_pass_lines.proofs.lines.content_len.Goals as goal
 
--- the bytes that passed, and then what is left
+-- the bytes that passed, and then the rest
 after_passed : (p : ℕ → Bool) (xs : List ℕ) (i : ℕ)
     → i ≤ length xs → ((k : ℕ) → k < i → p (get_or xs k 0) ≡ true) → i + prefix_len p (drop i xs) ≡ prefix_len p xs
 after_passed p xs zero h passed = omega arith
