@@ -1,4 +1,4 @@
--- Facts on the spaces and tabs that bytes begin with.
+-- Facts on the spaces and tabs at the start of bytes.
 use Rattle.std.proofs.Common.{◌≡◌, ℕ, ◌+◌, ◌<◌, ◌≤◌, Bool, true, ◌==◌, List, ◌∷◌, ◌++◌, length, take, drop, get_or, refl, sym, ap, ◌∙◌, arith, []}
 use Rattle.std.proofs.Common.{inl, inr, if◌then◌else◌}
 use Rattle.std.specs.List.{list_all}
@@ -9,7 +9,8 @@ use Rattle.first_pass_lines.specs.Rest.{columns_of}
 use Rattle.first_pass_lines.specs.Lines.{is_blank}
 use Rattle.first_pass_scan.specs.LeafLines.{blank_columns, IsIndent, IsLongestIndent}
 
--- the first n bytes are spaces and tabs of so many columns, and what follows them begins so many bytes after the last tab
+-- the first n bytes are spaces and tabs of this many columns; `column` is the number of bytes after the last tab in
+-- them
 pub record IsFront (bs : List ℕ) (n : ℕ) (columns : ℕ) (column : ℕ) : Type 0 where
   pub within : n ≤ length bs
   pub blanks : list_all is_blank (take n bs) ≡ true
@@ -22,7 +23,7 @@ columns_of-blank b column more h = grind (arith, nat_tests, h)
 blank_then : (b column : ℕ) → is_blank b ≡ true → 0 < blank_columns b column
 blank_then b column h = grind (arith, nat_tests, h)
 
--- the columns of some bytes are at least those of the first of them
+-- the columns of a run are at least those of its first byte
 columns_first : (b column : ℕ) (more : List ℕ) → 0 < blank_columns b column → blank_columns b column ≤ columns_of (b ∷ more) column
 columns_first b column more h = omega (arith, columns_of-blank b column more h)
 
@@ -30,7 +31,7 @@ list_all-append : (p : ℕ → Bool) (xs : List ℕ) (x : ℕ) (ys : List ℕ) �
 list_all-append p [] x ys h = (and_parts (p x) _ h).0
 list_all-append p (y ∷ more) x ys h = list_all-append p more x ys ((and_parts (p y) _ h).1)
 
--- a longer front continues the next byte
+-- a longer prefix begins with the shorter one and the next byte
 longer : (bs : List ℕ) (n m : ℕ) → n < m → m ≤ length bs → take m bs ≡ take n bs ++ get_or bs n 0 ∷ drop (n + 1) (take m bs)
 longer bs n m h l =
     let w = length-take-le m bs l in
@@ -61,7 +62,7 @@ front-indent bs max n columns column f few =
       few = few;
     }
 
--- no more are spaces and tabs, or the next has too many columns
+-- the prefix is the longest if the next byte is no space or tab, or has too many columns
 pub front-longest : (bs : List ℕ) (max n columns column : ℕ) → IsFront bs n columns column → columns ≤ max
     → (n < length bs → (w : ℕ) → w ≡ blank_columns (get_or bs n 0) column → 0 < w → max < columns + w) → IsLongestIndent bs max n columns
 front-longest bs max n columns column f few stop =

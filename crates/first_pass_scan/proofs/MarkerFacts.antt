@@ -11,7 +11,7 @@ use Rattle.first_pass_lines.specs.Rest.{Rest, after_columns, indent}
 use Rattle.first_pass_scan.specs.Markers.{content_indent}
 use Rattle.first_pass_lines.proofs.PlaceFacts.{all_columns_up_to}
 
--- each byte of a front of digits is one
+-- each byte in the run of digits is a digit
 pub digits-at : (bs : List ℕ) (n : ℕ)
     → n ≡ prefix_len is_ascii_digit bs → n ≤ length bs → (i : ℕ) → i < length (take n bs) → (48 ≤ get_or (take n bs) i 0) × (get_or (take n bs) i 0 ≤ 57)
 digits-at bs n e l i h =

@@ -1,4 +1,4 @@
--- Facts on what markers take of a line: bytes of its content, the last of them ASCII, and columns.
+-- Facts on the part of a line that a marker takes: bytes of its content, the last of them ASCII, and columns.
 use Rattle.std.proofs.Common.{◌≡◌, inl, inr, ℕ, zero, suc, ◌+◌, ◌-◌, ◌<◌, ◌≤◌, nat_le, Bool, true, false, ◌==◌, ◌&&◌, ◌||◌, not, List, ◌∷◌, length, []}
 use Rattle.std.proofs.Common.{take, drop, get_or, slice_index, Option, Some, None, is_some, IsUtf8, refl, sym, ap, subst, ◌∙◌, arith, length-drop}
 use Rattle.std.proofs.Common.{get_or-drop}
@@ -19,7 +19,7 @@ use Rattle.first_pass_scan.specs.Markers.{is_bullet, number_from, bullet_marker,
 use Rattle.first_pass_scan.specs.Markers.{behind_colon, item_by, item_of, definition_of, is_checked, task_box, task_of}
 use Rattle.first_pass_lines.proofs.PlaceFacts.{ascii_keeps, columns_keep, bytes_line_end, columns_line_end}
 
--- a marker of some bytes and the columns after it lie between the first rest and the second
+-- between the two rests are a marker of at least one byte and the columns after it
 pub record IsMarked (r : Rest) (s : Rest) : Type 0 where
   pub width : ℕ
   pub first : ℕ
@@ -30,7 +30,7 @@ pub record IsMarked (r : Rest) (s : Rest) : Type 0 where
   pub none_owed : r.owed ≡ 0
   pub same : s ≡ after_columns further (after_columns first (past_bytes width r))
 
--- bytes that are content, as many as there are
+-- n bytes that are all content are part of the line's content
 content_front : (bs : List ℕ) (n : ℕ) → n ≤ length bs → ((k : ℕ) → k < n → is_content (get_or bs k 0) ≡ true) → n ≤ prefix_len is_content bs
 content_front bs n l f =
     elim (cases_lt (prefix_len is_content bs) n) as (λ _. n ≤ prefix_len is_content bs) [
@@ -56,7 +56,7 @@ marked-line_end line r s m =
     ap (λ (q : Rest). line_end (place_at line q)) m.same ∙ columns_line_end m.further (place_at line (after_columns m.first (past_bytes m.width r)))
     ∙ columns_line_end m.first (place_at line (past_bytes m.width r)) ∙ bytes_line_end m.width (place_at line r) m.within
 
--- so many bytes are content of the line, and the last of them is ASCII
+-- the first n bytes are content of the line, and the last of them is ASCII
 pub record IsFrontOf (bs : List ℕ) (n : ℕ) : Type 0 where
   pub some : 0 < n
   pub within : n ≤ prefix_len is_content bs
@@ -73,7 +73,7 @@ mapped : {A B : Type 0} (f : A → B) (o : Option A) (y : B) → option_map f o 
 mapped f None y h = absurd (none-some y h)
 mapped f (Some x) y h = (x, refl, same_Some (f x) y h)
 
--- the byte that these begin with
+-- the first byte
 first_front : (c : ℕ) (bs : List ℕ) → c < 128 → is_content c ≡ true → begins c bs ≡ true → IsFrontOf bs 1
 first_front c [] l e h = absurd (false≢true h)
 first_front c (b ∷ bs) l e h =
@@ -220,4 +220,4 @@ task-marked r task h =
     let parts = mapped (λ (checked : Bool). (checked, past_bytes 3 box)) (task_box box.left) task p.1 in
     marked_by box task.1 3 0 0 (box_front box.left parts.0 parts.1) (eqb-true box.owed 0 p.0) (sym (ap (λ (x : Bool × Rest). x.1) parts.2))
 
--- the tag of a block quote goes to the end of its line
+-- the tag of a block quote reaches to the end of its line

@@ -1,4 +1,5 @@
--- With a plain byte no line end, marker, break, heading or fence begins, and with an inert byte no column and no container.
+-- With a plain byte no line ending, marker, thematic break, heading or fence begins; with an inert byte, no column and
+-- no container.
 use Rattle.std.proofs.Common.{◌≡◌, inl, inr, ℕ, zero, suc, if◌then◌else◌, ◌+◌, ◌==◌, ◌||◌, not, Bool, true, false, true≢false, List, [], ◌∷◌}
 use Rattle.std.proofs.Common.{None, refl, sym, ap, ◌∙◌, arith}
 use Rattle.std.proofs.lemmas.Bool.{cases_eq, ne_eqb}
@@ -10,7 +11,7 @@ use Rattle.first_pass_scan.specs.LeafLines.{hrule_len, code_fence}
 use Rattle.first_pass_scan.specs.Markers.{content_indent, item_by, list_marker, listitem, item_of}
 use Rattle.first_pass_lines.specs.Plain.{is_plain, begins_plain, is_inert, begins_inert}
 
--- a byte of which a test holds is none of which it doesn't
+-- a byte that passes a test differs from a byte that fails it
 isnt : (test : ℕ → Bool) (b c : ℕ) → test b ≡ true → test c ≡ false → b == c ≡ false
 isnt test b c h k = elim (cases_eq b c) [
   | inl same ↦ absurd (true≢false (sym h ∙ ap test same ∙ k))
@@ -61,7 +62,7 @@ unfolding code_fence is_plain
 plain_fence [] h = absurd (true≢false (sym h))
 plain_fence (b ∷ bs) h = rw (isnt is_plain b 96 h refl) (rw (isnt is_plain b 126 h refl) refl)
 
--- the last of the tests that hold of no inert byte
+-- the last of the tests that every inert byte fails
 last_off : (p q r s t u v : Bool) → not (p || q || r || s || t || u || v) ≡ true → v ≡ false
 last_off true q r s t u v h = absurd (true≢false (sym h))
 last_off false true r s t u v h = absurd (true≢false (sym h))
@@ -76,7 +77,7 @@ inert_digit : (b : ℕ) → is_inert b ≡ true → is_ascii_digit b ≡ false
 unfolding is_inert
 inert_digit b h = last_off (b == 9) (b == 32) (b == 42) (b == 43) (b == 45) (b == 62) (is_ascii_digit b) h
 
--- no column is there
+-- there is no column
 inert_columns : (bs : List ℕ) (column : ℕ) → begins_inert bs ≡ true → columns_of bs column ≡ 0
 unfolding is_inert
 inert_columns [] column h = refl
@@ -94,7 +95,7 @@ after_none : (k : ℕ) (r : Rest) → next_column r ≡ None → after_columns k
 after_none zero r e = refl
 after_none (suc k) r e = rw e refl
 
--- so taking columns takes nothing
+-- so taking columns changes nothing
 pub inert_after : (k : ℕ) (r : Rest) → r.owed ≡ 0 → begins_inert r.left ≡ true → after_columns k r ≡ r
 inert_after k r o h = after_none k r (rw o (inert_byte r r.left h))
 
@@ -131,7 +132,7 @@ pub plain_listitem : (bs : List ℕ) → begins_plain bs ≡ true → listitem b
 unfolding listitem
 plain_listitem bs h = rw (inert_marker bs (begins_both bs h)) refl
 
--- an item's content that begins with a plain byte begins here
+-- if an item's content begins with a plain byte, it begins here
 pub plain_content : (n : ℕ) (r : Rest) → r.owed ≡ 0 → begins_plain r.left ≡ true → content_indent n r ≡ (n, r)
 unfolding content_indent
 plain_content n r o h =

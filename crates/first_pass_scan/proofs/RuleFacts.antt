@@ -1,4 +1,4 @@
--- Facts on thematic breaks: where one can't begin, as none begins before.
+-- Facts on thematic breaks: offsets where none can begin, since none begins before them.
 use Rattle.std.proofs.Common.{◌≡◌, ℕ, zero, suc, ◌+◌, ◌-◌, ◌<◌, ◌≤◌, Bool, true, false, ◌==◌, nat_le, List, [], ◌∷◌, length, get_or, take, drop, count_by}
 use Rattle.std.proofs.Common.{Option, Some, None, refl, sym, ap, ◌∙◌, true≢false, arith, drop-drop, if◌then◌else◌}
 use Rattle.std.specs.Option.{option_map}
@@ -57,14 +57,14 @@ no_rule : (b : ℕ) (bs : List ℕ) → hrule_len (b ∷ bs) ≡ None → is_rul
 unfolding hrule_len
 no_rule b bs h e = rw e at h
 
--- where no thematic break begins, none begins before another byte than its first, spaces and tabs
+-- if no thematic break begins here, none begins in the leading run of the first byte, spaces and tabs
 pub none_begins : (bs : List ℕ) (c n : ℕ) → hrule_len bs ≡ None → 0 < length bs → c ≡ get_or bs 0 0 → n ≡ prefix_len (in_rule c) bs → HasNoRule bs 0 n
 none_begins [] c n h l e m = absurd (omega arith)
 none_begins (b ∷ bs) c n h l e m = record {
   none = λ k low high. none_in c (b ∷ bs) k (λ r. ap (λ x. rule_len x (b ∷ bs)) e ∙ no_rule b bs h (ap is_rule_byte (sym e) ∙ r)) (omega arith);
 }
 
--- the same in the bytes that these are the rest of
+-- the same for bytes of which these are the rest
 pub none_further : (bs : List ℕ) (s n : ℕ) → HasNoRule (drop s bs) 0 n → HasNoRule bs s (s + n)
 none_further bs s n f =
     record {
@@ -74,13 +74,13 @@ none_further bs s n f =
           ap hrule_len (sym d) ∙ f.none (k - s) (omega arith) (omega arith);
     }
 
--- a run that ends before the third byte has two bytes at most
+-- a run that ends before the third byte has at most two bytes
 prefix_two : (p : ℕ → Bool) (a b d : ℕ) (bs : List ℕ) (s t : Bool) → p a ≡ s → p b ≡ t → p d ≡ false → prefix_len p (a ∷ b ∷ d ∷ bs) ≤ 2
 prefix_two p a b d bs false t e f g = let q : prefix_len p (a ∷ b ∷ d ∷ bs) ≡ 0 = rw e refl in omega arith
 prefix_two p a b d bs true false e f g = let q : prefix_len p (a ∷ b ∷ d ∷ bs) ≡ 1 = rw e (rw f refl) in omega arith
 prefix_two p a b d bs true true e f g = let q : prefix_len p (a ∷ b ∷ d ∷ bs) ≡ 2 = rw e (rw f (rw g refl)) in omega arith
 
--- a thematic break has three characters at least
+-- a thematic break has at least three characters
 too_few : (n k : ℕ) (o : Option ℕ) → k ≤ 2 → (if nat_le 3 k then option_map (λ j. n + j) o else None) ≡ None
 too_few n k None h = grind (arith, nat_tests)
 too_few n k (Some j) h = grind (arith, nat_tests)

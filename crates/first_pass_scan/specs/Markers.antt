@@ -1,4 +1,4 @@
--- The markers with which containers open: list items, definitions, block quotes, and the marks of tasks and quotes.
+-- The markers of list items, definitions and block quotes, task list item markers, and the tags of block quotes.
 use Rattle.std.specs.Prelude.{ℕ, ◌+◌, ◌-◌, ◌*◌, ◌==◌, ◌&&◌, ◌||◌, not, Bool, nat_le, List, [], ◌∷◌, length, take, drop, Option, Some, None, is_some}
 use Rattle.std.specs.Prelude.{slice_index, codes, if◌then◌else◌}
 use Rattle.std.specs.Option.{option_map}
@@ -14,7 +14,7 @@ use Rattle.first_pass_scan.specs.LeafLines.{hrule_len}
 use Rattle.first_pass_lines.specs.Places.{line_rest}
 use Rattle.first_pass_lines.specs.Rest.{Rest, after_columns, indent, past_bytes}
 
--- the number that digits write after those of the number n (CommonMark 5.2)
+-- the number whose digits are those of n, then these (CommonMark 5.2)
 abbrev pub number_from : ℕ → List ℕ → ℕ
 number_from n [] = n
 number_from n (b ∷ bs) = number_from (10 * n + (b - digit_zero)) bs
@@ -23,61 +23,69 @@ number_from n (b ∷ bs) = number_from (10 * n + (b - digit_zero)) bs
 abbrev pub is_bullet : ℕ → Bool
 is_bullet b = (b == hyphen) || (b == plus_sign) || (b == asterisk)
 
--- the marker of a bullet list here, its width, its byte and 0 for its number (CommonMark 5.2)
+-- the bullet list marker here: its width, its byte, and 0 for its number (CommonMark 5.2)
 abbrev pub bullet_marker : List ℕ → Option (ℕ × ℕ × ℕ)
 bullet_marker [] = None
 bullet_marker (b ∷ bs) = if is_bullet b then Some (1, b, 0) else None
 
--- the marker of n digits that write a number, where a `.` or `)` is after them (CommonMark 5.2)
+-- the marker of n digits with this number, if a `.` or `)` follows them (CommonMark 5.2)
 abbrev pub delimited : ℕ → ℕ → List ℕ → Option (ℕ × ℕ × ℕ)
 delimited n number [] = None
 delimited n number (b ∷ bs) = if (b == full_stop) || (b == right_parenthesis) then Some (n + 1, b, number) else None
 
--- the marker of an ordered list here, its width, its last byte and its number: 1 to 9 digits, then a `.` or `)` (CommonMark 5.2)
+-- the ordered list marker here: its width, its last byte and its number; it has 1 to 9 digits, then a `.` or `)`
+-- (CommonMark 5.2)
 abbrev pub ordered_marker : List ℕ → Option (ℕ × ℕ × ℕ)
 ordered_marker bs =
     let n = prefix_len is_ascii_digit bs in
     if nat_le 1 n && nat_le n 9 then delimited n (number_from 0 (take n bs)) (drop n bs) else None
 
--- the list marker here, its width, its byte and its number (CommonMark 5.2)
+-- the list marker here: its width, its byte and its number (CommonMark 5.2)
 unfoldable pub list_marker : List ℕ → Option (ℕ × ℕ × ℕ)
 list_marker bs = if is_some (bullet_marker bs) then bullet_marker bs else ordered_marker bs
 
--- the columns that a line needs to continue an item whose content could begin n columns in, and what is left of its line: up to three columns more count, with
--- four or more the content is indented code, and a blank rest adds nothing (CommonMark 5.2)
+-- The columns that a line needs to continue an item whose content begins n columns in or later, and the rest of the
+-- item's line. Up to three further columns count. With four or more the content is indented code, and a blank rest adds
+-- nothing (CommonMark 5.2).
 unfoldable pub content_indent : ℕ → Rest → ℕ × Rest
 content_indent n r =
     if is_blank_line r.left then (n, r) else (if nat_le 4 (indent r) then (n, r) else (n + indent r, after_columns (indent r) r))
 
--- the same after an item's marker that ends n columns in: a column or the end of the line must follow it (CommonMark 5.2)
+-- the same after an item's marker that ends n columns in, if a column or the end of the line follows it
+-- (CommonMark 5.2)
 unfoldable pub behind_marker : ℕ → Rest → Option (ℕ × Rest)
 behind_marker n r =
     if nat_le 1 (indent r) || at_line_end r.left then Some (content_indent (n + 1) (after_columns 1 r)) else None
 
--- an item that so many columns stand before: its marker's byte and number, its indent, and what is left of its line (CommonMark 5.2)
+-- the item after `outer` columns with this marker: the marker's byte and number, the item's indent, and the rest of its
+-- line (CommonMark 5.2)
 abbrev pub item_by : ℕ → Rest → Option (ℕ × ℕ × ℕ) → Option ((ℕ × ℕ × ℕ) × Rest)
 item_by outer r None = None
 item_by outer r (Some m) =
     option_map (λ content. ((m.1, m.2, content.0), content.1)) (behind_marker (outer + m.0) (past_bytes m.0 r))
 
--- the item that begins here, where no column is owed and no thematic break stands (CommonMark 5.2)
+-- the item that begins here, if no column is owed and no thematic break is here (CommonMark 5.2)
 unfoldable pub item_of : ℕ → Rest → Option ((ℕ × ℕ × ℕ) × Rest)
 item_of outer r = if (r.owed == 0) && not (is_some (hrule_len r.left)) then item_by outer r (list_marker r.left) else None
 
--- the same for a marker that a line begins with, its width first (CommonMark 5.2)
+-- the item at the start of a line with this marker: the marker's width, byte and number, and the item's indent
+-- (CommonMark 5.2)
 abbrev pub listitem_by : List ℕ → Option (ℕ × ℕ × ℕ) → Option (ℕ × ℕ × ℕ × ℕ)
 listitem_by bs None = None
 listitem_by bs (Some m) = option_map (λ content. (m.0, m.1, m.2, content.0)) (behind_marker m.0 (past_bytes m.0 (line_rest bs)))
 
--- the list item that begins a line, be it a thematic break or not: the marker's width, its byte, its number and the item's indent (CommonMark 5.2)
+-- the list item at the start of a line, even if the line is a thematic break: the marker's width, byte and number, and
+-- the item's indent (CommonMark 5.2)
 unfoldable pub listitem : List ℕ → Option (ℕ × ℕ × ℕ × ℕ)
 listitem bs = listitem_by bs (list_marker bs)
 
--- the indent of a definition whose marker ends n columns in, and what is left of its line: no column need follow (this project)
+-- the indent of a definition whose marker ends n columns in, and the rest of its line; no column need follow the marker
+-- (this project)
 abbrev pub behind_colon : ℕ → Rest → ℕ × Rest
 behind_colon n r = if nat_le 1 (indent r) then content_indent (n + 1) (after_columns 1 r) else (n, r)
 
--- the definition that so many columns stand before and whose `:` is here, where no column is owed: its indent, and what is left of its line (this project)
+-- the definition whose `:` is here after `outer` columns, if no column is owed: its indent, and the rest of its line
+-- (this project)
 unfoldable pub definition_of : ℕ → Rest → Option (ℕ × Rest)
 definition_of outer r = if (r.owed == 0) && begins colon r.left then Some (behind_colon (outer + 1) (past_bytes 1 r)) else None
 
@@ -85,7 +93,8 @@ definition_of outer r = if (r.owed == 0) && begins colon r.left then Some (behin
 abbrev pub is_checked : ℕ → Bool
 is_checked b = (b == small_x) || (b == capital_x)
 
--- the task list item marker here, whether it is checked: `[`, white space or `x`, `]`, and white space after it (GFM 5.3)
+-- the task list item marker here, and whether it is checked: `[`, then white space, `x` or `X`, then `]`, and white
+-- space after it (GFM 5.3)
 unfoldable pub task_box : List ℕ → Option Bool
 task_box bs =
     let mark = slice_index bs 1 in
@@ -93,7 +102,8 @@ task_box bs =
     then Some (is_checked mark)
     else None
 
--- the task list item marker after up to three columns, whether it is checked, and what is left of the line after it (GFM 5.3)
+-- the task list item marker after up to three columns: whether it is checked, and the rest of the line after it
+-- (GFM 5.3)
 unfoldable pub task_of : Rest → Option (Bool × Rest)
 task_of r =
     let box = after_columns 3 r in
@@ -107,12 +117,12 @@ tag_of Important = codes "[!IMPORTANT]"
 tag_of Warning = codes "[!WARNING]"
 tag_of Caution = codes "[!CAUTION]"
 
--- the tag stands first, in letters of either case (GitHub's alerts)
+-- the bytes begin with the tag, in letters of either case (GitHub's alerts)
 unfoldable pub has_tag : BlockQuoteKind → List ℕ → Bool
 has_tag kind bs =
     let n = length (tag_of kind) in nat_le n (length bs) && str_eq_ignore_ascii_case (take n bs) (tag_of kind)
 
--- the kind whose tag stands first (GitHub's alerts)
+-- the kind with whose tag the bytes begin (GitHub's alerts)
 unfoldable pub tag_kind : List ℕ → Option BlockQuoteKind
 tag_kind bs =
     if has_tag Note bs then Some Note
@@ -122,15 +132,17 @@ tag_kind bs =
     else (if has_tag Caution bs then Some Caution
     else None))))
 
--- the kind whose tag stands first, and how many bytes it has with the blank rest of its line and the line's end (GitHub's alerts)
+-- the kind with whose tag the bytes begin, and the length of its line with its line ending, if the rest of the line is
+-- blank (GitHub's alerts)
 abbrev pub tag_line_of : List ℕ → Option BlockQuoteKind → Option (BlockQuoteKind × ℕ)
 tag_line_of bs None = None
 tag_line_of bs (Some kind) = let n = length (tag_of kind) in option_map (λ k. (kind, n + k)) (blank_len (drop n bs))
 
--- the same for the tag that stands first (GitHub's alerts)
+-- the same for the tag with which the bytes begin (GitHub's alerts)
 unfoldable pub tag_line : List ℕ → Option (BlockQuoteKind × ℕ)
 tag_line bs = tag_line_of bs (tag_kind bs)
 
--- the kind that the tag here gives a block quote, where no column is owed before it, and what is left after its line (GitHub's alerts)
+-- the kind that the tag here gives a block quote, if no column is owed before it, and the rest of the text after its
+-- line (GitHub's alerts)
 unfoldable pub past_tag : Rest → Option (BlockQuoteKind × Rest)
 past_tag r = if r.owed == 0 then option_map (λ tag. (tag.0, past_bytes tag.1 r)) (tag_line r.left) else None

@@ -1,5 +1,5 @@
-//! Lines that open or close a leaf block: thematic breaks, setext heading underlines and code fences;
-//! and how far the first columns of a line go.
+//! Lines that open or close a leaf block: thematic breaks, setext heading underlines and code fences. The width
+//! of indentation.
 
 ghost use Rattle.std.specs.List.{prefix_len};
 ghost use Rattle.std.specs.Prelude.{◌≡◌, ◌≤◌, length, None, IfSome};
@@ -9,7 +9,7 @@ ghost use Rattle.first_pass_scan.specs.LeafLines.{run_len, in_rule, hrule_len, H
 use first_pass_items::item::HeadingLevel;
 use first_pass_lines::lines::{content_len, is_blank, scan_blank_line, scan_blanks, scan_eol};
 
-// How many bytes of the thematic break's byte, spaces and tabs stand first.
+// The number of bytes at the start that are the thematic break's byte, spaces or tabs.
 fn scan_rule_content(bytes: &[u8], byte: u8) -> usize
     ensures value { result ≡ prefix_len (in_rule byte) bytes.now }
     ensures within { result ≤ length bytes.now }
@@ -20,8 +20,8 @@ fn scan_rule_content(bytes: &[u8], byte: u8) -> usize
         .count()
 }
 
-/// How many bytes the thematic break that `bytes` begins with has, its end too: three or more of one
-/// of `-`, `_` and `*`, spaces and tabs between and after them. Else `None`. CommonMark 4.1.
+/// The length in bytes of the thematic break at the start of `bytes`, with its line ending: three or more of
+/// one of `-`, `_` and `*`, with spaces and tabs between and after them. Otherwise `None`. CommonMark 4.1.
 #[tactic(auto, unfolding(crate::specs::LeafLines::hrule_len))]
 pub fn scan_hrule(bytes: &[u8]) -> Option<usize>
     ensures value { result ≡ hrule_len bytes.now }
@@ -39,8 +39,8 @@ pub fn scan_hrule(bytes: &[u8]) -> Option<usize>
     Some(content + end)
 }
 
-// How many bytes `bytes` begins with at which no thematic break begins, where none begins at the first:
-// its first byte, spaces and tabs.
+// The length of the leading run of the first byte, spaces and tabs. No thematic break begins in it, given that
+// none begins at its start.
 pub(crate) fn scan_rule_free(bytes: &[u8]) -> usize
     requires { hrule_len bytes.now ≡ None }
     ensures none { HasNoRule bytes.now 0 result }
@@ -52,7 +52,7 @@ pub(crate) fn scan_rule_free(bytes: &[u8]) -> usize
     }
 }
 
-/// How many of the byte stand first.
+/// The number of copies of `byte` at the start of `bytes`.
 pub fn scan_run(bytes: &[u8], byte: u8) -> usize
     ensures value { result ≡ run_len byte bytes.now }
     ensures within { result ≤ length bytes.now }
@@ -60,7 +60,7 @@ pub fn scan_run(bytes: &[u8], byte: u8) -> usize
     bytes.iter().take_while(|b| **b == byte).count()
 }
 
-// How many bytes an underline of the byte has, its end too.
+// The length in bytes of an underline of the byte, with its line ending.
 fn scan_underline(bytes: &[u8], byte: u8) -> Option<usize>
     ensures value { result ≡ underline_len byte bytes.now }
     ensures within { IfSome result (λ n. n ≤ length bytes.now) }
@@ -70,8 +70,8 @@ fn scan_underline(bytes: &[u8], byte: u8) -> Option<usize>
     Some(run + end)
 }
 
-/// How many bytes the setext heading underline that `bytes` begins with has, its end too, and the
-/// level of the heading: a run of `=` (level 1) or `-` (level 2), then white space alone. Else `None`.
+/// The length in bytes of the setext heading underline at the start of `bytes`, with its line ending, and the
+/// level of the heading: a run of `=` (level 1) or `-` (level 2), then only white space. Otherwise `None`.
 /// CommonMark 4.3.
 #[inline(always)]
 #[tactic(auto, unfolding(crate::specs::LeafLines::setext_underline))]
@@ -92,7 +92,7 @@ pub fn scan_setext_heading(bytes: &[u8]) -> Option<(usize, HeadingLevel)>
     }
 }
 
-// Whether the line holds a backquote.
+// Whether the line contains a backquote.
 fn has_backquote(bytes: &[u8]) -> bool
     ensures { result ≡ holds_backquote bytes.now }
 {
@@ -100,8 +100,8 @@ fn has_backquote(bytes: &[u8]) -> bool
     bytes[..content].contains(&b'`')
 }
 
-/// The code fence that `bytes` begins with: how many bytes it has, and which byte. Three or more
-/// backquotes with none in the rest of the line, or three or more tildes. Else `None`. CommonMark 4.5.
+/// The length in bytes and the byte of the code fence at the start of `bytes`: three or more backquotes with
+/// none in the rest of the line, or three or more tildes. Otherwise `None`. CommonMark 4.5.
 #[tactic(auto, unfolding(crate::specs::LeafLines::code_fence))]
 pub fn scan_code_fence(bytes: &[u8]) -> Option<(usize, u8)>
     ensures value { result ≡ code_fence bytes.now }
@@ -126,9 +126,9 @@ pub fn scan_code_fence(bytes: &[u8]) -> Option<(usize, u8)>
     }
 }
 
-/// How many bytes the closing code fence that `bytes` begins with has, with the spaces and tabs after
-/// it and without its line end: at least `count` of `byte`, alone on the line. 0 at the end of the
-/// text, which closes a block too. Else `None`. CommonMark 4.5.
+/// The length in bytes of the closing code fence at the start of `bytes`, with trailing spaces and tabs but
+/// without its line ending: at least `count` of `byte`, and nothing else on the line. 0 at the end of the text,
+/// which closes the block too. Otherwise `None`. CommonMark 4.5.
 #[tactic(auto, unfolding(crate::specs::LeafLines::closing_fence_len))]
 pub fn scan_closing_code_fence(bytes: &[u8], byte: u8, count: usize) -> Option<usize>
     ensures value { result ≡ closing_fence_len byte count bytes.now }
@@ -146,7 +146,7 @@ pub fn scan_closing_code_fence(bytes: &[u8], byte: u8, count: usize) -> Option<u
     Some(end)
 }
 
-// How many columns a space or a tab has, so many bytes after the last tab; none if it is another byte.
+// The columns of a space or a tab, given the number of bytes since the last tab; 0 for any other byte.
 fn columns_of_blank(byte: u8, column: usize) -> usize
     ensures { result ≡ blank_columns byte column }
 {
@@ -157,8 +157,8 @@ fn columns_of_blank(byte: u8, column: usize) -> usize
     }
 }
 
-/// How many bytes and how many columns the longest run of whole spaces and tabs has that `bytes` begins
-/// with and that has at most `max` columns. CommonMark 2.2.
+/// The number of bytes and of columns in the longest run of whole spaces and tabs at the start of `bytes` that
+/// has at most `max` columns. CommonMark 2.2.
 pub fn calc_indent(bytes: &[u8], max: usize) -> (usize, usize)
     ensures { IsLongestIndent bytes.now max result.0 result.1 }
 {

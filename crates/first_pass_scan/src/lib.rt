@@ -1,5 +1,5 @@
-//! The line scanners of the block pass: line ends, blank lines, the lines that open or close a leaf
-//! block, delimiter rows of tables, and what is left of a line by columns, with the markers there.
+//! Scanners for the start of a line: thematic breaks, setext heading underlines, code fences, indentation in
+//! columns, and the markers of containers.
 #![tactic(auto)]
 
 pub mod leaf_scan;

@@ -1,4 +1,4 @@
-//! What is left of a line, by columns.
+//! The rest of a line, in columns.
 
 ghost use Rattle.std.specs.Prelude.{◌≡◌, ◌≤◌, ◌+◌, ◌<◌, ◌^◌, ◌==◌, min, nat_le, length, drop, is_some, IfSome, MatchOption, if◌then◌else◌, true, false};
 ghost use Rattle.first_pass_lines.specs.Lines.{at_line_end, is_blank_line};
@@ -16,8 +16,9 @@ use first_pass_lines::lines::{is_inert_front, is_plain_front, scan_blank_line, s
 use first_pass_lines::places::rest_of;
 use std::marker::Model;
 
-/// A place in a line: what is left of it, and the columns that a tab taken in part owes. Tab stops are
-/// at every fourth column from the line's start, and anew after each tab (CommonMark 2.2).
+/// A place in a line: the rest of the line, and the columns that a partly taken tab owes. Tab stops are at
+/// every fourth column, counted from the start of the line, and from zero again after each tab
+/// (CommonMark 2.2).
 #[derive(Clone)]
 pub struct LineStart<'a> {
     bytes: &'a [u8],
@@ -58,7 +59,7 @@ impl Drop for LineStart<'_> {
     }
 }
 
-// Whether the third byte is a letter or one of a character past ASCII: then no thematic break begins here.
+// Whether the third byte is an ASCII letter or a non-ASCII byte. Then no thematic break begins here.
 #[inline(always)]
 fn is_plain_third(bytes: &[u8]) -> bool
     ensures { result ≡ begins_plain (drop 2 bytes.now) }
@@ -70,7 +71,7 @@ fn is_plain_third(bytes: &[u8]) -> bool
 }
 
 impl<'a> LineStart<'a> {
-    /// The start of the line that `bytes` begins with; `bytes` may run on after its end.
+    /// The start of the line at the start of `bytes`, which may continue after that line.
     pub fn new(bytes: &'a [u8]) -> LineStart<'a>
         ensures { result ≡ line_rest bytes.now }
     {
@@ -83,21 +84,21 @@ impl<'a> LineStart<'a> {
         }
     }
 
-    /// How many bytes of the line were taken.
+    /// The number of bytes that were taken from the line.
     pub fn bytes_scanned(&self) -> usize
         ensures { result ≡ self.now.taken }
     {
         self.at
     }
 
-    /// What is left of the line, and all that follows it.
+    /// The rest of the line, and everything after it.
     pub fn left(&self) -> &'a [u8]
         ensures { result.now ≡ self.now.left }
     {
         rest_of(self.bytes, self.at)
     }
 
-    /// The columns that a tab taken in part owes: 0 to 3. CommonMark 2.2.
+    /// The columns that a partly taken tab owes: 0 to 3. CommonMark 2.2.
     pub fn remaining_space(&self) -> usize
         ensures value { result ≡ self.now.owed }
         ensures small { result ≤ 3 }
@@ -105,15 +106,15 @@ impl<'a> LineStart<'a> {
         self.owed
     }
 
-    /// Whether the line or the text ends here, owed columns aside. CommonMark 2.1.
+    /// Whether the line or the text ends here, apart from owed columns. CommonMark 2.1.
     pub fn is_at_eol(&self) -> bool
         ensures { result ≡ at_line_end self.now.left }
     {
         scan_eol(rest_of(self.bytes, self.at)).is_some()
     }
 
-    /// Whether a letter or a character past ASCII is next, and no column is owed: then no white space is
-    /// here, and no block begins but a paragraph.
+    /// Whether no column is owed and the next byte is an ASCII letter or a non-ASCII byte. Then there is no
+    /// white space here, and no block except a paragraph begins.
     #[inline(always)]
     pub fn is_at_plain(&self) -> bool
         ensures owed { result ≡ true → self.now.owed ≡ 0 }
@@ -122,8 +123,8 @@ impl<'a> LineStart<'a> {
         self.owed == 0 && is_plain_front(rest_of(self.bytes, self.at))
     }
 
-    /// Whether no column is owed, and a byte is next that is no space or tab, and with which no list item and no block
-    /// quote begins.
+    /// Whether no column is owed and the next byte is no space or tab, and no list item or block quote begins
+    /// with it.
     #[inline(always)]
     pub fn is_at_inert(&self) -> bool
         ensures owed { result ≡ true → self.now.owed ≡ 0 }
@@ -132,8 +133,7 @@ impl<'a> LineStart<'a> {
         self.owed == 0 && is_inert_front(rest_of(self.bytes, self.at))
     }
 
-    /// Takes as many columns of spaces and tabs as there are, up to `n`, and says how many.
-    /// CommonMark 2.2.
+    /// Takes as many columns of spaces and tabs as there are, up to `n`, and returns how many. CommonMark 2.2.
     #[inline(always)]
     pub fn scan_space_upto(&mut self, n: usize) -> usize
         ensures rest { self.new ≡ after_columns n self.old }
@@ -145,7 +145,7 @@ impl<'a> LineStart<'a> {
         self.take_columns(n)
     }
 
-    /// Takes as many columns as there are, up to `n`, and says whether all `n` were there.
+    /// Takes as many columns as there are, up to `n`, and returns whether there were `n` columns.
     /// CommonMark 2.2.
     pub fn scan_space(&mut self, n: usize) -> bool
         ensures rest { self.new ≡ after_columns n self.old }
@@ -162,8 +162,8 @@ impl<'a> LineStart<'a> {
         while self.take_column() {}
     }
 
-    /// Takes the block quote marker here, `>`, and one column after it where there is one, and says
-    /// whether the marker was there. None is where a column is owed. CommonMark 5.1.
+    /// Takes the block quote marker `>` here, and one column after it if there is one. Returns whether there
+    /// was a marker. There is none if a column is owed. CommonMark 5.1.
     pub fn scan_blockquote_marker(&mut self) -> bool
         ensures { MatchOption (past_quote self.old) ((result ≡ false) × (self.new ≡ self.old)) (λ next. (result ≡ true)
             × (self.new ≡ after_columns 1 next)) }
@@ -177,9 +177,9 @@ impl<'a> LineStart<'a> {
         }
     }
 
-    /// Takes the tag here that gives a block quote its kind, as `[!NOTE]` in letters of either case,
-    /// with the blank rest of its line and the line's end, and returns the kind. Where a column is owed
-    /// or no such line is here the answer is `None`, and nothing is taken.
+    /// Takes the line of the block quote tag here (such as `[!NOTE]`, in letters of either case), with its
+    /// blank rest and its line ending, and returns the kind. Returns `None`, and takes nothing, if a column is
+    /// owed or there is no such line.
     #[tactic(auto, unfolding(crate::specs::Markers::past_tag))]
     pub fn scan_blockquote_tag(&mut self) -> Option<BlockQuoteKind>
         ensures { MatchOption (past_tag self.old) ((result ≡ None) × (self.new ≡ self.old)) (λ tag.
@@ -193,10 +193,10 @@ impl<'a> LineStart<'a> {
         Some(kind)
     }
 
-    /// Takes the list marker here with the columns that belong to it, where `indent` columns stand
-    /// before it, and returns its byte (`.` or `)` after digits), its number (0 for a bullet) and the
-    /// columns that a line needs to continue the item. Where a column is owed, no item opens or a
-    /// thematic break is here the answer is `None`, and nothing is taken. CommonMark 5.2.
+    /// Takes the list marker here, after `indent` columns, and the columns that belong to it. Returns its byte
+    /// (`.` or `)` after digits), its number (0 for a bullet) and the columns that a line needs to continue the
+    /// item. Returns `None`, and takes nothing, if a column is owed, no item begins here, or a thematic break
+    /// is here. CommonMark 5.2.
     #[tactic(auto, unfolding(crate::specs::Markers::item_of))]
     pub fn scan_list_marker_with_indent(&mut self, indent: usize) -> Option<(u8, u64, usize)>
         requires { indent ≤ 3 }
@@ -214,9 +214,9 @@ impl<'a> LineStart<'a> {
         Some((byte, number, inner))
     }
 
-    /// Takes the `:` of a definition here with the columns that belong to it, where `indent` columns
-    /// stand before it, and returns the columns that a line needs to continue the definition. Where a
-    /// column is owed or there is no `:` the answer is `None`, and nothing is taken.
+    /// Takes the `:` of a definition here, after `indent` columns, and the columns that belong to it. Returns
+    /// the columns that a line needs to continue the definition. Returns `None`, and takes nothing, if a column
+    /// is owed or there is no `:`.
     #[tactic(auto, unfolding(crate::specs::Markers::definition_of))]
     pub fn scan_definition_list_definition_marker_with_indent(
         &mut self,
@@ -233,9 +233,9 @@ impl<'a> LineStart<'a> {
         Some(self.scan_behind_colon(indent + 1))
     }
 
-    /// Takes the task list item marker here, after up to three columns, and returns whether it is
-    /// checked: `[`, white space without line ends, `x` or `X`, and `]`. White space must follow, and
-    /// isn't taken. Else the answer is `None`, and nothing is taken. GFM 5.3.
+    /// Takes the task list item marker here, after up to three columns, and returns whether it is checked. It
+    /// is `[`, then white space other than a line ending, `x` or `X`, then `]`. White space must follow, and is
+    /// not taken. Returns `None`, and takes nothing, if there is no such marker. GFM 5.3.
     #[tactic(auto, unfolding(crate::specs::Markers::task_of))]
     pub fn scan_task_list_marker(&mut self) -> Option<bool>
         ensures { MatchOption (task_of self.old) ((result ≡ None) × (self.new ≡ self.old)) (λ task.
@@ -249,7 +249,7 @@ impl<'a> LineStart<'a> {
         Some(checked)
     }
 
-    /// The same place once more, which takes no memory.
+    /// A copy of this place, which needs no allocation.
     pub fn copy(&self) -> LineStart<'a>
         ensures { result ≡ self.now }
     {
@@ -262,7 +262,7 @@ impl<'a> LineStart<'a> {
         }
     }
 
-    // Takes bytes where no column is owed.
+    // Takes `count` bytes. Requires that no column is owed.
     fn skip(&mut self, count: usize)
         requires within { count ≤ length self.old.left }
         requires none_owed { self.old.owed ≡ 0 }
@@ -271,7 +271,7 @@ impl<'a> LineStart<'a> {
         self.at += count;
     }
 
-    // The list marker here, where no column is owed: its width, its byte and its number.
+    // The list marker here, if no column is owed: its width, its byte and its number.
     fn list_marker(&self) -> Option<(usize, u8, u64)>
         ensures value { result ≡ (if self.now.owed == 0 then list_marker self.now.left else None) }
         ensures within { IfSome result (λ m. m.0 ≤ length self.now.left) }
@@ -283,7 +283,8 @@ impl<'a> LineStart<'a> {
         scan_list_marker(rest_of(self.bytes, self.at))
     }
 
-    // Whether a thematic break is here. Where markers follow one another, a byte is looked at once.
+    // Whether a thematic break is here. Nothing before `rule_free` is scanned again, so a series of markers is
+    // scanned once.
     fn is_at_rule(&mut self) -> bool
         ensures value { result ≡ is_some (hrule_len self.old.left) }
         ensures same { self.new ≡ self.old }
@@ -302,7 +303,7 @@ impl<'a> LineStart<'a> {
         false
     }
 
-    // The task list item marker here, where no column is owed.
+    // The task list item marker here, if no column is owed.
     fn task_box(&self) -> Option<bool>
         ensures value { result ≡ (if self.now.owed == 0 then task_box self.now.left else None) }
         ensures none_owed { IfSome result (λ _. self.now.owed ≡ 0) }
@@ -314,15 +315,15 @@ impl<'a> LineStart<'a> {
         scan_task_box(rest_of(self.bytes, self.at))
     }
 
-    // Whether only white space is left of the line.
+    // Whether the rest of the line is blank.
     fn is_blank_line(&self) -> bool
         ensures { result ≡ is_blank_line self.now.left }
     {
         scan_blank_line(rest_of(self.bytes, self.at)).is_some()
     }
 
-    // Takes the columns before an item's content, which could begin `width` columns in, and says how
-    // many columns in it does.
+    // Takes the columns before an item's content, which begins `width` columns in or later. Returns the columns
+    // before the content.
     #[inline(always)]
     #[tactic(auto, unfolding(crate::specs::Markers::content_indent))]
     fn scan_content_indent(&mut self, width: usize) -> usize
@@ -344,8 +345,8 @@ impl<'a> LineStart<'a> {
         width + further
     }
 
-    // Takes the columns after an item's marker that ends `width` columns in, and says how many columns
-    // in its content begins. `None` where neither a column nor the end of the line follows it.
+    // Takes the columns after an item's marker that ends `width` columns in. Returns the columns before its
+    // content, or `None` if neither a column nor the end of the line follows the marker.
     #[inline(always)]
     #[tactic(auto, unfolding(crate::specs::Markers::behind_marker))]
     fn scan_behind_marker(&mut self, width: usize) -> Option<usize>
@@ -371,8 +372,8 @@ impl<'a> LineStart<'a> {
         self.scan_content_indent(width + 1)
     }
 
-    // Takes `n` spaces where they are next and no column is owed, and says so; else takes nothing. One look at
-    // 16 bytes, without a loop whose end is hard to predict.
+    // Takes `n` spaces and returns `true`, if they are next and no column is owed; otherwise takes nothing.
+    // Reads 16 bytes at once, without a loop whose end is hard to predict.
     #[inline(always)]
     fn take_spaces(&mut self, n: usize) -> bool
         ensures yes { result ≡ true → (self.new ≡ after_columns n self.old) × (n ≤ indent self.old) }
@@ -386,7 +387,7 @@ impl<'a> LineStart<'a> {
         true
     }
 
-    // Takes as many columns as there are, up to `n`, one at a time, and says how many.
+    // Takes as many columns as there are, up to `n`, one at a time, and returns how many.
     fn take_columns(&mut self, n: usize) -> usize
         ensures rest { self.new ≡ after_columns n self.old }
         ensures value { result ≡ min n (indent self.old) }
@@ -423,9 +424,9 @@ impl<'a> LineStart<'a> {
     }
 }
 
-/// The list marker that `bytes` begins with, a line's start: how many bytes it has, its byte (`.` or `)`
-/// after digits), its number (0 for a bullet), and the columns that a line needs to continue the item.
-/// A thematic break is one too, where it reads as a marker. Else `None`. CommonMark 5.2.
+/// The list marker at the start of the line with which `bytes` begins: its length in bytes, its byte (`.` or
+/// `)` after digits), its number (0 for a bullet), and the columns that a line needs to continue the item. A
+/// thematic break that reads as a marker counts too. Otherwise `None`. CommonMark 5.2.
 #[tactic(auto, unfolding(crate::specs::Markers::listitem))]
 pub fn scan_listitem(bytes: &[u8]) -> Option<(usize, u8, u64, usize)>
     ensures value { result ≡ listitem bytes.now }

@@ -1,4 +1,4 @@
-//! The bytes of markers: list items, tasks, and the tags of block quotes.
+//! The bytes of list markers, task list item markers, and the tags of block quotes.
 
 ghost use Rattle.std.specs.List.{prefix_len};
 ghost use Rattle.std.specs.Prelude.{◌≡◌, ◌≤◌, length, slice_index, EachIndex, IfSome, true};
@@ -11,7 +11,7 @@ use first_pass_items::item::BlockQuoteKind;
 use first_pass_lines::lines::{is_ascii_white, is_white, scan_blank_line};
 use first_pass_lines::places::rest_of;
 
-// How many digits stand first.
+// The number of digits at the start.
 fn scan_digits(bytes: &[u8]) -> usize
     ensures value { result ≡ prefix_len is_ascii_digit bytes.now }
     ensures within { result ≤ length bytes.now }
@@ -19,7 +19,7 @@ fn scan_digits(bytes: &[u8]) -> usize
     bytes.iter().take_while(|b| b.is_ascii_digit()).count()
 }
 
-// The number that at most nine digits write.
+// The number that these digits write, at most nine.
 fn number(digits: &[u8]) -> u64
     requires few { length digits.now ≤ 9 }
     requires digits { EachIndex digits.now (λ k. (digit_zero ≤ slice_index digits.now k)
@@ -33,7 +33,7 @@ fn number(digits: &[u8]) -> u64
     value
 }
 
-// The bullet that stands first, as a list marker: its width, its byte and 0.
+// The bullet at the start, as a list marker: its width, its byte and 0.
 fn scan_bullet(bytes: &[u8]) -> Option<(usize, u8, u64)>
     ensures { result ≡ bullet_marker bytes.now }
 {
@@ -43,7 +43,7 @@ fn scan_bullet(bytes: &[u8]) -> Option<(usize, u8, u64)>
     }
 }
 
-// The digits with their `.` or `)` that stand first: the width, the last byte and the number.
+// The ordered list marker at the start: its width, its last byte and its number.
 fn scan_ordered(bytes: &[u8]) -> Option<(usize, u8, u64)>
     ensures value { result ≡ ordered_marker bytes.now }
     ensures within { IfSome result (λ m. m.0 ≤ length bytes.now) }
@@ -59,7 +59,7 @@ fn scan_ordered(bytes: &[u8]) -> Option<(usize, u8, u64)>
     }
 }
 
-// The list marker that stands first: its width, its byte and its number.
+// The list marker at the start: its width, its byte and its number.
 #[tactic(auto, unfolding(crate::specs::Markers::list_marker))]
 pub(crate) fn scan_list_marker(bytes: &[u8]) -> Option<(usize, u8, u64)>
     ensures value { result ≡ list_marker bytes.now }
@@ -72,7 +72,7 @@ pub(crate) fn scan_list_marker(bytes: &[u8]) -> Option<(usize, u8, u64)>
     }
 }
 
-// The task list item marker that stands first: whether it is checked. White space follows its `]`.
+// Whether the task list item marker at the start is checked. White space follows its `]`.
 #[tactic(auto, unfolding(crate::specs::Markers::task_box))]
 pub(crate) fn scan_task_box(bytes: &[u8]) -> Option<bool>
     ensures value { result ≡ task_box bytes.now }
@@ -85,7 +85,7 @@ pub(crate) fn scan_task_box(bytes: &[u8]) -> Option<bool>
     }
 }
 
-// The tag of the kind.
+// The bytes of the kind's tag.
 fn tag_of(kind: BlockQuoteKind) -> &'static [u8]
     ensures { result.now ≡ tag_bytes kind }
 {
@@ -98,7 +98,7 @@ fn tag_of(kind: BlockQuoteKind) -> &'static [u8]
     }
 }
 
-// Whether the tag of the kind stands first, in letters of either case.
+// Whether the bytes begin with the tag of the kind, in letters of either case.
 #[tactic(auto, unfolding(crate::specs::Markers::has_tag))]
 fn has_tag(bytes: &[u8], kind: BlockQuoteKind) -> bool
     ensures value { result ≡ tag_stands kind bytes.now }
@@ -108,7 +108,7 @@ fn has_tag(bytes: &[u8], kind: BlockQuoteKind) -> bool
     tag.len() <= bytes.len() && bytes[..tag.len()].eq_ignore_ascii_case(tag)
 }
 
-// The kind whose tag stands first.
+// The kind with whose tag the bytes begin.
 #[tactic(auto, unfolding(crate::specs::Markers::tag_kind))]
 fn scan_kind(bytes: &[u8]) -> Option<BlockQuoteKind>
     ensures value { result ≡ tag_kind bytes.now }
@@ -129,8 +129,8 @@ fn scan_kind(bytes: &[u8]) -> Option<BlockQuoteKind>
     }
 }
 
-// The kind whose tag stands first, and how many bytes its line has, its end too, where the rest of it
-// is blank.
+// The kind with whose tag the bytes begin, and the length of that line with its line ending, if the rest of the
+// line is blank.
 #[tactic(auto, unfolding(crate::specs::Markers::tag_line))]
 pub(crate) fn scan_tag_line(bytes: &[u8]) -> Option<(BlockQuoteKind, usize)>
     ensures value { result ≡ tag_line bytes.now }
