@@ -1,4 +1,4 @@
--- What a caller needs to add a block: open it, add its children, close it.
+-- Facts for a caller that adds a block: it opens the block, adds its children and closes it.
 use Rattle.std.proofs.Common.{◌≡◌, ℕ, ◌+◌, ◌<◌, List, ◌∷◌, ◌++◌, length, Some, None, MatchOption, Option, refl, sym, []}
 use Rattle.std.proofs.Common.{◌∙◌, ap, arith, append_assoc}
 use Rattle.first_pass_tree.specs.declared.tree_index.TreeIndex.{TreeIndex}
@@ -18,11 +18,11 @@ modify-here : {T : Type 0} (xs ys : List (ℕ × T)) (n : ℕ × T) (g : T → T
 modify-here [] ys n g = refl
 modify-here (x ∷ xs) ys n g = ap (λ z. x ∷ z) (modify-here xs ys n g)
 
--- a write to the node that stands after these
+-- a write to the node directly after these
 pub modify-at : {T : Type 0} (xs ys : List (ℕ × T)) (n : ℕ × T) (i : ℕ) (g : T → T) → i ≡ length xs → modify (xs ++ n ∷ ys) i g ≡ xs ++ (n.0, g n.1) ∷ ys
 modify-at xs ys n i g e = ap (λ k. modify (xs ++ n ∷ ys) k g) e ∙ modify-here xs ys n g
 
--- the item is added and opened, children are added, and it is closed
+-- an item is added and opened, its children are added, and it is closed
 
 pub forest-eq : {T : Type 0} (f g : Forest T) → f.nodes ≡ g.nodes → f.spine ≡ g.spine → f.current ≡ g.current → f ≡ g
 forest-eq f g a b c =
@@ -31,7 +31,7 @@ forest-eq f g a b c =
 abbrev at_place : ℕ → TreeIndex
 at_place m = record { 0 = m }
 
--- a node added and opened, children under it, closed, and its item written: the whole block is added
+-- a node is added and opened, gets children, is closed, and its item is written: the whole block is added
 pub block-built : {T : Type 0} (f f₁ f₂ f₃ f₄ : Forest T) (x : T) (g : T → T) (kids : List (ℕ × T)) (ix : TreeIndex)
     → f₁ ≡ appended f x → f₂ ≡ pushed f₁ ix → f₃.nodes ≡ f₂.nodes ++ at_depth (length f₂.spine + 1) kids → f₃.spine ≡ f₂.spine → f₃.spine ≡ ix ∷ f₄.spine
     → f₄ ≡ popped f₃ ix f₄.spine → ix.0 ≡ length f.nodes → modified f₄ ix g ≡ added f (block_of (g x) kids)
@@ -56,14 +56,14 @@ block-built {T = T} f f₁ f₂ f₃ f₄ x g kids ix e₁ e₂ n₃ s₃ p₃ e
     s
     (c₄ ∙ ap (λ (m : ℕ). Some (at_place m)) i)
 
--- a text where no node is current
+-- a text if no node is current
 
 -- a write through `tree[ix]` is a change of the item there
 
 no-open : (s : List TreeIndex) (i : TreeIndex) (is : List TreeIndex) → s ≡ [] → s ≡ i ∷ is → ⊥
 no-open s i is a b = cc
 
--- the same from the clauses of the calls as they come: append, push, children, pop, and a write at the place
+-- the same, from the clauses of the calls in order: append, push, children, pop, and a write at the place
 pub block-calls : {T : Type 0} (f f₁ f₂ f₃ f₄ : Forest T) (x : T) (g : T → T) (kids : List (ℕ × T)) (place opened : TreeIndex) (r : Option TreeIndex)
     → place.0 ≡ length f.nodes → f₁ ≡ appended f x → f₁.current ≡ Some opened
     → f₂ ≡ pushed f₁ opened → f₃.nodes ≡ f₂.nodes ++ at_depth (length f₂.spine + 1) kids

@@ -1,4 +1,4 @@
--- What a node is, when nodes change.
+-- The body of a node, after nodes change.
 use Rattle.std.proofs.Common.{◌≡◌, ℕ, zero, suc, ◌<◌, List, [], ◌∷◌, slice_get, Option, Some, None, refl, ap, arith}
 use Rattle.std.specs.Option.{option_map}
 use Rattle.first_pass_items.specs.declared.item.Item.{Item}
@@ -36,14 +36,14 @@ body-changed [] place g b c h f = cc
 body-changed (n ∷ nodes) zero g b c h f = (let e : n.1.body ≡ b = cc in ap (λ z. Some z) (f n.1 e))
 body-changed (n ∷ nodes) (suc place) g b c h f = body-changed nodes place g b c h f
 
--- a change at a place that agrees with another there
+-- two changes that agree on the item at a place
 pub changed_alike : (nodes : List (ℕ × Item)) (place : ℕ) (g h : Item → Item) (b : ItemBody)
     → body_at nodes place ≡ Some b → ((x : Item) → x.body ≡ b → g x ≡ h x) → modify nodes place g ≡ modify nodes place h
 changed_alike [] place g h b is same = refl
 changed_alike (n ∷ nodes) zero g h b is same = (let e : n.1.body ≡ b = cc in ap (λ z. (n.0, z) ∷ nodes) (same n.1 e))
 changed_alike (n ∷ nodes) (suc place) g h b is same = ap (λ z. n ∷ z) (changed_alike nodes place g h b is same)
 
--- a change that changes nothing there
+-- a change that does nothing to the item at a place
 pub not_changed : (nodes : List (ℕ × Item)) (place : ℕ) (g : Item → Item) (b : ItemBody)
     → body_at nodes place ≡ Some b → ((x : Item) → x.body ≡ b → g x ≡ x) → modify nodes place g ≡ nodes
 not_changed [] place g b is same = refl

@@ -1,4 +1,4 @@
--- What a caller keeps of a tree over several calls.
+-- Facts about a tree that a caller keeps over several calls.
 use Rattle.std.proofs.Common.{◌≡◌, ◌≢◌, ℕ, ◌+◌, ◌<◌, ◌⊎◌, List, ◌∷◌, ◌++◌, length, Some, ◌&&◌, get_or, sym, ◌∙◌, ap, subst, []}
 use Rattle.std.proofs.Common.{arith, append_assoc}
 use Rattle.std.proofs.lemmas.List.{length-append, length-map, map-append, get_or_append_left}
@@ -9,7 +9,7 @@ use Rattle.first_pass_tree.proofs.Blocks.{at_depth-append}
 abbrev last_place : {T : Type 0} → Forest T → TreeIndex
 last_place f = record { 0 = length f.nodes }
 
--- a child stays one where the list continues after it
+-- a child is still a child after nodes are added to the end of the list
 pub child-kept : {T : Type 0} (f g : Forest T) (more : List (ℕ × T)) (ix : TreeIndex)
     → g.nodes ≡ f.nodes ++ more → g.spine ≡ f.spine → IsChild f ix → IsChild g ix
 child-kept {T = T} f g more ix n s h =
@@ -24,7 +24,7 @@ child-kept {T = T} f g more ix n s h =
       behind = subst (λ (v : List TreeIndex). open_place v < ix.0) (sym s) h.behind;
     }
 
--- children so far and one more block
+-- the children so far, and one more block
 pub more-added : {T : Type 0} (f g h : Forest T) (kids block : List (ℕ × T)) → g.nodes ≡ f.nodes ++ at_depth (length f.spine + 1) kids → g.spine ≡ f.spine
     → h ≡ added g block → h.nodes ≡ f.nodes ++ at_depth (length f.spine + 1) (kids ++ block)
 more-added {T = T} f g h kids block n s e =
@@ -35,7 +35,7 @@ more-added {T = T} f g h kids block n s e =
     ∙ append_assoc f.nodes (at_depth d kids) (at_depth d block)
     ∙ ap (λ ns. f.nodes ++ ns) (sym (at_depth-append d kids block))
 
--- an item added is a block of it alone added
+-- adding an item is adding a block that has only this item
 pub appended-block : {T : Type 0} (f : Forest T) (x : T) → appended f x ≡ added f ((0, x) ∷ [])
 appended-block f x =
     let z : length f.spine + 1 ≡ length f.spine + 1 + 0 = omega arith in

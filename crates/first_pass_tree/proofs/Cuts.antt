@@ -1,4 +1,4 @@
--- The children of a node cut at an offset: what is left is a forest.
+-- The children of a node cut at an offset: the result is a forest.
 use Rattle.std.proofs.Common.{◌≡◌, ℕ, ◌+◌, ◌-◌, ◌≤◌, suc, zero, List, [], ◌∷◌, ◌++◌, length, take, drop, Some, None, true, false, Bool, nat_lt, if◌then◌else◌}
 use Rattle.std.proofs.Common.{◌&&◌, ◌==◌, get_or, IfSome, Option, refl, sym, ◌∙◌, ap, subst, ⊎_elim, arith}
 use Rattle.std.proofs.lemmas.List.{take-take, drop-take, take-append-drop, length-append, map-append, length-map, take-map, length-take-le, length-drop}
@@ -36,7 +36,7 @@ cut_by-is e d n ns false true b = refl
 cut_by-is e d n ns false false true = refl
 cut_by-is e d n ns false false false = refl
 
--- the cut keeps the depths of what stays
+-- the cut keeps the depths of the remaining nodes
 cut-depths : (e d : ℕ) (ns : List (ℕ × Item)) → depths (cut_tokens e d ns) ≡ take (length (cut_tokens e d ns)) (depths ns)
 cut-depths e d [] = refl
 cut-depths e d (n ∷ ns) =
@@ -66,7 +66,8 @@ drop-depths ns zero = refl
 drop-depths [] (suc p) = refl
 drop-depths (n ∷ ns) (suc p) = drop-depths ns p
 
--- the current node after a cut is the last child: the first place after the innermost open node has its depth, and none there has less
+-- the current node after a cut is the last child: the first place after the innermost open node has its depth, and no
+-- later place has less
 last_child-is : (ns : List (ℕ × Item)) (is : List TreeIndex)
     → IsPreorder (depths ns) → IsOpenPath (depths ns) is → IfSome (last_child is ns) (λ c. IsLastAt (depths ns) (length is + 1) c.0)
 last_child-is ns is pre path =
@@ -113,14 +114,14 @@ cut_siblings-is f e h =
     subst (λ (v : List ℕ). IsOpenPath v f.spine) (sym b) (path-take_open ds f.spine _ (omega arith) w h.opened) in
     record { preorder = pre; opened = path; at_current = last_child-is (take p f.nodes ++ cs) f.spine pre path }
 
--- the same, from what the calls on the fields answer
+-- the same, from the results of the calls on the fields
 pub siblings-by : (f : Forest Item) (e p d : ℕ) (ns : List (ℕ × Item)) (cur : Option TreeIndex)
     → p ≡ open_place f.spine + 1 → d ≡ length f.spine + 1 → ns ≡ take p f.nodes ++ cut_tokens e d (drop p f.nodes)
     → cur ≡ (if nat_lt p (length ns) then Some (record { 0 = last_before (depths ns) d (length ns) }) else None)
     → record f { nodes = ns; current = cur } ≡ cut_siblings f e
 siblings-by f e p d ns cur ep ed el ec = cc
 
--- no nodes or more than one
+-- no node, or more than one
 pub single-other : (e : ℕ) (ns : List (ℕ × Item)) → (length ns ≡ 1 → ⊥) → is_single_before e ns ≡ false
 single-other e [] h = refl
 single-other e (n ∷ []) h = absurd (h refl)
@@ -139,7 +140,7 @@ single-length e [] t = absurd cc
 single-length e (n ∷ []) t = refl
 single-length e (n ∷ m ∷ ns) t = absurd cc
 
--- one token alone that ends before the cut is left as it is
+-- a single token that ends before the cut is unchanged
 single-uncut : (e d : ℕ) (ns : List (ℕ × Item)) → is_single_before e ns ≡ true → get_or (depths ns) 0 0 ≤ d → cut_tokens e d ns ≡ ns
 single-uncut e d [] t l = refl
 single-uncut e d (n ∷ []) t l = grind (arith, nat_tests)

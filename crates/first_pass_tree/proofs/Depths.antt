@@ -1,4 +1,4 @@
--- Lists of depths: the last place of a depth, and open paths, through an edit.
+-- Lists of depths: the last place of a depth, and open paths, after an edit.
 use Rattle.std.proofs.Common.{◌≡◌, ℕ, ◌+◌, ◌-◌, ◌<◌, ◌≤◌, suc, zero, List, [], ◌∷◌, ◌++◌, length, get_or, take, drop, nat_lt, true, false, refl, sym, ap, ◌∙◌}
 use Rattle.std.proofs.Common.{arith, add-one}
 use Rattle.std.proofs.lemmas.Bool.Decides.{nat_tests}
@@ -8,7 +8,7 @@ use Rattle.std.specs.List.{prefix_len}
 use Rattle.first_pass_tree.specs.declared.tree_index.TreeIndex.{TreeIndex}
 use Rattle.first_pass_tree.specs.Forest.{IsLastAt, IsOpenPath, IsPreorder, end_of, open_place}
 
--- the last place of a depth stays it where a deeper node is added
+-- the last place of a depth is still the last after a deeper node is added
 pub last-append : (ds : List ℕ) (d e i : ℕ) → IsLastAt ds d i → d < e → IsLastAt (ds ++ e ∷ []) d i
 last-append ds d e i h l = record {
   within = grind (arith, length_push ds e, h.within);
@@ -27,7 +27,7 @@ pub path-append : (ds : List ℕ) (is : List TreeIndex) (e : ℕ) → length is 
 path-append ds [] e l h = last-append ds 0 e 0 h (omega arith)
 path-append ds (i ∷ is) e l h = (last-append ds _ e _ h.0 (omega arith), path-append ds is e (omega arith) h.1)
 
--- the last node is no less deep than the innermost open one
+-- the last node is at least as deep as the innermost open node
 pub path-last_depth : (ds : List ℕ) (is : List TreeIndex) → IsOpenPath ds is → (0 < length ds) × (length is ≤ get_or ds (length ds - 1) 0)
 path-last_depth ds [] h = (omega (arith, h.within), omega arith)
 path-last_depth ds (i ∷ is) h = (omega (arith, h.0.within), grind (arith, h.0.within, h.0.depth, h.0.behind (length ds - 1)))
@@ -35,7 +35,7 @@ path-last_depth ds (i ∷ is) h = (omega (arith, h.0.within), grind (arith, h.0.
 pub preorder-append : (ds : List ℕ) (e : ℕ) → IsPreorder ds → 0 < length ds → e ≤ get_or ds (length ds - 1) 0 + 1 → IsPreorder (ds ++ e ∷ [])
 preorder-append ds e h p l = λ k q. grind (arith, places, length_push, get_or_push, h k)
 
--- of two last places the deeper one stands after
+-- of the last places of two depths, that of the greater depth comes later
 pub last-order : (ds : List ℕ) (d e i j : ℕ) → IsLastAt ds d i → IsLastAt ds e j → d < e → i < j
 last-order ds d e i j h g l = grind (arith, h.depth, g.depth, g.behind i, h.within, g.within)
 
@@ -73,7 +73,7 @@ depth-small ds h z (suc k) l =
     let s = h k (omega arith) in
     grind (arith, add-one)
 
--- what stands after a node, up to the end of its descendants, is deeper
+-- the nodes after a node, up to the end of its descendants, are deeper
 pub before-end : (ds : List ℕ) (i k : ℕ) → i < k → k < end_of ds i → get_or ds i 0 < get_or ds k 0
 before-end ds i k a b =
     let p = λ (d : ℕ). nat_lt (get_or ds i 0) d in
@@ -84,7 +84,7 @@ before-end ds i k a b =
     ap (λ z. nat_lt (get_or ds i 0) (get_or ds z 0)) (sym x) ∙ ap (nat_lt (get_or ds i 0)) (sym u) ∙ s in
     grind (arith, nat_tests, y)
 
--- what stands at their end is not
+-- the node at that end is not deeper
 pub at-end : (ds : List ℕ) (i : ℕ) → i < length ds → end_of ds i < length ds → get_or ds (end_of ds i) 0 ≤ get_or ds i 0
 at-end ds i l h =
     let p = λ (d : ℕ). nat_lt (get_or ds i 0) d in

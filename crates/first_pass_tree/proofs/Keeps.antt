@@ -1,4 +1,4 @@
--- Each change of a forest leaves a forest.
+-- Each change of a forest results in a forest.
 use Rattle.std.proofs.Common.{◌≡◌, ℕ, ◌+◌, ◌-◌, ◌<◌, ◌≤◌, ◌^◌, suc, zero, List, ◌∷◌, ◌++◌, length, get_or, set, take, drop, map, Some, None, true, false, []}
 use Rattle.std.proofs.Common.{Bool, nat_lt, eqb, ◌≢◌, ◌⊎◌, reverse, slice_get, IfSome, Option, refl, sym, ◌∙◌, ap, subst, ⊎_elim, arith}
 use Rattle.std.proofs.lemmas.List.{length-append, length-reverse, get_or-reverse, map-append, length-map, take-map, get_or-map, take_more}
@@ -33,7 +33,7 @@ appended-is f x h =
           (subst (λ (n : ℕ). IsLastAt (ds ++ e ∷ []) e n) (length-map f.nodes (λ n. n.0)) (last-push ds e));
     }
 
--- the same, from what the calls on the fields answer
+-- the same, from the results of the calls on the fields
 pub appended-by : {T : Type 0} (f : Forest T) (x : T) (ns : List (ℕ × T)) (d n : ℕ) → IsForest f → ns ≡ f.nodes ++ (d, x) ∷ [] → d ≡ length f.spine + 1
     → n ≡ length f.nodes → record f { nodes = ns; current = Some (record { 0 = n }) } ≡ appended f x
 appended-by f x ns d n h e p q = cc
@@ -61,12 +61,12 @@ same_depths-is f ns e h =
 pub modified-is : {T : Type 0} (f : Forest T) (i : ℕ) (g : T → T) → IsForest f → IsForest (record f { nodes = modify f.nodes i g })
 modified-is f i g h = same_depths-is f (modify f.nodes i g) (depths-modify f.nodes i g) h
 
--- whatever item is written at a place
+-- any item may be written at a place
 pub set-is : {T : Type 0} (f : Forest T) (i : ℕ) (n : ℕ × T) (y : T)
     → n ≡ get_or f.nodes i n → IsForest f → IsForest (record f { nodes = set f.nodes i (n.0, y) })
 set-is f i n y e h = rw (modify-set f.nodes i n (λ _. y) e) (modified-is f i (λ _. y) h)
 
--- the tree up to its innermost open node, which is closed
+-- the tree up to its innermost open node, after that is closed
 pub closed-is : {T : Type 0} (f : Forest T) (c : TreeIndex) (rest : List TreeIndex)
     → f.spine ≡ c ∷ rest → IsForest f → IsForest (cut_to (popped f c rest) (c.0 + 1))
 closed-is f c rest e h =
@@ -80,13 +80,13 @@ closed-is f c rest e h =
       at_current = subst (λ (v : List ℕ). IsLastAt v (length rest + 1) c.0) (sym m) (last-take ds _ c.0 (c.0 + 1) o.0 (omega arith) (omega arith));
     }
 
--- what a write to one item leaves
+-- the result of a write to one item
 pub modified-by : {T : Type 0} (f now : Forest T) (i : ℕ) (n : ℕ × T) (g : T → T)
     → f ≡ now → n ≡ get_or f.nodes i n → record f { nodes = set f.nodes i (n.0, g n.1) } ≡ record now { nodes = modify now.nodes i g }
 modified-by {T = T} f now i n g e q =
     ap (λ (ns : List (ℕ × T)). record f { nodes = ns }) (modify-set f.nodes i n g q) ∙ ap (λ (v : Forest T). record v { nodes = modify v.nodes i g }) e
 
--- the root is there
+-- the root exists
 pub root-within : {T : Type 0} (f : Forest T) → IsForest f → 0 < length f.nodes
 root-within f h = omega (arith, path-last_depth (depths f.nodes) f.spine h.opened, length-map f.nodes (λ n. n.0))
 
@@ -98,7 +98,7 @@ depth_at ns i n l e = get_or-map (λ n. n.0) ns i n 0 l ∙ ap (λ m. m.0) (sym 
 pub depth_read : {T : Type 0} (ns : List (ℕ × T)) (i : ℕ) (d : ℕ × T) → i < length ns → get_or (depths ns) i 0 ≡ (get_or ns i d).0
 depth_read ns i d l = get_or-map (λ n. n.0) ns i d 0 l
 
--- a run of deeper nodes, one node on and at its end
+-- a run of deeper nodes: one more node, and its end
 pub run_more : {T : Type 0} (ns : List (ℕ × T)) (depth i : ℕ) (d : ℕ × T)
     → i < length ns → depth < (get_or ns i d).0 → run_end (depths ns) depth (i + 1) ≡ run_end (depths ns) depth i
 run_more ns depth i d l h =
@@ -240,7 +240,7 @@ open-within f ix g h = omega (arith, (open-last (depths f.nodes) f.spine h.opene
 pub opened-within : {T : Type 0} (f : Forest T) (c : TreeIndex) (rest : List TreeIndex) → f.spine ≡ c ∷ rest → IsForest f → c.0 < length f.nodes
 opened-within f c rest e h = open-within f c (ap (λ (is : List TreeIndex). slice_get is 0) e) h
 
--- a change from a place on, one element on and at the end
+-- a change from a place on: one more element, and its end
 pub map_from-more : {T : Type 0} (g : ℕ × T → ℕ × T) (ns : List (ℕ × T)) (i : ℕ) (n : ℕ × T)
     → i < length ns → n ≡ get_or ns i n → map_from g (suc i) (set ns i (g n)) ≡ map_from g i ns
 map_from-more g [] i n l e = absurd (omega arith)
@@ -259,7 +259,7 @@ map_from-end g [] (suc i) l = refl
 map_from-end g (m ∷ ns) zero l = absurd (omega arith)
 map_from-end g (m ∷ ns) (suc i) l = ap (λ k. m ∷ k) (map_from-end g ns i (omega arith))
 
--- nodes after the insertion of one and the change of those after it
+-- the nodes after one is inserted and those after it are changed
 pub wrap-nodes : {T : Type 0} (g : ℕ × T → ℕ × T) (ns : List (ℕ × T)) (p : ℕ) (y : ℕ × T)
     → p ≤ length ns → map_from g (suc p) (insert ns p y) ≡ take p ns ++ y ∷ map g (drop p ns)
 wrap-nodes g [] zero y l = refl
@@ -267,7 +267,7 @@ wrap-nodes g (n ∷ ns) zero y l = refl
 wrap-nodes g [] (suc p) y l = absurd (omega arith)
 wrap-nodes g (n ∷ ns) (suc p) y l = ap (λ z. n ∷ z) (wrap-nodes g ns p y (omega arith))
 
--- the depths after an inserted place are those that stood before it
+-- each depth after an inserted node can still be increased by one
 pub insert-small : {T : Type 0} (ns : List (ℕ × T)) (p : ℕ) (y : ℕ × T)
     → p ≤ length ns → IsShallow (depths ns) → (k : ℕ) → suc p ≤ k → k < length (insert ns p y) → get_or (depths (insert ns p y)) k 0 < 2 ^ 63
 insert-small ns p y l h zero a b = absurd (omega arith)
@@ -281,7 +281,7 @@ map_set [] i n = refl
 map_set (m ∷ ns) zero n = refl
 map_set (m ∷ ns) (suc i) n = ap (λ z. m.0 ∷ z) (map_set ns i n)
 
--- a write to one place leaves the depths after it
+-- after a write to one place, each depth after it can still be increased by one
 pub raise-keeps : {T : Type 0} (ns : List (ℕ × T)) (i : ℕ) (n : ℕ × T) → ((k : ℕ) → i ≤ k → k < length ns → get_or (depths ns) k 0 < 2 ^ 63) → (k : ℕ)
     → i + 1 ≤ k → k < length (set ns i n) → get_or (depths (set ns i n)) k 0 < 2 ^ 63
 raise-keeps ns i n h k a b =
@@ -292,7 +292,7 @@ raise-keeps ns i n h k a b =
     let s : get_or (depths (set ns i n)) k 0 ≡ get_or (depths ns) k 0 = ap (λ ds. get_or ds k 0) e ∙ r in
     omega arith
 
--- depths after a node is put after the current one
+-- the depths once a node is inserted after the current node
 wrap-below : (ds : List ℕ) (p e k : ℕ) (es : List ℕ) → p ≤ length ds → k < p → get_or (take p ds ++ e ∷ es) k 0 ≡ get_or ds k 0
 wrap-below ds p e k es m l =
     let n = length-take-le p ds m in get_or_append_left (take p ds) (e ∷ es) 0 k (omega arith) ∙ get_or-take p ds k 0 l
@@ -309,7 +309,7 @@ wrap-length : (ds : List ℕ) (p e : ℕ) → p ≤ length ds → length (take p
 wrap-length ds p e m =
     grind (arith, length-append (take p ds) (e ∷ map (λ d. d + 1) (drop p ds)), length-take-le p ds m, length-map (drop p ds) (λ d. d + 1), length-drop p ds)
 
--- a last node before the place stays it, where what is put in is deeper
+-- the last node of a depth before the place is still the last, if the inserted node is deeper
 last-wrap : (ds : List ℕ) (d i p e : ℕ) → IsLastAt ds d i → i < p → p ≤ length ds → d < e → IsLastAt (take p ds ++ e ∷ map (λ d. d + 1) (drop p ds)) d i
 last-wrap ds d i p e h l m q = record {
   within = omega (arith, wrap-length ds p e m, h.within);
@@ -425,13 +425,13 @@ current-within f c q h =
     let l = subst (λ (o : Option TreeIndex). IfSome o (λ c. IsLastAt (depths f.nodes) (length f.spine + 1) c.0)) q h.at_current in
     omega (arith, l.within, length-map f.nodes (λ n. n.0))
 
--- the end of what is below a node whose depth is read
+-- the end of the descendants of a node whose depth is read
 pub end-read : {T : Type 0} (ns ms : List (ℕ × T)) (i e : ℕ) (n : ℕ × T)
     → i < length ns → n ≡ get_or ns i n → ms ≡ ns → e ≡ run_end (depths ms) n.0 (i + 1) → e ≡ end_of (depths ns) i
 end-read {T = T} ns ms i e n l r q h =
     h ∙ ap (λ (v : List (ℕ × T)). run_end (depths v) n.0 (i + 1)) q ∙ ap (λ d. run_end (depths ns) d (i + 1)) (sym (depth_at ns i n l r))
 
--- the last node of its depth ends with the list
+-- the descendants of the last node of a depth end with the list
 last-end : {T : Type 0} (ns : List (ℕ × T)) (d i : ℕ) → IsLastAt (depths ns) d i → end_of (depths ns) i ≡ length ns
 last-end ns d i h =
     let ds = depths ns in
@@ -451,7 +451,7 @@ current-end f c ix q e h =
     let l = subst (λ (o : Option TreeIndex). IfSome o (λ c. IsLastAt (depths f.nodes) (length f.spine + 1) c.0)) q h.at_current in
     ap (end_of (depths f.nodes)) (sym e) ∙ last-end f.nodes _ c.0 l
 
--- the open places are within the list
+-- the places of the open nodes are within the list
 path-within : (ds : List ℕ) (is : List TreeIndex) → IsOpenPath ds is → (k : ℕ) → k < length is → (d : TreeIndex) → (get_or is k d).0 < length ds
 path-within ds [] h k l d = absurd (omega arith)
 path-within ds (i ∷ is) h zero l d = h.0.within

@@ -1,4 +1,4 @@
--- Subtrees, as some are forgotten and as the depths of a tree change.
+-- The recorded subtrees, after some are removed and after the depths of the tree change.
 use Rattle.std.proofs.Common.{◌≡◌, ℕ, ◌+◌, ◌<◌, ◌≤◌, ◌==◌, ◌||◌, nat_lt, Bool, true, false, suc, zero, List, [], ◌∷◌, ◌++◌, length, get_or, set, take}
 use Rattle.std.proofs.Common.{reverse, slice_index, if◌then◌else◌, IfSome, Option, Some, None, refl, sym, ◌∙◌, ap, subst, arith}
 use Rattle.std.proofs.lemmas.Bool.Decides.{nat_tests}
@@ -11,7 +11,7 @@ use Rattle.first_pass_tree.specs.Subtrees.{left_between}
 use Rattle.first_pass_tree.specs.Forest.{Forest, IsForest, IsLastAt, depths, map_from}
 use Rattle.first_pass_tree.proofs.Keeps.{rev_take, set-is, modify-set, depths-modify}
 
--- they end before a greater place too
+-- the subtrees end before a greater place too
 pub subtrees-up_to : (ds : List ℕ) (n m : ℕ) (es : List Subtree) → n ≤ m → AreSubtrees ds n es → AreSubtrees ds m es
 subtrees-up_to ds n m [] l h = tt
 subtrees-up_to ds n m (e ∷ es) l h = (let w = h.0 in omega arith, h.1, h.2)
@@ -30,18 +30,18 @@ first-are : (ds : List ℕ) (n count : ℕ) (es : List Subtree) → AreSubtrees 
 first-are ds n count [] h = tt
 first-are ds n count (e ∷ es) h = first_by (nat_lt count e.past) ds count e es (λ f. grind (arith, nat_tests, f)) h.1 h.2 (first-are ds e.past count es h.2)
 
--- those that end within the first nodes
+-- the subtrees that end within the first nodes
 pub subtrees-first : (ds : List ℕ) (n count : ℕ) (es fs : List Subtree) → fs ≡ within_first count es → AreSubtrees ds n es → AreSubtrees ds count fs
 subtrees-first ds n count es fs e h = subst (AreSubtrees ds count) (sym e) (first-are ds n count es h)
 
--- one step back in a list whose last element is the first that is seen: it ends after the first nodes
+-- one step back, in a list whose last element comes first in contracts: it ends after the first nodes
 pub first-fewer : (count left k : ℕ) (xs : List Subtree) (d : Subtree) → left ≡ k + 1 → k < length xs → count < (get_or xs k d).past
     → within_first count (reverse (take left xs)) ≡ within_first count (reverse (take k xs))
 first-fewer count left k xs d e l p =
     let t : nat_lt count (get_or xs k d).past ≡ true = grind (arith, nat_tests, p) in
     ap (λ j. within_first count (reverse (take j xs))) e ∙ ap (within_first count) (rev_take xs k d l) ∙ rw t refl
 
--- it ends within them
+-- the element ends within them
 pub first-stop : (count left k : ℕ) (xs : List Subtree) (d : Subtree) → left ≡ k + 1 → k < length xs → (get_or xs k d).past ≤ count
     → within_first count (reverse (take left xs)) ≡ reverse (take left xs)
 first-stop count left k xs d e l p =
@@ -64,7 +64,7 @@ ended_last-are ds place past [] s h = tt
 ended_last-are ds place past (e ∷ []) s h = only_by (e.place == place) ds past e h
 ended_last-are ds place past (e ∷ o ∷ es) s h = outer_by (e.place == place) ds place past e o es s h
 
--- the last one ends at another place
+-- the last subtree gets another end
 pub subtrees-ended : (ds : List ℕ) (n place past : ℕ) (es fs : List Subtree) → fs ≡ ended place past es → IsSubtree ds place past
     → AreSubtrees ds n es → AreSubtrees ds past fs
 subtrees-ended ds n place past es fs e s h =
@@ -72,7 +72,7 @@ subtrees-ended ds n place past es fs e s h =
     let f = subtrees-up_to ds (place + 1) past _ (omega arith) (first-are ds n (place + 1) es h) in
     subst (AreSubtrees ds past) (sym e) (ended_last-are ds place past _ s f)
 
--- a list whose last element is the first that is seen
+-- the last element of the list comes first when it is reversed
 last_seen : (xs : List Subtree) (k : ℕ) (d : Subtree) → length xs ≡ k + 1 → reverse xs ≡ get_or xs k d ∷ reverse (take k xs)
 last_seen xs k d l = ap reverse (sym (take_all (k + 1) xs (omega arith))) ∙ rev_take xs k d (omega arith)
 
@@ -81,7 +81,7 @@ set_by : (place past : ℕ) (e : Subtree) (es : List Subtree) → 0 < length es 
 set_by place past e [] l t = absurd (omega arith)
 set_by place past e (o ∷ es) l t = rw t refl
 
--- the last one is at the place, and another is left
+-- the last record is that of the place, and another remains
 pub ended-set : (place past k : ℕ) (xs : List Subtree) (d : Subtree) → length xs ≡ k + 1 → 0 < k → (get_or xs k d).place ≡ place
     → ended_last place past (reverse xs) ≡ reverse (set xs k (subtree place past))
 ended-set place past k xs d l m e =
@@ -91,7 +91,7 @@ ended-set place past k xs d l m e =
     let s : set xs k x ≡ take k xs ++ x ∷ [] = sym (take_all (k + 1) (set xs k x) (omega (arith, length-set xs k x))) ∙ take_more_set xs k x (omega arith) in
     ap (ended_last place past) (last_seen xs k d l) ∙ set_by place past _ _ w t ∙ sym (ap reverse s ∙ reverse-append (take k xs) (x ∷ []))
 
--- with one more, that of a node alone
+-- with one more record, of a node without descendants
 pub subtrees-added : (ds : List ℕ) (n place : ℕ) (es fs : List Subtree) → fs ≡ subtree place (place + 1) ∷ within_first place es → place < n
     → AreSubtrees ds n es → AreSubtrees ds n fs
 subtrees-added ds n place es fs e l h =
@@ -101,7 +101,7 @@ subtrees-added ds n place es fs e l h =
       subtrees-up_to ds place (place + 1) _ (omega arith) (first-are ds n place es h),
     )
 
--- without those that end after one of the nodes
+-- without the records that end after one of the nodes
 pub subtrees-dropped : (ds : List ℕ) (n place : ℕ) (es fs : List Subtree) → fs ≡ within_first place es → place < n → AreSubtrees ds n es → AreSubtrees ds n fs
 subtrees-dropped ds n place es fs e l h = subtrees-up_to ds place n fs (omega arith) (subtrees-first ds n place es fs e h)
 
@@ -109,7 +109,7 @@ left_by : (t : Bool) (ds : List ℕ) (n : ℕ) (e : Subtree) (es : List Subtree)
 left_by true ds n e es h = h
 left_by false ds n e es h = subtrees-rest ds n e es h
 
--- those that are left where the last one is taken
+-- the records that remain after the last one is taken
 pub subtrees-left : (ds : List ℕ) (n from to : ℕ) (es fs : List Subtree) → fs ≡ left_between from to es → AreSubtrees ds n es → AreSubtrees ds n fs
 subtrees-left ds n from to [] fs e h = subst (AreSubtrees ds n) (sym e) tt
 subtrees-left ds n from to (x ∷ es) fs e h = subst (AreSubtrees ds n) (sym e) (left_by (stands_outside from to x) ds n x es h)
@@ -124,7 +124,7 @@ last_within : (from to : ℕ) (es : List Subtree) → IfSome (last_between from 
 last_within from to [] = tt
 last_within from to (e ∷ es) = within_by (nat_lt e.place from) (nat_lt to e.past) from to e refl refl
 
--- the one that is taken stands between the two places
+-- the record that is taken is between the two places
 pub taken-within : (from to : ℕ) (es : List Subtree) (o : Option Subtree) → o ≡ last_between from to es → IfSome o (λ s. (from ≤ s.place) × (s.past ≤ to))
 taken-within from to es o e = subst (λ (v : Option Subtree). IfSome v (λ s. (from ≤ s.place) × (s.past ≤ to))) (sym e) (last_within from to es)
 
@@ -137,12 +137,12 @@ last_below : (ds : List ℕ) (n from to : ℕ) (es : List Subtree) → AreSubtre
 last_below ds n from to [] h = tt
 last_below ds n from to (e ∷ es) h = below_by (stands_outside from to e) ds e h.1
 
--- it is a subtree
+-- and it is a subtree
 pub taken-below : (ds : List ℕ) (n from to : ℕ) (es : List Subtree) (o : Option Subtree) → o ≡ last_between from to es → AreSubtrees ds n es
     → IfSome o (λ s. IsSubtree ds s.place s.past)
 taken-below ds n from to es o e h = subst (λ (v : Option Subtree). IfSome v (λ s. IsSubtree ds s.place s.past)) (sym e) (last_below ds n from to es h)
 
--- the last node of a depth, with all after it
+-- the last node of a depth, with all nodes after it
 last-subtree : {T : Type 0} (ns : List (ℕ × T)) (d i : ℕ) → IsLastAt (depths ns) d i → IsSubtree (depths ns) i (length ns)
 last-subtree ns d i h =
     let m = length-map ns (λ n. n.0) in
@@ -151,7 +151,7 @@ last-subtree ns d i h =
       deeper = λ k a b. subst (λ v. v < slice_index (depths ns) k) (sym h.depth) (h.behind k a (omega (arith, m, b)));
     }
 
--- the current node, with all after it
+-- the current node, with all nodes after it
 pub current-subtree : {T : Type 0} (f : Forest T) (ix : TreeIndex) → f.current ≡ Some ix → IsForest f → IsSubtree (depths f.nodes) ix.0 (length f.nodes)
 current-subtree f ix e h =
     let d = length f.spine + 1 in
@@ -162,7 +162,7 @@ current-subtree f ix e h =
 pub fewer-subtree : (ds : List ℕ) (place past end : ℕ) → place < past → past ≤ end → IsSubtree ds place end → IsSubtree ds place past
 fewer-subtree ds place past end l m h = record { behind = l; deeper = λ k a b. h.deeper k a (omega arith) }
 
--- only the depths before their ends count
+-- only the depths before the ends of the subtrees count
 subtrees-kept : (ds es : List ℕ) (n : ℕ) (xs : List Subtree) → ((k : ℕ) → k < n → get_or es k 0 ≡ get_or ds k 0) → AreSubtrees ds n xs → AreSubtrees es n xs
 subtrees-kept ds es n [] s h = tt
 subtrees-kept ds es n (e ∷ xs) s h = (
@@ -171,7 +171,7 @@ subtrees-kept ds es n (e ∷ xs) s h = (
   subtrees-kept ds es e.past xs (λ k a. let w = h.0 in s k (omega arith)) h.2,
 )
 
--- of a tree whose first nodes stay, where they end before the others
+-- in a tree whose first nodes are the same, if the subtrees end before the others
 pub subtrees-front : {T : Type 0} (ns ms : List (ℕ × T)) (n : ℕ) (xs : List Subtree) → n ≤ length ns → n ≤ length ms → take n ms ≡ take n ns
     → AreSubtrees (depths ns) n xs → AreSubtrees (depths ms) (length ms) xs
 subtrees-front {T = T} ns ms n xs a b e h =
@@ -179,14 +179,14 @@ subtrees-front {T = T} ns ms n xs a b e h =
     subtrees-up_to (depths ms) n (length ms) xs b
     (subtrees-kept (depths ns) (depths ms) n xs (λ k l. sym (get_or-take n (depths ms) k 0 l) ∙ ap (λ v. get_or v k 0) t ∙ get_or-take n (depths ns) k 0 l) h)
 
--- of a tree whose depths stay
+-- in a tree with the same depths
 pub subtrees-same : {T : Type 0} (ns ms : List (ℕ × T)) (xs : List Subtree) → depths ms ≡ depths ns → AreSubtrees (depths ns) (length ns) xs
     → AreSubtrees (depths ms) (length ms) xs
 subtrees-same ns ms xs e h =
     let l : length ms ≡ length ns = sym (length-map ms (λ m. m.0)) ∙ ap length e ∙ length-map ns (λ m. m.0) in
     subst (λ (ds : List ℕ). AreSubtrees ds (length ms) xs) (sym e) (subst (λ (n : ℕ). AreSubtrees (depths ns) n xs) (sym l) h)
 
--- a tree with whatever item written at a place
+-- in a tree with any item written at a place
 pub set-kept : {T : Type 0} (f : Forest T) (xs : List Subtree) (i : ℕ) (n : ℕ × T) (y : T) → n ≡ get_or f.nodes i n → IsTree f xs
     → IsTree (record f { nodes = set f.nodes i (n.0, y) }) xs
 set-kept f xs i n y e h = record {
@@ -194,14 +194,14 @@ set-kept f xs i n y e h = record {
   known = subtrees-same f.nodes (set f.nodes i (n.0, y)) xs (ap depths (modify-set f.nodes i n (λ _. y) e) ∙ depths-modify f.nodes i (λ _. y)) h.known;
 }
 
--- of a tree whose last nodes are cut off
+-- in a tree whose last nodes are cut off
 pub subtrees-cut : {T : Type 0} (ns ms : List (ℕ × T)) (n : ℕ) (xs : List Subtree) → n ≤ length ns → ms ≡ take n ns → AreSubtrees (depths ns) n xs
     → AreSubtrees (depths ms) (length ms) xs
 subtrees-cut ns ms n xs l e h =
     let w : n ≤ length ms = omega (arith, ap length e, length-take-le n ns l) in
     subtrees-front ns ms n xs l w (ap (take n) e ∙ take-take n n ns (omega arith)) h
 
--- of a tree that has other nodes after the first ones
+-- in a tree with other nodes after the first ones
 pub subtrees-joined : {T : Type 0} (ns ms more : List (ℕ × T)) (n : ℕ) (xs : List Subtree) → n ≤ length ns → ms ≡ take n ns ++ more
     → AreSubtrees (depths ns) n xs → AreSubtrees (depths ms) (length ms) xs
 subtrees-joined ns ms more n xs l e h =
@@ -219,7 +219,7 @@ map_from-take g zero ns = refl
 map_from-take g (suc n) [] = refl
 map_from-take g (suc n) (m ∷ ns) = ap (λ z. m ∷ z) (map_from-take g n ns)
 
--- of a tree whose nodes are changed after the first ones
+-- in a tree whose nodes after the first ones are changed
 pub subtrees-changed : {T : Type 0} (ns ms : List (ℕ × T)) (g : ℕ × T → ℕ × T) (n : ℕ) (xs : List Subtree) → n ≤ length ns → ms ≡ map_from g n ns
     → AreSubtrees (depths ns) n xs → AreSubtrees (depths ms) (length ms) xs
 subtrees-changed ns ms g n xs l e h =

@@ -1,6 +1,5 @@
--- The paragraphs of a list made tight, one node after the other.
-use Rattle.std.proofs.Common.{◌≡◌, ℕ, zero, suc, ◌+◌, ◌<◌, ◌≤◌, ◌-◌, ◌==◌, nat_lt, Bool, true, false, List, ◌∷◌, length, slice_index, if◌then◌else◌, Option}
-use Rattle.std.proofs.Common.{[]}
+-- Making the paragraphs of a list tight, one node after the other.
+use Rattle.std.proofs.Common.{◌≡◌, ℕ, zero, suc, ◌+◌, ◌<◌, ◌≤◌, ◌-◌, ◌==◌, nat_lt, Bool, true, false, List, ◌∷◌, length, slice_index, if◌then◌else◌, Option, []}
 use Rattle.std.proofs.Common.{Some, refl, sym, ap, subst, ◌∙◌, ⊎_elim, arith}
 use Rattle.std.proofs.lemmas.Bool.{cases_lt}
 use Rattle.std.proofs.lemmas.Bool.Decides.{nat_tests}
@@ -41,7 +40,7 @@ tight_node_depths depth i [] = refl
 tight_node_depths depth zero (n ∷ ns) = refl
 tight_node_depths depth (suc i) (n ∷ ns) = ap (λ ds. n.0 ∷ ds) (tight_node_depths depth i ns)
 
--- one node more, before those that are tight
+-- one more node before those that are tight
 tight_more : (depth i : ℕ) (ns : List (ℕ × Item))
     → i < length ns → depth < slice_index (depths ns) i → tight_node depth i (tight_at depth (i + 1) ns) ≡ tight_at depth i ns
 unfolding tight_node tight_at tight_run
@@ -51,7 +50,7 @@ tight_more depth (suc i) (n ∷ ns) h deep =
     let e : suc i + 1 ≡ suc (i + 1) = omega arith in
     ap (λ k. tight_node depth (suc i) (tight_at depth k (n ∷ ns))) e ∙ ap (λ ms. n ∷ ms) (tight_more depth i ns (omega arith) deep)
 
--- a node that is too deep is as it was
+-- a node that is too deep is unchanged
 tight_past : (depth i : ℕ) (ns : List (ℕ × Item)) → i < length ns → depth + 2 < slice_index (depths ns) i → tight_at depth (i + 1) ns ≡ tight_at depth i ns
 unfolding tight_at tight_run
 tight_past depth i [] h deep = absurd (omega arith)
@@ -63,7 +62,7 @@ tight_past depth (suc i) (n ∷ ns) h deep =
     let e : suc i + 1 ≡ suc (i + 1) = omega arith in
     ap (λ k. tight_at depth k (n ∷ ns)) e ∙ ap (λ ms. n ∷ ms) (tight_past depth i ns (omega arith) deep)
 
--- so are nodes that all are
+-- and so are nodes that are all too deep
 tight_over : (depth i gap : ℕ) (ns : List (ℕ × Item))
     → i + gap ≤ length ns → ((k : ℕ) → i ≤ k → k < i + gap → depth + 2 < slice_index (depths ns) k) → tight_at depth (i + gap) ns ≡ tight_at depth i ns
 tight_over depth i zero ns h deep = (let e : i + 0 ≡ i = omega arith in ap (λ k. tight_at depth k ns) e)
@@ -82,7 +81,7 @@ tight_back depth place at ns l w deep over =
     let o = tight_over depth (place + 1) (at - (place + 1)) ns (omega arith) (λ k a b. over k (omega arith) (omega arith)) in
     ap (λ k. tight_node depth place (tight_at depth k ns)) (sym e) ∙ ap (tight_node depth place) o ∙ tight_more depth place ns (omega arith) deep
 
--- the end
+-- at the end of the nodes
 tight_end : (depth i : ℕ) (ns : List (ℕ × Item)) → length ns ≤ i → tight_at depth i ns ≡ ns
 unfolding tight_at tight_run
 tight_end depth zero [] h = refl
@@ -97,7 +96,7 @@ tight_stop depth (suc i) [] h = refl
 tight_stop depth zero (n ∷ ns) h = (let t : nat_lt depth n.0 ≡ false = grind (arith, nat_tests, h) in rw t refl)
 tight_stop depth (suc i) (n ∷ ns) h = ap (λ ms. n ∷ ms) (tight_stop depth i ns h)
 
--- a node that is not two deeper
+-- a node that is not two levels deeper
 pub node_stays : (depth i : ℕ) (ns : List (ℕ × Item)) → ((slice_index (depths ns) i == (depth + 2)) ≡ false) → tight_node depth i ns ≡ ns
 unfolding tight_node
 node_stays depth i [] h = refl
@@ -108,7 +107,7 @@ tightened_two : (n : ℕ × Item) (depth : ℕ) (b c : ItemBody)
     → (n.0 == depth) ≡ true → n.1.body ≡ b → tight_body b ≡ c → tightened depth n ≡ (n.0, record { start = n.1.start; «end» = n.1.«end»; body = c })
 tightened_two n depth b c two is t = rw two (ap (λ x. (n.0, node_of n.1.start n.1.«end» x)) (ap tight_body is ∙ t))
 
--- a node that is two deeper
+-- a node that is two levels deeper
 pub node_tight : (depth i : ℕ) (ns : List (ℕ × Item)) (b c : ItemBody)
     → (slice_index (depths ns) i == (depth + 2)) ≡ true → body_at ns i ≡ Some b → tight_body b ≡ c
     → tight_node depth i ns ≡ modify ns i (λ x. record { start = x.start; «end» = x.«end»; body = c })
@@ -117,7 +116,7 @@ node_tight depth i [] b c two is t = refl
 node_tight depth zero (n ∷ ns) b c two is t = (let e : n.1.body ≡ b = cc in ap (λ m. m ∷ ns) (tightened_two n (depth + 2) b c two e t))
 node_tight depth (suc i) (n ∷ ns) b c two is t = ap (λ ms. n ∷ ms) (node_tight depth i ns b c two is t)
 
--- a forest that keeps all but its nodes
+-- a forest of which only the nodes change
 pub with_nodes : (f g : Forest Item) (ns : List (ℕ × Item)) → g.nodes ≡ ns → g.spine ≡ f.spine → g.current ≡ f.current → g ≡ record f { nodes = ns }
 with_nodes f g ns a b d =
     ap (λ (xs : List (ℕ × Item)). (let h : Forest Item = record { nodes = xs; spine = g.spine; current = g.current } in h)) a
@@ -128,19 +127,19 @@ not_two_by : (t : Bool) (a b d : ℕ) → (b == (d + 2)) ≡ t → a ≡ b → (
 not_two_by false a b d t e h = refl
 not_two_by true a b d t e h = (let s : b ≡ d + 2 = grind (arith, nat_tests, t) in let u : a - d ≡ 2 = omega arith in absurd (h u))
 
--- a depth less another is two
+-- a depth whose difference to another is two
 pub two_deeper : (a b d : ℕ) → a ≡ b → d < b → a - d ≡ 2 → (b == (d + 2)) ≡ true
 two_deeper a b d e l h = (let s : b ≡ d + 2 = omega arith in grind (arith, nat_tests, s))
 
 pub not_two_deeper : (a b d : ℕ) → a ≡ b → (a - d ≡ 2 → ⊥) → (b == (d + 2)) ≡ false
 not_two_deeper a b d e h = not_two_by (b == (d + 2)) a b d refl e h
 
--- the same body put at a place
+-- writing the same body at a place
 pub tight_same_body : (ns : List (ℕ × Item)) (i : ℕ) (b : ItemBody)
     → body_at ns i ≡ Some b → modify ns i (λ x. record { start = x.start; «end» = x.«end»; body = b }) ≡ ns
 tight_same_body ns i b is = not_changed ns i _ b is (λ x e. ap (λ z. node_of x.start x.«end» z) (sym e))
 
--- no paragraph
+-- any body except a paragraph
 pub other_tight : (b : ItemBody) → (b ≡ Paragraph → ⊥) → tight_body b ≡ b
 other_tight Paragraph h = absurd (h refl)
 other_tight b h = refl
@@ -183,7 +182,7 @@ pub record IsTightFrom (f : Forest Item) (list depth at : ℕ) (g : Forest Item)
   pub within : at ≤ end_of (depths f.nodes) list
   pub tight : g ≡ tight_from f depth at
 
--- at their end nothing is yet
+-- at their end, no paragraph is tight yet
 pub walk_begins : (f : Forest Item) (list depth at : ℕ)
     → list < length f.nodes → depth ≡ slice_index (depths f.nodes) list → at ≡ end_of (depths f.nodes) list → IsTightFrom f list depth at f
 walk_begins f list depth at l d e =
@@ -205,7 +204,7 @@ walk_within f g list depth at l h =
     omega
     (arith, h.within, same_count f g (tight_from_depths f g depth at h.tight), run-within f.nodes (slice_index (depths f.nodes) list) (list + 1) (omega arith))
 
--- what is below the list is deeper
+-- every node below the list is deeper than it
 pub walk_deeper : (f g : Forest Item) (list depth at k : ℕ)
     → depth ≡ slice_index (depths f.nodes) list → IsTightFrom f list depth at g → list < k → k < at → depth < slice_index (depths g.nodes) k
 walk_deeper f g list depth at k d h a b =

@@ -1,4 +1,4 @@
--- What a contract sees of a `Tree`, and what each call makes of it. The words are this project's own.
+-- The value of a `Tree` in contracts, and the result of each call on it. All terms are this project's.
 use Rattle.std.specs.Prelude.{◌≡◌, ℕ, ◌+◌, ◌-◌, ◌<◌, ◌≤◌, ◌^◌, ◌==◌, ◌&&◌, Bool, true, false, nat_lt, zero, suc, List, [], ◌∷◌, ◌++◌, length, map, take, drop}
 use Rattle.std.specs.Prelude.{nat_le, Option, Some, None, IfSome, IsSomeAnd, slice_index, slice_get, if◌then◌else◌}
 use Rattle.std.specs.Option.{option_map}
@@ -8,15 +8,15 @@ use Rattle.first_pass_items.specs.declared.item.Item.{Item}
 use Rattle.first_pass_items.specs.declared.item.ItemBody.{ItemBody}
 use Rattle.first_pass_items.specs.declared.item.ItemBody.TheVariants.{Root, Text, Table, TableHead, TableRow, TableCell}
 
--- a tree as a list: the items in reading order, each with its depth (the root's is 0), the places of the open nodes, innermost first and without the root, and
--- of the current node
+-- A tree as a list: the items in reading order, each with its depth (the root's is 0). The spine has the places of the
+-- open nodes without the root, innermost first. The current node is given by its place.
 pub record Forest (T : Type 0) : Type 0 where
   pub nodes : List (ℕ × T)
   pub spine : List TreeIndex
   pub current : Option TreeIndex
 
 module _ {T : Type 0} where
-  -- the depths alone, in reading order
+  -- the depths in reading order
   abbrev pub depths : List (ℕ × T) → List ℕ
   depths ns = map (λ n. n.0) ns
 
@@ -38,45 +38,46 @@ module _ {T : Type 0} where
   abbrev pub modified : Forest T → TreeIndex → (T → T) → Forest T
   modified f ix g = record f { nodes = modify f.nodes ix.0 g }
 
--- place i has depth d, and all after it is deeper: the last node of its depth, whose descendants are all that follows
+-- the node at place i has depth d, and all nodes after it are deeper: it is the last of its depth, and they are its
+-- descendants
 pub record IsLastAt (ds : List ℕ) (d : ℕ) (i : ℕ) : Type 0 where
   pub within : i < length ds
   pub depth : slice_index ds i ≡ d
   pub behind : (k : ℕ) → i < k → k < length ds → d < slice_index ds k
 
--- the open nodes, innermost first, are the last of their depths, and so is the root
+-- the open nodes, innermost first, are each the last of their depth, and so is the root
 abbrev pub IsOpenPath : List ℕ → List TreeIndex → Type 0
 IsOpenPath ds [] = IsLastAt ds 0 0
 IsOpenPath ds (i ∷ is) = IsLastAt ds (length is + 1) i.0 × IsOpenPath ds is
 
--- each depth is at most one more than the one before it
+-- each depth is at most one more than the depth before it
 abbrev pub IsPreorder : List ℕ → Type 0
 IsPreorder ds = (k : ℕ) → k + 1 < length ds → slice_index ds (k + 1) ≤ slice_index ds k + 1
 
--- what each tree keeps: the list is a tree in reading order, the open nodes a path from the root to its edge, and the current node is the innermost open one's
--- last child
+-- The invariant of a tree. The list is a tree in reading order, the open nodes are a path from the root along its last
+-- nodes, and the current node is the last child of the innermost open node.
 pub record IsForest {T : Type 0} (f : Forest T) : Type 0 where
   pub preorder : IsPreorder (depths f.nodes)
   pub opened : IsOpenPath (depths f.nodes) f.spine
   pub at_current : IfSome f.current (λ c. IsLastAt (depths f.nodes) (length f.spine + 1) c.0)
 
--- the first place from one on that has no greater depth than this, or the length
+-- the first place from one on whose depth is at most this, or the length
 abbrev pub run_end : List ℕ → ℕ → ℕ → ℕ
 run_end ds depth from = from + prefix_len (λ d. nat_lt depth d) (drop from ds)
 
--- each depth has room for one more
+-- each depth can be increased by one
 abbrev pub IsShallow : List ℕ → Type 0
 IsShallow ds = (k : ℕ) → k < length ds → slice_index ds k < 2 ^ 63
 
--- the place after a node and all below it
+-- the place after a node and all its descendants
 abbrev pub end_of : List ℕ → ℕ → ℕ
 end_of ds i = run_end ds (slice_index ds i) (i + 1)
 
--- the place of a node's first child: the next place, where that is deeper
+-- the place of a node's first child: the next place, if that is deeper
 abbrev pub child_of : List ℕ → ℕ → Option TreeIndex
 child_of ds i = if nat_lt (slice_index ds i) (slice_index ds (i + 1)) then Some (record { 0 = i + 1 }) else None
 
--- the place of a node's next sibling: the place after all below it, where that has the node's depth
+-- the place of a node's next sibling: the place after its descendants, if that has the node's depth
 abbrev pub sibling_of : List ℕ → ℕ → Option TreeIndex
 sibling_of ds i =
     if nat_lt (end_of ds i) (length ds) && (slice_index ds (end_of ds i) == slice_index ds i) then Some (record { 0 = end_of ds i }) else None
@@ -86,98 +87,99 @@ abbrev pub open_place : List TreeIndex → ℕ
 open_place [] = 0
 open_place (i ∷ is) = i.0
 
--- the tree of the root alone
+-- the tree that has only the root
 abbrev pub empty_forest : Forest Item
 empty_forest = record { nodes = (0, record { start = 0; «end» = 0; body = Root }) ∷ []; spine = []; current = None }
 
 module _ {T : Type 0} where
-  -- with a last child of the innermost open node, which is current
+  -- the forest with a new last child of the innermost open node, which becomes current
   abbrev pub appended : Forest T → T → Forest T
   appended f x = record f { nodes = f.nodes ++ (length f.spine + 1, x) ∷ []; current = Some (record { 0 = length f.nodes }) }
 
-  -- with the current node open
+  -- the forest with the current node opened
   abbrev pub pushed : Forest T → TreeIndex → Forest T
   pushed f c = record f { spine = c ∷ f.spine; current = None }
 
-  -- with the innermost open node closed
+  -- the forest with the innermost open node closed
   abbrev pub popped : Forest T → TreeIndex → List TreeIndex → Forest T
   popped f c rest = record f { spine = rest; current = Some c }
 
-  -- a node one deeper
+  -- the node one level deeper
   abbrev pub deeper : ℕ × T → ℕ × T
   deeper n = (n.0 + 1, n.1)
 
-  -- the elements from a place on changed
+  -- the list with the elements from a place on changed
   abbrev pub map_from : (ℕ × T → ℕ × T) → ℕ → List (ℕ × T) → List (ℕ × T)
   map_from g zero ns = map g ns
   map_from g (suc i) [] = []
   map_from g (suc i) (n ∷ ns) = n ∷ map_from g i ns
 
-  -- with a node between the current one and its children
+  -- the forest with a node between the current node and its children
   abbrev pub wrapped : Forest T → TreeIndex → T → Forest T
   wrapped f c x = record f {
     nodes = take (c.0 + 1) f.nodes ++ (length f.spine + 2, x) ∷ map deeper (drop (c.0 + 1) f.nodes);
   }
 
-  -- the node is a child of the innermost open one
+  -- the node is a child of the innermost open node
   pub record IsChild (f : Forest T) (ix : TreeIndex) : Type 0 where
     pub within : ix.0 < length f.nodes
     pub depth : slice_index (depths f.nodes) ix.0 ≡ length f.spine + 1
     pub behind : open_place f.spine < ix.0
 
-  -- only the first so many nodes
+  -- the forest with only the first n nodes
   abbrev pub cut_to : Forest T → ℕ → Forest T
   cut_to f n = record f { nodes = take n f.nodes }
 
 module _ {T : Type 0} where
-  -- without the siblings after a node and all below them; the node is current
+  -- the forest without the siblings after a node and their descendants; the node is current
   abbrev pub kept_after : Forest T → TreeIndex → Forest T
   kept_after f ix = record f { nodes = take (end_of (depths f.nodes) ix.0) f.nodes; current = Some ix }
 
-  -- without what is below the innermost open node; no node is current
+  -- the forest without the descendants of the innermost open node; no node is current
   abbrev pub childless : Forest T → TreeIndex → Forest T
   childless f ix = record f { nodes = take (ix.0 + 1) f.nodes; current = None }
 
--- the item is a text
+-- the body is a text
 abbrev pub is_text : ItemBody → Bool
 is_text (Text b) = true
 is_text _ = false
 
--- there is an item, a text whose range ends at an offset
+-- there is an item, and it is a text that ends at this offset
 abbrev pub ends_text_at : ℕ → Option Item → Bool
 ends_text_at at None = false
 ends_text_at at (Some x) = is_text x.body && (x.«end» == at)
 
--- the current node is a text whose range ends at an offset
+-- the current node is a text that ends at this offset
 abbrev pub joins_at : Forest Item → ℕ → Option TreeIndex → Bool
 joins_at f at None = false
 joins_at f at (Some c) = ends_text_at at (item_at f c)
 
--- with another end at a place
+-- the forest with another end of the item at a place
 abbrev pub with_end_at : Forest Item → TreeIndex → ℕ → Forest Item
 with_end_at f c e = record f { nodes = modify f.nodes c.0 (λ x. record x { «end» = e }) }
 
--- with another body at a place
+-- the forest with another body of the item at a place
 abbrev pub with_body_at : Forest Item → TreeIndex → ItemBody → Forest Item
 with_body_at f c b = record f { nodes = modify f.nodes c.0 (λ x. record x { body = b }) }
 
--- with another end at the current place
+-- the forest with another end of the current item, if there is one
 abbrev pub with_end : Forest Item → ℕ → Option TreeIndex → Forest Item
 with_end f e None = f
 with_end f e (Some c) = with_end_at f c e
 
--- with a text, unless it is empty; joined to the current node where that is a text that ends at its start
+-- the forest with one more text, unless it is empty; it is joined to the current node if that is a text that ends at
+-- its start
 abbrev pub with_text : Forest Item → ℕ → ℕ → Bool → Forest Item
 with_text f s e b =
     if s == e
     then f
     else (if joins_at f s f.current then with_end f e f.current else appended f (record { start = s; «end» = e; body = Text b }))
 
--- what the node at a place is
+-- the body of the node at a place
 abbrev pub body_at : List (ℕ × Item) → ℕ → Option ItemBody
 body_at ns i = option_map (λ n. n.1.body) (slice_get ns i)
 
--- a node is a table, or a head, row or cell where this holds for the nodes around it
+-- the node is a table, or it is a head, row or cell and `outer` holds
 abbrev pub in_table_by : Bool → Option ItemBody → Bool
 in_table_by outer None = false
 in_table_by outer (Some (Table a)) = true
@@ -186,23 +188,23 @@ in_table_by outer (Some TableRow) = outer
 in_table_by outer (Some TableCell) = outer
 in_table_by outer (Some _) = false
 
--- outwards from the innermost open node, over heads, rows and cells, a table comes first
+-- a table is reached from the innermost open node outwards, over only table heads, rows and cells
 abbrev pub in_table : List (ℕ × Item) → List TreeIndex → Bool
 in_table ns [] = false
 in_table ns (i ∷ is) = in_table_by (in_table ns is) (body_at ns i.0)
 
--- a text whose first byte stands after a backslash
+-- a text whose first byte follows a backslash
 abbrev pub is_escaped : ItemBody → Bool
 is_escaped (Text b) = b
 is_escaped _ = false
 
--- an item that ends at an offset at the latest
+-- the item with its end moved back to this offset, if it ends later
 abbrev pub cut_item : ℕ → Item → Item
 cut_item e x = if nat_lt e x.«end» then record x { «end» = e } else x
 
--- The nodes below one, cut at an offset; its children, the tokens, have this depth. A token that starts before the offset stays, with all below it, and
--- ends there at the latest. The first that doesn't goes, with all that follows; but where that is a text which starts there after a backslash, the
--- backslash stays as a text.
+-- The nodes below a node, cut at an offset; its children, the tokens, have this depth. A token that starts before the
+-- offset stays with its descendants, and ends there at the latest. The first other token goes, with all nodes that
+-- follow. If it is a text that starts at the offset after a backslash, the backslash stays as a text.
 abbrev pub cut_tokens : ℕ → ℕ → List (ℕ × Item) → List (ℕ × Item)
 cut_tokens e d [] = []
 cut_tokens e d (n ∷ ns) =
@@ -212,7 +214,7 @@ cut_tokens e d (n ∷ ns) =
     then (n.0, cut_item e n.1) ∷ cut_tokens e d ns
     else (if is_escaped n.1.body && (n.1.start == e) then (n.0, record { start = e - 1; «end» = e; body = Text false }) ∷ [] else []))
 
--- one node alone, which starts before an offset and ends there at the latest
+-- a single node, which starts before this offset and ends there at the latest
 abbrev pub is_single_before : ℕ → List (ℕ × Item) → Bool
 is_single_before e [] = false
 is_single_before e (n ∷ []) = nat_lt n.1.start e && nat_le n.1.«end» e
@@ -222,57 +224,60 @@ is_single_before e (n ∷ m ∷ ns) = false
 abbrev pub HasLeaves : {T : Type 0} → Forest T → Type 0
 HasLeaves f = (k : ℕ) → open_place f.spine < k → k < length f.nodes → slice_index (depths f.nodes) k ≡ length f.spine + 1
 
--- the last place of a depth before a place, or 0
+-- the last place before one that has this depth, or 0
 abbrev pub last_before : List ℕ → ℕ → ℕ → ℕ
 last_before ds d zero = 0
 last_before ds d (suc k) = if slice_index ds k == d then k else last_before ds d k
 
--- the innermost open node's last child among these nodes, if it has any
+-- the last child of the innermost open node among these nodes, if it has any
 abbrev pub last_child : List TreeIndex → List (ℕ × Item) → Option TreeIndex
 last_child spine ns =
     if nat_lt (open_place spine + 1) (length ns) then Some (record { 0 = last_before (depths ns) (length spine + 1) (length ns) }) else None
 
--- with the innermost open node's children cut at an offset; the last of them is current
+-- the forest with the children of the innermost open node cut at an offset; the last of them is current
 abbrev pub cut_siblings : Forest Item → ℕ → Forest Item
 cut_siblings f e =
     let ns = take (open_place f.spine + 1) f.nodes ++ cut_tokens e (length f.spine + 1) (drop (open_place f.spine + 1) f.nodes) in
     record f { nodes = ns; current = last_child f.spine ns }
 
--- a block is a list of items with their depths below it, its own item first, at 0; here all at a depth
+-- A block is a list of items in reading order with their depths: its own item first, at 0, then its descendants. Here
+-- its own item is at depth d.
 abbrev pub at_depth : {T : Type 0} → ℕ → List (ℕ × T) → List (ℕ × T)
 at_depth d [] = []
 at_depth d (n ∷ ns) = (d + n.0, n.1) ∷ at_depth d ns
 
--- with a block as a last child of the innermost open node, which is current
+-- the forest with a block as the new last child of the innermost open node, which becomes current
 abbrev pub added : {T : Type 0} → Forest T → List (ℕ × T) → Forest T
 added f block = record f { nodes = f.nodes ++ at_depth (length f.spine + 1) block; current = Some (record { 0 = length f.nodes }) }
 
--- an item with blocks below it, as a block
+-- the block of an item that has these blocks as children
 abbrev pub block_of : {T : Type 0} → T → List (ℕ × T) → List (ℕ × T)
 block_of x kids = (0, x) ∷ at_depth 1 kids
 
--- a node one less deep
+-- the node one level less deep
 abbrev pub shallower : {T : Type 0} → ℕ × T → ℕ × T
 shallower n = (n.0 - 1, n.1)
 
--- the node is a child of the current one
+-- the node is a child of the current node
 pub record IsChildOfCurrent {T : Type 0} (f : Forest T) (ix : TreeIndex) : Type 0 where
   pub within : ix.0 < length f.nodes
   pub depth : slice_index (depths f.nodes) ix.0 ≡ length f.spine + 2
   pub current : IsSomeAnd f.current (λ c. c.0 < ix.0)
 
--- a place after the current node where the nodes end, or where one stands that is at most as deep as a child of the current node
+-- a place after the current node: the end of the nodes, or a node that is at most as deep as a child of the current
+-- node
 pub record CanMoveFrom {T : Type 0} (f : Forest T) (place : ℕ) : Type 0 where
   pub within : place ≤ length f.nodes
   pub depth : place < length f.nodes → slice_index (depths f.nodes) place ≤ length f.spine + 2
   pub current : IsSomeAnd f.current (λ c. c.0 < place)
 
--- with the nodes from a place on one less deep; the last node of the current node's depth is current
+-- the forest with the nodes from a place on one level less deep; the last node of the current node's depth is current
 abbrev pub moved_from : {T : Type 0} → Forest T → ℕ → Forest T
 moved_from f place =
     let ns = map_from shallower place f.nodes in
     record f { nodes = ns; current = Some (record { 0 = last_before (depths ns) (length f.spine + 1) (length ns) }) }
 
--- with the siblings after a node, and all below them, after the current node in its parent; the last of them is current
+-- the forest with the later siblings of a node, and their descendants, moved after the current node into its parent;
+-- the last of them is current
 abbrev pub moved_out : {T : Type 0} → Forest T → TreeIndex → Forest T
 moved_out f ix = moved_from f (end_of (depths f.nodes) ix.0)

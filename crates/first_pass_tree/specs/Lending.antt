@@ -1,4 +1,4 @@
--- What a tree ends as, where a `&mut` to one of its items is returned.
+-- The final state of a tree that lends out one of its items as `&mut`.
 use Rattle.std.specs.Borrow.{Lends, MutBor, Fml}
 use Rattle.first_pass_tree.specs.declared.tree_index.TreeIndex.{TreeIndex}
 use Rattle.first_pass_items.specs.declared.item.Item.{Item}
@@ -6,6 +6,6 @@ use Rattle.first_pass_tree.specs.Forest.{Forest, with_item}
 use Rattle.first_pass_tree.specs.contracts.forest.Tree.{the_row}
 use Rattle.first_pass_items.specs.contracts.item.Item.{the_row as item_row}
 
--- once the borrow ends, the node has the last item written through it
+-- after the borrow ends, the node has the last item that was written through it
 abbrev pub LendsItem : MutBor (Forest Item) → TreeIndex → MutBor Item → Fml
 LendsItem s ix r = Lends (the_row item_row) item_row s r (with_item s.now ix)

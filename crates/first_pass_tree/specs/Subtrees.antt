@@ -1,52 +1,53 @@
--- Where subtrees begin and end, as far as a tree remembers it. The words are this project's own.
+-- The recorded subtrees of a tree: where each begins, and how far it is known to reach. All terms are this project's.
 use Rattle.std.specs.Prelude.{ℕ, ◌+◌, ◌<◌, ◌≤◌, ◌==◌, ◌||◌, nat_lt, Bool, List, [], ◌∷◌, length, Option, Some, None, slice_index, if◌then◌else◌}
 use Rattle.first_pass_tree.specs.declared.subtrees.Subtree.{Subtree}
 use Rattle.first_pass_tree.specs.Forest.{Forest, IsForest, depths}
 
--- the nodes after a place, up to another, are below the one at that place
+-- the nodes after a place, up to another, are descendants of the node at that place
 pub record IsSubtree (ds : List ℕ) (place : ℕ) (past : ℕ) : Type 0 where
   pub behind : place < past
   pub deeper : (k : ℕ) → place < k → k < past → slice_index ds place < slice_index ds k
 
--- these, the last one first, are subtrees by these depths; none ends after the next one, nor the last one after a place
+-- The records, last first, are subtrees of a tree with these depths. None ends after the one recorded next, and the
+-- last ends at n at the latest.
 abbrev pub AreSubtrees : List ℕ → ℕ → List Subtree → Type 0
 AreSubtrees ds n [] = Unit {0}
 AreSubtrees ds n (s ∷ ss) = (s.past ≤ n) × IsSubtree ds s.place s.past × AreSubtrees ds s.past ss
 
--- what each tree keeps in its fields: a forest, and subtrees of it
+-- the invariant of a tree's fields: they form a forest, and the records are subtrees of it
 pub record IsTree {T : Type 0} (f : Forest T) (subtrees : List Subtree) : Type 0 where
   pub forest : IsForest f
   pub known : AreSubtrees (depths f.nodes) (length f.nodes) subtrees
 
--- a node at a place with the nodes up to another
+-- the record of a node's place and of the place up to which the nodes are its descendants
 abbrev pub subtree : ℕ → ℕ → Subtree
 subtree place past = record { place = place; past = past }
 
--- of subtrees, the last one first: without the last ones that end after the first so many nodes
+-- the records, last first, without the last ones that end after the first n nodes
 abbrev pub within_first : ℕ → List Subtree → List Subtree
 within_first count [] = []
 within_first count (s ∷ ss) = if nat_lt count s.past then within_first count ss else s ∷ ss
 
--- the last one, where it is at this place, ends at another; where it is the only one it goes
+-- the records with the last one ended at a place, if it belongs to this node; if it is the only one, it is removed
 abbrev pub ended_last : ℕ → ℕ → List Subtree → List Subtree
 ended_last place past [] = []
 ended_last place past (s ∷ []) = if s.place == place then [] else s ∷ []
 ended_last place past (s ∷ outer ∷ ss) = (if s.place == place then subtree place past else s) ∷ outer ∷ ss
 
--- the subtree at a place ends at another: those inside it go, and so does itself where no other is left
+-- the records with a node's subtree ended at a place: those inside it are removed, and it too if no other remains
 abbrev pub ended : ℕ → ℕ → List Subtree → List Subtree
 ended place past ss = ended_last place past (within_first (place + 1) ss)
 
--- a subtree begins before a place or ends after another
+-- the subtree begins before a place or ends after another
 abbrev pub stands_outside : ℕ → ℕ → Subtree → Bool
 stands_outside from to s = nat_lt s.place from || nat_lt to s.past
 
--- the last one, if it stands from a place on and before another
+-- the last record, if its subtree is between these places
 abbrev pub last_between : ℕ → ℕ → List Subtree → Option Subtree
 last_between from to [] = None
 last_between from to (s ∷ ss) = if stands_outside from to s then None else Some s
 
--- those that are left without that one
+-- the records without that one
 abbrev pub left_between : ℕ → ℕ → List Subtree → List Subtree
 left_between from to [] = []
 left_between from to (s ∷ ss) = if stands_outside from to s then s ∷ ss else ss

@@ -1,4 +1,4 @@
-//! The tree as one list in reading order, with the path of its open nodes.
+//! The tree as a list of nodes in reading order, with the path of its open nodes.
 
 ghost use Rattle.std.specs.Prelude.{◌≡◌, ◌+◌, ◌<◌, ◌≤◌, ◌∷◌, [], ◌-◌, length, reverse, Some, None, if◌then◌else◌, IfOk, IfSome, OnOk, OnErr, IsSome, MatchOption, slice_get};
 ghost use Rattle.first_pass_tree.specs.Forest.{empty_forest, appended, pushed, popped, cut_to, with_text, with_item, with_end_at, with_body_at, item_at, depths, child_of, sibling_of, kept_after, childless, in_table, wrapped, IsChildOfCurrent, CanMoveFrom, moved_from, moved_out, IsChild, cut_siblings, IsForest, end_of, open_place};
@@ -16,17 +16,17 @@ use std::alloc::{AllocError, Global};
 use std::marker::Model;
 use std::ops::{Index, IndexMut};
 
-/// A tree of items under construction. The nodes stand in one list in reading order, each with its depth
-/// (the root's is 0): a node's children are the nodes of depth one more that follow it before the next
-/// node of its depth or less. New nodes go under the innermost open node. The open nodes, from the root
-/// on, are each the last of their depth; the current node, if any, is the last child of the innermost.
-/// The root is always open.
+/// A tree of items under construction. The nodes are a list in reading order, each with its depth (the root's
+/// is 0). A node's children are the nodes one level deeper that follow it, up to the next node of its depth or
+/// less. New nodes become children of the innermost open node. Each open node, from the root on, is the last
+/// node of its depth. The current node, if any, is the last child of the innermost open node. The root is
+/// always open.
 #[derive(Drop)]
 pub struct Tree<T> {
     nodes: Vec<(usize, T)>,
     spine: Vec<TreeIndex>,
     cur: Option<TreeIndex>,
-    // Where subtrees begin that a walk goes over at once, and where they end as far as is known.
+    // The subtrees that `surgerize_tight_list` can skip, with their ends as far as they are known.
     subtrees: Subtrees,
 }
 
@@ -47,8 +47,8 @@ impl<T> Model for Tree<T> {
 }
 
 impl Tree<Item> {
-    /// A tree of the root alone, a `Root` at 0..0, with nothing open and no current node. `capacity` is a
-    /// hint of how many nodes will come. An error where memory is refused.
+    /// Returns a tree that has only the root: a `Root` at 0..0, with nothing open and no current node.
+    /// `capacity` is a hint for the number of nodes. Fails only if an allocation fails.
     pub fn with_capacity(alloc: Global, capacity: usize) -> Result<Tree<Item>, AllocError>
         ensures { IfOk result (λ tree. tree ≡ empty_forest) }
     {
@@ -67,8 +67,8 @@ impl Tree<Item> {
         })
     }
 
-    /// Does nothing. It hands its caller what each tree keeps: the depths are those of a tree in reading
-    /// order, the open nodes are a path, and the current node is the innermost one's last child.
+    /// Does nothing; its contract states the invariant of a tree. The depths are those of a tree in reading
+    /// order, the open nodes are a path, and the current node is the last child of the innermost open node.
     pub fn is_forest(&self)
         ensures { IsForest self.now }
     {
@@ -84,22 +84,23 @@ impl Tree<Item> {
         TreeIndex(0)
     }
 
-    /// All nodes in reading order, the root first, each with its depth. `TreeIndex(i)` names the node at place `i`.
+    /// All nodes in reading order, the root first, each with its depth. `TreeIndex(i)` is the place of node
+    /// `i`.
     pub fn nodes(&self) -> &[(usize, Item)]
         ensures { result.now ≡ self.now.nodes }
     {
         self.nodes.as_slice()
     }
 
-    /// How many nodes there are, the root among them.
+    /// The number of nodes, with the root.
     pub fn node_count(&self) -> usize
         ensures { result ≡ length self.now.nodes }
     {
         self.nodes.len()
     }
 
-    /// Adds a last child to the innermost open node, makes it the current node and returns its place. An
-    /// error where memory is refused; then the tree is as before.
+    /// Adds a last child to the innermost open node, makes it current and returns its place. Fails only if an
+    /// allocation fails; the tree is unchanged then.
     pub fn append(&mut self, item: Item) -> Result<TreeIndex, AllocError>
         ensures index { IfOk result (λ ix. ix.0 ≡ length self.old.nodes) }
         ensures ok { OnOk result (self.new ≡ appended self.old item) }
@@ -111,9 +112,9 @@ impl Tree<Item> {
         Ok(place)
     }
 
-    /// Adds the text of the bytes `start..end`. Nothing where the range is empty; where the current node is
-    /// a text that ends at `start`, that one now ends at `end`; else a `Text` is appended, with
-    /// `backslash_escaped` as given. An error where memory is refused; then the tree is as before.
+    /// Adds the text of the bytes `start..end`. An empty range changes nothing. If the current node is a text
+    /// that ends at `start`, it is extended to `end`. Otherwise a `Text` with this `backslash_escaped` is
+    /// appended. Fails only if an allocation fails; the tree is unchanged then.
     #[inline(always)]
     pub fn append_text(
         &mut self,
@@ -142,7 +143,7 @@ impl Tree<Item> {
         Ok(())
     }
 
-    /// Puts another item at a place.
+    /// Replaces the item at a place.
     pub fn set_item(&mut self, ix: TreeIndex, item: Item)
         requires { ix.0 < length self.old.nodes }
         ensures { self.new ≡ with_item self.old ix item }
@@ -151,7 +152,7 @@ impl Tree<Item> {
         node.1 = item;
     }
 
-    /// Makes the item at a place end at the offset `end`.
+    /// Sets the end of the item at a place to the offset `end`.
     pub fn set_end(&mut self, ix: TreeIndex, end: usize)
         requires { ix.0 < length self.old.nodes }
         ensures { self.new ≡ with_end_at self.old ix end }
@@ -160,7 +161,7 @@ impl Tree<Item> {
         node.1.end = end;
     }
 
-    /// Makes the item at a place what `body` says; its range stays.
+    /// Sets the body of the item at a place; its range is unchanged.
     pub fn set_body(&mut self, ix: TreeIndex, body: ItemBody)
         requires { ix.0 < length self.old.nodes }
         ensures { self.new ≡ with_body_at self.old ix body }
@@ -169,8 +170,8 @@ impl Tree<Item> {
         node.1.body = body;
     }
 
-    /// Opens the current node, which there must be, and returns its place; then there is no current node.
-    /// An error where memory is refused; then the tree is as before.
+    /// Opens the current node and returns its place; afterwards there is no current node. Requires a current
+    /// node. Fails only if an allocation fails; the tree is unchanged then.
     pub fn push(&mut self) -> Result<TreeIndex, AllocError>
         requires { IsSome self.old.current }
         ensures index { IfOk result (λ ix. self.old.current ≡ Some ix) }
@@ -183,8 +184,8 @@ impl Tree<Item> {
         Ok(ix)
     }
 
-    /// Closes the innermost open node, which becomes current, and returns its place. `None` where only the
-    /// root is open; then nothing changes.
+    /// Closes the innermost open node, makes it current and returns its place. Returns `None`, and changes
+    /// nothing, if only the root is open.
     pub fn pop(&mut self) -> Option<TreeIndex>
         ensures { MatchOption result
             ((self.old.spine ≡ []) × (self.new ≡ self.old))
@@ -195,7 +196,7 @@ impl Tree<Item> {
         Some(closed)
     }
 
-    /// As `pop`, and the closed node loses all that is below it.
+    /// As `pop`, and removes all descendants of the closed node.
     pub fn remove_node(&mut self) -> Option<TreeIndex>
         ensures { MatchOption result
             ((self.old.spine ≡ []) × (self.new ≡ self.old))
@@ -209,8 +210,8 @@ impl Tree<Item> {
         Some(emptied)
     }
 
-    /// Drops the siblings after a child of the innermost open node, with all below them; the child becomes
-    /// current.
+    /// Removes the later siblings of a child of the innermost open node, with their descendants. The child
+    /// becomes current.
     pub fn drop_after(&mut self, ix: TreeIndex)
         requires { IsChild self.old ix }
         ensures { self.new ≡ kept_after self.old ix }
@@ -221,7 +222,7 @@ impl Tree<Item> {
         self.cur = Some(ix);
     }
 
-    /// Drops all that is below the innermost open node, which is `ix`; then there is no current node.
+    /// Removes all descendants of the innermost open node, which is `ix`. Afterwards there is no current node.
     pub fn drop_children(&mut self, ix: TreeIndex)
         requires { slice_get self.old.spine 0 ≡ Some ix }
         ensures { self.new ≡ childless self.old ix }
@@ -232,9 +233,9 @@ impl Tree<Item> {
         self.cur = None;
     }
 
-    /// Puts a node between the current node, which there must be, and its children: it is the current
-    /// node's only child, with all former children below it. Returns its place; the current node stays
-    /// current. An error where memory is refused; then the tree is as before.
+    /// Inserts a node between the current node and its children, and returns its place: the new node is the
+    /// only child, and the former children are below it. The current node stays current. Requires a current
+    /// node. Fails only if an allocation fails; the tree is unchanged then.
     pub fn create_node(&mut self, item: Item) -> Result<TreeIndex, AllocError>
         requires { IsSome self.old.current }
         ensures ok { IfOk result (λ ix. IfSome self.old.current (λ c. (ix.0 ≡ c.0 + 1)
@@ -247,9 +248,9 @@ impl Tree<Item> {
         Ok(TreeIndex(place))
     }
 
-    /// Moves the siblings after `ix`, a child of the current node, out, with all below them: in their order
-    /// they follow the current node, and the last of them becomes current. Where there are none nothing
-    /// changes.
+    /// Moves the later siblings of `ix`, a child of the current node, out of the current node, with their
+    /// descendants. They follow the current node in the same order, and the last of them becomes current.
+    /// Without later siblings, nothing changes.
     pub fn truncate_to_parent(&mut self, ix: TreeIndex)
         requires { IsChildOfCurrent self.old ix }
         ensures { self.new ≡ moved_out self.old ix }
@@ -258,8 +259,8 @@ impl Tree<Item> {
         self.move_from(end);
     }
 
-    /// Moves `ix`, a child of the current node, out, with the siblings after it and all below them: in their
-    /// order they follow the current node, and the last of them becomes current.
+    /// Moves `ix`, a child of the current node, and its later siblings out of the current node, with their
+    /// descendants. They follow the current node in the same order, and the last of them becomes current.
     pub fn move_out(&mut self, ix: TreeIndex)
         requires { IsChildOfCurrent self.old ix }
         ensures { self.new ≡ moved_from self.old ix.0 }
@@ -267,8 +268,8 @@ impl Tree<Item> {
         self.move_from(ix.0);
     }
 
-    // Puts the nodes from `place` on, which are all below the current node, one less deep; the last node of the
-    // depth of the current node becomes current.
+    // Moves the nodes from `place` on, which are all below the current node, one level up. The last node of the
+    // current node's depth becomes current.
     fn move_from(&mut self, place: usize)
         requires { CanMoveFrom self.old place }
         ensures { self.new ≡ moved_from self.old place }
@@ -280,16 +281,15 @@ impl Tree<Item> {
     }
 
     /// Cuts the tokens, which are the children of the innermost open node, at the offset `end`. Those that
-    /// start before it stay, with all that is below them, and one that crosses it ends there. The first that
-    /// doesn't start before it goes, and so do those after it, with all below them; but where that first one
-    /// is a text that starts at `end` after a backslash, the backslash takes its place as a text. The last
-    /// token that is left becomes current.
+    /// start before it stay with their descendants; one that crosses it ends there. The first other token is
+    /// removed, with all nodes that follow. If it is a text that starts at `end` after a backslash, the
+    /// backslash takes its place as a text. The last remaining token becomes current.
     #[inline(always)]
     pub fn truncate_siblings(&mut self, end: usize)
         ensures { self.new ≡ cut_siblings self.old end }
     {
         let first = first_place(&self.spine);
-        // Most chains that are cut have one token, which ends before the cut.
+        // Most chains that are cut have a single token, which ends before the cut.
         if is_single_before(&self.nodes, first, end) {
             self.cur = Some(TreeIndex(first));
         } else {
@@ -297,8 +297,7 @@ impl Tree<Item> {
         }
     }
 
-    // Cuts the tokens, which stand from the place `first` on, at the offset `end`; the last that is left becomes
-    // current.
+    // Cuts the tokens from the place `first` on at the offset `end`; the last remaining token becomes current.
     #[inline(never)]
     fn cut_from(&mut self, first: usize, end: usize)
         requires { first ≡ open_place self.old.spine + 1 }
@@ -310,22 +309,22 @@ impl Tree<Item> {
         self.cur = last_child(&self.nodes, first, depth);
     }
 
-    /// The current node's place, or `None` where there is none, as right after `push`.
+    /// The place of the current node, or `None` if there is none, as directly after `push`.
     pub fn cur(&self) -> Option<TreeIndex>
         ensures { result ≡ self.now.current }
     {
         self.cur
     }
 
-    /// The place of the innermost open node, or `None` where only the root is open.
+    /// The place of the innermost open node, or `None` if only the root is open.
     pub fn peek_up(&self) -> Option<TreeIndex>
         ensures { result ≡ slice_get self.now.spine 0 }
     {
         self.spine.last().copied()
     }
 
-    /// The place of the open node around the innermost one, or `None` where that is the root or there is
-    /// none.
+    /// The place of the open node around the innermost open node, or `None` if that is the root or does not
+    /// exist.
     pub fn peek_grandparent(&self) -> Option<TreeIndex>
         ensures { result ≡ slice_get self.now.spine 1 }
     {
@@ -335,7 +334,7 @@ impl Tree<Item> {
         Some(self.spine[self.spine.len() - 2])
     }
 
-    /// How many nodes are open, without the root.
+    /// The number of open nodes, without the root.
     pub fn spine_len(&self) -> usize
         ensures { result ≡ length self.now.spine }
     {
@@ -349,7 +348,7 @@ impl Tree<Item> {
         self.spine.as_slice()
     }
 
-    /// The place of a node's first child, or `None` where it has none.
+    /// The place of a node's first child, or `None` if it has no child.
     pub fn first_child(&self, ix: TreeIndex) -> Option<TreeIndex>
         requires { ix.0 < length self.now.nodes }
         ensures { result ≡ child_of (depths self.now.nodes) ix.0 }
@@ -357,7 +356,7 @@ impl Tree<Item> {
         child_in(&self.nodes, ix.0)
     }
 
-    /// The place of a node's next sibling, or `None` where it has none.
+    /// The place of a node's next sibling, or `None` if it has none.
     pub fn next_sibling(&self, ix: TreeIndex) -> Option<TreeIndex>
         requires { ix.0 < length self.now.nodes }
         ensures { result ≡ sibling_of (depths self.now.nodes) ix.0 }
@@ -365,7 +364,7 @@ impl Tree<Item> {
         sibling_in(&self.nodes, ix.0)
     }
 
-    /// The place after a node and all below it.
+    /// The place after a node and all its descendants.
     pub fn end_of(&self, ix: TreeIndex) -> usize
         requires { ix.0 < length self.now.nodes }
         ensures { result ≡ end_of (depths self.now.nodes) ix.0 }
@@ -376,8 +375,8 @@ impl Tree<Item> {
         }
     }
 
-    /// Remembers where the subtree of the innermost open node begins, of which `note_end` is to say where it ends.
-    /// What is remembered shows in no contract: it saves `surgerize_tight_list` time. An error where memory is refused.
+    /// Records where the subtree of the innermost open node begins; `note_end` records its end. The records are
+    /// in no contract: they save `surgerize_tight_list` time. Fails only if an allocation fails.
     pub fn remember(&mut self) -> Result<(), AllocError>
         ensures { self.new ≡ self.old }
     {
@@ -390,8 +389,8 @@ impl Tree<Item> {
         Ok(())
     }
 
-    /// Notes that the subtree of the current node, if it is remembered, ends where the nodes end now. Those
-    /// inside it are forgotten, and so is itself where no other is remembered.
+    /// Records that the subtree of the current node, if there is a record of it, ends at the end of the nodes.
+    /// The records inside it are removed, and its own too if no other remains.
     pub fn note_end(&mut self)
         ensures { self.new ≡ self.old }
     {
@@ -400,7 +399,8 @@ impl Tree<Item> {
         }
     }
 
-    /// As `note_end`, but the subtree ends before the node `ix`, which is to be moved out of the current node.
+    /// As `note_end`, except that the subtree ends before the node `ix`, which is then moved out of the current
+    /// node.
     pub fn note_end_before(&mut self, ix: TreeIndex)
         ensures { self.new ≡ self.old }
     {
@@ -411,8 +411,7 @@ impl Tree<Item> {
         }
     }
 
-    /// The last of the subtrees that are remembered, if it stands from `from` on and before `to`. It is
-    /// forgotten then.
+    /// Removes and returns the last recorded subtree, if it is between `from` and `to`.
     pub(crate) fn take_subtree(&mut self, from: usize, to: usize) -> Option<Subtree>
         ensures tree { self.new ≡ self.old }
         ensures within { IfSome result (λ s. (from ≤ s.place) × (s.past ≤ to)) }
@@ -421,7 +420,7 @@ impl Tree<Item> {
         self.subtrees.take_between(from, to)
     }
 
-    /// Whether, outwards from the innermost open node over heads, rows and cells, a table comes first.
+    /// Whether a table is reached from the innermost open node outwards, over only table heads, rows and cells.
     pub fn is_in_table(&self) -> bool
         ensures { result ≡ in_table self.now.nodes self.now.spine }
     {

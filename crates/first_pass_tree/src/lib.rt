@@ -1,5 +1,4 @@
-//! The tree of the block pass: items in reading order, each with its depth, and the path of nodes that
-//! are open.
+//! The tree of the block pass: items in reading order, each with its depth, and the path of the open nodes.
 #![tactic(auto)]
 
 pub mod forest;

@@ -1,4 +1,4 @@
-//! Steps over the list of nodes, each a pair of its depth and its item, in reading order.
+//! Operations on the list of nodes in reading order; each node is a pair of its depth and its item.
 
 ghost use Rattle.std.specs.Prelude.{◌≡◌, ℕ, ◌+◌, ◌<◌, ◌≤◌, ◌∷◌, slice_index, ◌++◌, ◌^◌, ◌-◌, length, take, drop, reverse, map, Some, None, EachIndex, if◌then◌else◌, nat_lt, IfSome, OnOk, OnErr, slice_get};
 ghost use Rattle.first_pass_tree.specs.Forest.{depths, child_of, sibling_of, run_end, in_table, shallower, last_before, deeper, map_from, IsShallow, open_place, cut_tokens, is_single_before, IsOpenPath};
@@ -7,7 +7,7 @@ use crate::tree_index::TreeIndex;
 use first_pass_items::item::{Item, ItemBody};
 use std::alloc::AllocError;
 
-/// The first place from `from` on whose node is no deeper than `depth`, or the length.
+/// The first place from `from` on whose depth is at most `depth`, or the length.
 pub(crate) fn deeper_end(nodes: &[(usize, Item)], depth: usize, from: usize) -> usize
     requires { from ≤ length nodes.now }
     ensures { result ≡ run_end (depths nodes.now) depth from }
@@ -19,7 +19,8 @@ pub(crate) fn deeper_end(nodes: &[(usize, Item)], depth: usize, from: usize) -> 
     end
 }
 
-/// Puts a node at a place, and each node after it one deeper. Where memory is refused the list stays.
+/// Inserts a node at a place, and moves each node after it one level deeper. If the allocation fails, the list
+/// is unchanged.
 pub(crate) fn wrap(
     nodes: &mut Vec<(usize, Item)>,
     place: usize,
@@ -38,7 +39,7 @@ pub(crate) fn wrap(
     Ok(())
 }
 
-/// Puts each node from a place on one deeper.
+/// Moves each node from a place on one level deeper.
 pub(crate) fn raise(nodes: &mut Vec<(usize, Item)>, from: usize)
     requires { (k : ℕ) → from ≤ k → k < length nodes.old.items → slice_index (depths nodes.old.items) k < 2 ^ 63 }
     ensures { nodes.new.items ≡ map_from deeper from nodes.old.items }
@@ -51,7 +52,7 @@ pub(crate) fn raise(nodes: &mut Vec<(usize, Item)>, from: usize)
     }
 }
 
-/// Puts each node from a place on one less deep.
+/// Moves each node from a place on one level up.
 pub(crate) fn lower(nodes: &mut Vec<(usize, Item)>, from: usize)
     requires { (k : ℕ) → from ≤ k → k < length nodes.old.items → 0 < slice_index (depths nodes.old.items) k }
     ensures { nodes.new.items ≡ map_from shallower from nodes.old.items }
@@ -64,7 +65,7 @@ pub(crate) fn lower(nodes: &mut Vec<(usize, Item)>, from: usize)
     }
 }
 
-/// The last place whose node has this depth, or 0.
+/// The last place that has this depth, or 0.
 pub(crate) fn last_of_depth(nodes: &[(usize, Item)], depth: usize) -> usize
     ensures { result ≡ last_before (depths nodes.now) depth (length nodes.now) }
 {
@@ -89,7 +90,7 @@ pub(crate) fn first_place(spine: &[TreeIndex]) -> usize
     }
 }
 
-/// The last place whose node has this depth, or `None` where no node stands at `first` or after it.
+/// The last place that has this depth, or `None` if there is no node from `first` on.
 pub(crate) fn last_child(nodes: &[(usize, Item)], first: usize, depth: usize) -> Option<TreeIndex>
     ensures { result ≡ (if nat_lt first (length nodes.now)
         then Some (record { 0 = last_before (depths nodes.now) depth (length nodes.now) }) else None) }
@@ -140,8 +141,8 @@ pub(crate) fn cut_nodes(nodes: &mut Vec<(usize, Item)>, first: usize, depth: usi
     nodes.truncate(kept);
 }
 
-/// Whether one node alone stands from the place `first` on, and it starts before the offset `end` and ends there
-/// at the latest.
+/// Whether exactly one node is at `first` or later, and it starts before the offset `end` and ends there at the
+/// latest.
 #[inline(always)]
 pub(crate) fn is_single_before(nodes: &[(usize, Item)], first: usize, end: usize) -> bool
     requires { first ≤ length nodes.now }
@@ -150,7 +151,7 @@ pub(crate) fn is_single_before(nodes: &[(usize, Item)], first: usize, end: usize
     first + 1 == nodes.len() && nodes[first].1.start < end && nodes[first].1.end <= end
 }
 
-/// The place of the first child of the node at `place`.
+/// The place of the first child of the node at `place`, or `None` if it has no child.
 pub(crate) fn child_in(nodes: &[(usize, Item)], place: usize) -> Option<TreeIndex>
     requires { place < length nodes.now }
     ensures { result ≡ child_of (depths nodes.now) place }
@@ -162,7 +163,7 @@ pub(crate) fn child_in(nodes: &[(usize, Item)], place: usize) -> Option<TreeInde
     }
 }
 
-/// The place of the next sibling of the node at `place`.
+/// The place of the next sibling of the node at `place`, or `None` if it has none.
 pub(crate) fn sibling_in(nodes: &[(usize, Item)], place: usize) -> Option<TreeIndex>
     requires { place < length nodes.now }
     ensures { result ≡ sibling_of (depths nodes.now) place }
@@ -175,7 +176,8 @@ pub(crate) fn sibling_in(nodes: &[(usize, Item)], place: usize) -> Option<TreeIn
     }
 }
 
-/// Whether, outwards over heads, rows and cells, a table comes first on `spine` (outermost first).
+/// Whether a table is reached from the innermost open node outwards, over only table heads, rows and cells.
+/// `spine` is outermost first.
 pub(crate) fn in_table_of(nodes: &[(usize, Item)], spine: &[TreeIndex]) -> bool
     requires { IsOpenPath (depths nodes.now) (reverse spine.now) }
     ensures { result ≡ in_table nodes.now (reverse spine.now) }

@@ -1,4 +1,4 @@
-//! Where subtrees begin and end, as far as a tree remembers it.
+//! The recorded subtrees of a tree: where each begins, and how far it is known to reach.
 
 ghost use Rattle.std.specs.Prelude.{◌≡◌, ◌-◌, ◌<◌, ◌∷◌, [], OnOk, OnErr};
 ghost use Rattle.first_pass_tree.specs.Subtrees.{subtree, within_first, ended, last_between, left_between};
@@ -6,14 +6,15 @@ ghost use Rattle.first_pass_tree.specs.Subtrees.{subtree, within_first, ended, l
 use std::alloc::{AllocError, Global};
 use std::marker::Model;
 
-/// A node at `place` and nodes below it, which stand after it up to `past`.
+/// The node at `place`, with the descendants that follow it before `past`.
 #[derive(Clone, Copy, PartialEq, Eq)]
 pub(crate) struct Subtree {
     pub(crate) place: usize,
     pub(crate) past: usize,
 }
 
-/// Subtrees in the order in which they begin; none ends after the next one. Contracts see the last first.
+/// Subtrees in the order in which they begin; none ends after the next one. In contracts the last one comes
+/// first.
 #[derive(Drop)]
 pub(crate) struct Subtrees {
     list: Vec<Subtree>,
@@ -38,7 +39,8 @@ impl Subtrees {
         }
     }
 
-    /// Adds one, and forgets those that end after it begins. An error where memory is refused.
+    /// Adds a record, and removes those that end after the place where it begins. Fails only if an allocation
+    /// fails.
     pub(crate) fn add(&mut self, subtree: Subtree) -> Result<(), AllocError>
         ensures ok { OnOk result (self.new ≡ subtree ∷ within_first subtree.place self.old) }
         ensures err { OnErr result (self.new ≡ within_first subtree.place self.old) }
@@ -48,7 +50,7 @@ impl Subtrees {
         Ok(())
     }
 
-    /// Forgets the last ones that end after the first `count` nodes.
+    /// Removes the last records, as long as they end after the first `count` nodes.
     pub(crate) fn cut_to(&mut self, count: usize)
         ensures { self.new ≡ within_first count self.old }
     {
@@ -59,8 +61,8 @@ impl Subtrees {
         self.list.truncate(kept);
     }
 
-    /// Notes that the subtree at `place`, if there is one, ends at `past`, where the nodes end. Those inside it
-    /// are forgotten, and so is itself where no other is left: nobody will ask for it.
+    /// Records that the subtree at `place`, if it is the last one left, ends at `past`. The records inside it
+    /// are removed. It is removed too if no other remains, since it is not needed then.
     pub(crate) fn note_end(&mut self, place: usize, past: usize)
         requires { place < past }
         ensures { self.new ≡ ended place past self.old }
@@ -77,7 +79,7 @@ impl Subtrees {
         self.list[count - 1] = Subtree { place, past };
     }
 
-    /// The last one, if it stands from `from` on and before `to`. It is forgotten then.
+    /// Removes and returns the last record, if its subtree is between `from` and `to`.
     pub(crate) fn take_between(&mut self, from: usize, to: usize) -> Option<Subtree>
         ensures value { result ≡ last_between from to self.old }
         ensures rest { self.new ≡ left_between from to self.old }

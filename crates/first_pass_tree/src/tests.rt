@@ -1,4 +1,4 @@
-//! What the tree remembers of subtrees, by calls one after the other.
+//! The recorded subtrees of a tree, over several calls.
 
 use crate::forest::Tree;
 use crate::subtrees::Subtree;
@@ -6,8 +6,8 @@ use crate::tree_index::TreeIndex;
 use first_pass_items::item::{Item, ItemBody, ListFlags};
 use std::test::Fail;
 
-// `- - a` without its paragraph: a list in the open item of a list. Both are remembered, and the inner one was just
-// closed. Then the outer one is closed too, or loses all that is below its item.
+// `- - a` without its paragraph: a list in the open item of a list. Both are recorded, and the inner list was
+// just closed. Then the outer list is closed too, or loses everything below its item.
 #[test]
 fn remembers_subtrees_until_they_are_cut(rt: HostRuntime) -> Result<(), Fail> {
     for is_cut in [false, true] {
@@ -61,8 +61,8 @@ fn remembers_subtrees_until_they_are_cut(rt: HostRuntime) -> Result<(), Fail> {
     Ok(())
 }
 
-// A definition list in a quote: its last child is moved out, after its end was noted or once it ends before that
-// child.
+// A definition list in a quote. Its last child is moved out after its end was recorded, or its end is recorded
+// before that child.
 #[test]
 fn keeps_a_subtree_that_ends_before_a_child_that_leaves(rt: HostRuntime) -> Result<(), Fail> {
     for ends_before in [false, true] {

@@ -1,4 +1,4 @@
-//! The paragraphs of a list made tight (CommonMark 5.3).
+//! Making the paragraphs of a list tight (CommonMark 5.3).
 
 ghost use Rattle.std.specs.Prelude.{◌≡◌, ◌+◌, ◌<◌, ◌≤◌, ℕ, length, slice_index};
 ghost use Rattle.first_pass_tree.specs.Forest.{Forest, depths};
@@ -9,8 +9,8 @@ use crate::subtrees::Subtree;
 use crate::tree_index::TreeIndex;
 use first_pass_items::item::{Item, ItemBody};
 
-/// Makes the paragraphs tight that stand directly in the items of the list `list_ix` (CommonMark 5.3). Lists
-/// inside it that were closed before are gone over, and not through.
+/// Makes the paragraphs directly in the items of the list `list_ix` tight (CommonMark 5.3). It skips the
+/// contents of recorded inner lists.
 pub fn surgerize_tight_list(tree: &mut Tree<Item>, list_ix: TreeIndex)
     requires { list_ix.0 < length tree.old.nodes }
     ensures { tree.new ≡ tight_items tree.old list_ix }
@@ -26,9 +26,8 @@ pub fn surgerize_tight_list(tree: &mut Tree<Item>, list_ix: TreeIndex)
     }
 }
 
-/// The last list inside one of depth `list_depth` that stands from `from` on and before `to`, with what is
-/// below it: no paragraph directly in an item of the outer list. The node at `from` alone where none is
-/// remembered.
+/// The last recorded list between `from` and `to` inside a list of depth `list_depth`, with its descendants:
+/// none is a paragraph directly in an item of the outer list. If none is recorded, only the node at `from`.
 fn inner_list(tree: &mut Tree<Item>, list_depth: usize, from: usize, to: usize) -> Subtree
     requires { (from < to) × (to ≤ length tree.old.nodes) }
     ensures tree { tree.new ≡ tree.old }
@@ -45,9 +44,9 @@ fn inner_list(tree: &mut Tree<Item>, list_depth: usize, from: usize, to: usize) 
     }
 }
 
-/// Makes the paragraphs tight that stand directly in items of a list of depth `list_depth`, among the nodes
-/// from `from` up to `to`, all of them below the list. Where those from `to` on were tight, those from `from`
-/// on are then.
+/// Makes the paragraphs directly in items of a list of depth `list_depth` tight, among the nodes between `from`
+/// and `to`, which are all below the list. If those from `to` on were tight, all from `from` on are tight
+/// afterwards.
 fn tighten_between(tree: &mut Tree<Item>, list_depth: usize, from: usize, to: usize)
     requires within { (from ≤ to) × (to ≤ length tree.old.nodes) }
     requires deeper { (k : ℕ) → from ≤ k → k < to → list_depth < slice_index (depths tree.old.nodes) k }
@@ -60,8 +59,8 @@ fn tighten_between(tree: &mut Tree<Item>, list_depth: usize, from: usize, to: us
     }
 }
 
-/// Makes a paragraph tight that stands directly in an item of a list of depth `list_depth`; another node
-/// stays (CommonMark 5.3).
+/// Makes the node tight if it is a paragraph directly in an item of a list of depth `list_depth`; otherwise
+/// changes nothing (CommonMark 5.3).
 fn tighten(tree: &mut Tree<Item>, list_depth: usize, ix: TreeIndex)
     requires within { ix.0 < length tree.old.nodes }
     requires deeper { list_depth < slice_index (depths tree.old.nodes) ix.0 }
@@ -75,7 +74,7 @@ fn tighten(tree: &mut Tree<Item>, list_depth: usize, ix: TreeIndex)
     }
 }
 
-/// How deep the node at a place stands.
+/// The depth of the node at a place.
 fn depth_at(tree: &Tree<Item>, at: usize) -> usize
     requires { at < length tree.now.nodes }
     ensures { result ≡ slice_index (depths tree.now.nodes) at }

@@ -1,7 +1,7 @@
 use Rattle.first_pass_tree.proofs.TightLemmas.{IsTightFrom}
 use Rattle.first_pass_tree.proofs.tight.surgerize_tight_list.Given as goal
 
--- the paragraphs from here on are tight
+-- the paragraphs from `at` on are tight
 abbrev pub invariant-loop-at : goal.invariant-loop-at
 invariant-loop-at l = IsTightFrom l.initial.tree l.fn.list_ix.0 l.list_depth l.at l.tree
 

@@ -2,7 +2,7 @@ use Rattle.std.proofs.Common.{◌≡◌, ◌≤◌, length, take, reverse}
 use Rattle.first_pass_tree.specs.Subtrees.{within_first}
 use Rattle.first_pass_tree.proofs.subtrees.Subtrees.cut_to.Given as goal
 
--- those from here on end after the first nodes
+-- the records from `kept` on end after the first nodes
 abbrev pub invariant-loop-kept : goal.invariant-loop-kept
 invariant-loop-kept l = record {
   within : l.kept ≤ length l.self-inside.list.items;
