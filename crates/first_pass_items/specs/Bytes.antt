@@ -1,4 +1,4 @@
--- The bytes that definitions name, by Unicode's names for their characters, or the standard's where it has a shorter one.
+-- Names for bytes: Unicode's name of the character, or the standard's if that is shorter.
 use Rattle.std.specs.Prelude.{ℕ}
 
 -- TAB
@@ -161,10 +161,10 @@ right_brace = 125
 abbrev pub tilde : ℕ
 tilde = 126
 
--- the least byte that is no ASCII character
+-- the least non-ASCII byte
 abbrev pub ascii_end : ℕ
 ascii_end = 128
 
--- the least byte that begins a character of several bytes
+-- the least byte with which a character of several bytes begins
 abbrev pub least_lead : ℕ
 least_lead = 192

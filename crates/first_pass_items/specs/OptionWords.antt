@@ -1,8 +1,8 @@
--- What a set of options says.
+-- The bits of the options.
 use Rattle.std.specs.Prelude.{ℕ, ◌==◌, ◌&&◌, not, Bool, bit_and}
 use Rattle.first_pass_items.specs.declared.option_set.Options.{Options}
 
--- the set holds each of these bits
+-- the set has all of these bits
 abbrev pub has : Options → ℕ → Bool
 has options bits = bit_and options.0 bits == bits
 
@@ -62,6 +62,6 @@ superscript = 8192
 abbrev pub subscript : ℕ
 subscript = 16384
 
--- footnotes as GitHub has them: footnotes are on, and not in their old form
+-- footnotes in GitHub's form: footnotes are on, and not in their old form
 abbrev pub gfm_footnotes : Options → Bool
 gfm_footnotes options = has options footnotes && not (has options old_footnotes)

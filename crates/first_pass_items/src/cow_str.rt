@@ -1,4 +1,4 @@
-//! Texts that are borrowed from the source where they stand there as they are.
+//! Strings that are borrowed from the text if they are slices of it.
 
 ghost use Rattle.std.specs.Prelude.{◌≡◌, ◌≤◌, ◌↔◌, length, IsSome, IfSome, encode_utf8};
 ghost use Rattle.first_pass_items.specs.CowText.{text_of};
@@ -8,7 +8,7 @@ use std::marker::Model;
 use std::ops::DerefStr;
 use std::str;
 
-/// A text of at most 22 bytes that stands in the value itself and takes no memory.
+/// A string of at most 22 bytes, stored in the value itself without an allocation.
 #[derive(Drop)]
 pub struct InlineStr {
     bytes: [u8; 22],
@@ -26,7 +26,7 @@ impl Model for InlineStr {
 }
 
 impl InlineStr {
-    /// A copy of the text, or `None` where it is longer than 22 bytes.
+    /// Returns a copy of the string, or `None` if it is longer than 22 bytes.
     pub fn try_from_str(text: &str) -> Option<InlineStr>
         ensures some { IsSome result ↔ (length text.now ≤ 22) }
         ensures value { IfSome result (λ s. s ≡ text.now) }
@@ -37,7 +37,7 @@ impl InlineStr {
         Some(InlineStr::from_short(text))
     }
 
-    /// The text of one character.
+    /// The string of one character.
     pub fn from_char(character: char) -> InlineStr
         ensures { result ≡ encode_utf8 character }
     {
@@ -45,7 +45,7 @@ impl InlineStr {
         InlineStr::from_short(character.encode_utf8(&mut buffer))
     }
 
-    // A copy of a text of at most 22 bytes.
+    // A copy of a string of at most 22 bytes.
     fn from_short(text: &str) -> InlineStr
         requires { length text.now ≤ 22 }
         ensures { result ≡ text.now }
@@ -59,7 +59,7 @@ impl InlineStr {
         }
     }
 
-    /// The text.
+    /// The string.
     pub fn as_str(&self) -> &str
         ensures value { result.now ≡ self.now }
         ensures fits { length result.now ≤ 22 }
@@ -68,8 +68,7 @@ impl InlineStr {
     }
 }
 
-/// A text: bytes of the source as they stand there, or a text of its own, on the heap or, up to 22
-/// bytes, in place.
+/// A string: a slice of the text, or its own bytes, on the heap or (up to 22) in the value itself.
 #[derive(Drop)]
 pub enum CowStr<'a> {
     Borrowed(&'a str),
@@ -80,7 +79,7 @@ pub enum CowStr<'a> {
 impl<'a> DerefStr for CowStr<'a> {
     ghost deref_gives = { λ c bytes. bytes ≡ text_of c };
 
-    /// The text's bytes, wherever they stand.
+    /// The bytes of the string, however they are stored.
     fn deref(&self) -> &str
         ensures { result.now ≡ text_of self.now }
     {

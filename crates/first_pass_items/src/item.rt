@@ -1,4 +1,4 @@
-//! The items of the tree: what a node is, and which bytes of the text it stands for.
+//! The items of the tree: the kind of each node, and its range of the text.
 
 ghost use Rattle.std.specs.Prelude.{⊤, ◌≡◌, [], ◌∷◌, codes};
 
@@ -12,7 +12,7 @@ pub struct HeadingIndex(pub usize);
 #[derive(Clone, Copy, PartialEq, Eq)]
 pub struct AlignmentIndex(pub usize);
 
-/// The index of a text that isn't a plain range of the source.
+/// The index of a string that is not a plain range of the text.
 #[derive(Clone, Copy, PartialEq, Eq)]
 pub struct CowIndex(pub usize);
 
@@ -27,7 +27,7 @@ pub enum HeadingLevel {
     H6,
 }
 
-/// How a column of a table is aligned (GFM 4.10).
+/// The alignment of a table column (GFM 4.10).
 #[derive(Clone, Copy, PartialEq, Eq)]
 pub enum Alignment {
     None,
@@ -36,14 +36,14 @@ pub enum Alignment {
     Right,
 }
 
-/// The marks that a metadata block stands between: `---` or `+++`.
+/// The marks around a metadata block: `---` or `+++`.
 #[derive(Clone, Copy, PartialEq, Eq)]
 pub enum MetadataBlockKind {
     YamlStyle,
     PlusesStyle,
 }
 
-/// The kind that a tag gives a block quote, as `[!NOTE]`.
+/// The kind that a tag such as `[!NOTE]` gives a block quote.
 #[derive(Clone, Copy, PartialEq, Eq)]
 pub enum BlockQuoteKind {
     Note,
@@ -53,7 +53,7 @@ pub enum BlockQuoteKind {
     Caution,
 }
 
-/// What is known of a list: whether it is tight (CommonMark 5.3).
+/// The flags of a list: whether it is tight (CommonMark 5.3).
 #[derive(Clone, Copy, PartialEq, Eq)]
 pub struct ListFlags(u8);
 
@@ -85,7 +85,7 @@ impl Flags for ListFlags {
     }
 }
 
-/// What a node is: a block, or a token of possible inline markup in a block.
+/// The kind of a node: a block, or a token that may be inline markup in a block.
 #[derive(Clone, Copy, PartialEq, Eq)]
 pub enum ItemBody {
     /// The node around all others.
@@ -97,20 +97,20 @@ pub enum ItemBody {
     TightParagraph,
     Rule,
     Heading(HeadingLevel, Option<HeadingIndex>),
-    /// The text is the info string.
+    /// The info string.
     FencedCodeBlock(CowIndex),
     IndentCodeBlock,
     HtmlBlock,
     BlockQuote(Option<BlockQuoteKind>),
-    /// Whether it is tight, the byte of its markers (for numbers `.` or `)`), and its first number.
+    /// Whether it is tight, the byte of its markers (`.` or `)` after numbers), and its first number.
     List(ListFlags, u8, u64),
     /// The columns that a line needs to continue the item.
     ListItem(usize),
-    /// The text is the label.
+    /// The label.
     FootnoteDefinition(CowIndex),
     MetadataBlock(MetadataBlockKind),
     DefinitionList(ListFlags),
-    /// A paragraph that may become the title of a definition; in no finished tree.
+    /// A paragraph that may become the title of a definition; no finished tree has one.
     MaybeDefinitionListTitle,
     DefinitionListTitle,
     /// The columns that a line needs to continue the definition.
@@ -122,19 +122,19 @@ pub enum ItemBody {
 
     // Tokens.
     Text {
-        /// Whether the first byte stands after a backslash that was dropped.
+        /// Whether the first byte follows a backslash that was dropped.
         backslash_escaped: bool,
     },
     SoftBreak,
-    /// Whether a backslash made it, and not white space.
+    /// Whether it was written with a backslash, not with white space.
     HardBreak(bool),
-    /// How many delimiters of the run are left, this one counted; whether it can open and close.
+    /// The number of delimiters from this one to the end of its run; whether it can open and close.
     MaybeEmphasis(usize, bool, bool),
     /// Whether it can open and close, and its brace context.
     MaybeMath(bool, bool, u8),
     /// The quote's byte, and whether it can open and close.
     MaybeSmartQuote(u8, bool, bool),
-    /// How many backquotes, and whether a backslash stood before them.
+    /// The number of backquotes, and whether a backslash precedes them.
     MaybeCode(usize, bool),
     MaybeHtml,
     MaybeLinkOpen,
@@ -143,9 +143,9 @@ pub enum ItemBody {
     MaybeImage,
     /// Bytes of an HTML block.
     Html,
-    /// A text that stands for the bytes.
+    /// A string that replaces the bytes.
     SynthesizeText(CowIndex),
-    /// A character that stands for the bytes.
+    /// A character that replaces the bytes.
     SynthesizeChar(char),
     /// Whether it is checked.
     TaskListMarker(bool),
@@ -159,7 +159,7 @@ impl Default for ItemBody {
     }
 }
 
-/// A node's range, as offsets into the text (`start` is at most `end`), and what it is.
+/// The range of a node, as offsets into the text (`start` is at most `end`), and its kind.
 #[derive(Clone, Copy, PartialEq, Eq)]
 pub struct Item {
     pub start: usize,

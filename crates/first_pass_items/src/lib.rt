@@ -1,4 +1,4 @@
-//! The words of the block pass: its options, the items of its tree, and texts.
+//! The types of the block pass: its options, the items of its tree, and strings.
 #![tactic(auto)]
 
 pub mod cow_str;

@@ -5,9 +5,9 @@ ghost use Rattle.first_pass_items.specs.OptionWords.{gfm_footnotes};
 
 use bitflags::{Flag, Flags, bitflag_items};
 
-/// Which extensions of CommonMark the pass reads. The calls `empty`, `contains`, `insert`, `union`,
-/// `from_bits` and `bits` are those of `bitflags::Flags`; `from_bits` returns `None` where a bit is
-/// set that no constant has (bit 0, or one above 15).
+/// The set of extensions of CommonMark that are on. The calls `empty`, `contains`, `insert`, `union`,
+/// `from_bits` and `bits` are those of `bitflags::Flags`. `from_bits` returns `None` if a bit is set that no
+/// constant has (bit 0, or a bit above 15).
 #[derive(Clone, Copy, PartialEq, Eq)]
 pub struct Options(u32);
 
@@ -69,7 +69,7 @@ impl Flags for Options {
 }
 
 impl Options {
-    /// Whether footnotes are read as GitHub reads them: `ENABLE_FOOTNOTES` without the second bit of
+    /// Whether footnotes have GitHub's form: `ENABLE_FOOTNOTES` without the second bit of
     /// `ENABLE_OLD_FOOTNOTES`.
     pub fn has_gfm_footnotes(&self) -> bool
         ensures { result ≡ gfm_footnotes self.now }
