@@ -1,4 +1,4 @@
--- What is known of the lines that close metadata is a fact.
+-- That a record of closing lines is right is a proposition: it has at most one proof.
 use Rattle.std.proofs.Common.{ℕ, List, Option, Some, None, IfSome}
 use Rattle.std.proofs.Math.Bridge.{le_prop}
 use Rattle.std.proofs.Math.Nat.{ℕ_set}

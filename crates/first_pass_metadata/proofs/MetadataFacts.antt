@@ -1,4 +1,4 @@
--- Facts on where metadata closes.
+-- Facts on the lines that close metadata.
 use Rattle.std.proofs.Common.{◌≡◌, ◌&&◌, Option, Some, None, if◌then◌else◌, inl, inr, ℕ, zero, suc, ◌+◌, ◌-◌, ◌<◌, ◌≤◌, Bool, true, false, cond, ◌||◌}
 use Rattle.std.proofs.Common.{nat_lt, List, [], ◌∷◌, length, drop, refl, sym, ap, ◌∙◌, arith, drop-drop}
 use Rattle.std.specs.List.{list_any}
@@ -11,7 +11,7 @@ use Rattle.first_pass_lines.proofs.LineFacts.{line_len-inside, line_len-within, 
 use Rattle.first_pass_lines.specs.Plain.{is_plain, begins_plain}
 use Rattle.first_pass_scan.proofs.PlainFacts.{plain_begins}
 
--- a line closes, or one after it does
+-- the first line closes, or a later one does
 any_line-first : (c start : ℕ) (text : List ℕ) (more : List Place) (t : Bool) → lines_at start (drop start text) ≡ line_place start (drop start text) ∷ more
     → t ≡ closes_metadata c (drop start text) → any_line_closes c start (drop start text) ≡ (t || list_any (λ line. closes_metadata c line.rest.left) more)
 any_line-first c start text more t h e =
@@ -20,7 +20,7 @@ any_line-first c start text more t h e =
 any_line-none : (c start : ℕ) (text : List ℕ) → lines_at start (drop start text) ≡ [] → any_line_closes c start (drop start text) ≡ false
 any_line-none c start text h = ap (list_any (λ line. closes_metadata c line.rest.left)) h
 
--- the first closing line: the one that begins here, or the first one further on, or none at the end of the text
+-- the first closing line: this line, the first one after it, or none
 pub closing_line-here : (c : ℕ) (text : List ℕ) (s : ℕ) → s < length text → closes_metadata c (drop s text) ≡ true → closing_line_from c text s ≡ s
 unfolding closing_line_from first_closing
 closing_line-here c text s l h = ap (first_closing c (length text)) (lines_at-line text s l) ∙ rw h
@@ -34,7 +34,7 @@ pub closing_line-end : (c : ℕ) (text : List ℕ) (s : ℕ) → length text ≤
 unfolding closing_line_from first_closing
 closing_line-end c text s l = ap (first_closing c (length text)) (lines_at-end text s l)
 
--- where one line ends, another that begins before doesn't continue
+-- a line that begins before the end of another ends there at the latest
 pub lines-apart : (text : List ℕ) (s y : ℕ) → s < y + line_len (drop y text) → s + line_len (drop s text) ≤ y + line_len (drop y text)
 lines-apart text s y h =
     elim (cases_lt s y) as (λ _. s + line_len (drop s text) ≤ y + line_len (drop y text)) [
@@ -52,7 +52,8 @@ lines-apart text s y h =
           omega (arith, ap line_len d)
     ]
 
--- what was found from an offset on is found from where a later line begins too, unless it stands before that
+-- the closing line found from an offset on is also the one found from the start of a later line, unless it begins
+-- before that line
 same_step : (c : ℕ) (text : List ℕ) (most s y from : ℕ) (t : Bool) → from ≡ y + line_len (drop y text) → from ≤ s + suc most → s < from → s < length text
     → from ≤ closing_line_from c text s → closes_metadata c (drop s text) ≡ t
     → ((k : ℕ) → from ≤ k + most → k ≤ from → from ≤ closing_line_from c text k → closing_line_from c text k ≡ closing_line_from c text from)
@@ -82,7 +83,7 @@ pub closing_line-same : (c : ℕ) (text : List ℕ) (s y from : ℕ)
     → from ≡ y + line_len (drop y text) → s ≤ from → from ≤ closing_line_from c text s → closing_line_from c text s ≡ closing_line_from c text from
 closing_line-same c text s y from e b w = same_up_to c text from s y from e (omega arith) b w
 
--- whether a line closes doesn't hang on the offset at which the bytes begin
+-- whether a line closes does not depend on the offset of the bytes
 any_behind : (c b s t : ℕ) (bs : List ℕ)
     → list_any (λ line. closes_metadata c line.rest.left) (lines_behind b s bs) ≡ list_any (λ line. closes_metadata c line.rest.left) (lines_behind b t bs)
 unfolding lines_behind
@@ -103,7 +104,7 @@ unfolding lines_at
 any_line-anywhere c s t [] = refl
 any_line-anywhere c s t (b ∷ bs) = ap (λ v. closes_metadata c (b ∷ bs) || v) (any_behind c b (s + 1) (t + 1) bs)
 
--- some line closes, where the first that does begins before the end of the text
+-- some line closes exactly if the first that does begins before the end of the text
 sought_step : (c : ℕ) (text : List ℕ) (most s : ℕ) (t : Bool) → s < length text → length text ≤ s + suc most → t ≡ closes_metadata c (drop s text)
     → ((k : ℕ) → length text ≤ k + most → nat_lt (closing_line_from c text k) (length text) ≡ any_line_closes c k (drop k text))
     → nat_lt (closing_line_from c text s) (length text) ≡ any_line_closes c s (drop s text)
@@ -133,14 +134,14 @@ sought_up_to c text (suc most) s m =
 pub any_line-sought : (c : ℕ) (text : List ℕ) (s : ℕ) → nat_lt (closing_line_from c text s) (length text) ≡ any_line_closes c s (drop s text)
 any_line-sought c text s = sought_up_to c text (length text) s (omega arith)
 
--- the same for the lines after the one that begins at an offset
+-- the same for the lines after the one at an offset
 pub any_line-behind : (c : ℕ) (text : List ℕ) (s from : ℕ)
     → from ≡ s + line_len (drop s text) → nat_lt (closing_line_from c text from) (length text) ≡ any_line_closes c 0 (behind_line (drop s text))
 any_line-behind c text s from e =
     let d : drop from text ≡ behind_line (drop s text) = ap (λ k. drop k text) e ∙ sym (drop-drop (line_len (drop s text)) s text) in
     any_line-sought c text from ∙ any_line-anywhere c from 0 (drop from text) ∙ ap (any_line_closes c 0) d
 
--- what opens metadata is no line end
+-- the bytes that open metadata are no line endings
 metadata_plain_by : (t v w x : Bool) (byte : ℕ)
     → (if t then (if v then Some 45 else None) else (if w then (if x then Some 43 else None) else None)) ≡ Some byte → is_content byte ≡ true
 metadata_plain_by true true w x byte h = (let e : 45 ≡ byte = cc in ap is_content (sym e))
@@ -153,7 +154,7 @@ pub metadata_plain : (yaml pluses : Bool) (bs : List ℕ) (byte : ℕ) → metad
 unfolding metadata_byte
 metadata_plain yaml pluses bs byte h = metadata_plain_by (yaml && begins 45 bs) (opens_metadata 45 bs) (pluses && begins 43 bs) (opens_metadata 43 bs) byte h
 
--- with a plain byte no metadata opens
+-- no metadata opens with a plain byte
 and_none : (yaml : Bool) (t : Bool) (x y : Option ℕ) → t ≡ false → (if yaml && t then x else y) ≡ y
 and_none true t x y e = rw e refl
 and_none false t x y e = refl

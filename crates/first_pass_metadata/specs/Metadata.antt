@@ -7,16 +7,16 @@ use Rattle.first_pass_lines.specs.Lines.{begins, is_blank_line, line_len, at_lin
 use Rattle.first_pass_lines.specs.Places.{lines_at}
 use Rattle.first_pass_scan.specs.LeafLines.{run_len}
 
--- three of the byte c stand first (this project)
+-- the bytes begin with three of the byte c (this project)
 abbrev pub three_of : ℕ → List ℕ → Bool
 three_of c bs = starts_with nat_eq bs (c ∷ c ∷ c ∷ [])
 
--- the marks that close metadata of the byte c stand first: three of it, or `...` for `---` (this project)
+-- the bytes begin with the marks that close metadata of the byte c: three of it, or `...` if it is `-` (this project)
 unfoldable pub closing_marks : ℕ → List ℕ → Bool
 closing_marks c bs = ((c == hyphen) && three_of full_stop bs) || three_of c bs
 
--- how many bytes a closing line of metadata has, trailing spaces too and its line end not, where the block was opened by three of the byte c: its marks, then
--- spaces alone (this project)
+-- the length of the closing line of metadata of the byte c, with trailing spaces but without its line ending: the
+-- closing marks, then only spaces (this project)
 unfoldable pub closing_metadata_len : ℕ → List ℕ → Option ℕ
 closing_metadata_len c bs =
     let n = 3 + run_len space (drop 3 bs) in
@@ -26,26 +26,27 @@ closing_metadata_len c bs =
 abbrev pub closes_metadata : ℕ → List ℕ → Bool
 closes_metadata c bs = is_some (closing_metadata_len c bs)
 
--- some line of these bytes, which begin at an offset, closes metadata of the byte c (this project)
+-- one of the lines of these bytes, given their offset, closes metadata of the byte c (this project)
 abbrev pub any_line_closes : ℕ → ℕ → List ℕ → Bool
 any_line_closes c start bs = list_any (λ line. closes_metadata c line.rest.left) (lines_at start bs)
 
--- what stands after the line that begins here (CommonMark 2.1, line)
+-- the bytes after the line that begins here (CommonMark 2.1, line)
 abbrev pub behind_line : List ℕ → List ℕ
 behind_line bs = drop (line_len bs) bs
 
--- metadata of the byte c may open here, as its first two lines say: a line of just three of it, then a line that is neither blank nor a closing one (this
--- project)
+-- The first two lines allow metadata of the byte c to open here: the first is exactly three of that byte, then white
+-- space, and the second is neither blank nor a closing line (this project).
 unfoldable pub begins_metadata : ℕ → List ℕ → Bool
 begins_metadata c bs =
     let next = behind_line bs in
     (run_len c bs == 3) && is_blank_line (drop 3 bs) && not (is_blank_line next) && not (closes_metadata c next)
 
--- metadata of the byte c opens here: its first two lines allow it, and a closing line stands after them (this project)
+-- metadata of the byte c opens here: its first two lines allow it, and a later line closes it (this project)
 unfoldable pub opens_metadata : ℕ → List ℕ → Bool
 opens_metadata c bs = begins_metadata c bs && any_line_closes c 0 (behind_line (behind_line bs))
 
--- the byte of the metadata block that opens here, `-` where its YAML form is on and `+` where the other is (this project)
+-- the byte of the metadata block that opens here: `-` if the YAML form is on, `+` if the other form is on
+-- (this project)
 unfoldable pub metadata_byte : Bool → Bool → List ℕ → Option ℕ
 metadata_byte yaml pluses bs =
     if yaml && begins hyphen bs

@@ -1,4 +1,4 @@
--- Where metadata closes, from an offset on, and what is remembered of it.
+-- The first line from an offset on that closes metadata, and the record of it.
 use Rattle.std.specs.Prelude.{◌≡◌, ◌≤◌, ℕ, List, [], ◌∷◌, length, drop, IfSome, if◌then◌else◌}
 use Rattle.first_pass_items.specs.Bytes.{plus_sign, hyphen}
 use Rattle.first_pass_lines.specs.Places.{Place, lines_at}
@@ -6,21 +6,24 @@ use Rattle.first_pass_metadata.specs.Metadata.{closes_metadata}
 use Rattle.first_pass_metadata.specs.declared.metadata_search.ClosingLine.{ClosingLine}
 use Rattle.first_pass_metadata.specs.declared.metadata_search.MetadataEnds.{MetadataEnds}
 
--- where the first of the lines begins that closes metadata of the byte c, in a text of n bytes: its end, if none does (this project)
+-- the start of the first of these lines that closes metadata of the byte c, in a text of n bytes; the end of the text,
+-- if none does (this project)
 unfoldable pub first_closing : ℕ → ℕ → List Place → ℕ
 first_closing c n [] = n
 first_closing c n (line ∷ lines) = if closes_metadata c line.rest.left then line.line else first_closing c n lines
 
--- where the first line begins, from an offset into the text on, that closes metadata of the byte c: at the end of the text, if none does (this project)
+-- the start of the first line from an offset on that closes metadata of the byte c; the end of the text, if none does
+-- (this project)
 unfoldable pub closing_line_from : ℕ → List ℕ → ℕ → ℕ
 closing_line_from c text from = first_closing c (length text) (lines_at from (drop from text))
 
--- what is remembered of the byte c is right of the text: from an offset on, the first line that closes metadata of that byte begins there (this project)
+-- the record for the byte c is right: the first line from `found.from` on that closes metadata of that byte begins at
+-- `found.at` (this project)
 pub record IsClosingLine (c : ℕ) (text : List ℕ) (found : ClosingLine) : Type 0 where
   pub within : found.from ≤ length text
   pub first : found.at ≡ closing_line_from c text found.from
 
--- what is remembered is right of the text, for `-` and for `+` (this project)
+-- the records for `-` and for `+` are right, if there are any (this project)
 pub record IsKnownOf (text : List ℕ) (ends : MetadataEnds) : Type 0 where
   pub for_dashes : IfSome ends.dashes (IsClosingLine hyphen text)
   pub for_pluses : IfSome ends.pluses (IsClosingLine plus_sign text)

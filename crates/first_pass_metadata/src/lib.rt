@@ -1,4 +1,4 @@
-//! Metadata blocks: the lines that open and close them, and what is remembered of where they close.
+//! Metadata blocks: the lines that open and close them, and the record of closing lines.
 #![tactic(auto)]
 
 pub mod metadata_scan;

@@ -9,7 +9,7 @@ use first_pass_lines::lines::{scan_blank_line, scan_eol, scan_nextline};
 use first_pass_lines::places::{next_line, rest_of};
 use first_pass_scan::leaf_scan::scan_run;
 
-// Whether the marks of a closing line of metadata stand first.
+// Whether the bytes begin with the marks of a closing line of metadata.
 #[tactic(auto, unfolding(crate::specs::Metadata::closing_marks))]
 fn has_closing_marks(bytes: &[u8], byte: u8) -> bool
     ensures value { result ≡ closing_marks byte bytes.now }
@@ -21,8 +21,8 @@ fn has_closing_marks(bytes: &[u8], byte: u8) -> bool
     bytes.starts_with(&[byte, byte, byte])
 }
 
-/// How many bytes the closing line of metadata that `bytes` begins with has, with the spaces after its
-/// marks and without its line end: three of `byte`, or `...` where that is `-`. Else `None`.
+/// The length in bytes of the closing line of metadata at the start of `bytes`, with trailing spaces but
+/// without its line ending: three of `byte`, or `...` if that is `-`, then only spaces. Otherwise `None`.
 #[tactic(auto, unfolding(crate::specs::Metadata::closing_metadata_len))]
 pub fn scan_closing_metadata_block(bytes: &[u8], byte: u8) -> Option<usize>
     ensures value { result ≡ closing_metadata_len byte bytes.now }
@@ -36,8 +36,7 @@ pub fn scan_closing_metadata_block(bytes: &[u8], byte: u8) -> Option<usize>
     Some(end)
 }
 
-// Where the first line begins, from the offset `from` into the text on, that closes metadata of the
-// byte, or the text's length.
+// The start of the first line from the offset `from` on that closes metadata of the byte, or the text's length.
 pub(crate) fn scan_closing_line(text: &[u8], from: usize, byte: u8) -> usize
     requires { from ≤ length text.now }
     ensures { result ≡ closing_line_from byte text.now from }
@@ -59,7 +58,7 @@ fn has_closing_line(bytes: &[u8], byte: u8) -> bool
     scan_closing_line(bytes, 0, byte) < bytes.len()
 }
 
-// How many bytes the first line has, its end too, where it and the next one let metadata of the byte
+// The length of the first line, with its line ending, if it and the next line allow metadata of the byte to
 // open here.
 #[tactic(auto, unfolding(crate::specs::Metadata::begins_metadata))]
 pub(crate) fn scan_metadata_opening(bytes: &[u8], byte: u8) -> Option<usize>
@@ -91,10 +90,10 @@ fn opens_metadata(bytes: &[u8], byte: u8) -> bool
     }
 }
 
-/// The byte of the metadata block that `bytes` begins with: `-` where `yaml` is on, `+` where `pluses`
-/// is. A line of three of that byte opens it, where a line that is neither blank nor a closing one
-/// follows, and a closing line further on. `bytes` continue to the end of the text, and their lines are
-/// judged with the prefixes of their containers. Else `None`.
+/// The byte of the metadata block at the start of `bytes`: `-` if `yaml` is on, `+` if `pluses` is on. Its
+/// first line is exactly three of that byte, then white space. The next line is neither blank nor a closing
+/// line, and a later line is a closing line. Otherwise `None`. `bytes` runs to the end of the text, and its
+/// lines are read with their container prefixes.
 #[tactic(auto, unfolding(crate::specs::Metadata::metadata_byte))]
 pub fn scan_metadata_block(bytes: &[u8], yaml: bool, pluses: bool) -> Option<u8>
     ensures value { result ≡ metadata_byte yaml pluses bytes.now }

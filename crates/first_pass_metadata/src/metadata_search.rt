@@ -1,4 +1,4 @@
-//! Metadata blocks of one text, with the lines remembered that close them.
+//! Metadata blocks of one text, with a record of the closing lines found.
 
 ghost use Rattle.std.specs.Prelude.{◌≡◌, ◌≤◌, ℕ, List, length, drop, IfSome};
 ghost use Rattle.first_pass_metadata.specs.Metadata.{behind_line, any_line_closes, opens_metadata, metadata_byte};
@@ -7,15 +7,15 @@ ghost use Rattle.first_pass_metadata.specs.MetadataSearch.{IsClosingLine, IsKnow
 use crate::metadata_scan::{scan_closing_line, scan_metadata_opening};
 use first_pass_lines::places::{next_line, rest_of};
 
-// The first line, from an offset on, that closes metadata of a byte: where it was sought from, and
-// where it begins, or the text's length if there is none.
+// The first line from an offset on that closes metadata of a byte: the offset `from` where the search began,
+// and the start of the line, or the text's length if there is none.
 #[derive(Clone, Copy, PartialEq, Eq)]
 struct ClosingLine {
     from: usize,
     at: usize,
 }
 
-/// What is known of the lines of one text that close metadata: nothing at first.
+/// The closing lines of metadata found so far in one text.
 #[derive(Clone, Copy, PartialEq, Eq)]
 pub struct MetadataEnds {
     dashes: Option<ClosingLine>,
@@ -23,7 +23,7 @@ pub struct MetadataEnds {
 }
 
 impl MetadataEnds {
-    /// Nothing is known, of whatever text.
+    /// An empty record, right for every text.
     pub const fn new() -> MetadataEnds
         ensures { (text : List ℕ) → IsKnownOf text result }
     {
@@ -34,10 +34,9 @@ impl MetadataEnds {
     }
 }
 
-/// The byte of the metadata block that begins at the offset `start` into the text, `-` where `yaml` is
-/// on and `+` where `pluses` is on, as `scan_metadata_block` says on the bytes there. What is found of
-/// closing lines is remembered in `ends`, so that the lines of a text are sought through once for each
-/// byte however many blocks seem to begin in it, if these are asked for in the order of the text.
+/// The byte of the metadata block that begins at the offset `start` into the text, as `scan_metadata_block`
+/// returns it for the bytes there: `-` if `yaml` is on, `+` if `pluses` is on. Closing lines that are found are
+/// recorded in `ends`. If the calls follow the order of the text, its lines are searched once for each byte.
 #[tactic(auto, unfolding(crate::specs::Metadata::metadata_byte))]
 pub fn metadata_at(
     text: &[u8],
@@ -82,7 +81,7 @@ fn opens_at(text: &[u8], start: usize, byte: u8, known: &mut Option<ClosingLine>
     }
 }
 
-// Whether some line closes metadata of the byte after the line that begins at the offset `line`.
+// Whether a line after the one at the offset `line` closes metadata of the byte.
 fn closes_behind(text: &[u8], line: usize, byte: u8, known: &mut Option<ClosingLine>) -> bool
     requires within { line ≤ length text.now }
     requires known { IfSome known.old (IsClosingLine byte text.now) }
