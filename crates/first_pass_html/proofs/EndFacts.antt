@@ -18,7 +18,7 @@ none_here b bs other = rw (lower_other b other) refl
 abbrev NoneUpTo : List ℕ → ℕ → Type 0
 NoneUpTo bs n = (k : ℕ) → 0 ≤ k → k < n → ¬ (is_byte 60 (get_or bs k 0) ≡ true)
 
--- none stands where no `<` does
+-- bytes without `<` contain no end tag
 pub none_held : (bs : List ℕ) → NoneUpTo bs (length bs) → holds_raw_end_tag bs ≡ false
 unfolding holds_raw_end_tag
 none_held [] none = refl
@@ -26,7 +26,7 @@ none_held (b ∷ bs) none =
     ap (λ t. t || holds_raw_end_tag bs) (none_here b bs (false_from_ne_true (b == 60) (none 0 (omega arith) (omega arith))))
     ∙ none_held bs (λ k low high. none (suc k) (omega arith) (omega arith))
 
--- one stands at the first `<`, or after it, or nowhere
+-- an end tag is at the first `<`, or after it, or there is none
 pub next_held : (bs : List ℕ) (at : ℕ) (t : Bool) → at < length bs → NoneUpTo bs at → is_byte 60 (get_or bs at 0) ≡ true
     → begins_raw_end_tag (60 ∷ drop (suc at) bs) ≡ t → holds_raw_end_tag bs ≡ (t || holds_raw_end_tag (drop (suc at) bs))
 unfolding holds_raw_end_tag

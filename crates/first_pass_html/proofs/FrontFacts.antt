@@ -1,4 +1,4 @@
--- What is counted at the front of the bytes is a part of a tag.
+-- The counted bytes at the start are a part of a tag.
 use Rattle.std.proofs.Common.{◌≡◌, ◌⊎◌, inl, inr, ℕ, suc, ◌+◌, ◌<◌, Bool, true, false, true≢false, cond, ◌==◌, ◌&&◌, ◌||◌, List, [], ◌∷◌, ◌++◌, length, take}
 use Rattle.std.proofs.Common.{drop, Option, Some, None, unwrap_or, refl, sym, ap, ◌∙◌, subst, arith, append_assoc, append-nil}
 use Rattle.std.specs.Option.{option_map}
@@ -15,7 +15,7 @@ use Rattle.first_pass_html.specs.TagLengths.{named_len}
 use Rattle.first_pass_html.specs.TagLengths.{attribute_len, close_len, open_end_len}
 use Rattle.first_pass_html.proofs.ListFacts.{prefix_passes}
 
--- what a test and a map of an option give
+-- the results of a test and of a map of an option
 pub some_if : (t : Bool) (x n : ℕ) → cond t (Some x) None ≡ Some n → (t ≡ true) × (x ≡ n)
 some_if true x n h = (refl, let e : x ≡ n = cc in e)
 some_if false x n h = cc
@@ -45,7 +45,7 @@ name_front first other (b ∷ bs) n h =
     let size : n ≡ suc (prefix_len other bs) = omega (arith, both.1) in
     rw size (and_from (first b) _ both.0 (prefix_passes other bs))
 
--- the byte that stands first
+-- the first byte
 pub begins_front : (c : ℕ) (bs : List ℕ) → begins c bs ≡ true → (others : List ℕ) × (bs ≡ c ∷ others)
 begins_front c [] h = absurd (true≢false (sym h))
 begins_front c (b ∷ bs) h = (bs, rw (eqb-true b c h))

@@ -1,6 +1,5 @@
--- Facts on the longest of some names that stands at the front.
-use Rattle.std.proofs.Common.{◌≡◌, ◌↔◌, IsTrue, ℕ, ◌<◌, ◌≤◌, nat_lt, inl, inr, Bool, true, false, true≢false, not, cond, ◌==◌, ◌&&◌, ◌||◌, List, [], ◌∷◌}
-use Rattle.std.proofs.Common.{◌++◌}
+-- Facts on the longest of some names at the start of the bytes.
+use Rattle.std.proofs.Common.{◌≡◌, ◌↔◌, IsTrue, ℕ, ◌<◌, ◌≤◌, nat_lt, inl, inr, Bool, true, false, true≢false, not, cond, ◌==◌, ◌&&◌, ◌||◌, List, [], ◌∷◌, ◌++◌}
 use Rattle.std.proofs.Common.{length, take, get_or, bytes_eq, refl, sym, ap, ◌∙◌, subst, arith, append-nil}
 use Rattle.std.specs.List.{Contains, list_all, list_any}
 use Rattle.std.specs.Char.{to_ascii_lowercase}
@@ -15,7 +14,7 @@ use Rattle.first_pass_html.specs.Names.{in_lower_case, block_names, IsBlockName,
 use Rattle.first_pass_html.proofs.ListFacts.{front_of}
 use Rattle.first_pass_html.proofs.NameFacts.{contained_passes, name_some}
 
--- names that are the same
+-- equal names
 same_from : (v w : List ℕ) → bytes_eq v w ≡ true → v ≡ w
 same_from v w h = (bytes_eq-Decides v w).0 h
 
@@ -25,7 +24,7 @@ eq_from v w e = (bytes_eq-Decides v w).1 e
 pub same_length : (v w : List ℕ) → in_lower_case v ≡ in_lower_case w → length v ≡ length w
 same_length v w same = sym (length-map v to_ascii_lowercase) ∙ ap length same ∙ length-map w to_ascii_lowercase
 
--- what it is that a name stands at the front
+-- facts on a name at the start of the bytes
 pub front_within : (name bs : List ℕ) → begins_with_name name bs ≡ true → length name ≤ length bs
 front_within name bs h =
     let same = same_length (take (length name) bs) name (same_from _ _ h) in
@@ -35,11 +34,11 @@ front_stands : (name bs front rest : List ℕ) → bs ≡ front ++ rest → in_l
 front_stands name bs front rest parts same =
     eq_from _ _ (ap in_lower_case (front_of (length name) bs front rest parts (sym (same_length front name same))) ∙ same)
 
--- the test of names of blocks
+-- all these names are names of blocks
 abbrev all_names : List (List ℕ) → Bool
 all_names names = list_all (λ name. list_any (bytes_eq (in_lower_case name)) block_names) names
 
--- the first name that stands at the front is one of the names
+-- the first name at the start of the bytes is a name of a block
 found_name : (names : List (List ℕ)) (bs : List ℕ) → all_names names ≡ true
     → (first_name_len names bs ≤ length bs) × (0 < first_name_len names bs → IsBlockName (take (first_name_len names bs) bs))
 unfolding first_name_len
@@ -55,7 +54,7 @@ found_name (name ∷ names) bs all =
       | false ↦ λ isnt. found_name names bs both.1
     ]) refl
 
--- no name continues after one that stands before it
+-- no name is the beginning of a later one
 abbrev longer_first : List (List ℕ) → Bool
 longer_first [] = true
 longer_first (name ∷ names) = list_all (λ other. not (bytes_eq (in_lower_case name) (take (length name) (in_lower_case other)))) names && longer_first names
@@ -75,7 +74,7 @@ passes_one p name (other ∷ names) all one =
       | false ↦ λ differs one. passes_one p name names both.1 one
     ]) refl one
 
--- so none stands at the front that is longer
+-- no name at the start of the bytes is therefore longer
 none_longer : (name bs front rest : List ℕ) (names : List (List ℕ)) → begins_with_name name bs ≡ true → bs ≡ front ++ rest
     → list_all (λ other. not (bytes_eq (in_lower_case name) (take (length name) (in_lower_case other)))) names ≡ true → is_one_of names front ≡ true
     → length front ≤ length name
@@ -108,14 +107,14 @@ found_longest (name ∷ names) bs front rest longer parts one =
           ]) refl
     ]) refl one
 
--- some names are all those of blocks that begin with the letter
+-- the names include all names of blocks that begin with the letter
 abbrev has_all : ℕ → List (List ℕ) → Bool
 has_all c names = list_all (λ name. not (begins c name) || list_any (λ other. bytes_eq name (in_lower_case other)) names) block_names
 
 abbrev pub is_group : ℕ → List (List ℕ) → Bool
 is_group c names = all_names names && (longer_first names && has_all c names)
 
--- a name of a block with that letter is one of them
+-- a name of a block that begins with the letter is one of the names
 group_has : (c : ℕ) (names : List (List ℕ)) (front : List ℕ)
     → has_all c names ≡ true → IsBlockName front → begins c (in_lower_case front) ≡ true → is_one_of names front ≡ true
 unfolding is_one_of
@@ -130,7 +129,7 @@ group_at c names b bs (d ∷ front) rest longer all letter parts block =
     let begun : begins c (in_lower_case (d ∷ front)) ≡ true = (Decides-eqb (to_ascii_lowercase d) c).1 (ap to_ascii_lowercase same ∙ letter) in
     found_longest names (b ∷ bs) (d ∷ front) rest longer parts (group_has c names (d ∷ front) all block begun)
 
--- the first of them that stands at the front is the longest name of a block there
+-- the first of them at the start of the bytes is the longest name of a block there
 pub group_longest : (c : ℕ) (names : List (List ℕ)) (bs : List ℕ) (letter n : ℕ)
     → 1 ≤ length bs → letter ≡ to_ascii_lowercase (get_or bs 0 0) → letter ≡ c → n ≡ first_name_len names bs → is_group c names ≡ true → IsLongestName bs n
 group_longest c names [] letter n some lower is found group = absurd (omega arith)
@@ -144,11 +143,11 @@ group_longest c names (b ∷ bs) letter n some lower is found group =
       longest = λ front rest whole block. group_at c names b bs front rest others.0 others.1 (sym lower ∙ is) whole block;
     })
 
--- the letters that names of blocks begin with
+-- the first letters of the names of blocks
 abbrev pub name_letters : List ℕ
 name_letters = 97 ∷ 98 ∷ 99 ∷ 100 ∷ 102 ∷ 104 ∷ 105 ∷ 108 ∷ 109 ∷ 110 ∷ 111 ∷ 112 ∷ 115 ∷ 116 ∷ 117 ∷ []
 
--- no name of a block stands after another letter
+-- no name of a block begins with another letter
 other_at : (b : ℕ) (bs front rest : List ℕ)
     → list_any (λ c. to_ascii_lowercase b == c) name_letters ≡ false → b ∷ bs ≡ front ++ rest → IsBlockName front → length front ≤ 0
 other_at b bs [] rest none parts block = omega arith
@@ -167,7 +166,7 @@ other_longest (b ∷ bs) letter some lower none = record {
   longest = λ front rest whole block. other_at b bs front rest (ap (λ a. list_any (λ c. a == c) name_letters) (sym lower) ∙ none) whole block;
 }
 
--- the bytes are a name of a block where the longest that stands at their front is all of them
+-- the bytes are the name of a block exactly if the longest one at their start has their length
 pub whole_name : (name : List ℕ) (n : ℕ) → IsLongestName name n → 0 < n → IsTrue (n == length name) ↔ IsBlockName name
 whole_name name n found some = (
   λ t. let size = eqb-true n (length name) t in subst IsBlockName (ap (λ k. take k name) size ∙ take-length name) (found.is_name some),

@@ -1,4 +1,4 @@
--- Facts on names of blocks, and on what ends them.
+-- Facts on the names of blocks, and on the end of such a name.
 use Rattle.std.proofs.Common.{◌≡◌, ◌↔◌, ℕ, ◌<◌, ◌≤◌, Bool, true, false, ◌==◌, ◌&&◌, ◌||◌, IsTrue, List, [], ◌∷◌, ◌++◌, length, take, drop, refl, sym, ap, ◌∙◌}
 use Rattle.std.proofs.Common.{subst, arith, nat_lt}
 use Rattle.std.specs.List.{Contains, list_all, prefix_len}
@@ -12,17 +12,17 @@ use Rattle.first_pass_html.specs.Names.{in_lower_case, block_names, IsBlockName,
 use Rattle.first_pass_html.specs.Starts.{ends_block_name, HasBlockName}
 use Rattle.first_pass_html.proofs.ListFacts.{prefix_all, front_size, front_of, rest_behind}
 
--- what all texts of a list pass
+-- a property of every text of a list
 pub contained_passes : (p : List ℕ → Bool) (texts : List (List ℕ)) (bytes : List ℕ) → list_all p texts ≡ true → Contains texts bytes → p bytes ≡ true
 contained_passes p texts bytes all (k, within, same) = rw same at (AllPass-from_list_all p texts all k bytes within)
 
--- a name of a block has a byte
+-- the name of a block is not empty
 pub name_some : (name : List ℕ) → IsBlockName name → 0 < length name
 name_some name is =
     let some : nat_lt 0 (length (in_lower_case name)) ≡ true = contained_passes (λ other. nat_lt 0 (length other)) block_names (in_lower_case name) refl is in
     grind (arith, nat_tests, some, length-map name to_ascii_lowercase)
 
--- bytes that all pass in lower case, where no byte passes in lower case alone
+-- a property of all bytes of a name that is tested in lower case
 pub all_in_lower_case : (p : ℕ → Bool)
     → ((b : ℕ) → p (to_ascii_lowercase b) ≡ true → p b ≡ true) → (name : List ℕ) → list_all p (in_lower_case name) ≡ true → list_all p name ≡ true
 all_in_lower_case p lower [] h = refl
@@ -30,7 +30,7 @@ all_in_lower_case p lower (b ∷ bs) h =
     let both = and_parts _ (list_all p (in_lower_case bs)) h in
     and_from _ _ (lower b both.0) (all_in_lower_case p lower bs both.1)
 
--- a name of a block is made of letters and digits, and what ends it is none
+-- the name of a block has only letters and digits, and none of these follows its end
 lower_alphanumeric : (b : ℕ) → is_ascii_alphanumeric (to_ascii_lowercase b) ≡ true → is_ascii_alphanumeric b ≡ true
 lower_alphanumeric b h = grind (arith, nat_tests, h)
 
@@ -48,14 +48,14 @@ no_more_name (b ∷ bs) h = rw (ends_alphanumeric b (begins 62 bs) h)
 name_size : (bs : List ℕ) (h : HasBlockName bs) → prefix_len is_ascii_alphanumeric bs ≡ length h.name
 name_size bs h = front_size is_ascii_alphanumeric bs h.name h.rest h.parts (block_name_alphanumeric h.name h.is_name) (no_more_name h.rest h.ends)
 
--- where the name of a block stands, it is the letters and digits at the front
+-- if the bytes begin with the name of a block that ends there, it is all leading letters and digits
 pub name_found : (bs : List ℕ) (n : ℕ)
     → n ≡ prefix_len is_ascii_alphanumeric bs → HasBlockName bs → IsBlockName (take n bs) × (ends_block_name (drop n bs) ≡ true)
 name_found bs n e h =
     let size : n ≡ length h.name = e ∙ name_size bs h in
     (subst IsBlockName (sym (front_of n bs h.name h.rest h.parts size)) h.is_name, ap ends_block_name (rest_behind n bs h.name h.rest h.parts size) ∙ h.ends)
 
--- the longest name of a block at the front is the one after which a name ends
+-- if the bytes begin with the name of a block that ends there, it is the longest one at the start
 longest_size : (bs : List ℕ) (n : ℕ) → IsLongestName bs n → 0 < n → (h : HasBlockName bs) → n ≡ length h.name
 longest_size bs n found some h =
     let parts = take-append-drop n bs in

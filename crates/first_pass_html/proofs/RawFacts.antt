@@ -1,4 +1,4 @@
--- Facts on what ends the HTML blocks of the kinds 1 to 5, by their first byte.
+-- Facts on the end conditions of HTML blocks of the kinds 1 to 5, by the first byte of the start condition.
 use Rattle.std.proofs.Common.{◌≡◌, ℕ, ◌<◌, ◌≤◌, Bool, true, false, ◌==◌, ◌&&◌, ◌||◌, List, [], ◌∷◌, length, take, drop, get_or, bytes_eq, if◌then◌else◌}
 use Rattle.std.proofs.Common.{codes, Some, None, refl, sym, ap, ◌∙◌, subst, arith}
 use Rattle.std.specs.List.{list_all, list_any, prefix_len}
@@ -16,7 +16,7 @@ use Rattle.first_pass_html.proofs.ListFacts.{front_size}
 use Rattle.first_pass_html.proofs.NameFacts.{all_in_lower_case}
 use Rattle.first_pass_html.proofs.LongestNames.{front_within, same_length}
 
--- a name of raw text is made of letters, and what ends it is none
+-- a name of raw text has only letters, and no letter follows its end
 lower_alphabetic : (b : ℕ) → is_ascii_alphabetic (to_ascii_lowercase b) ≡ true → is_ascii_alphabetic b ≡ true
 lower_alphabetic b h = grind (arith, nat_tests, h)
 
@@ -27,7 +27,7 @@ no_more_letters : (rest : List ℕ) → ends_raw_name rest ≡ true → prefix_l
 no_more_letters [] h = refl
 no_more_letters (b ∷ bs) h = rw (ends_alphabetic b h)
 
--- where such a name and what ends it stand first, all letters at the front are the name
+-- if the bytes begin with such a name that ends there, it is all leading letters
 raw_size : (name bs : List ℕ) → list_all is_ascii_alphabetic (in_lower_case name) ≡ true → begins_with_name name bs ≡ true
     → ends_raw_name (drop (length name) bs) ≡ true → prefix_len is_ascii_alphabetic bs ≡ length name
 raw_size name bs letters is ends =
@@ -69,7 +69,7 @@ raw_begins bs =
     rw (raw_here (codes "pre") bs refl, raw_here (codes "script") bs refl, raw_here (codes "style") bs refl, raw_here (codes "textarea") bs refl)
     (one_by_one (ends_raw_name (drop n bs)) (take n bs))
 
--- the ends of the kinds 1 to 5 by the first byte
+-- the end conditions of the kinds 1 to 5, by the first byte
 pub question_end : (bs : List ℕ) → 1 ≤ length bs → get_or bs 0 0 ≡ 63 → html_end bs ≡ Some (AtText (codes "?>"))
 unfolding html_end
 question_end [] some first = absurd (omega arith)

@@ -1,4 +1,4 @@
--- Facts on the tests of where HTML blocks of the kinds 1 to 6 begin.
+-- Facts on the tests of the start conditions 1 to 6 of HTML blocks.
 use Rattle.std.proofs.Common.{◌≡◌, ◌↔◌, ℕ, IsTrue, List, ◌∷◌, take, drop, refl, sym}
 use Rattle.std.specs.List.{prefix_len}
 use Rattle.std.specs.Char.{is_ascii_alphanumeric}
@@ -11,7 +11,7 @@ use Rattle.first_pass_html.specs.Names.{in_lower_case, block_names, IsBlockName,
 use Rattle.first_pass_html.specs.Starts.{HasBlockName, begins_block_name}
 use Rattle.first_pass_html.proofs.NameFacts.{name_found}
 
--- the test of a name finds the names of blocks, and no others
+-- the test of a name accepts exactly the names of blocks
 pub block_name_iff : (name : List ℕ) → IsTrue (is_block_name name) ↔ IsBlockName name
 unfolding is_block_name
 block_name_iff name = (
@@ -19,7 +19,7 @@ block_name_iff name = (
   list_any-from_Contains nat_list_eq_equiv (in_lower_case name) block_names,
 )
 
--- the test of a name and what ends it finds the starts that are a name and what ends it, and no others
+-- the test of a name and its end accepts exactly the bytes that begin with the name of a block and its end
 pub block_start_iff : (bs : List ℕ) → IsTrue (begins_block_name bs) ↔ HasBlockName bs
 unfolding begins_block_name
 block_start_iff bs =

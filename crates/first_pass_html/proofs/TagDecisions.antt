@@ -1,4 +1,4 @@
--- A tag that begins HTML blocks of the seventh kind stands first, or none does.
+-- Either the bytes begin with a tag of start condition 7 of HTML blocks, or they begin with none.
 use Rattle.std.proofs.Common.{◌≡◌, ◌⊎◌, inl, inr, ℕ, zero, suc, ◌+◌, ◌<◌, ◌≤◌, Bool, true, false, cond, ◌==◌, ◌&&◌, List, [], ◌∷◌, ◌++◌, length, take, drop}
 use Rattle.std.proofs.Common.{Option, Some, None, refl, sym, ap, ◌∙◌, subst, arith}
 use Rattle.std.specs.Option.{option_map, is_some}
@@ -21,7 +21,7 @@ use Rattle.first_pass_html.proofs.WholeTagFacts.{opening_found, opening_needs_na
 use Rattle.first_pass_html.proofs.WholeTagFacts.{closing_needs_end, first_byte, open_found, open_none, close_found, close_none, needs_bracket, tag_line_none}
 use Rattle.first_pass_html.proofs.WholeTagFacts.{tag_line_not_blank}
 
--- what is counted lies within the bytes
+-- the counted length is at most that of the bytes
 name_within : (first other : ℕ → Bool) (bs : List ℕ) (n : ℕ) → word_len first other bs ≡ Some n → n ≤ length bs
 name_within first other [] n h = cc
 name_within first other (b ∷ bs) n h =
@@ -62,7 +62,7 @@ closing_end_within bs n h =
     let len = ap length (begins_front 62 (drop k bs) both.0).1 in
     omega (arith, both.1, length-drop k bs)
 
--- an attribute has bytes
+-- an attribute is not empty
 attribute_some : (bs : List ℕ) (n : ℕ) → attribute_len bs ≡ Some n → (0 < n) × (0 < length bs)
 unfolding attribute_len
 attribute_some bs n h =
@@ -73,7 +73,7 @@ attribute_some bs n h =
     let some : 0 < k = grind (arith, nat_tests, both.0) in
     (omega (arith, m.2), omega arith)
 
--- the attributes that stand first
+-- the attributes at the start of the bytes
 past_more : (bs : List ℕ) (n : ℕ) → attribute_len bs ≡ Some n → (a : ℕ) × IsPastAttributes (drop n bs) a → (a : ℕ) × IsPastAttributes bs a
 past_more bs n e (a, past) = (
   n + a,
@@ -114,7 +114,7 @@ past_within bs (a, past) =
           )
     ]
 
--- such a text stands first, or none does
+-- an accepted text begins the bytes, or none does
 abbrev StandsFirst : (List ℕ → Type 0) → List ℕ → Type 0
 StandsFirst Accepts bs = ((n : ℕ) × IsOnlyFront Accepts bs n) ⊎ HasNoFront Accepts bs
 
@@ -163,7 +163,7 @@ tag_at : (bs : List ℕ) (t : Bool) → begins 60 bs ≡ t → StandsFirst IsBlo
 tag_at bs true h = tag_behind bs (drop 1 bs) (begins 47 (drop 1 bs)) (first_byte 60 bs h) refl
 tag_at bs false h = inr (needs_bracket bs h)
 
--- with a blank rest of the line
+-- tags after which the rest of the line is blank
 blank_behind : (bs : List ℕ) (n : ℕ) (o : Option ℕ) → IsOnlyFront IsBlockTag bs n → blank_len (drop n bs) ≡ o
     → ((n : ℕ) × BeginsTagLine bs n) ⊎ ((n : ℕ) → BeginsTagLine bs n → ⊥)
 blank_behind bs n None front e = inr (λ m t. tag_line_not_blank bs n m front e t)

@@ -1,4 +1,4 @@
--- The parts of a tag that the bytes begin with have the lengths that are counted.
+-- The parts of a tag at the start of the bytes have the counted lengths.
 use Rattle.std.proofs.Common.{◌≡◌, ◌⊎◌, inl, inr, ℕ, ◌+◌, Bool, true, false, true≢false, cond, ◌==◌, ◌||◌, List, [], ◌∷◌, ◌++◌, length, drop, Option, Some}
 use Rattle.std.proofs.Common.{None, refl, sym, ap, ◌∙◌, arith, append_assoc, length-append}
 use Rattle.std.specs.List.{prefix_len, list_all, concat}
@@ -173,8 +173,7 @@ attribute_is a bs behind i r =
     ap length i.parts ∙ omega (arith, length-append i.blanks (i.name ++ i.specification), length-append i.name i.specification) in
     (s.0, rw whole (len ∙ ap Some (omega arith)), s.2)
 
--- the end of an open tag
--- at the end of an open tag no attribute begins
+-- The end of an open tag: no attribute begins there.
 no_attribute_at : (blanks : List ℕ) (c : ℕ) (others : List ℕ)
     → list_all is_blank blanks ≡ true → is_blank c ≡ false → starts_attribute c ≡ false → attribute_len (blanks ++ c ∷ others) ≡ None
 unfolding attribute_len named_len
@@ -192,7 +191,7 @@ end_no_attribute_by blanks slash behind h (inr one) = rw (one, append_assoc blan
 end_no_attribute : (ending behind : List ℕ) → IsOpenTagEnd ending → attribute_len (ending ++ behind) ≡ None
 end_no_attribute ending behind e = rw e.parts (end_no_attribute_by e.blanks e.slash behind e.is_blanks e.is_slash)
 
--- the end of an open tag has the length that is counted
+-- the end of an open tag has the counted length
 end_len_at : (blanks others : List ℕ) (c k : ℕ)
     → list_all is_blank blanks ≡ true → is_blank c ≡ false → close_len (c ∷ others) ≡ Some k → open_end_len (blanks ++ c ∷ others) ≡ Some (length blanks + k)
 unfolding open_end_len
@@ -213,7 +212,7 @@ end_is_by blanks slash behind h (inr one) =
 pub end_is : (ending behind : List ℕ) → IsOpenTagEnd ending → open_end_len (ending ++ behind) ≡ Some (length ending)
 end_is ending behind e = rw e.parts (end_is_by e.blanks e.slash behind e.is_blanks e.is_slash)
 
--- the rest of a tag continues after an attribute, and without one it is its end
+-- the rest of a tag after an attribute, and without attributes
 pub rest_of_others : (others : List (List ℕ)) (ending behind : List ℕ)
     → AreAttributes others → IsOpenTagEnd ending → IsTagRest (concat others ++ (ending ++ behind)) behind
 rest_of_others others ending behind are e = record { attributes = others; ending = ending; parts = refl; are_attributes = are; ends = e }

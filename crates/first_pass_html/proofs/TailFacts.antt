@@ -1,4 +1,4 @@
--- How the rest of an open tag after its name begins.
+-- The start of the rest of an open tag, after its name.
 use Rattle.std.proofs.Common.{◌≡◌, ◌⊎◌, inl, inr, ℕ, Bool, true, false, true≢false, ◌==◌, ◌||◌, List, [], ◌∷◌, ◌++◌, length, drop, refl, sym, ap, ◌∙◌, arith}
 use Rattle.std.proofs.Common.{append_assoc}
 use Rattle.std.specs.List.{prefix_len, list_all, concat}
@@ -10,7 +10,7 @@ use Rattle.first_pass_html.specs.Tags.{IsOpenTagEnd}
 use Rattle.first_pass_html.specs.Fronts.{IsTagRest}
 use Rattle.first_pass_html.proofs.ListFacts.{prefix_all, prefix_none, rest_behind}
 
--- a byte before which the blanks of a tag end
+-- a byte that can follow the blanks of a tag
 abbrev pub is_stop : ℕ → Bool
 is_stop c = starts_attribute c || (c == 47 || c == 62)
 
@@ -26,7 +26,7 @@ name_stop c h = grind (arith, nat_tests, h)
 blank_unquoted : (b : ℕ) → is_blank b ≡ true → is_unquoted b ≡ false
 blank_unquoted b h = grind (arith, nat_tests, h)
 
--- the first byte of what is left of a tag
+-- the first byte of the rest of a tag
 abbrev pub is_tail : ℕ → Bool
 is_tail b = is_blank b || (b == 47 || b == 62)
 
@@ -39,14 +39,14 @@ tail_attribute b h = grind (arith, nat_tests, h)
 tail_tag : (b : ℕ) → is_tail b ≡ true → is_tag_byte b ≡ false
 tail_tag b h = grind (arith, nat_tests, h)
 
--- the bytes begin with a byte that passes
+-- the bytes begin with a byte of this class
 pub record StartsBy (p : ℕ → Bool) (bs : List ℕ) : Type 0 where
   pub first : ℕ
   pub others : List ℕ
   pub parts : bs ≡ first ∷ others
   pub passes : p first ≡ true
 
--- blanks, and then a byte before which the blanks of a tag end
+-- blanks, and then a byte that can follow the blanks of a tag
 pub record StopsAt (bs : List ℕ) : Type 0 where
   pub blanks : List ℕ
   pub stop : ℕ
@@ -59,7 +59,7 @@ pub word_all : (p : ℕ → Bool) (bs : List ℕ) → is_word p p bs ≡ true �
 word_all p [] h = refl
 word_all p (b ∷ bs) h = h
 
--- no byte of a class at the front
+-- the first byte is not of the class
 none_first : (p q : ℕ → Bool) (bs : List ℕ) → ((b : ℕ) → q b ≡ true → p b ≡ false) → StartsBy q bs → prefix_len p bs ≡ 0
 none_first p q bs apart s = rw s.parts (prefix_none p s.first s.others (apart s.first s.passes))
 
@@ -143,7 +143,7 @@ rest_starts_by (a ∷ others) ending behind are e =
 pub rest_starts : (bs behind : List ℕ) → IsTagRest bs behind → StartsBy is_tail bs
 rest_starts bs behind r = rw r.parts (rest_starts_by r.attributes r.ending behind r.are_attributes r.ends)
 
--- at the rest of a tag no name continues, and no value specification begins
+-- the rest of a tag continues no name, and no value specification begins there
 pub rest_no_tag : (bs behind : List ℕ) → IsTagRest bs behind → prefix_len is_tag_byte bs ≡ 0
 rest_no_tag bs behind r = none_first is_tag_byte is_tail bs tail_tag (rest_starts bs behind r)
 
@@ -164,7 +164,8 @@ rest_no_equals bs behind r =
     let s = rest_stops bs behind r in
     ap (begins 61) (stop_behind bs s) ∙ stop_equals s.stop s.stops
 
--- after the bytes of an unquoted value that the rest of a tag begins with, there is still the rest of a tag: they are none, or the slash of its end
+-- If the rest of a tag begins with bytes of an unquoted value, the rest of a tag also follows them. There are none,
+-- or only the slash of its end.
 kept : (bs behind : List ℕ) → prefix_len is_unquoted bs ≡ 0 → IsTagRest bs behind → IsTagRest (drop (prefix_len is_unquoted bs) bs) behind
 kept bs behind e r = rw e r
 

@@ -1,6 +1,5 @@
--- Whole tags at the front of the bytes.
-use Rattle.std.proofs.Common.{◌≡◌, inl, inr, ℕ, suc, ◌+◌, ◌≤◌, true, false, true≢false, List, [], ◌∷◌, ◌++◌, length, take, drop, Some, None, refl, sym, ap}
-use Rattle.std.proofs.Common.{◌∙◌}
+-- Whole tags at the start of the bytes.
+use Rattle.std.proofs.Common.{◌≡◌, inl, inr, ℕ, suc, ◌+◌, ◌≤◌, true, false, true≢false, List, [], ◌∷◌, ◌++◌, length, take, drop, Some, None, refl, sym, ap, ◌∙◌}
 use Rattle.std.proofs.Common.{subst, arith, append_assoc, length-append, length-drop, add-one}
 use Rattle.std.specs.Option.{is_some}
 use Rattle.std.specs.List.{prefix_len, list_all, concat}
@@ -29,7 +28,7 @@ record NameThenRest (bs : List ℕ) (behind : List ℕ) : Type 0 where
 name_counted : (bs behind : List ℕ) (r : NameThenRest bs behind) → tag_name_len bs ≡ Some (length r.name)
 name_counted bs behind r = rw r.parts (name_is is_ascii_alphabetic is_tag_byte r.name r.others r.is_name (rest_no_tag r.others behind r.rest))
 
--- the name that is counted is the tag's
+-- the counted name is the name of the tag
 name_same : (bs behind : List ℕ) (n : ℕ) (r : NameThenRest bs behind) → tag_name_len bs ≡ Some n → n ≡ length r.name
 name_same bs behind n r h = let e = name_counted bs behind r in cc
 
@@ -61,7 +60,7 @@ opening_not_raw bs n h raw front behind parts tag =
     let same : take n bs ≡ tag.0.name = front_of n bs r.name r.others r.parts (name_same bs behind n r h) in
     true≢false (sym raw ∙ ap is_raw_name same ∙ tag.1)
 
--- after the name and the attributes that are counted stands the end of the tag
+-- the end of the tag follows the counted name and attributes
 opening_end : (bs front behind : List ℕ) (n a : ℕ)
     → bs ≡ front ++ behind → IsBehindOpening front → tag_name_len bs ≡ Some n → IsPastAttributes (drop n bs) a → IsEndBefore (drop a (drop n bs)) behind
 opening_end bs front behind n a parts tag h past =
@@ -217,7 +216,7 @@ closing_tag bs rest front behind whole parts tag =
     let others : List ℕ = tag.name ++ (tag.blanks ++ 62 ∷ []) in
     (others, tag.parts, behind_first 60 bs rest front (47 ∷ others) behind whole parts tag.parts, subst IsClosingTag tag.parts tag)
 
--- an open tag, where no slash stands after the first byte
+-- an open tag, if no slash follows the first byte
 no_closing : (bs rest front behind : List ℕ) → bs ≡ 60 ∷ rest → begins 47 rest ≡ false → bs ≡ front ++ behind → IsClosingTag front → ⊥
 no_closing bs rest front behind whole plain parts tag =
     let t = closing_tag bs rest front behind whole parts tag in
@@ -237,7 +236,7 @@ pub open_none : (bs rest : List ℕ) → bs ≡ 60 ∷ rest → begins 47 rest �
 open_none bs rest whole plain none front behind parts (inl tag) = let t = open_tag bs rest front behind whole parts tag in none t.0 behind t.2 t.3
 open_none bs rest whole plain none front behind parts (inr tag) = no_closing bs rest front behind whole plain parts tag
 
--- a closing tag, where a slash stands there
+-- a closing tag, if a slash follows the first byte
 no_open : (bs rest front behind : List ℕ) → bs ≡ 60 ∷ 47 ∷ rest → bs ≡ front ++ behind → IsBlockOpenTag front → ⊥
 no_open bs rest front behind whole parts tag =
     let t = open_tag bs (47 ∷ rest) front behind whole parts tag in
@@ -271,7 +270,7 @@ pub needs_bracket : (bs : List ℕ) → begins 60 bs ≡ false → HasNoFront Is
 needs_bracket bs plain front behind parts (inl tag) = true≢false (ap (begins 60) (sym (parts ∙ ap (λ xs. xs ++ behind) tag.0.parts)) ∙ plain)
 needs_bracket bs plain front behind parts (inr tag) = true≢false (ap (begins 60) (sym (parts ∙ ap (λ xs. xs ++ behind) tag.parts)) ∙ plain)
 
--- tags with a blank rest of the line
+-- tags after which the rest of the line is blank
 pub tag_line_only : (bs : List ℕ) (n m : ℕ) → IsOnlyFront IsBlockTag bs n → BeginsTagLine bs m → m ≡ n
 tag_line_only bs n m o t = sym (length-take-le m bs t.within) ∙ o.only (take m bs) (drop m bs) (sym (take-append-drop m bs)) t.tag
 

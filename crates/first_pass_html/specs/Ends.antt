@@ -1,18 +1,18 @@
--- What ends the HTML blocks of the kinds 1 to 5.
+-- The end conditions of HTML blocks of the kinds 1 to 5.
 use Rattle.std.specs.Prelude.{ℕ, Bool, false, ◌||◌, List, [], ◌∷◌, codes}
 use Rattle.std.specs.List.{list_any}
 use Rattle.first_pass_html.specs.Names.{begins_with_name}
 use Rattle.first_pass_html.specs.declared.ends.HtmlEnd.{HtmlEnd}
 use Rattle.first_pass_html.specs.declared.ends.HtmlEnd.TheVariants.{AnyRawTag, Text}
 
--- what a line holds that ends a block of these kinds (CommonMark 4.6, end conditions 1 to 5)
+-- an end condition of an HTML block of these kinds (CommonMark 4.6, end conditions 1 to 5)
 pub data BlockEnd : Type 0 where
-  -- an end tag of raw text, whichever opened it: the first kind
+  -- the line contains any end tag of raw text, whichever tag opened the block: kind 1
   AtRawEndTag : BlockEnd
-  -- a text: the kinds 2 to 5
+  -- the line contains this text: kinds 2 to 5
   AtText : List ℕ → BlockEnd
 
--- the end that was found
+-- the end condition that a value of the code denotes
 abbrev pub end_of : HtmlEnd → BlockEnd
 end_of AnyRawTag = AtRawEndTag
 end_of (Text text) = AtText text.now
@@ -21,11 +21,11 @@ end_of (Text text) = AtText text.now
 abbrev pub raw_end_tags : List (List ℕ)
 raw_end_tags = codes "</pre>" ∷ codes "</script>" ∷ codes "</style>" ∷ codes "</textarea>" ∷ []
 
--- the bytes begin with one of them, in any case (CommonMark 4.6, end condition 1)
+-- the bytes begin with an end tag of raw text, in any case (CommonMark 4.6, end condition 1)
 unfoldable pub begins_raw_end_tag : List ℕ → Bool
 begins_raw_end_tag bs = list_any (λ tag. begins_with_name tag bs) raw_end_tags
 
--- one of them stands somewhere in the bytes (CommonMark 4.6, end condition 1)
+-- the bytes contain an end tag of raw text, in any case (CommonMark 4.6, end condition 1)
 unfoldable pub holds_raw_end_tag : List ℕ → Bool
 holds_raw_end_tag [] = false
 holds_raw_end_tag (b ∷ bs) = begins_raw_end_tag (b ∷ bs) || holds_raw_end_tag bs

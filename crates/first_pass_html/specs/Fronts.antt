@@ -1,19 +1,19 @@
--- What the bytes begin with.
+-- Prefixes of the bytes that are tags or parts of tags.
 use Rattle.std.specs.Prelude.{◌≡◌, ◌≤◌, ℕ, List, ◌++◌, length, drop, take}
 use Rattle.std.specs.List.{concat}
 use Rattle.first_pass_html.specs.Tags.{AreAttributes, IsOpenTagEnd}
 
--- of the fronts of the bytes the one of n bytes is such a text, and no other is (this project)
+-- the prefix of n bytes is accepted, and it is the only accepted prefix of the bytes (this project)
 pub record IsOnlyFront (Accepts : List ℕ → Type 0) (bs : List ℕ) (n : ℕ) : Type 0 where
   pub within : n ≤ length bs
   pub is_text : Accepts (take n bs)
   pub only : (front rest : List ℕ) → bs ≡ front ++ rest → Accepts front → length front ≡ n
 
--- no front of the bytes is such a text (this project)
+-- no prefix of the bytes is accepted (this project)
 abbrev pub HasNoFront : (List ℕ → Type 0) → List ℕ → Type 0
 HasNoFront Accepts bs = (front rest : List ℕ) → bs ≡ front ++ rest → Accepts front → ⊥
 
--- attributes and the end of an open tag, before the bytes after it (CommonMark 6.6, open tag)
+-- attributes and the end of an open tag, followed by the given bytes (CommonMark 6.6, open tag)
 pub record IsTagRest (bs : List ℕ) (behind : List ℕ) : Type 0 where
   pub attributes : List (List ℕ)
   pub ending : List ℕ
@@ -21,13 +21,14 @@ pub record IsTagRest (bs : List ℕ) (behind : List ℕ) : Type 0 where
   pub are_attributes : AreAttributes attributes
   pub ends : IsOpenTagEnd ending
 
--- the end of an open tag, before the bytes after it (CommonMark 6.6, open tag)
+-- the end of an open tag, followed by the given bytes (CommonMark 6.6, open tag)
 pub record IsEndBefore (bs : List ℕ) (behind : List ℕ) : Type 0 where
   pub ending : List ℕ
   pub parts : bs ≡ ending ++ behind
   pub ends : IsOpenTagEnd ending
 
--- the first n bytes are attributes, and where a tag continues to its end here, its end alone is left after them (CommonMark 6.6, open tag)
+-- the first n bytes are attributes; if the bytes begin with the rest of an open tag, only the end of that tag follows
+-- these attributes (CommonMark 6.6, open tag)
 pub record IsPastAttributes (bs : List ℕ) (n : ℕ) : Type 0 where
   pub attributes : List (List ℕ)
   pub parts : take n bs ≡ concat attributes

@@ -75,11 +75,11 @@ block_names =
     codes "ul" ∷
     []
 
--- the bytes are such a name, in any case (CommonMark 4.6, start condition 6)
+-- the bytes are the name of a block, in any case (CommonMark 4.6, start condition 6)
 abbrev pub IsBlockName : List ℕ → Type 0
 IsBlockName name = Contains block_names (in_lower_case name)
 
--- whether the bytes are such a name, in any case (CommonMark 4.6, start condition 6)
+-- whether the bytes are the name of a block, in any case (CommonMark 4.6, start condition 6)
 unfoldable pub is_block_name : List ℕ → Bool
 is_block_name name = list_any (bytes_eq (in_lower_case name)) block_names
 
@@ -91,12 +91,13 @@ text_of t = t.now
 abbrev pub begins_with_name : List ℕ → List ℕ → Bool
 begins_with_name name bs = bytes_eq (in_lower_case (take (length name) bs)) (in_lower_case name)
 
--- how many bytes the first of the names has that the bytes begin with, in any case: 0 where they begin with none (this project)
+-- the length of the first listed name with which the bytes begin, in any case, or 0 if there is none (this project)
 unfoldable pub first_name_len : List (List ℕ) → List ℕ → ℕ
 first_name_len [] bs = 0
 first_name_len (name ∷ names) bs = if begins_with_name name bs then length name else first_name_len names bs
 
--- n is how many bytes the longest name of a block has that the bytes begin with, in any case: 0 where they begin with none (CommonMark 4.6, start condition 6)
+-- n is the length of the longest name of a block at the start of the bytes, in any case, or 0 if there is none
+-- (CommonMark 4.6, start condition 6)
 pub record IsLongestName (bs : List ℕ) (n : ℕ) : Type 0 where
   pub within : n ≤ length bs
   pub is_name : 0 < n → IsBlockName (take n bs)

@@ -1,4 +1,4 @@
--- Where HTML blocks of the kinds 1 to 6 begin. The bytes are those after the `<`.
+-- The start conditions of HTML blocks of the kinds 1 to 6. The bytes are those after the `<`.
 use Rattle.std.specs.Prelude.{◌≡◌, ℕ, Bool, true, false, ◌==◌, ◌&&◌, ◌||◌, List, [], ◌∷◌, ◌++◌, length, drop, take, bytes_eq, Option, None, Some}
 use Rattle.std.specs.Prelude.{codes, if◌then◌else◌}
 use Rattle.std.specs.List.{prefix_len}
@@ -17,17 +17,19 @@ abbrev pub begins_letter : List ℕ → Bool
 begins_letter [] = false
 begins_letter (b ∷ bs) = is_ascii_alphabetic b
 
--- after the name of raw text: white space, `>` or the end of the line or the text (CommonMark 4.6, start condition 1)
+-- a name of raw text ends before these bytes: white space, `>`, or the end of the line or the text follows
+-- (CommonMark 4.6, start condition 1)
 abbrev pub ends_raw_name : List ℕ → Bool
 ends_raw_name [] = true
 ends_raw_name (b ∷ bs) = is_ascii_white b || b == greater_than
 
--- after the name of a block: what ends a name of raw text, or `/>` (CommonMark 4.6, start condition 6)
+-- the name of a block ends before these bytes: the same follows, or `/>` (CommonMark 4.6, start condition 6)
 abbrev pub ends_block_name : List ℕ → Bool
 ends_block_name [] = true
 ends_block_name (b ∷ bs) = ends_raw_name (b ∷ bs) || (b == solidus && begins greater_than bs)
 
--- the bytes begin with the name of raw text, in any case, and what ends it (CommonMark 4.6, start condition 1)
+-- the bytes begin with this name of raw text, in any case, and the name ends there (CommonMark 4.6, start condition
+-- 1)
 abbrev pub begins_raw : List ℕ → List ℕ → Bool
 begins_raw name bs = begins_with_name name bs && ends_raw_name (drop (length name) bs)
 
@@ -37,11 +39,11 @@ is_raw_name name =
     let is = λ (raw : List ℕ). bytes_eq (in_lower_case name) raw in
     is (codes "pre") || (is (codes "script") || (is (codes "style") || is (codes "textarea")))
 
--- a raw text begins here: its name in any case, and after it what ends a name (CommonMark 4.6, start condition 1)
+-- the bytes begin with a name of raw text, in any case, and the name ends there (CommonMark 4.6, start condition 1)
 unfoldable pub begins_raw_text : List ℕ → Bool
 begins_raw_text bs = let n = prefix_len is_ascii_alphabetic bs in ends_raw_name (drop n bs) && is_raw_name (take n bs)
 
--- what ends the HTML block of the kinds 1 to 5 that begins here (CommonMark 4.6)
+-- the end condition of the HTML block of the kinds 1 to 5 that begins here, if there is one (CommonMark 4.6)
 unfoldable pub html_end : List ℕ → Option BlockEnd
 html_end bs =
     if begins_with (codes "!--") bs then Some (AtText (codes "-->"))
@@ -50,12 +52,12 @@ html_end bs =
     else (if begins_with (codes "!") bs && begins_letter (drop 1 bs) then Some (AtText (codes ">"))
     else (if begins_raw_text bs then Some AtRawEndTag else None))))
 
--- the bytes after the slash of a closing tag, if there is one (CommonMark 4.6, start condition 6)
+-- the bytes after the slash of a closing tag, or all bytes if there is no slash (CommonMark 4.6, start condition 6)
 abbrev pub past_slash : List ℕ → List ℕ
 past_slash [] = []
 past_slash (b ∷ bs) = if b == solidus then bs else b ∷ bs
 
--- the name of a block in any case, and after it what ends the name (CommonMark 4.6, start condition 6)
+-- the bytes are the name of a block in any case, followed by the end of the name (CommonMark 4.6, start condition 6)
 pub record HasBlockName (bs : List ℕ) : Type 0 where
   pub name : List ℕ
   pub rest : List ℕ
@@ -63,10 +65,10 @@ pub record HasBlockName (bs : List ℕ) : Type 0 where
   pub is_name : IsBlockName name
   pub ends : ends_block_name rest ≡ true
 
--- the name of a block stands first in any case, and after it what ends the name (CommonMark 4.6, start condition 6)
+-- the bytes begin with the name of a block, in any case, and the name ends there (CommonMark 4.6, start condition 6)
 unfoldable pub begins_block_name : List ℕ → Bool
 begins_block_name bs = let n = prefix_len is_ascii_alphanumeric bs in is_block_name (take n bs) && ends_block_name (drop n bs)
 
--- an HTML block of the sixth kind begins here, after its `<` (CommonMark 4.6, start condition 6)
+-- an HTML block of the sixth kind begins with the `<` before these bytes (CommonMark 4.6, start condition 6)
 abbrev pub begins_block_tag : List ℕ → Bool
 begins_block_tag bs = begins_block_name (past_slash bs)

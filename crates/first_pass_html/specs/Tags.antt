@@ -1,4 +1,4 @@
--- Open tags and closing tags that stand on one line, so that blanks are spaces and tabs.
+-- Open tags and closing tags on a single line. Blanks are therefore spaces and tabs.
 use Rattle.std.specs.Prelude.{◌≡◌, ◌≤◌, ℕ, ◌⊎◌, Bool, true, false, ◌==◌, ◌&&◌, ◌||◌, not, List, [], ◌∷◌, ◌++◌, length, drop, take}
 use Rattle.std.specs.List.{list_all, concat}
 use Rattle.std.specs.Char.{is_ascii_alphabetic, is_ascii_alphanumeric}
@@ -15,21 +15,23 @@ is_tag_byte b = is_ascii_alphanumeric b || b == hyphen
 abbrev pub starts_attribute : ℕ → Bool
 starts_attribute b = is_ascii_alphabetic b || (b == underscore || b == colon)
 
--- a byte of an attribute name after the first: a letter, a digit, `_`, `.`, `:` or `-` (CommonMark 6.6, attribute name)
+-- a byte of an attribute name after the first: a letter, a digit, `_`, `.`, `:` or `-` (CommonMark 6.6, attribute
+-- name)
 abbrev pub is_attribute_byte : ℕ → Bool
 is_attribute_byte b = is_ascii_alphanumeric b || (b == underscore || (b == full_stop || (b == colon || b == hyphen)))
 
--- a byte of an unquoted value: no blank, no line end, none of `"`, `'`, `=`, `<`, `>` and the backquote (CommonMark 6.6, unquoted attribute value)
+-- a byte of an unquoted value: not a blank, a line ending, `"`, `'`, `=`, `<`, `>` or a backquote (CommonMark 6.6,
+-- unquoted attribute value)
 abbrev pub is_unquoted : ℕ → Bool
 is_unquoted b =
     not (is_blank b
     || (is_line_end b || (b == quotation_mark || (b == apostrophe || (b == equals_sign || (b == less_than || (b == greater_than || b == backquote)))))))
 
--- a byte inside quotes, on the line (CommonMark 6.6, quoted attribute value)
+-- a byte of a quoted value: neither its quote nor a line ending (CommonMark 6.6, quoted attribute value)
 abbrev pub is_quoted : ℕ → ℕ → Bool
 is_quoted quote b = not (b == quote || is_line_end b)
 
--- one byte, and then any number of others (this project)
+-- one byte of the first class, and then any number of the other (this project)
 abbrev pub is_word : (ℕ → Bool) → (ℕ → Bool) → List ℕ → Bool
 is_word first other [] = false
 is_word first other (b ∷ bs) = first b && list_all other bs
@@ -50,7 +52,7 @@ IsQuotedValue quote bs = (inside : List ℕ) × (bs ≡ quote ∷ (inside ++ quo
 abbrev pub IsValue : List ℕ → Type 0
 IsValue bs = (is_word is_unquoted is_unquoted bs ≡ true) ⊎ IsQuotedValue apostrophe bs ⊎ IsQuotedValue quotation_mark bs
 
--- an attribute value specification: `=` with blanks around it, and a value (CommonMark 6.6)
+-- an attribute value specification: optional blanks, `=`, optional blanks, and a value (CommonMark 6.6)
 pub record IsValueSpecification (bs : List ℕ) : Type 0 where
   pub before : List ℕ
   pub behind : List ℕ
@@ -60,7 +62,7 @@ pub record IsValueSpecification (bs : List ℕ) : Type 0 where
   pub behind_blank : list_all is_blank behind ≡ true
   pub is_value : IsValue value
 
--- an attribute: one blank or more, a name, and a value specification if any (CommonMark 6.6)
+-- an attribute: one or more blanks, a name, and an optional value specification (CommonMark 6.6)
 pub record IsAttribute (bs : List ℕ) : Type 0 where
   pub blanks : List ℕ
   pub name : List ℕ
@@ -75,7 +77,7 @@ abbrev pub AreAttributes : List (List ℕ) → Type 0
 AreAttributes [] = Unit
 AreAttributes (bs ∷ others) = IsAttribute bs × AreAttributes others
 
--- how an open tag ends: blanks, `/` or not, and `>` (CommonMark 6.6)
+-- the end of an open tag: blanks, an optional `/`, and `>` (CommonMark 6.6)
 pub record IsOpenTagEnd (bs : List ℕ) : Type 0 where
   pub blanks : List ℕ
   pub slash : List ℕ
@@ -101,11 +103,12 @@ pub record IsClosingTag (bs : List ℕ) : Type 0 where
   pub is_name : is_tag_name name ≡ true
   pub is_blanks : list_all is_blank blanks ≡ true
 
--- an open tag whose name is none of raw text (CommonMark 4.6, start condition 7; for the case of the names: this project)
+-- an open tag whose name is not one of raw text (CommonMark 4.6, start condition 7; that case does not matter: this
+-- project)
 abbrev pub IsBlockOpenTag : List ℕ → Type 0
 IsBlockOpenTag bs = (tag : IsOpenTag bs) × (is_raw_name tag.name ≡ false)
 
--- such an open tag without its `<` (this project)
+-- an open tag of start condition 7, without its `<` (this project)
 abbrev pub IsBehindOpening : List ℕ → Type 0
 IsBehindOpening bs = IsBlockOpenTag (less_than ∷ bs)
 
@@ -113,11 +116,13 @@ IsBehindOpening bs = IsBlockOpenTag (less_than ∷ bs)
 abbrev pub IsBehindClosing : List ℕ → Type 0
 IsBehindClosing bs = IsClosingTag (less_than ∷ (solidus ∷ bs))
 
--- a tag that begins an HTML block: such an open tag, or a closing tag (CommonMark 4.6, start condition 7)
+-- a tag that can begin an HTML block of the seventh kind: an open tag as above, or a closing tag (CommonMark 4.6,
+-- start condition 7)
 abbrev pub IsBlockTag : List ℕ → Type 0
 IsBlockTag bs = IsBlockOpenTag bs ⊎ IsClosingTag bs
 
--- the first n bytes are a tag that begins an HTML block of the seventh kind, and the rest of the line is blank (CommonMark 4.6, start condition 7)
+-- the first n bytes are a tag that can begin an HTML block of the seventh kind, and the rest of the line is blank
+-- (CommonMark 4.6, start condition 7)
 pub record BeginsTagLine (bs : List ℕ) (n : ℕ) : Type 0 where
   pub within : n ≤ length bs
   pub tag : IsBlockTag (take n bs)

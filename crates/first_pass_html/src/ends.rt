@@ -1,4 +1,4 @@
-//! What ends HTML blocks of the kinds 1 to 5.
+//! The end conditions of HTML blocks of the kinds 1 to 5.
 
 ghost use Rattle.std.specs.Prelude.{◌≡◌, ◌∷◌};
 ghost use Rattle.first_pass_items.specs.Bytes.{less_than};
@@ -8,17 +8,18 @@ use crate::names::begins_with_name;
 use first_pass_lines::places::rest_of;
 use memchr::memchr;
 
-/// What ends an HTML block of the kinds 1 to 5: the line that holds it is the block's last (CommonMark 4.6).
+/// The end condition of an HTML block of the kinds 1 to 5. The line that contains it is the last of the block
+/// (CommonMark 4.6).
 #[derive(Clone, Copy)]
 pub enum HtmlEnd {
-    /// Any of `</pre>`, `</script>`, `</style>` and `</textarea>`, in any case. The first kind.
+    /// Any of `</pre>`, `</script>`, `</style>` and `</textarea>`, in any case: kind 1.
     AnyRawTag,
-    /// This text: `-->`, `?>`, `>` or `]]>`. The kinds 2 to 5.
+    /// This text, one of `-->`, `?>`, `>` and `]]>`: kinds 2 to 5.
     Text(&'static str),
 }
 
-/// Whether one of `</pre>`, `</script>`, `</style>` and `</textarea>` stands somewhere in the bytes, in any case.
-/// CommonMark 4.6, end condition 1.
+/// Returns whether `bytes` contain `</pre>`, `</script>`, `</style>` or `</textarea>`, in any case. CommonMark 4.6,
+/// end condition 1.
 pub fn holds_raw_end_tag(bytes: &[u8]) -> bool
     ensures { result ≡ ends.holds_raw_end_tag bytes.now }
 {
@@ -32,7 +33,7 @@ pub fn holds_raw_end_tag(bytes: &[u8]) -> bool
     false
 }
 
-// Whether the rest of an end tag of raw text stands after its `<`.
+// Whether `bytes`, which follow a `<`, begin with the rest of an end tag of raw text.
 #[tactic(auto, unfolding(crate::specs::Ends::begins_raw_end_tag))]
 fn ends_raw_text(bytes: &[u8]) -> bool
     ensures { result ≡ ends.begins_raw_end_tag (less_than ∷ bytes.now) }

@@ -1,4 +1,4 @@
-//! The scanners of HTML blocks: where the seven kinds begin, and what ends the first five.
+//! The scanners of HTML blocks: the start conditions of all seven kinds, and the end conditions of the first five.
 //! CommonMark 4.6.
 #![tactic(auto)]
 

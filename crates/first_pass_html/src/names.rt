@@ -4,8 +4,8 @@ ghost use Rattle.std.specs.Prelude.{◌≡◌, ◌↔◌, IsTrue, map};
 ghost use Rattle.first_pass_html.specs.Names.{text_of};
 ghost use Rattle.first_pass_html.specs.Names as names;
 
-// The names of the tags that begin an HTML block of the sixth kind, by their first letter (CommonMark
-// 4.6). A name that continues after another one stands before it: the first that fits is the longest.
+// The tag names of start condition 6 of HTML blocks, by their first letter (CommonMark 4.6). A name comes before its
+// own prefixes, so the first name that matches is the longest.
 static WITH_A: [&str; 3] = ["address", "article", "aside"];
 
 static WITH_B: [&str; 4] = ["basefont", "base", "blockquote", "body"];
@@ -48,8 +48,8 @@ static WITH_T: [&str; 9] = [
 
 static WITH_U: [&str; 1] = ["ul"];
 
-/// Whether the bytes are a name of a tag that begins an HTML block of the sixth kind, in any case.
-/// CommonMark 4.6, start condition 6.
+/// Returns whether `name` is a tag name that begins an HTML block of the sixth kind, in any case. CommonMark 4.6,
+/// start condition 6.
 pub fn is_block_name(name: &[u8]) -> bool
     ensures value { IsTrue result ↔ names.IsBlockName name.now }
     ensures listed { result ≡ names.is_block_name name.now }
@@ -58,8 +58,8 @@ pub fn is_block_name(name: &[u8]) -> bool
     len > 0 && len == name.len()
 }
 
-/// How many bytes the longest of these names has that the bytes begin with, in any case: 0 where they
-/// begin with none.
+/// Returns the length of the longest name of start condition 6 at the start of `bytes`, in any case, or 0 if there is
+/// none. CommonMark 4.6.
 pub fn block_name_len(bytes: &[u8]) -> usize
     ensures { names.IsLongestName bytes.now result }
 {
@@ -86,8 +86,7 @@ pub fn block_name_len(bytes: &[u8]) -> usize
     }
 }
 
-// How many bytes the first of the known names has that the bytes begin with, in any case: 0 where they
-// begin with none.
+// The length of the first known name with which the bytes begin, in any case, or 0 if there is none.
 fn first_name_len(bytes: &[u8], known: &[&str]) -> usize
     ensures { result ≡ names.first_name_len (map text_of known.now) bytes.now }
 {
@@ -99,7 +98,7 @@ fn first_name_len(bytes: &[u8], known: &[&str]) -> usize
     0
 }
 
-/// Whether the bytes begin with the name, in any case.
+/// Returns whether `bytes` begin with `name`, in any case.
 pub fn begins_with_name(bytes: &[u8], name: &[u8]) -> bool
     ensures { result ≡ names.begins_with_name name.now bytes.now }
 {

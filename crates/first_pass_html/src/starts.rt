@@ -1,4 +1,4 @@
-//! Where HTML blocks of the kinds 1 to 6 begin.
+//! The start conditions of HTML blocks of the kinds 1 to 6.
 
 ghost use Rattle.std.specs.Prelude.{◌≡◌, ◌↔◌, IsTrue, ◌∷◌, bytes_eq};
 ghost use Rattle.std.specs.Option.{option_map};
@@ -12,9 +12,9 @@ use crate::names::{begins_with_name, block_name_len};
 use first_pass_lines::lines::is_ascii_white;
 use first_pass_lines::places::rest_of;
 
-/// What ends the HTML block of the kinds 1 to 5 that `bytes`, which follow the `<`, begin: any end tag of raw text for
-/// `<pre`, `<script`, `<style` and `<textarea`, else the text `-->`, `?>`, `]]>` or `>`. `None` where no block of these
-/// kinds begins. CommonMark 4.6.
+/// Returns the end condition of the HTML block of the kinds 1 to 5 whose `<` directly precedes `bytes`. For `<pre`,
+/// `<script`, `<style` and `<textarea` it is any end tag of raw text; otherwise it is the text `-->`, `?>`, `]]>` or
+/// `>`. Returns `None` if no block of these kinds begins there. CommonMark 4.6.
 pub fn get_html_end_tag(bytes: &[u8]) -> Option<HtmlEnd>
     ensures value { option_map end_of result ≡ starts.html_end bytes.now }
 {
@@ -29,9 +29,9 @@ pub fn get_html_end_tag(bytes: &[u8]) -> Option<HtmlEnd>
     }
 }
 
-/// Whether `bytes`, which follow the `<`, begin an HTML block of the sixth kind: a slash or none, the
-/// name of a block in any case, and then white space, the end of the line or the text, `>` or `/>`.
-/// CommonMark 4.6.
+/// Returns whether an HTML block of the sixth kind begins with the `<` directly before `bytes`. The `<` is followed
+/// by an optional slash and the name of a block, in any case. Then white space, `>`, `/>`, or the end of the line or
+/// of the text follows. CommonMark 4.6.
 pub fn starts_html_block_type_6(bytes: &[u8]) -> bool
     ensures value { IsTrue result ↔ starts.HasBlockName (starts.past_slash bytes.now) }
     ensures begins { result ≡ starts.begins_block_tag bytes.now }
@@ -42,7 +42,7 @@ pub fn starts_html_block_type_6(bytes: &[u8]) -> bool
     }
 }
 
-/// Whether the name is one of raw text, in any case: pre, script, style or textarea. CommonMark 4.6.
+/// Returns whether `name` is a name of raw text, in any case: pre, script, style or textarea. CommonMark 4.6.
 #[tactic(auto, unfolding(crate::specs::Starts::is_raw_name))]
 pub fn is_raw_name(name: &[u8]) -> bool
     ensures value { result ≡ starts.is_raw_name name.now }
@@ -53,7 +53,7 @@ pub fn is_raw_name(name: &[u8]) -> bool
         || is_name(name, b"textarea")
 }
 
-// What ends the comment, the CDATA section or the declaration whose `<!` stands before the bytes.
+// The end condition of the comment, CDATA section or declaration whose `<!` directly precedes the bytes.
 #[tactic(auto, unfolding(crate::specs::Starts::html_end, crate::specs::Starts::begins_raw_text))]
 fn declaration_end(bytes: &[u8]) -> Option<HtmlEnd>
     ensures { option_map end_of result ≡ starts.html_end (exclamation_mark ∷ bytes.now) }
@@ -69,7 +69,7 @@ fn declaration_end(bytes: &[u8]) -> Option<HtmlEnd>
     }
 }
 
-// Whether an ASCII letter stands first.
+// Whether the first byte is an ASCII letter.
 fn begins_letter(bytes: &[u8]) -> bool
     ensures { result ≡ starts.begins_letter bytes.now }
 {
@@ -79,7 +79,7 @@ fn begins_letter(bytes: &[u8]) -> bool
     }
 }
 
-// Whether a raw text begins here: pre, script, style or textarea in any case, and what ends the name.
+// Whether raw text begins here: pre, script, style or textarea in any case, and then the end of the name.
 #[tactic(auto, using(crate::proofs::RawFacts::raw_begins))]
 fn begins_raw_text(bytes: &[u8]) -> bool
     ensures { result ≡ starts.begins_raw_text bytes.now }
@@ -90,14 +90,14 @@ fn begins_raw_text(bytes: &[u8]) -> bool
         || begins_raw(bytes, b"textarea")
 }
 
-// Whether the bytes begin with the name of raw text, in any case, and what ends it.
+// Whether the bytes begin with this name of raw text, in any case, and then the end of the name.
 fn begins_raw(bytes: &[u8], name: &[u8]) -> bool
     ensures { result ≡ starts.begins_raw name.now bytes.now }
 {
     begins_with_name(bytes, name) && ends_raw_name(rest_of(bytes, name.len()))
 }
 
-// Whether the name of raw text ends before these bytes.
+// Whether a name of raw text ends before these bytes.
 fn ends_raw_name(bytes: &[u8]) -> bool
     ensures { result ≡ starts.ends_raw_name bytes.now }
 {
@@ -107,7 +107,7 @@ fn ends_raw_name(bytes: &[u8]) -> bool
     }
 }
 
-// Whether the name of a block stands first, and what ends it after it.
+// Whether the bytes begin with the name of a block, and then the end of the name.
 fn begins_block_name(bytes: &[u8]) -> bool
     ensures value { IsTrue result ↔ starts.HasBlockName bytes.now }
     ensures begins { result ≡ starts.begins_block_name bytes.now }

@@ -10,7 +10,7 @@ use crate::starts::is_raw_name;
 use first_pass_lines::lines::{begins, scan_blank_line, scan_blanks};
 use first_pass_lines::places::rest_of;
 
-// How many bytes of a tag name stand first, after its first letter.
+// The number of leading bytes that can continue a tag name after its first letter.
 fn tag_bytes_len(bytes: &[u8]) -> usize
     ensures value { result ≡ prefix_len tags.is_tag_byte bytes.now }
     ensures within { result ≤ length bytes.now }
@@ -21,7 +21,7 @@ fn tag_bytes_len(bytes: &[u8]) -> usize
         .count()
 }
 
-// How many bytes the tag name has that stands first.
+// The length of the tag name at the start of the bytes, if there is one.
 fn scan_tag_name(bytes: &[u8]) -> Option<usize>
     ensures value { result ≡ lengths.tag_name_len bytes.now }
     ensures within { IfSome result (λ n. n ≤ length bytes.now) }
@@ -32,7 +32,7 @@ fn scan_tag_name(bytes: &[u8]) -> Option<usize>
     }
 }
 
-// How many bytes of an attribute name stand first, after its first byte.
+// The number of leading bytes that can continue an attribute name after its first byte.
 fn attribute_bytes_len(bytes: &[u8]) -> usize
     ensures value { result ≡ prefix_len tags.is_attribute_byte bytes.now }
     ensures within { result ≤ length bytes.now }
@@ -43,7 +43,7 @@ fn attribute_bytes_len(bytes: &[u8]) -> usize
         .count()
 }
 
-// How many bytes the attribute name has that stands first.
+// The length of the attribute name at the start of the bytes, if there is one.
 fn scan_attribute_name(bytes: &[u8]) -> Option<usize>
     ensures value { result ≡ lengths.attribute_name_len bytes.now }
     ensures within { IfSome result (λ n. n ≤ length bytes.now) }
@@ -56,7 +56,7 @@ fn scan_attribute_name(bytes: &[u8]) -> Option<usize>
     }
 }
 
-// How many bytes of an unquoted value stand first.
+// The number of leading bytes that an unquoted value can have.
 fn unquoted_bytes_len(bytes: &[u8]) -> usize
     ensures value { result ≡ prefix_len tags.is_unquoted bytes.now }
     ensures within { result ≤ length bytes.now }
@@ -72,7 +72,7 @@ fn unquoted_bytes_len(bytes: &[u8]) -> usize
         .count()
 }
 
-// How many bytes stand before the quote or the line end.
+// The number of bytes before the quote or the line ending.
 fn quoted_bytes_len(quote: u8, bytes: &[u8]) -> usize
     ensures value { result ≡ prefix_len (tags.is_quoted quote) bytes.now }
     ensures within { result ≤ length bytes.now }
@@ -83,7 +83,7 @@ fn quoted_bytes_len(quote: u8, bytes: &[u8]) -> usize
         .count()
 }
 
-// How many bytes the quoted value has whose inside stands first, with both quotes.
+// The length of a quoted value, with both quotes. `inside` are the bytes after its opening quote.
 #[tactic(auto, unfolding(crate::specs::TagLengths::quoted_len))]
 fn scan_quoted(quote: u8, inside: &[u8]) -> Option<usize>
     requires { length inside.now < 0xFFFF_FFFF_FFFF_FFFF }
@@ -97,7 +97,7 @@ fn scan_quoted(quote: u8, inside: &[u8]) -> Option<usize>
     }
 }
 
-// How many bytes the attribute value has that stands first.
+// The length of the attribute value at the start of the bytes, if there is one.
 #[tactic(auto, unfolding(crate::specs::TagLengths::value_len))]
 fn scan_value(bytes: &[u8]) -> Option<usize>
     ensures value { result ≡ lengths.value_len bytes.now }
@@ -113,7 +113,7 @@ fn scan_value(bytes: &[u8]) -> Option<usize>
     }
 }
 
-// How many bytes blanks and the value after them have.
+// The length of leading blanks and the value after them, if there is one.
 #[tactic(auto, unfolding(crate::specs::TagLengths::blanks_value_len))]
 fn scan_blanks_value(bytes: &[u8]) -> Option<usize>
     ensures value { result ≡ lengths.blanks_value_len bytes.now }
@@ -126,7 +126,7 @@ fn scan_blanks_value(bytes: &[u8]) -> Option<usize>
     }
 }
 
-// How many bytes the value specification has that stands first: 0 where there is none.
+// The length of the value specification at the start of the bytes, or 0 if there is none.
 #[tactic(auto, unfolding(crate::specs::TagLengths::specification_len))]
 fn scan_specification(bytes: &[u8]) -> usize
     ensures value { result ≡ lengths.specification_len bytes.now }
@@ -142,7 +142,7 @@ fn scan_specification(bytes: &[u8]) -> usize
     }
 }
 
-// How many bytes the name of an attribute and its value specification have.
+// The length of an attribute name and its optional value specification, if there is a name.
 #[tactic(auto, unfolding(crate::specs::TagLengths::named_len))]
 fn scan_named(bytes: &[u8]) -> Option<usize>
     ensures value { result ≡ lengths.named_len bytes.now }
@@ -154,7 +154,7 @@ fn scan_named(bytes: &[u8]) -> Option<usize>
     }
 }
 
-// How many bytes the attribute has that stands first, with the blanks before it.
+// The length of the attribute at the start of the bytes, with the blanks before its name, if there is one.
 #[tactic(auto, unfolding(crate::specs::TagLengths::attribute_len))]
 fn scan_attribute(bytes: &[u8]) -> Option<usize>
     ensures value { result ≡ lengths.attribute_len bytes.now }
@@ -170,7 +170,7 @@ fn scan_attribute(bytes: &[u8]) -> Option<usize>
     }
 }
 
-// How many bytes `>` or `/>` has.
+// The length of `>` or `/>` at the start of the bytes, if there is one.
 fn scan_close(bytes: &[u8]) -> Option<usize>
     ensures value { result ≡ lengths.close_len bytes.now }
     ensures within { IfSome result (λ n. n ≤ length bytes.now) }
@@ -182,7 +182,7 @@ fn scan_close(bytes: &[u8]) -> Option<usize>
     }
 }
 
-// How many bytes the end of an open tag has that stands first: blanks, a slash or none, and `>`.
+// The length of the end of an open tag at the start of the bytes: blanks, an optional slash, and `>`.
 #[tactic(auto, unfolding(crate::specs::TagLengths::open_end_len))]
 fn scan_open_end(bytes: &[u8]) -> Option<usize>
     ensures value { result ≡ lengths.open_end_len bytes.now }
@@ -195,7 +195,7 @@ fn scan_open_end(bytes: &[u8]) -> Option<usize>
     }
 }
 
-// How many bytes the attributes have that stand first.
+// The length of all attributes at the start of the bytes.
 fn scan_attributes(bytes: &[u8]) -> usize
     ensures value { IsPastAttributes bytes.now result }
     ensures within { result ≤ length bytes.now }
@@ -207,7 +207,7 @@ fn scan_attributes(bytes: &[u8]) -> usize
     at
 }
 
-// How many bytes the open tag has after its `<`, if its name is none of raw text.
+// The length of an open tag after its `<`, if its name is not one of raw text.
 fn scan_open_tag(bytes: &[u8]) -> Option<usize>
     ensures found { IfSome result (IsOnlyFront tags.IsBehindOpening bytes.now) }
     ensures none { IfNone result (HasNoFront tags.IsBehindOpening bytes.now) }
@@ -222,7 +222,7 @@ fn scan_open_tag(bytes: &[u8]) -> Option<usize>
     Some(name + attributes + end)
 }
 
-// How many bytes the end of a closing tag has that stands first: blanks, and `>`.
+// The length of the end of a closing tag at the start of the bytes: blanks, and `>`.
 #[tactic(auto, unfolding(crate::specs::TagLengths::closing_end_len))]
 fn scan_closing_end(bytes: &[u8]) -> Option<usize>
     ensures value { result ≡ lengths.closing_end_len bytes.now }
@@ -235,7 +235,7 @@ fn scan_closing_end(bytes: &[u8]) -> Option<usize>
     }
 }
 
-// How many bytes the closing tag has after its `</`.
+// The length of a closing tag after its `</`.
 fn scan_closing_tag(bytes: &[u8]) -> Option<usize>
     ensures found { IfSome result (IsOnlyFront tags.IsBehindClosing bytes.now) }
     ensures none { IfNone result (HasNoFront tags.IsBehindClosing bytes.now) }
@@ -245,7 +245,7 @@ fn scan_closing_tag(bytes: &[u8]) -> Option<usize>
     Some(name + end)
 }
 
-// How many bytes the tag has that stands first, if it begins HTML blocks.
+// The length of the tag at the start of the bytes, if it can begin an HTML block.
 fn scan_tag(bytes: &[u8]) -> Option<usize>
     ensures found { IfSome result (IsOnlyFront tags.IsBlockTag bytes.now) }
     ensures none { IfNone result (HasNoFront tags.IsBlockTag bytes.now) }
@@ -262,10 +262,9 @@ fn scan_tag(bytes: &[u8]) -> Option<usize>
     Some(len + 1)
 }
 
-/// How many bytes the tag has that `bytes`, which stand at the `<`, begin with, where it begins an HTML
-/// block of the seventh kind: an open tag whose name is not pre, script, style or textarea in any case,
-/// or a closing tag, whole on its line, with nothing but white space after it on the line. `None` where
-/// no such tag stands here. CommonMark 4.6 and 6.6.
+/// Returns the length of the tag at the start of `bytes` if it begins an HTML block of the seventh kind. Such a tag
+/// is complete on its line, and only white space follows it there. It is a closing tag, or an open tag whose name is
+/// not pre, script, style or textarea in any case. Returns `None` if there is no such tag. CommonMark 4.6 and 6.6.
 pub fn scan_html_type_7(bytes: &[u8]) -> Option<usize>
     ensures tag { IfSome result (tags.BeginsTagLine bytes.now) }
     ensures only { IfSome result (λ n. (m : ℕ) → tags.BeginsTagLine bytes.now m → m ≡ n) }

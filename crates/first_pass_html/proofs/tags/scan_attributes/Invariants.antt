@@ -4,7 +4,8 @@ use Rattle.first_pass_html.specs.Tags.{AreAttributes}
 use Rattle.first_pass_html.specs.Fronts.{IsTagRest}
 use Rattle.first_pass_html.proofs.tags.scan_attributes.Given as goal
 
--- the bytes up to here are attributes, and where a tag continues to its end at the start it does so from here
+-- the bytes up to here are attributes; if the rest of a tag begins at the start of the bytes, the rest of it begins
+-- here
 abbrev pub invariant-loop-len : goal.invariant-loop-len
 invariant-loop-len l = record {
   within : l.at ≤ length l.bytes;
