@@ -1,4 +1,4 @@
--- Facts on where a delimiter row can begin, and on how many alignments it gives.
+-- Facts on the first byte of a delimiter row, and on its number of alignments.
 use Rattle.std.proofs.Common.{◌≡◌, subst, ℕ, zero, suc, ◌+◌, ◌-◌, ◌<◌, ◌≤◌, ◌==◌, ◌&&◌, ◌||◌, ◌⊎◌, Bool, true, false, nat_le, nat_lt, List, ◌∷◌, length, []}
 use Rattle.std.proofs.Common.{map, take, drop, Option, Some, None, refl, sym, ap, ◌∙◌, arith, inl, inr, if◌then◌else◌}
 use Rattle.std.specs.Option.{option_map, option_map_or}
@@ -16,7 +16,7 @@ use Rattle.first_pass_table_scan.specs.TableHead.{is_pipe, ends, stripped, witho
 use Rattle.first_pass_table_scan.specs.TableHead.{delimiter_cells, delimiter_row, table_head, delimiter_row_of}
 use Rattle.first_pass_table_scan.proofs.TableFacts.{cells-refused, cells-more, cells-last}
 
--- a byte stands first in these bytes, or they are none
+-- the bytes are empty, or this byte is their first
 abbrev Fronted : ℕ → List ℕ → Type 0
 Fronted b bs = (bs ≡ []) ⊎ ((cs : List ℕ) × (bs ≡ b ∷ cs))
 
@@ -76,7 +76,7 @@ no_hyphens b bs h f =
           ap is_hyphens more.1 ∙ ap (λ n. nat_le 1 (length (b ∷ more.0)) && (n == length (b ∷ more.0))) (no_run b more.0 h) ∙ none_of_some (length more.0)
     ]
 
--- no alignment begins with such a byte
+-- bytes that begin with another byte are no delimiter cell
 cell-refused : (b : ℕ) (bs : List ℕ) → is_blank b ≡ false → (b == hyphen) ≡ false → (b == colon) ≡ false → Fronted b bs → delimiter_cell bs ≡ None
 unfolding delimiter_cell
 cell-refused b bs blank h k f =
@@ -97,7 +97,7 @@ if_none : (t : Bool) (o : Option (List Alignment)) → o ≡ None → (if t then
 if_none true o h = h
 if_none false o h = refl
 
--- and no delimiter row
+-- bytes that begin with another byte are no delimiter row
 row_refused : (b : ℕ) (bs : List ℕ)
     → is_blank b ≡ false → (b == pipe) ≡ false → (b == hyphen) ≡ false → (b == colon) ≡ false → Fronted b bs → delimiter_row bs ≡ None
 unfolding delimiter_row
@@ -118,7 +118,7 @@ either_no true t h = absurd cc
 neither : (s t : Bool) → s ≡ false → t ≡ false → (s || t) ≡ false
 neither s t e f = ap (λ u. u || t) e ∙ f
 
--- a delimiter row that no space or tab stands before begins with a pipe, a hyphen or a colon
+-- a delimiter row without leading spaces and tabs begins with a pipe, a hyphen or a colon
 pub row-refused : (bs : List ℕ)
     → begins 32 bs ≡ false → begins 9 bs ≡ false → (begins pipe bs || begins hyphen bs || begins colon bs) ≡ false → delimiter_row bs ≡ None
 row-refused [] space tab h = row_refused 0 [] refl refl refl refl (inl refl)
@@ -127,7 +127,7 @@ row-refused (b ∷ bs) space tab h =
     let two = either_no (b == pipe) (b == hyphen) some.0 in
     row_refused b (b ∷ bs) (neither (b == 9) (b == 32) tab space) two.0 two.1 some.1 (inr (bs, refl))
 
--- the delimiter row after the columns of a line, of which there are fewer than four
+-- the delimiter row after an indentation of fewer than four columns
 pub row_of-few : (r s : Rest) → s ≡ after_columns 4 r → nat_le 4 (indent r) ≡ false → delimiter_row_of r ≡ delimiter_row s.left
 unfolding delimiter_row_of
 row_of-few r s e h =
@@ -144,7 +144,7 @@ row_of-refused r s e h look =
     let front = all_columns r in
     sym (row_of-few r s e h ∙ row-refused s.left (ap (λ q. begins 32 q.left) (sym same) ∙ front.1) (ap (λ q. begins 9 q.left) (sym same) ∙ front.2) look)
 
--- each delimiter row gives an alignment
+-- each delimiter row has an alignment
 cons-some : (x : Alignment) (o : Option (List Alignment)) (xs : List Alignment) → option_map (λ ys. x ∷ ys) o ≡ Some xs → 0 < length xs
 cons-some x None xs h = absurd cc
 cons-some x (Some ys) xs h =
@@ -177,7 +177,7 @@ row-some bs xs h =
     let cells : List ℕ = without_last pipe (without_first pipe row) in
     cells-some cells xs (if_some (nat_le (columns_of bs 0) 3 && list_any is_pipe row) (delimiter_cells cells) xs h)
 
--- the row of a head that was read, by its alignments
+-- the alignments of a table head that was scanned
 head-cases : (n : ℕ) (o : Option (List Alignment)) (size : ℕ) (xs : List Alignment)
     → ◌≡◌ {A = ℕ × List Alignment} (size, xs) (option_map_or (λ columns. (n, columns)) o (0, [])) → ((xs ≡ []) × (o ≡ None)) ⊎ (o ≡ Some xs)
 head-cases n None size xs h = inl (ap (λ q. q.1) h, refl)

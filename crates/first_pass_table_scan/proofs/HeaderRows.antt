@@ -9,11 +9,11 @@ use Rattle.first_pass_items.specs.Bytes.{backslash, pipe}
 use Rattle.first_pass_lines.specs.Lines.{is_content}
 use Rattle.first_pass_table_scan.specs.TableHead.{is_pipe, pipes_behind, pipes_of, last_pipe_behind, header_columns, columns_by_pipes, head_columns}
 
--- the offset after the last pipe of what stands at an offset after a byte, where the one before that was found
+-- the offset after the last pipe of a row: of the bytes from an offset on, or the one found before
 abbrev pub end_behind : ℕ → ℕ → ℕ → List ℕ → ℕ
 end_behind at found b bs = option_map_or (λ last. at + last + 1) (last_pipe_behind b bs) found
 
--- one byte more of a row
+-- one more byte of a row
 at_byte : (row : List ℕ) (i x : ℕ) → i < length row → get_or row i 0 ≡ x → drop i row ≡ x ∷ drop (i + 1) row
 at_byte row i x l e = drop_more row i 0 l ∙ ap (λ y. y ∷ drop (i + 1) row) e
 
@@ -33,7 +33,7 @@ pub ending-at : (row : List ℕ) (i found b x : ℕ) → i < length row → get_
 ending-at row i found b x l e =
     ap (end_behind i found b) (at_byte row i x l e) ∙ ending-cases i found (is_pipe x && not (b == backslash)) (last_pipe_behind x (drop (i + 1) row))
 
--- the last pipe is this one or one after it
+-- the last pipe is this one or a later one
 last-cases : (t : Bool) (o : Option ℕ) (n : ℕ)
     → option_map_or (λ k. Some (k + 1)) o (if t then Some 0 else None) ≡ Some n → ((o ≡ None) × (t ≡ true) × (n ≡ 0)) ⊎ ((k : ℕ) × (o ≡ Some k) × (n ≡ k + 1))
 last-cases true None n h = inl (refl, refl, cc)
@@ -51,7 +51,7 @@ one_if t e = ap (λ u. if u then 1 else 0) e
 none_if : (t : Bool) → t ≡ false → ◌≡◌ {A = ℕ} (if t then 1 else 0) 0
 none_if t e = ap (λ u. if u then 1 else 0) e
 
--- without a last pipe there is none
+-- no pipes if there is no last pipe
 pub pipes-none : (b : ℕ) (bs : List ℕ) → last_pipe_behind b bs ≡ None → pipes_behind b bs ≡ 0
 pipes-none b [] h = refl
 pipes-none b (c ∷ cs) h =
@@ -60,7 +60,7 @@ pipes-none b (c ∷ cs) h =
     let no = none_if (is_pipe c && not (b == backslash)) parts.1 in
     omega arith
 
--- where a last pipe is, there is one
+-- at least one pipe if there is a last one
 pub pipes-some : (b : ℕ) (bs : List ℕ) (n : ℕ) → last_pipe_behind b bs ≡ Some n → 1 ≤ pipes_behind b bs
 pipes-some b [] n h = absurd cc
 pipes-some b (c ∷ cs) n h =
@@ -78,7 +78,7 @@ last-within b (c ∷ cs) n h =
       | inr more ↦ (let at = more.2 in let rest = last-within c cs more.0 more.1 in omega arith)
     ]
 
--- after the last pipe there is none
+-- no pipe follows the last one
 pub pipes-to-last : (b : ℕ) (bs : List ℕ) (n : ℕ) → last_pipe_behind b bs ≡ Some n → pipes_behind b (take (n + 1) bs) ≡ pipes_behind b bs
 pipes-to-last b [] n h = absurd cc
 pipes-to-last b (c ∷ cs) n h =
@@ -91,12 +91,12 @@ pipes-to-last b (c ∷ cs) n h =
           ap (λ k. pipes_behind b (take k (c ∷ cs))) e ∙ ap (λ k. (if t then 1 else 0) + k) (pipes-to-last c cs more.0 more.1))
     ]
 
--- bytes without a pipe have no last one
+-- bytes without a pipe have no last pipe
 pub last-none : (b : ℕ) (bs : List ℕ) → length bs ≡ position_or_len is_pipe bs → last_pipe_behind b bs ≡ None
 last-none b [] h = refl
 last-none b (c ∷ cs) h = grind (arith, last-none c cs)
 
--- a row with a byte more that is an open pipe, or isn't
+-- a row with one more byte, which is a pipe that counts, or not
 pub step-open : (row : List ℕ) (i b x pipes found more end : ℕ)
     → i < length row → x ≡ get_or row i 0 → more ≡ pipes + 1 → end ≡ i + 1 → (is_pipe (get_or row i 0) && not (b == backslash)) ≡ true
     → pipes + pipes_behind b (drop i row) ≡ pipes_behind 0 row → end_behind i found b (drop i row) ≡ end_behind 0 0 0 row
@@ -134,7 +134,7 @@ pipes-first row i b l t =
     let counted = pipes-at row i b y l refl in
     omega arith
 
--- the row at its end
+-- the end of the row
 pub pipes-end : (row : List ℕ) (i b pipes : ℕ) → length row ≤ i → pipes + pipes_behind b (drop i row) ≡ pipes_behind 0 row → pipes ≡ pipes_of row
 pipes-end row i b pipes l h =
     let none : pipes_behind b (drop i row) ≡ 0 = ap (pipes_behind b) (drop_all i row l) in
@@ -148,7 +148,7 @@ pub ending-end : (row : List ℕ) (i b found : ℕ)
     → length row ≤ i → end_behind i found b (drop i row) ≡ end_behind 0 0 0 row → found ≡ option_map_or (λ last. last + 1) (last_pipe_behind 0 row) 0
 ending-end row i b found l h = sym (ap (end_behind i found b) (drop_all i row l)) ∙ h ∙ from_start (last_pipe_behind 0 row)
 
--- what the offset after the last pipe says of it
+-- the last pipe, from the offset after it
 pub end-none : (o : Option ℕ) (end : ℕ) → end ≡ option_map_or (λ last. last + 1) o 0 → end ≡ 0 → o ≡ None
 end-none None end e h = refl
 end-none (Some k) end e h = absurd (omega arith)
@@ -157,7 +157,7 @@ pub end-some : (o : Option ℕ) (end : ℕ) → end ≡ option_map_or (λ last. 
 end-some None end e h = absurd (h e)
 end-some (Some k) end e h = let same : k ≡ end - 1 = omega arith in ap Some same
 
--- the columns of a line without a pipe, and with one
+-- the columns of a line without a pipe, and of one with a pipe
 pub head-none : (bs : List ℕ) → last_pipe_behind 0 (take_while is_content bs) ≡ None → head_columns bs ≡ 0
 unfolding head_columns
 head-none bs h = ap (λ o. option_map_or (header_columns bs) o 0) h
@@ -183,11 +183,7 @@ pipes-of-line bs n h =
     let few : n + 1 ≤ prefix_len is_content bs = omega arith in
     ap (pipes_behind 0) (sym (take-take (n + 1) (prefix_len is_content bs) bs few)) ∙ pipes-to-last 0 (take_while is_content bs) n h
 
--- a line has a pipe where it has columns
-
--- a line has no more columns than bytes, and one
-
--- what the pipes of a line say of its columns
+-- the number of columns of a line, from its pipes
 pub head-by-pipes : (bs : List ℕ) (n : ℕ)
     → last_pipe_behind 0 (take_while is_content bs) ≡ Some n → head_columns bs ≡ columns_by_pipes (pipes_of (take_while is_content bs)) bs n
 head-by-pipes bs n h = head-some bs n h ∙ ap (λ k. columns_by_pipes k bs n) (pipes-of-line bs n h)
@@ -207,7 +203,7 @@ pub head-escaped : (bs row : List ℕ) (end : ℕ)
     → row ≡ take_while is_content bs → end ≡ option_map_or (λ last. last + 1) (last_pipe_behind 0 row) 0 → end ≡ 0 → 0 ≡ head_columns bs
 head-escaped bs row end e at none = sym (head-none bs (ap (last_pipe_behind 0) (sym e) ∙ end-none (last_pipe_behind 0 row) end at none))
 
--- the last pipe of such a line, by the offset after it
+-- the last pipe of such a line, from the offset after it
 pub last-found : (bs row : List ℕ) (end : ℕ) → row ≡ take_while is_content bs → end ≡ option_map_or (λ last. last + 1) (last_pipe_behind 0 row) 0 → ¬ (end ≡ 0)
     → last_pipe_behind 0 (take_while is_content bs) ≡ Some (end - 1)
 last-found bs row end e at some = ap (last_pipe_behind 0) (sym e) ∙ end-some (last_pipe_behind 0 row) end at some

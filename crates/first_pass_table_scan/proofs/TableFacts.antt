@@ -11,7 +11,7 @@ use Rattle.memchr.specs.Find.{IsFirstByte}
 use Rattle.first_pass_items.specs.declared.item.Alignment.{Alignment}
 use Rattle.first_pass_table_scan.specs.TableHead.{is_pipe, delimiter_cell, each_of, delimiter_cells, pipes_behind}
 
--- what a search for a byte returns
+-- the results of a search for a byte
 pub first_none : (test : ℕ → Bool) (bs : List ℕ) → IsFirstByte test bs None → length bs ≡ position_or_len test bs
 first_none test bs h =
     sym (position_or_len_is test bs (length bs) 0 (omega arith) (λ k l. false_from_ne_true _ (h k (omega arith) l)) (λ l. absurd (omega arith)))
@@ -43,14 +43,14 @@ pub cells-last : (bs : List ℕ) (n : ℕ) (o : Option Alignment)
 unfolding delimiter_cells
 cells-last bs n o e l h = ap (λ parts. each_of (map delimiter_cell parts)) (split_last bs n e l) ∙ ap (λ p. each_of (p ∷ [])) (sym h)
 
--- a cell that gives no alignment
+-- a cell that is no delimiter cell
 pub cells-refused : (bs : List ℕ) (n : ℕ) → n ≡ position_or_len is_pipe bs → n ≤ length bs → None ≡ delimiter_cell (take n bs) → delimiter_cells bs ≡ None
 cells-refused bs n e l h = elim (cases_lt n (length bs)) as (λ _. delimiter_cells bs ≡ None) [
   | inl more ↦ cells-more bs n None e more h
   | inr all ↦ cells-last bs n None e (omega arith) h
 ]
 
--- the alignments that were found, before those of the rest
+-- the alignments found so far, before those of the rest
 abbrev pub found_before : List Alignment → Option (List Alignment) → Option (List Alignment)
 found_before xs o = option_map (λ ys. xs ++ ys) o
 
@@ -71,7 +71,7 @@ pub found-last : (bs : List ℕ) (n : ℕ) (xs : List Alignment) (x : Alignment)
     → n ≡ position_or_len is_pipe bs → n ≡ length bs → Some x ≡ delimiter_cell (take n bs) → Some (xs ++ x ∷ []) ≡ found_before xs (delimiter_cells bs)
 found-last bs n xs x e l h = sym (ap (found_before xs) (cells-last bs n (Some x) e l h))
 
--- no more pipes than bytes
+-- at most as many pipes as bytes
 pub pipes-fit : (b : ℕ) (bs : List ℕ) → pipes_behind b bs ≤ length bs
 pipes-fit b [] = omega arith
 pipes-fit b (c ∷ cs) = grind (arith, pipes-fit c cs)

@@ -1,4 +1,4 @@
-//! The scanners of tables: delimiter rows, and how many columns a row has.
+//! The scanners of tables: delimiter rows, and the number of columns of a header row.
 #![tactic(auto)]
 
 pub mod table_scan;

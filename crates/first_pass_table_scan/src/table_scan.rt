@@ -1,4 +1,4 @@
-//! The delimiter row of a table, and how many columns its header row has (GFM 4.10).
+//! The delimiter row of a table, and the number of columns of its header row (GFM 4.10).
 
 ghost use Rattle.std.specs.List.{prefix_len, suffix_len, position_or_len};
 ghost use Rattle.std.specs.Prelude.{◌≡◌, ◌≤◌, ◌<◌, ◌+◌, ◌-◌, ◌==◌, true, slice_index, length, take, drop, IfOk, if◌then◌else◌};
@@ -18,7 +18,7 @@ use first_pass_scan::line_start::LineStart;
 use memchr::memchr;
 use std::alloc::{AllocError, Global};
 
-// How many spaces and tabs stand last.
+// The number of trailing spaces and tabs.
 fn scan_last_blanks(bytes: &[u8]) -> usize
     ensures value { result ≡ suffix_len is_blank bytes.now }
     ensures within { result ≤ length bytes.now }
@@ -26,7 +26,7 @@ fn scan_last_blanks(bytes: &[u8]) -> usize
     bytes.iter().rev().take_while(|b| is_blank(**b)).count()
 }
 
-// Without the spaces and tabs at both ends.
+// The bytes without leading and trailing spaces and tabs.
 #[tactic(auto, unfolding(crate::specs::TableHead::stripped))]
 fn stripped(bytes: &[u8]) -> &[u8]
     ensures { result.now ≡ stripped_bytes bytes.now }
@@ -36,7 +36,7 @@ fn stripped(bytes: &[u8]) -> &[u8]
     &rest[..rest.len() - last]
 }
 
-// Without the byte at the front, if it is there.
+// The bytes without their first one, if it is this byte.
 fn without_first(bytes: &[u8], byte: u8) -> &[u8]
     ensures { result.now ≡ past_first byte bytes.now }
 {
@@ -46,7 +46,7 @@ fn without_first(bytes: &[u8], byte: u8) -> &[u8]
     }
 }
 
-// Whether the byte, which isn't 0, stands last.
+// Whether the last byte is this one, which is not 0.
 fn ends(bytes: &[u8], byte: u8) -> bool
     requires { 0 < byte }
     ensures value { result ≡ ends_with byte bytes.now }
@@ -58,7 +58,7 @@ fn ends(bytes: &[u8], byte: u8) -> bool
     }
 }
 
-// Without the byte, which isn't 0, at the end, if it is there.
+// The bytes without their last one, if it is this byte, which is not 0.
 fn without_last(bytes: &[u8], byte: u8) -> &[u8]
     requires { 0 < byte }
     ensures { result.now ≡ before_last byte bytes.now }
@@ -70,14 +70,14 @@ fn without_last(bytes: &[u8], byte: u8) -> &[u8]
     }
 }
 
-// Whether the bytes are one hyphen or more.
+// Whether the bytes are one or more hyphens.
 fn is_hyphens(bytes: &[u8]) -> bool
     ensures { result ≡ hyphens_alone bytes.now }
 {
     1 <= bytes.len() && scan_run(bytes, b'-') == bytes.len()
 }
 
-// The alignment of a column by the colons before and after its hyphens.
+// The alignment of a column, from the colons before and after its hyphens.
 fn alignment(before: bool, behind: bool) -> Alignment
     ensures { result ≡ alignment_by before behind }
 {
@@ -89,7 +89,7 @@ fn alignment(before: bool, behind: bool) -> Alignment
     }
 }
 
-// The alignment that a cell of a delimiter row gives.
+// The alignment of a column, from its cell in the delimiter row.
 #[tactic(auto, unfolding(crate::specs::TableHead::delimiter_cell))]
 fn scan_delimiter_cell(bytes: &[u8]) -> Option<Alignment>
     ensures { result ≡ delimiter_cell bytes.now }
@@ -104,7 +104,7 @@ fn scan_delimiter_cell(bytes: &[u8]) -> Option<Alignment>
     }
 }
 
-// How many bytes stand before the first pipe: all, if there is none.
+// The number of bytes before the first pipe, or of all bytes if there is none.
 pub(crate) fn cell_len(bytes: &[u8]) -> usize
     ensures value { result ≡ position_or_len is_pipe bytes.now }
     ensures within { result ≤ length bytes.now }
@@ -115,7 +115,7 @@ pub(crate) fn cell_len(bytes: &[u8]) -> usize
     }
 }
 
-// The alignments of the cells between the pipes of `bytes`, if each cell gives one.
+// The alignments of the cells between the pipes of `bytes`, if each is a delimiter cell.
 fn scan_delimiter_cells(alloc: Global, bytes: &[u8]) -> Result<Option<Vec<Alignment>>, AllocError>
     ensures { IfOk result (λ columns. option_map (λ v. v.items) columns ≡ delimiter_cells bytes.now) }
 {
@@ -134,7 +134,7 @@ fn scan_delimiter_cells(alloc: Global, bytes: &[u8]) -> Result<Option<Vec<Alignm
     }
 }
 
-// The alignments of the delimiter row that `bytes` begin with, if there is one.
+// The alignments of the delimiter row at the start of `bytes`, if there is one.
 #[tactic(auto, unfolding(crate::specs::TableHead::delimiter_row))]
 fn scan_alignments(alloc: Global, bytes: &[u8]) -> Result<Option<Vec<Alignment>>, AllocError>
     ensures { IfOk result (λ columns. option_map (λ v. v.items) columns ≡ delimiter_row bytes.now) }
@@ -149,10 +149,10 @@ fn scan_alignments(alloc: Global, bytes: &[u8]) -> Result<Option<Vec<Alignment>>
     scan_delimiter_cells(alloc, without_last(without_first(row, b'|'), b'|'))
 }
 
-/// How many bytes the delimiter row that `bytes` begin with has, its end too, and the alignment of each
-/// column: cells of one or more hyphens, with or without a colon at each end, between pipes, of which
-/// one at each end counts for nothing. There is a pipe, and the indent has three columns at most. 0 and
-/// no alignment where no such row is here; an error only where memory is refused. GFM 4.10.
+/// Returns the length of the delimiter row at the start of `bytes`, with its line ending, and the alignment of each
+/// column. Pipes separate the cells, and one pipe at each end is optional. A cell is one or more hyphens, with an
+/// optional colon at each end. The row contains a pipe, and its indentation is at most three columns. Returns 0 and
+/// no alignments if there is no such row. Fails only if an allocation fails. GFM 4.10.
 #[tactic(auto, unfolding(crate::specs::TableHead::table_head))]
 pub fn scan_table_head(alloc: Global, bytes: &[u8]) -> Result<(usize, Vec<Alignment>), AllocError>
     ensures value { IfOk result (λ head. (head.0, head.1.items) ≡ table_head bytes.now) }
@@ -164,7 +164,7 @@ pub fn scan_table_head(alloc: Global, bytes: &[u8]) -> Result<(usize, Vec<Alignm
     }
 }
 
-// How many pipes are left of those of a header row without one that begins it after white space.
+// The number of pipes of a header row, without the one that begins it after white space.
 fn without_first_pipe(row: &[u8], pipes: usize) -> usize
     requires { 1 ≤ pipes }
     ensures { result ≡ pipes - (if begins pipe (drop (prefix_len is_white row.now) row.now) then 1 else 0) }
@@ -176,10 +176,10 @@ fn without_first_pipe(row: &[u8], pipes: usize) -> usize
     }
 }
 
-/// How many columns the header row of a table has that begins at the offset `start` of `bytes`: its
-/// pipes not directly after a backslash, without one that begins the row after white space, and one
-/// more where something else than white space stands between the last, at the offset `last_pipe_ix`,
-/// and the end of its line. `pipes` is the number of these pipes. GFM 4.10.
+/// Returns the number of columns of the header row at the offset `start` of `bytes`. `pipes` is the number of its
+/// pipes that are not directly after a backslash, and `last_pipe_ix` is the offset of the last of them. A pipe that
+/// begins the row after white space does not count. One more column counts if the rest of the line after the last
+/// pipe is not blank. GFM 4.10.
 pub fn count_header_cols(bytes: &[u8], pipes: usize, start: usize, last_pipe_ix: usize) -> usize
     requires some { 1 ≤ pipes }
     requires ordered { start ≤ last_pipe_ix }

@@ -1,5 +1,5 @@
-//! Whether a table begins at a line: the columns that a line has as a header row, and the delimiter row after
-//! the columns of a line (GFM 4.10).
+//! Whether a table begins at a line: the number of columns of a header row, and the delimiter row after the
+//! indentation of a line (GFM 4.10).
 
 ghost use Rattle.std.specs.Option.{option_map, option_map_or};
 ghost use Rattle.std.specs.List.{take_while};
@@ -14,9 +14,9 @@ use first_pass_lines::lines::content_len;
 use first_pass_scan::line_start::LineStart;
 use std::alloc::{AllocError, Global};
 
-/// How many columns the line that `bytes` begins with has as the header row of a table: its pipes not
-/// directly after a backslash, without one that begins it after white space, and one more where something
-/// else than white space stands after the last. 0 where it has no such pipe. GFM 4.10.
+/// Returns the number of columns of the first line of `bytes` as a header row. It counts the pipes that are not
+/// directly after a backslash, without one that begins the line after white space. One more column counts if the rest
+/// of the line after the last pipe is not blank. Returns 0 if there is no such pipe. GFM 4.10.
 pub fn scan_head_columns(bytes: &[u8]) -> usize
     ensures { result ≡ head_columns bytes.now }
 {
@@ -32,14 +32,14 @@ pub fn scan_head_columns(bytes: &[u8]) -> usize
     count_header_cols(bytes, pipes, 0, end - 1)
 }
 
-// Whether the byte is a pipe, and the one before it, 0 at the front, is no backslash.
+// Whether the byte is a pipe and the byte before it, 0 at the start, is not a backslash.
 fn is_open_pipe(before: u8, byte: u8) -> bool
     ensures { result ≡ (is_pipe byte && not (before == backslash)) }
 {
     byte == b'|' && before != b'\\'
 }
 
-// How many pipes not directly after a backslash the row has, and the offset after the last: 0, if there is none.
+// The number of pipes of the row that are not directly after a backslash, and the offset after the last, or 0.
 fn count_pipes(row: &[u8]) -> (usize, usize)
     ensures pipes { result.0 ≡ pipes_of row.now }
     ensures end { result.1 ≡ option_map_or (λ last. last + 1) (last_pipe_behind 0 row.now) 0 }
@@ -57,15 +57,15 @@ fn count_pipes(row: &[u8]) -> (usize, usize)
     (pipes, end)
 }
 
-// Whether a byte is next with which a delimiter row can begin after its indent.
+// Whether the next byte can begin a delimiter row after its indentation.
 fn can_begin_delimiters(bytes: &[u8]) -> bool
     ensures { result ≡ begins pipe bytes.now || begins hyphen bytes.now || begins colon bytes.now }
 {
     matches!(bytes, [b'|' | b'-' | b':', ..])
 }
 
-/// The alignments of the columns that the delimiter row after the columns of `line` gives, which are three at
-/// most: one at least. `None` where no such row is here; an error only where memory is refused. GFM 4.10.
+/// Returns the alignments of the delimiter row after the indentation of `line`, at least one. The indentation is at
+/// most three columns. Returns `None` if there is no such row. Fails only if an allocation fails. GFM 4.10.
 #[tactic(auto, unfolding(crate::specs::TableHead::delimiter_row_of))]
 pub fn scan_delimiter_row(
     alloc: Global,
@@ -87,9 +87,9 @@ pub fn scan_delimiter_row(
     Ok(Some(columns))
 }
 
-/// What the pipes of a line say of its columns as a header row: without a pipe there are none; else the pipes,
-/// without one that begins it after white space, and one more where something else than white space stands
-/// after the last, are the columns. GFM 4.10.
+/// The number of columns of a header row follows from its pipes that are not directly after a backslash. It is 0 if
+/// there is no such pipe. Otherwise each of them counts, except one that begins the line after white space. One more
+/// column counts if the rest of the line after the last pipe is not blank. GFM 4.10.
 pub fn law_of_head_columns(bytes: &[u8])
     ensures none { pipes_of (take_while is_content bytes.now) ≡ 0 → head_columns bytes.now ≡ 0 }
     ensures some { (last : ℕ) → last_pipe_behind 0 (take_while is_content bytes.now) ≡ Some last
