@@ -1,11 +1,11 @@
--- What a word adds to attributes.
+-- The effect of a word on attributes.
 use Rattle.std.proofs.Common.{◌≡◌, ℕ, Bool, true, false, cond, List, [], ◌∷◌, ◌++◌, map, filter, drop, Option, Some, refl, sym, ap, ◌∙◌, append_assoc}
 use Rattle.std.proofs.Common.{append-nil, ne_eqb}
 use Rattle.first_pass_items.specs.Bytes.{number_sign, full_stop}
 use Rattle.first_pass_lines.specs.Lines.{begins}
 use Rattle.first_pass_attributes.specs.Attributes.{Attributes, is_telling, gives_key, key_and_value, last_or, with_words}
 
--- attributes are their three parts
+-- attributes are equal if their three parts are
 pub same_parts : {i j : Option (List ℕ)} {c d : List (List ℕ)} {e f : List (List ℕ × Option (List ℕ))}
     → i ≡ j → c ≡ d → e ≡ f → ◌≡◌ {A = Attributes} (record { id = i; classes = c; attrs = e }) (record { id = j; classes = d; attrs = f })
 same_parts p q r = rw (p, q, r) refl
@@ -27,7 +27,7 @@ pub with-key : (a : Attributes) (w : List ℕ) → begins number_sign w ≡ fals
 unfolding with_words
 with-key a w e f = rw (e, f) (same_parts refl (append-nil a.classes) refl)
 
--- one value more, of a word that is kept or not
+-- one more value, of a word that is kept or not
 last-more : {X Y : Type 0} (f : X → Y) (t : Bool) (w : X) (ws : List X) (o : Option Y)
     → last_or o (map f (cond t (w ∷ ws) ws)) ≡ last_or (last_or o (map f (cond t (w ∷ []) []))) (map f ws)
 last-more f true w ws o = refl
@@ -38,7 +38,7 @@ all-more : {X Y : Type 0} (f : X → Y) (t : Bool) (w : X) (ws : List X) (ys : L
 all-more f true w ws ys = sym (append_assoc ys (f w ∷ []) (map f ws))
 all-more f false w ws ys = ap (λ zs. zs ++ map f ws) (sym (append-nil ys))
 
--- a word before others adds to attributes first
+-- the first of several words is added before the others
 with-first : (a : Attributes) (w : List ℕ) (ws : List (List ℕ)) → with_words a (w ∷ ws) ≡ with_words (with_words a (w ∷ [])) ws
 unfolding with_words
 with-first a w ws =
@@ -52,16 +52,16 @@ with-told : (a : Attributes) (t : Bool) (w : List ℕ) (ws : List (List ℕ))
 with-told a true w ws = with-first a w ws
 with-told a false w ws = ap (λ b. with_words b ws) (sym (with-none a))
 
--- and so does one that may tell nothing
+-- the same for a word that may have no attribute
 pub with-next : (a : Attributes) (w : List ℕ) (ws : List (List ℕ))
     → with_words a (filter is_telling (w ∷ ws)) ≡ with_words (with_words a (filter is_telling (w ∷ []))) (filter is_telling ws)
 with-next a w ws = with-told a (is_telling w) w (filter is_telling ws)
 
--- a word that tells nothing
+-- a word without an attribute
 pub told-none : (a : Attributes) (w : List ℕ) → is_telling w ≡ false → with_words a (filter is_telling (w ∷ [])) ≡ a
 told-none a w h = ap (λ t. with_words a (cond t (w ∷ []) [])) h ∙ with-none a
 
--- one that does
+-- a word with an attribute
 telling : (a : Attributes) (w : List ℕ) → is_telling w ≡ true → with_words a (filter is_telling (w ∷ [])) ≡ with_words a (w ∷ [])
 telling a w h = ap (λ t. with_words a (cond t (w ∷ []) [])) h
 

@@ -14,7 +14,7 @@ use Rattle.first_pass_items.specs.Bytes.{left_brace, right_brace}
 use Rattle.first_pass_attributes.specs.AttributeBlocks.{ends, is_behind_block, is_inside_block, Braces, braces, opening_brace, attribute_block}
 use Rattle.first_pass_attributes.specs.AttributeBlocks.{IsAttributeBlock}
 
--- what is left of bytes without those at the end that pass, and those
+-- bytes without the trailing ones that pass a test, and these trailing ones
 abbrev left : (ℕ → Bool) → List ℕ → List ℕ
 left p bs = take (length bs - suffix_len p bs) bs
 
@@ -37,7 +37,7 @@ behind-passes p bs =
 left-and-behind : (p : ℕ → Bool) (bs : List ℕ) → bs ≡ left p bs ++ behind p bs
 left-and-behind p bs = sym (take-append-drop (length bs - suffix_len p bs) bs)
 
--- a byte that doesn't pass, before bytes that do
+-- a byte that does not pass, before bytes that do
 suffix-at : (p : ℕ → Bool) (xs : List ℕ) (x : ℕ) (ys : List ℕ) → p x ≡ false → list_all p ys ≡ true → suffix_len p (xs ++ x ∷ ys) ≡ length ys
 suffix-at p xs x ys e h =
     let bs : List ℕ = xs ++ x ∷ ys in
@@ -65,7 +65,7 @@ left-at p xs x ys e h =
     let same : length bs - suffix_len p bs ≡ length front = omega (arith, suffix-at p xs x ys e h) in
     ap (λ n. take n bs) same ∙ ap (take (length front)) (sym (append_assoc xs (x ∷ []) ys)) ∙ take-append_seam front ys
 
--- bytes with one more after them
+-- bytes with one more at the end
 ends-with : (xs : List ℕ) (x : ℕ) → ends x (xs ++ x ∷ []) ≡ true
 ends-with xs x =
     let short : length (xs ++ x ∷ []) ≡ length xs + 1 = length-append xs (x ∷ []) in
@@ -125,7 +125,7 @@ block-only heading block is =
     ap attribute_block parts ∙ block-at is.front is.inside is.behind is.plain is.aside
     ∙ ap Some (braces-same block (length is.front) (length before) is.opens (is.closes ∙ omega arith))
 
--- and back
+-- the converse
 if-some : {X : Type 0} (t : Bool) (o : Option X) (x : X) → (if t then o else None) ≡ Some x → (t ≡ true) × (o ≡ Some x)
 if-some true o x e = (refl, e)
 if-some false o x e = absurd cc

@@ -1,4 +1,4 @@
--- Where the words of bytes stand.
+-- The places of words in bytes.
 use Rattle.std.proofs.Common.{◌≡◌, ℕ, ◌<◌, ◌≤◌, true, false, cond, nat_lt, List, [], ◌∷◌, ◌++◌, length, filter, slice_index_or, inl, inr, refl, sym, ap, ◌∙◌}
 use Rattle.std.proofs.Common.{append-nil, arith}
 use Rattle.std.specs.List.{All, AllPass, slice_split}
@@ -13,7 +13,7 @@ use Rattle.std.proofs.lemmas.List.Splits.{slice_split-cons_yes, slice_split_none
 use Rattle.std.proofs.lemmas.Str.{NoCharPasses-byte}
 use Rattle.first_pass_attributes.specs.Attributes.{is_between_words, words}
 
--- what stands between words is white space of ASCII
+-- the bytes between words are ASCII white space
 is_white : (b : ℕ) → is_between_words b ≡ is_ascii_whitespace b
 is_white b = grind (arith, nat_tests)
 
@@ -67,13 +67,13 @@ word-first x [] (b ∷ rest) some h s one none = absurd (let no = none refl in o
 word-first x (b ∷ []) rest some h s one none = word-before x b rest some h (All-head (λ c. is_between_words c ≡ true) b [] s)
 word-first x (b ∷ c ∷ sep) rest some h s one none = absurd (omega arith)
 
--- a word is cut off after white space
+-- the first word, between white space, and the words of the rest
 pub words-cut : (gap x sep rest bs : List ℕ) → bs ≡ gap ++ (x ++ (sep ++ rest)) → 0 < length x
     → NoCharPasses is_ascii_whitespace x → AllPass is_ascii_whitespace gap → IsAsciiSeparator sep rest → words bs ≡ x ∷ words rest
 words-cut gap x sep rest bs e some h g s =
     ap words e ∙ words-behind gap (x ++ (sep ++ rest)) (between gap g) ∙ word-first x sep rest some (within x h) (between sep s.0) s.1 s.2
 
--- white space alone has no words
+-- white space has no words
 pub words-none : (bs : List ℕ) → AllPass is_ascii_whitespace bs → words bs ≡ []
 unfolding words
 words-none bs h = ap words (sym (append-nil bs)) ∙ words-behind bs [] (between bs h)

@@ -1,4 +1,4 @@
-//! The attribute block at the end of a heading, and the attributes that it gives (this project).
+//! The attribute block at the end of a heading, and its attributes (this project).
 
 ghost use Rattle.std.specs.List.{suffix_len};
 ghost use Rattle.std.specs.Option.{option_map};
@@ -11,11 +11,11 @@ use first_pass_lines::lines::{is_blank, is_line_end};
 use std::alloc::{AllocError, Global};
 use std::ops::Range;
 
-/// Where the content of a heading ends, and its attribute block: how many bytes of the text `heading` stand before
-/// the block, white space directly before it too, and the offsets in `heading` between which lies what the braces
-/// enclose, none for `{}`. The block is the last of the heading, spaces, tabs and line ends aside, and between its
-/// braces stands no `{`, `}`, `<`, `>`, `\` or line end. Where there is no such block, the heading's whole length
-/// and `None` (this project).
+/// Returns the length of the content of `heading`, and the range inside its attribute block. The content is all bytes
+/// before the block, with the white space directly before it. The range has the offsets in `heading` of the bytes
+/// between the braces; it is empty for `{}`. Only spaces, tabs and line endings may follow the block. No `{`, `}`,
+/// `<`, `>`, `\` or line ending is between its braces. Returns the whole length and `None` if there is no such block
+/// (this project).
 #[tactic(auto, unfolding(crate::specs::AttributeBlocks::attribute_block))]
 pub fn extract_attribute_block_content_from_header_text(
     heading: &[u8],
@@ -41,7 +41,7 @@ pub fn extract_attribute_block_content_from_header_text(
     }
 }
 
-// How many bytes stand last that may stand after an attribute block.
+// The number of trailing bytes that may follow an attribute block.
 fn scan_behind_block(bytes: &[u8]) -> usize
     ensures value { result ≡ suffix_len is_behind_block bytes.now }
     ensures within { result ≤ length bytes.now }
@@ -53,7 +53,7 @@ fn scan_behind_block(bytes: &[u8]) -> usize
         .count()
 }
 
-// How many bytes stand last that may stand between the braces of an attribute block.
+// The number of trailing bytes that may be between the braces of an attribute block.
 fn scan_inside_block(bytes: &[u8]) -> usize
     ensures value { result ≡ suffix_len is_inside_block bytes.now }
     ensures within { result ≤ length bytes.now }
@@ -65,14 +65,14 @@ fn scan_inside_block(bytes: &[u8]) -> usize
         .count()
 }
 
-// Whether a byte may stand between the braces of an attribute block.
+// Whether a byte may be between the braces of an attribute block.
 fn is_inside_block(byte: u8) -> bool
     ensures { result ≡ is_inside_block byte }
 {
     !matches!(byte, b'{' | b'}' | b'<' | b'>' | b'\\' | b'\n' | b'\r')
 }
 
-// Without so many bytes at the end.
+// The bytes without this many at the end.
 fn without_last(bytes: &[u8], count: usize) -> &[u8]
     requires { count ≤ length bytes.now }
     ensures { result.now ≡ take (length bytes.now - count) bytes.now }
@@ -80,7 +80,7 @@ fn without_last(bytes: &[u8], count: usize) -> &[u8]
     &bytes[..bytes.len() - count]
 }
 
-// Whether the byte, which isn't 0, stands last.
+// Whether the last byte is this one, which is not 0.
 fn ends(bytes: &[u8], byte: u8) -> bool
     requires { 0 < byte }
     ensures value { result ≡ ends_with byte bytes.now }
@@ -92,7 +92,7 @@ fn ends(bytes: &[u8], byte: u8) -> bool
     }
 }
 
-// Where the brace stands that opens a block which is closed after these bytes.
+// The offset of the opening brace of a block whose closing brace follows these bytes.
 #[tactic(auto, unfolding(crate::specs::AttributeBlocks::opening_brace))]
 fn opening_brace(bytes: &[u8]) -> Option<usize>
     ensures value { result ≡ opening_of bytes.now }
@@ -107,9 +107,8 @@ fn opening_brace(bytes: &[u8]) -> Option<usize>
     }
 }
 
-/// The attributes that the attribute block of a heading gives it, all of them slices of the text that was read:
-/// the id, if there is one, the classes in order, and the keys in order, each with its value if it has one (this
-/// project).
+/// The attributes in the attribute block of a heading, all of them slices of the text. There is an optional id. The
+/// classes and the keys are in order, and each key has an optional value (this project).
 #[derive(Drop)]
 pub struct HeadingAttributes<'a> {
     pub id: Option<&'a str>,
@@ -117,10 +116,10 @@ pub struct HeadingAttributes<'a> {
     pub attrs: Vec<(&'a str, Option<&'a str>)>,
 }
 
-/// The attributes that the text between the braces of an attribute block gives, never `None`. Its words stand
-/// between tabs, 0x0C, spaces and line ends, and those of one byte give nothing. `#install` gives an id, and the
-/// last one stays; `.wide` a class; any other word a key, with what stands after the first `=` in it as its value,
-/// which may be empty, as the key may. The error is want of memory (this project).
+/// Returns the attributes in the text between the braces of an attribute block, never `None`. Tabs, 0x0C, spaces and
+/// line endings separate its words, and words of one byte are ignored. `#install` is an id, and the last id counts.
+/// `.wide` is a class. Any other word is a key; its value, if any, is the part after its first `=`. The key and the
+/// value may be empty. Fails only if an allocation fails (this project).
 pub fn parse_inside_attribute_block<'a>(
     alloc: Global,
     inside_attr_block: &'a str,
@@ -138,7 +137,7 @@ pub fn parse_inside_attribute_block<'a>(
     Ok(Some(attributes))
 }
 
-// Adds what a word gives.
+// Adds the attribute of a word.
 fn add_word<'a>(attributes: &mut HeadingAttributes<'a>, word: &'a str) -> Result<(), AllocError>
     ensures { OnOk result (attributes_in attributes.new
         ≡ with_words (attributes_in attributes.old) (filter is_telling (word.now ∷ []))) }
@@ -158,14 +157,14 @@ fn add_word<'a>(attributes: &mut HeadingAttributes<'a>, word: &'a str) -> Result
     Ok(())
 }
 
-// Whether a word gives something.
+// Whether a word has an attribute.
 fn is_telling(word: &str) -> bool
     ensures { result ≡ is_telling word.now }
 {
     2 <= word.len()
 }
 
-// The key that a word gives, and its value.
+// The key of a word, and its value.
 #[tactic(auto, unfolding(crate::specs::Attributes::key_and_value))]
 fn key_and_value(word: &str) -> (&str, Option<&str>)
     ensures { pair_in result ≡ key_and_value_of word.now }

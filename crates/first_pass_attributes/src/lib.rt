@@ -1,4 +1,4 @@
-//! The attribute block at the end of a heading, and the attributes that it gives.
+//! The attribute block at the end of a heading, and its attributes.
 #![tactic(auto)]
 
 pub mod attrs;
