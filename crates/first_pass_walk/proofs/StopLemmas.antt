@@ -25,13 +25,13 @@ module _ (q : ℕ → Bool) (d : List ℕ) (i n : ℕ) (z : List ℕ) (room : i 
       let v = chunk i n d in
       ap (λ l. mask_l l % 2 ^ 64) (ap (map (top 7)) lanes ∙ map-map (top 7) f v) ∙ mask_l-mod (map stops v) 64 (omega (arith, length-map v stops, long))
 
-  -- there is no bit but of these lanes
+  -- only the bits of these lanes can be set
   pub mask_within : mask_l (map (top 7) z) % 2 ^ 64 < 2 ^ n
   mask_within =
       let v = chunk i n d in
       subst (λ m. m < 2 ^ n) (sym mask_is) (subst (λ m. mask_l (map stops v) < 2 ^ m) (length-map v stops ∙ long) (mask_l-lt (map stops v)))
 
-  -- a lane's bit is clear just where q passes
+  -- the bit of a lane is clear exactly if its byte passes q
   pub mask_stops : agree_below stops (λ x. not (q x)) 256 ≡ true
       → (k : ℕ) → k < n → q (get_or d (i + k) 0) ≡ (bit_at (mask_l (map (top 7) z) % 2 ^ 64) k == 0)
   mask_stops all k within =
@@ -40,7 +40,7 @@ module _ (q : ℕ → Bool) (d : List ℕ) (i n : ℕ) (z : List ℕ) (room : i 
       clear_is _ _ (agree_below_at stops (λ x. not (q x)) 256 (get_or d (i + k) 0) all (fits (i + k)).fits)
       ∙ ap (λ b. cond b 1 0 == 0) (sym at) ∙ ap (λ b. b == 0) (sym (ap (λ m. bit_at m k) mask_is ∙ bit_mask_l (map stops v) k))
 
--- To take one from a number leaves its set bits, but for the lowest.
+-- Subtracting one from a number leaves all its set bits except the lowest.
 abbrev IsKeptOrLowest : ℕ → ℕ → Type 0
 IsKeptOrLowest n k = (bit_at (n - 1) k ≡ 1) ⊎ ((i : ℕ) → i < k → bit_at n i ≡ 0)
 
@@ -63,7 +63,7 @@ kept_or_lowest : (k n : ℕ) → 0 < n → bit_at n k ≡ 1 → IsKeptOrLowest n
 kept_or_lowest zero n some set = inr (λ i l. absurd (omega arith))
 kept_or_lowest (suc k) n some set = kept_by n k (n % 2) refl some set (kept_or_lowest k (n / 2))
 
--- no bit is set below the lowest
+-- no bit below the lowest one is set
 no_lower : (n s t : ℕ) → bit_at n s ≡ 1 → ((i : ℕ) → i < t → bit_at n i ≡ 0) → t ≤ s
 no_lower n s t set none =
     elim (cases_lt s t) [
@@ -72,7 +72,7 @@ no_lower n s t set none =
     ]
 
 module _ (n : ℕ) (some : 0 < n) (fits : n < 2 ^ 64) where
-  -- `n & (n - 1)` clears the lowest set bit alone
+  -- `n & (n - 1)` clears only the lowest set bit
   pub cleared : (k : ℕ) → bit_at (bit_and n (n - 1)) k ≡ 0 → (bit_at n k ≡ 0) ⊎ (k ≡ trailing_zeros w64 n)
   cleared k clear =
       elim (cases_eq (bit_at n k) 0) [

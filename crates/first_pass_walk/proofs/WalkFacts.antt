@@ -7,13 +7,7 @@ use Rattle.first_pass_items.specs.declared.option_set.Options.{Options}
 use Rattle.first_pass_items.specs.OptionWords.{has}
 use Rattle.first_pass_walk.specs.Walk.{is_special, MarksSpecial, is_word_byte, SparesWords}
 
--- what the table of the special bytes marks
-
--- the next marked place is one
-
--- CommonMark's bytes are special whatever the options are, so a byte that is not special is no line end
-
--- a letter or a space is none of these bytes, so the table of the special bytes marks none
+-- a letter, a space or a byte beyond ASCII is none of these bytes, so the table of the special bytes does not mark it
 isnt_word : (b c : ℕ) → is_word_byte b ≡ true → is_word_byte c ≡ false → b == c ≡ false
 isnt_word b c h k = elim (cases_eq b c) [
   | inl same ↦ absurd (true≢false (sym h ∙ ap is_word_byte same ∙ k))

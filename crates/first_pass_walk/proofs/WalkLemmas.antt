@@ -1,4 +1,4 @@
--- A walk from past the end calls nothing, wherever it begins there.
+-- A walk from any place past the end makes no calls.
 use Rattle.std.proofs.Common.{◌+◌, ℕ, ◌≡◌, ◌⊎◌, subst, ◌≤◌, ◌<◌, Bool, List, ◌∷◌, length, Option, inl, inr, arith, []}
 use Rattle.first_pass_walk.specs.declared.walk.LoopInstruction.{LoopInstruction}
 use Rattle.first_pass_walk.specs.Walk.{Marking, Walks, IsNextMarked}
@@ -16,12 +16,10 @@ walks_past step marking a b [] f answer last past_a past_b w =
     ]
 walks_past step marking a b (n ∷ ns) f answer last past_a past_b w = let in_range = next_within w.1 in absurd (omega arith)
 
--- a walk from where the sum stops short continues as from the sum, which is past the end
+-- two places that are equal or both past the end, as a saturated sum and the true sum are, have the same walks
 pub walks_from_sum : {F T : Type 0} (step : F → ℕ → ℕ → LoopInstruction (Option T) → F → Type 0) (marking : Marking) (a b : ℕ) (skips : List ℕ) (f : F)
     (answer : ℕ × Option T) (last : F)
     → (a ≡ b) ⊎ ((length marking.bytes ≤ a) × (length marking.bytes ≤ b)) → Walks step marking skips (a, f) (answer, last)
     → Walks step marking skips (b, f) (answer, last)
 walks_from_sum step marking a b skips f answer last (inl same) w = subst (λ (x : ℕ). Walks step marking skips (x, f) (answer, last)) same w
 walks_from_sum step marking a b skips f answer last (inr past) w = walks_past step marking a b skips f answer last past.0 past.1 w
-
--- what a walk returns, from what the closure's calls keep and break with

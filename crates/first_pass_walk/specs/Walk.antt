@@ -1,4 +1,4 @@
--- The bytes at which a token may begin, the next of them, and a walk over them.
+-- The bytes at which a token may begin, the next of them, and the walk over them.
 use Rattle.std.specs.Prelude.{◌≡◌, ℕ, ◌+◌, ◌^◌, ◌<◌, ◌≤◌, ◌==◌, ◌&&◌, ◌||◌, ◌⊎◌, Bool, true, false, nat_lt, List, [], ◌∷◌, length, slice_index, Option, None}
 use Rattle.std.specs.List.{slice_index_or, list_any}
 use Rattle.std.specs.Char.{is_ascii_alphabetic}
@@ -15,7 +15,7 @@ use Rattle.first_pass_walk.specs.declared.walk.LoopInstruction.TheVariants.{Cont
 abbrev pub is_one_of : List ℕ → ℕ → Bool
 is_one_of bytes b = list_any (λ c. b == c) bytes
 
--- line ends, and ! & * < [ \ ] _ and the backquote (CommonMark 6)
+-- line endings, and ! & * < [ \ ] _ and the backquote (CommonMark 6)
 abbrev pub begins_token : ℕ → Bool
 begins_token =
     is_one_of (line_feed ∷ carriage_return ∷ exclamation_mark ∷ ampersand ∷ asterisk ∷ less_than
@@ -42,7 +42,7 @@ unfoldable pub is_special : Options → ℕ → Bool
 is_special options b =
     begins_token b || (begins_cell options b || (begins_script options b || (begins_math options b || begins_smart options b)))
 
--- the table marks just the bytes at which a token may begin (this project)
+-- the table marks exactly the bytes at which a token may begin (this project)
 abbrev pub MarksSpecial : List Bool → Options → Type 0
 MarksSpecial lut options = (b : ℕ) → b < 256 → slice_index_or lut b false ≡ is_special options b
 
@@ -50,7 +50,7 @@ MarksSpecial lut options = (b : ℕ) → b < 256 → slice_index_or lut b false 
 abbrev pub is_marked : List Bool → List ℕ → ℕ → Bool
 is_marked lut bytes k = slice_index_or lut (slice_index bytes k) false
 
--- j is the least marked place from ix on (this project)
+-- j is the first marked place from ix on (this project)
 pub record IsNextMarked (lut : List Bool) (bytes : List ℕ) (ix j : ℕ) : Type 0 where
   pub from : ix ≤ j
   pub within : j < length bytes
@@ -61,29 +61,29 @@ pub record IsNextMarked (lut : List Bool) (bytes : List ℕ) (ix j : ℕ) : Type
 abbrev pub NoneMarkedFrom : List Bool → List ℕ → ℕ → Type 0
 NoneMarkedFrom lut bytes ix = (k : ℕ) → ix ≤ k → k < length bytes → is_marked lut bytes k ≡ false
 
--- a letter, a space or a byte of a character past ASCII (this project)
+-- a letter, a space or a byte of a character beyond ASCII (this project)
 abbrev pub is_word_byte : ℕ → Bool
 is_word_byte b = (is_ascii_alphabetic b || b == space) || (nat_lt 127 b && nat_lt b 256)
 
--- which of the 16 bytes from a place on are no word bytes: bit k of the mask is 1 just where the byte k after the place is none, and no bit from 16 on is set
--- (this project)
+-- The mask of the 16 bytes from a place on. Bit k is 1 exactly if byte k after the place is not a word byte, and no
+-- bit from 16 on is set (this project).
 pub record AreWordStops (bytes : List ℕ) (at mask : ℕ) : Type 0 where
   pub within : mask < 2 ^ 16
   pub stops : (k : ℕ) → k < 16 → is_word_byte (slice_index bytes (at + k)) ≡ (bit_at mask k == 0)
 
--- the table marks no letter, no space and no byte of a character past ASCII (this project)
+-- the table marks no letter, no space and no byte of a character beyond ASCII (this project)
 abbrev pub SparesWords : List Bool → Type 0
 SparesWords lut = (b : ℕ) → is_word_byte b ≡ true → slice_index_or lut b false ≡ false
 
--- a table of marks, and the bytes that a walk with it goes over (this project)
+-- a table of marks, and the bytes of a walk with that table (this project)
 pub record Marking : Type 0 where
   pub lut : List Bool
   pub bytes : List ℕ
 
--- Where step f k b i g says that the closure f, called at the place k with the byte b, may answer i and be g then:
--- the walk from a place calls it at the next marked place, from after what that call skips at the next one again, and so on, once for each of the skips.
--- It ends with the length where no marked place is left, or with what the next call breaks with. It goes from a place and the closure as it is there to an
--- answer and the closure as it is then (this project).
+-- A walk from a place with a closure f, to a result and the final state of f. Step f k b i g means: a call of f at
+-- the place k with the byte b may return i and leave the state g. Each call is at the next marked place after the
+-- bytes that the previous call skips; there is one call for each number in the list of skips. Then the walk returns
+-- the length if no marked place is left, or the result with which one more call breaks (this project).
 abbrev pub Walks : {F T : Type 0} → (F → ℕ → ℕ → LoopInstruction (Option T) → F → Type 0) → Marking → List ℕ → ℕ × F → (ℕ × Option T) × F → Type 0
 Walks {F} {T} step marking [] (ix, f) (answer, last) =
     (NoneMarkedFrom marking.lut marking.bytes ix × (answer ≡ (length marking.bytes, None)) × (last ≡ f))
@@ -92,7 +92,7 @@ Walks {F} {T} step marking (n ∷ ns) (ix, f) (answer, last) =
     (j : ℕ) × IsNextMarked marking.lut marking.bytes ix j × (g : F) × step f j (slice_index marking.bytes j) (ContinueAndSkip n) g
     × Walks step marking ns (j + n + 1, g) (answer, last)
 
--- the answer of a walk from ix with the closure f: there are calls that lead to it (this project)
+-- the result of a walk from ix with the closure f: some sequence of calls leads to it (this project)
 pub record IsWalk {F T : Type 0} (step : F → ℕ → ℕ → LoopInstruction (Option T) → F → Type 0) (lut : List Bool) (bytes : List ℕ) (ix : ℕ) (f : F)
     (answer : ℕ × Option T) : Type 0 where
   pub skips : List ℕ

@@ -8,17 +8,17 @@ use first_pass_items::option_set::Options;
 use first_pass_lines::lanes::LANES;
 use std::simd::prelude::*;
 
-/// What a walk does after a call at a place.
+/// The result of a call during a walk.
 #[derive(Drop)]
 pub enum LoopInstruction<T> {
-    /// It continues, after as many bytes after the place as the number says.
+    /// The walk continues after skipping this many bytes after the place of the call.
     ContinueAndSkip(usize),
-    /// It ends, and returns the number and the value.
+    /// The walk ends, and returns the number and the value.
     BreakAtWith(usize, T),
 }
 
-/// The table of the bytes at which a token may begin: the entry at a byte says whether one may.
-/// CommonMark 6; which bytes the extensions add, `specs/Walk.antt` says.
+/// Returns the table of the bytes at which a token may begin: the entry of a byte is true if one may. CommonMark 6;
+/// `specs/Walk.antt` lists the bytes that the extensions add.
 pub fn special_bytes(options: &Options) -> [bool; 256]
     ensures value { MarksSpecial result options.now }
 {
@@ -29,7 +29,7 @@ pub fn special_bytes(options: &Options) -> [bool; 256]
     table
 }
 
-/// The least place at or after the offset `ix` of `bytes` whose byte the table marks. `None` where
+/// Returns the first place at or after the offset `ix` of `bytes` whose byte is marked in the table, or `None` if
 /// there is none. CommonMark 6.
 pub fn next_special(lut: &[bool; 256], bytes: &[u8], ix: usize) -> Option<usize>
     ensures found { IfSome result (λ j. IsNextMarked lut.now bytes.now ix j) }
@@ -43,8 +43,8 @@ pub fn next_special(lut: &[bool; 256], bytes: &[u8], ix: usize) -> Option<usize>
     None
 }
 
-/// As `next_special`, 16 bytes at a time, where the table marks no letter, no space and no byte of a character past
-/// ASCII.
+/// Same as `next_special`, but reads 16 bytes at a time. The table must not mark a letter, a space or a byte of a
+/// character beyond ASCII.
 pub fn next_special_in_words(lut: &[bool; 256], bytes: &[u8], ix: usize) -> Option<usize>
     requires { SparesWords lut.now }
     ensures found { IfSome result (λ j. IsNextMarked lut.now bytes.now ix j) }
@@ -69,8 +69,8 @@ pub fn next_special_in_words(lut: &[bool; 256], bytes: &[u8], ix: usize) -> Opti
     next_special(lut, bytes, next)
 }
 
-// Which of the 16 bytes from an offset on are no letters, spaces or bytes past ASCII: a bit for each byte, the lowest
-// for the first.
+// The bytes among the 16 from an offset on that are not letters, spaces or bytes beyond ASCII: a bit for each byte,
+// the lowest for the first.
 #[inline(always)]
 fn word_stops(bytes: &[u8], at: usize) -> u64
     requires { at + 16 ≤ length bytes.now }
@@ -83,10 +83,10 @@ fn word_stops(bytes: &[u8], at: usize) -> u64
     stops.to_bitmask()
 }
 
-/// Calls the closure at the least place at or after the offset `ix` of `bytes` whose byte the table
-/// marks, with the place and its byte, then at the least marked place after what that call skips, and
-/// so on. Returns what a call breaks with; the length and `None` where no marked place is left, also
-/// where a call skips past the end. CommonMark 6.
+/// Calls the closure at marked bytes of `bytes`, in order, with the place and the byte. The first call is at the
+/// first marked place at or after the offset `ix`. Each later call is at the first marked place after the bytes that
+/// the previous call skips. Returns the number and the value with which a call breaks. Returns the length and `None`
+/// if no marked place is left, or if a call skips past the end. CommonMark 6.
 pub fn iterate_special_bytes<F, T>(
     lut: &[bool; 256],
     bytes: &[u8],

@@ -7,7 +7,7 @@ use Rattle.first_pass_walk.specs.Walk.{is_marked}
 use Rattle.first_pass_walk.proofs.StopLemmas.{cleared, lowest_within}
 use Rattle.first_pass_walk.proofs.walk.next_special_in_words.Goals as goal
 
--- the places before a load, and those of the load that were asked
+-- the places before a load, and the tested places of the load
 unmarked : (lut : List Bool) (bytes : List ℕ) (ix next n : ℕ) → ((k : ℕ) → ix ≤ k → k < next → is_marked lut bytes k ≡ false)
     → ((k : ℕ) → k < n → is_marked lut bytes (next + k) ≡ false) → (k : ℕ) → ix ≤ k → k < next + n → is_marked lut bytes k ≡ false
 unmarked lut bytes ix next n before after k from to =

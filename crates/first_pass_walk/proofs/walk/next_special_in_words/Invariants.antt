@@ -12,7 +12,7 @@ invariant-loop-next l = record {
 abbrev pub decreases-loop-next : goal.decreases-loop-next
 decreases-loop-next l = length l.bytes - l.next
 
--- what is left to ask of the 16 bytes has its bit set
+-- the bit of each of the 16 bytes that is still to be tested is set
 abbrev pub invariant-loop-stops : goal.invariant-loop-stops
 invariant-loop-stops l = record {
   within : l.stops < 2 ^ 16;
