@@ -13,7 +13,7 @@ use Rattle.first_pass_flank.specs.declared.flank.DelimiterRun.{DelimiterRun}
 use Rattle.first_pass_flank.specs.Flank.{last_char, is_punctuation, can_open, can_close, opens_between, closes_between}
 use Rattle.first_pass_flank.specs.Flanking.{is_left_flanking, is_right_flanking, underscore_opens, underscore_closes, GoesBy}
 
--- the text before a last character is text
+-- the bytes before the last character of a text are UTF-8
 front_is_text : (text front : List ℕ) (c : ℕ) → IsUtf8 text → IsScalar c → text ≡ front ++ encode_utf8 c → IsUtf8 front
 front_is_text text front c utf8 scalar parts =
     let cut = IsCharBoundary-at_seam text front (encode_utf8 c) parts (IsUtf8-encode c scalar) in
@@ -26,7 +26,7 @@ last_of front c =
     rw n (slice_get_read (front ++ c ∷ []) (length (front ++ c ∷ [])) (length front) c refl (omega (arith, length-append front (c ∷ [])))
     (sym (get_or-append_seam front c [] c)))
 
--- a character that a text ends with is its last one
+-- the character at the end of a text is its last one
 last_char_is : (text front : List ℕ) (c : ℕ) → IsUtf8 text → IsScalar c → text ≡ front ++ encode_utf8 c → last_char text ≡ Some c
 unfolding last_char
 last_char_is text front c utf8 scalar parts =
@@ -42,7 +42,7 @@ unfolding last_char
 last_char_none [] h = rw chars-nil
 last_char_none (b ∷ bs) h = absurd (omega arith)
 
--- the last character of a text, by what stands before it
+-- the last character of a text, from the bytes before it
 pub last_char_by : (A : Type 0) (text whole front : List ℕ) (r : Option ℕ)
     → whole ≡ text → IsUtf8 text → IfSome r IsScalar → MatchOption r ((length whole ≡ 0) × A) (λ c. whole ≡ front ++ encode_utf8 c) → r ≡ last_char text
 last_char_by A text whole front None same utf8 scalar parts = sym (last_char_none text (ap length (sym same) ∙ parts.0))
@@ -82,7 +82,7 @@ underscore_close_tests false true false false = refl
 underscore_close_tests false false false true = refl
 underscore_close_tests false false false false = refl
 
--- the same where nothing stands on one side
+-- the same with no character on one side
 alone_tests : (w p : Bool) → not w ≡ not w && (not p || true)
 alone_tests true p = refl
 alone_tests false true = refl
@@ -93,7 +93,7 @@ alone_underscore_tests true p = refl
 alone_underscore_tests false true = refl
 alone_underscore_tests false false = refl
 
--- emphasis by CommonMark's rules
+-- emphasis by the rules of CommonMark
 star_opens_by : (r : DelimiterRun) (before after : Option ℕ) → r.before ≡ before → r.after ≡ after → GoesBy 42 can_open is_left_flanking r
 unfolding can_open opens_between
 star_opens_by r before None eb ea plain star = rw ea refl

@@ -22,11 +22,11 @@ is_row Scan = false
 is_row Active = true
 is_row Disabled = false
 
--- the first character of a text, if it has any (this project)
+-- the first character of a text, if there is one (this project)
 unfoldable pub first_char : List ℕ → Option ℕ
 first_char text = slice_get (chars text) 0
 
--- the last character of a text, if it has any (this project)
+-- the last character of a text, if there is one (this project)
 unfoldable pub last_char : List ℕ → Option ℕ
 last_char text = slice_get (chars text) (length (chars text) - 1)
 
@@ -35,8 +35,8 @@ unfoldable pub ends_with_pipe : List ℕ → Bool
 ends_with_pipe text =
     slice_index text (length text - 1) == pipe && not (nat_le 2 (length text) && slice_index text (length text - 2) == backslash)
 
--- the run of so many bytes that the text begins with, which stands in the content at a place; one of no bytes has no delimiter, and so none of the cases of
--- one (CommonMark 6.2, delimiter run)
+-- the run of this size at the start of the text, and the characters beside it, from its place in the content; an
+-- empty run has no delimiter, so no rule for a delimiter applies to it (CommonMark 6.2, delimiter run)
 unfoldable pub run_beside : List ℕ → List ℕ → ℕ → ℕ → TableParseMode → DelimiterRun
 run_beside content text size at mode = record {
   delimiter = slice_index (take size text) 0;
@@ -47,7 +47,8 @@ run_beside content text size at mode = record {
   after = first_char (drop size text);
 }
 
--- a run of `*`, or of two tildes and more: such a run may open and close inside a word, where a run of `_` may not (CommonMark 6.2; GFM 6.5)
+-- a run of `*`, or of two or more tildes: it can open and close inside a word, unlike a run of `_` (CommonMark 6.2;
+-- GFM 6.5)
 abbrev pub is_intraword : DelimiterRun → Bool
 is_intraword r = r.delimiter == asterisk || (r.delimiter == tilde && nat_lt 1 r.size)
 
@@ -55,11 +56,12 @@ is_intraword r = r.delimiter == asterisk || (r.delimiter == tilde && nat_lt 1 r.
 abbrev pub follows_tilde : DelimiterRun → ℕ → Bool
 follows_tilde r before = r.delimiter == tilde && before == tilde
 
--- an apostrophe after a bracket that closes (this project)
+-- an apostrophe after a closing bracket (this project)
 abbrev pub follows_bracket : DelimiterRun → ℕ → Bool
 follows_bracket r before = r.delimiter == apostrophe && (before == right_bracket || before == right_parenthesis)
 
--- a run between two characters can open: the first case that fits (CommonMark 6.2, left-flanking; the rest: GFM 4.10, 6.5, this project)
+-- whether a run between two characters can open; the first case that applies decides (CommonMark 6.2, left-flanking;
+-- the rest: GFM 4.10, 6.5, this project)
 unfoldable pub opens_between : DelimiterRun → ℕ → ℕ → Bool
 opens_between r before after =
     if is_whitespace after then false
@@ -71,7 +73,8 @@ opens_between r before after =
     else (if is_whitespace before then true
     else is_punctuation before && not (follows_bracket r before)))))))
 
--- a run between two characters can close: the first case that fits (CommonMark 6.2, right-flanking; the rest: GFM 4.10, 6.5, this project)
+-- whether a run between two characters can close; the first case that applies decides (CommonMark 6.2,
+-- right-flanking; the rest: GFM 4.10, 6.5, this project)
 unfoldable pub closes_between : DelimiterRun → ℕ → ℕ → Bool
 closes_between r before after =
     if is_whitespace before then false
@@ -81,13 +84,15 @@ closes_between r before after =
     else (if follows_tilde r before then true
     else is_whitespace after || is_punctuation after))))
 
--- a run can open beside what stands before and after it: the end of the text counts as white space, and so does the beginning of the content (CommonMark 6.2)
+-- a run can open between these characters; the end of the text and the start of the content count as white space
+-- (CommonMark 6.2)
 abbrev pub opens_beside : DelimiterRun → Option ℕ → Option ℕ → Bool
 opens_beside r before None = false
 opens_beside r None (Some after) = not (is_whitespace after)
 opens_beside r (Some before) (Some after) = opens_between r before after
 
--- a run can close beside what stands before and after it (CommonMark 6.2)
+-- a run can close between these characters; the end of the text and the start of the content count as white space
+-- (CommonMark 6.2)
 abbrev pub closes_beside : DelimiterRun → Option ℕ → Option ℕ → Bool
 closes_beside r None after = false
 closes_beside r (Some before) None = not (is_whitespace before)

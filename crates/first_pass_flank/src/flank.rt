@@ -1,4 +1,4 @@
-//! Delimiter runs beside characters: whether they can open or close.
+//! Delimiter runs between characters: whether they can open or close.
 
 ghost use Rattle.std.specs.Prelude.{◌≡◌, ◌≤◌, length, drop, take, slice_index, IsCharBoundary};
 ghost use Rattle.first_pass_items.specs.Bytes.{asterisk, underscore};
@@ -7,10 +7,10 @@ ghost use Rattle.first_pass_flank.specs.Flanking.{is_left_flanking, is_right_fla
 
 use unicode::properties::{GeneralCategory, GeneralCategoryGroup};
 
-/// How a line is read with regard to tables (GFM 4.10).
+/// The role of a line in tables (GFM 4.10).
 #[derive(Clone, Copy, PartialEq, Eq)]
 pub enum TableParseMode {
-    /// The line may head a table.
+    /// The line may be a header row.
     Scan,
     /// The line is a row of a table.
     Active,
@@ -18,25 +18,25 @@ pub enum TableParseMode {
     Disabled,
 }
 
-/// A delimiter run, and what stands beside it (CommonMark 6.2).
+/// A delimiter run, and the characters beside it (CommonMark 6.2).
 #[derive(Clone, Copy)]
 pub struct DelimiterRun {
-    /// The byte that the run is made of; 0 where the run has no bytes.
+    /// The byte of which the run consists, or 0 if the run is empty.
     pub delimiter: u8,
-    /// Whether the run stands in a row of a table.
+    /// Whether the run is in a row of a table.
     pub in_row: bool,
-    /// Whether a pipe that no backslash escapes stands before the run.
+    /// Whether a pipe that no backslash escapes is directly before the run.
     pub behind_pipe: bool,
-    /// The character of the content before the run; `None` at the content's beginning.
+    /// The character of the content before the run, or `None` at the start of the content.
     pub before: Option<char>,
-    /// The character of the text after the run; `None` at the text's end.
+    /// The character of the text after the run, or `None` at the end of the text.
     pub after: Option<char>,
-    /// How many bytes the run has.
+    /// The length of the run in bytes.
     pub size: usize,
 }
 
 impl DelimiterRun {
-    /// Whether the run can open. CommonMark 6.2, GFM 4.10 and 6.5.
+    /// Returns whether the run can open. CommonMark 6.2, GFM 4.10 and 6.5.
     #[inline(always)]
     #[tactic(auto, unfolding(crate::specs::Flank::can_open))]
     pub fn can_open(&self) -> bool
@@ -51,7 +51,7 @@ impl DelimiterRun {
         }
     }
 
-    /// Whether the run can close. CommonMark 6.2, GFM 4.10 and 6.5.
+    /// Returns whether the run can close. CommonMark 6.2, GFM 4.10 and 6.5.
     #[inline(always)]
     #[tactic(auto, unfolding(crate::specs::Flank::can_close))]
     pub fn can_close(&self) -> bool
@@ -67,7 +67,7 @@ impl DelimiterRun {
     }
 }
 
-/// Whether a character is Unicode punctuation: of the general category P or S. CommonMark 2.1.
+/// Returns whether a character is Unicode punctuation: of the general category P or S. CommonMark 2.1.
 #[tactic(auto, unfolding(crate::specs::Flank::is_punctuation))]
 pub fn is_punctuation(c: char) -> bool
     ensures value { result ≡ flanks.is_punctuation c }
@@ -77,9 +77,9 @@ pub fn is_punctuation(c: char) -> bool
         || GeneralCategoryGroup::Symbol.contains(category)
 }
 
-/// Whether the delimiter run of `run_len` bytes that `suffix` begins with can open, where it stands in
-/// the content `s` at the offset `ix`. `suffix` runs on after the run to the end of the text; in a row
-/// of a table, which `mode` says, a pipe ends a cell. A run of no bytes goes by what stands beside it alone.
+/// Returns whether the delimiter run of `run_len` bytes at the start of `suffix` can open. The run is at the offset
+/// `ix` of the content `s`, and `suffix` extends to the end of the text. If `mode` is `Active`, the line is a row of
+/// a table, and a pipe ends a cell. The result for an empty run depends only on `mode` and the text around it.
 /// CommonMark 6.2, GFM 4.10 and 6.5.
 pub fn delim_run_can_open(
     s: &str,
@@ -97,9 +97,9 @@ pub fn delim_run_can_open(
     run_beside(s, suffix, run_len, ix, mode).can_open()
 }
 
-/// Whether the delimiter run of `run_len` bytes that `suffix` begins with can close, where it stands in
-/// the content `s` at the offset `ix`. `suffix` runs on after the run to the end of the text; in a row
-/// of a table, which `mode` says, a pipe ends a cell. A run of no bytes goes by what stands beside it alone.
+/// Returns whether the delimiter run of `run_len` bytes at the start of `suffix` can close. The run is at the offset
+/// `ix` of the content `s`, and `suffix` extends to the end of the text. If `mode` is `Active`, the line is a row of
+/// a table, and a pipe ends a cell. The result for an empty run depends only on `mode` and the text around it.
 /// CommonMark 6.2, GFM 4.10 and 6.5.
 pub fn delim_run_can_close(
     s: &str,
@@ -117,8 +117,8 @@ pub fn delim_run_can_close(
     run_beside(s, suffix, run_len, ix, mode).can_close()
 }
 
-/// Runs of `*` and `_` outside the rows of a table open and close emphasis just as the first four rules
-/// of CommonMark 6.2 say, by left-flanking and right-flanking runs.
+/// Outside the rows of a table, runs of `*` and `_` open and close emphasis exactly by the first four rules of
+/// CommonMark 6.2. These use left-flanking and right-flanking runs.
 pub fn law_of_emphasis(run: &DelimiterRun)
     ensures star_opens { GoesBy asterisk flanks.can_open is_left_flanking run.now }
     ensures star_closes { GoesBy asterisk flanks.can_close is_right_flanking run.now }
@@ -126,7 +126,7 @@ pub fn law_of_emphasis(run: &DelimiterRun)
     ensures underscore_closes { GoesBy underscore flanks.can_close underscore_closes run.now }
 {}
 
-// The run that `suffix` begins with, and what stands beside it.
+// The run at the start of `suffix`, and the characters beside it.
 #[tactic(auto, unfolding(crate::specs::Flank::run_beside))]
 fn run_beside(
     s: &str,
@@ -151,7 +151,7 @@ fn run_beside(
     }
 }
 
-// The first byte; 0 where there is none.
+// The first byte, or 0 if there is none.
 fn first_byte(bytes: &[u8]) -> u8
     ensures { result ≡ slice_index bytes.now 0 }
 {
@@ -168,7 +168,7 @@ fn is_row(mode: TableParseMode) -> bool
     }
 }
 
-/// Whether the text ends with a pipe that no backslash escapes (GFM 4.10).
+/// Returns whether the text ends with a pipe that no backslash escapes (GFM 4.10).
 #[tactic(auto, unfolding(crate::specs::Flank::ends_with_pipe))]
 pub fn ends_with_pipe(text: &[u8]) -> bool
     ensures { result ≡ flanks.ends_with_pipe text.now }
@@ -180,7 +180,7 @@ pub fn ends_with_pipe(text: &[u8]) -> bool
     len < 2 || text[len - 2] != b'\\'
 }
 
-/// The first character of a text; `None` where the text is empty.
+/// Returns the first character of a text, or `None` if the text is empty.
 #[tactic(auto, unfolding(crate::specs::Flank::first_char))]
 pub fn first_char(text: &str) -> Option<char>
     ensures { result ≡ flanks.first_char text.now }
@@ -188,7 +188,7 @@ pub fn first_char(text: &str) -> Option<char>
     text.chars().next()
 }
 
-/// The last character of a text; `None` where the text is empty.
+/// Returns the last character of a text, or `None` if the text is empty.
 pub fn last_char(text: &str) -> Option<char>
     ensures { result ≡ flanks.last_char text.now }
 {
