@@ -1,4 +1,4 @@
--- Lines that are written, held or left, and what a step does to them.
+-- Lines that are written, held back or remain, and the effect of a step on them.
 use Rattle.std.proofs.Common.{◌≡◌, ℕ, List, [], ◌++◌, Option, Result, Ok, Err, OnErr, refl, sym, ap, subst, ◌∙◌}
 use Rattle.std.proofs.Common.{append_assoc, append-nil}
 use Rattle.std.proofs.KnownBytes.{Appends-nil, Appends-trans}
@@ -7,7 +7,7 @@ use Rattle.first_pass_host.specs.declared.fault.BlocksFault.{BlocksFault}
 use Rattle.first_pass_host.specs.Held.{AreUnderWay}
 use Rattle.first_pass_host.specs.Streams.{Stream, stream_between, AppendsFront, WritesText}
 
--- before the first line, where all are left
+-- before the first line: all lines remain
 pub none_written : (lines held left : List ℕ) (known : Option (List ℕ)) → held ≡ [] → left ≡ lines
     → AreUnderWay lines held left (stream_between known known)
 none_written lines held left known empty is = record {
@@ -16,7 +16,7 @@ none_written lines held left known empty is = record {
   appended = Appends-nil known;
 }
 
--- with the next line held
+-- after the next line is held back
 pub next_held : (lines held left next more rest : List ℕ) (output : Stream) → left ≡ next ++ rest → more ≡ held ++ next
     → AreUnderWay lines held left output → AreUnderWay lines more rest output
 next_held lines held left next more rest output left_is more_is u = record {
@@ -26,7 +26,7 @@ next_held lines held left next more rest output left_is more_is u = record {
   appended = u.appended;
 }
 
--- with a beginning of what is held written
+-- after a beginning of the held bytes is written
 pub piece_written : (lines held kept left : List ℕ) (old mid new : Option (List ℕ)) → AreUnderWay held kept [] (stream_between mid new)
     → AreUnderWay lines held left (stream_between old mid) → AreUnderWay lines kept left (stream_between old new)
 piece_written lines held kept left old mid new piece u = record {
@@ -36,14 +36,14 @@ piece_written lines held kept left old mid new piece u = record {
   appended = Appends-trans old mid new u.written piece.written u.appended piece.appended;
 }
 
--- with all that is held written, and no line left
+-- after all held bytes are written and no line remains
 pub all_written : (lines held left : List ℕ) (old mid new : Option (List ℕ)) → left ≡ [] → AreUnderWay lines held left (stream_between old mid)
     → Appends mid new held → Appends old new lines
 all_written lines held left old mid new none u appended =
     subst (Appends old new) (sym (append-nil (u.written ++ held)) ∙ ap (λ l. (u.written ++ held) ++ l) (sym none) ∙ u.split)
     (Appends-trans old mid new u.written held u.appended appended)
 
--- a beginning of what is held, after what is written, is a beginning of the lines
+-- the written lines and a beginning of the held bytes are a beginning of all lines
 pub front_written : (lines held left : List ℕ) (old mid new : Option (List ℕ)) → AreUnderWay lines held left (stream_between old mid)
     → AppendsFront mid new held → AppendsFront old new lines
 front_written lines held left old mid new u front = record {
@@ -54,13 +54,13 @@ front_written lines held left old mid new u front = record {
   appended = Appends-trans old mid new u.written front.written u.appended front.appended;
 }
 
--- so is what is written
+-- the written lines are a beginning of all lines
 pub front_so_far : (lines held left : List ℕ) (old new : Option (List ℕ)) → AreUnderWay lines held left (stream_between old new)
     → AppendsFront old new lines
 front_so_far lines held left old new u =
     front_written lines held left old new new u record { written = []; left = held; split = refl; appended = Appends-nil new }
 
--- a beginning of the first of two texts, or the first and a beginning of the second, is one of both
+-- a beginning of the first of two texts is a beginning of both, and so is the first with a beginning of the second
 pub front_first : (lines others : List ℕ) (old new : Option (List ℕ)) → AppendsFront old new lines → AppendsFront old new (lines ++ others)
 front_first lines others old new front = record {
   written = front.written;
@@ -83,7 +83,7 @@ pub on_any : {T E P : Type 0} (r : Result T E) → P → OnErr r P
 on_any (Ok x) p = tt
 on_any (Err e) p = p
 
--- a text that is written is written under another name
+-- a text that equals the written one is written
 pub written_as : (lines same : List ℕ) (output : Stream) (result : Result (Unit {0}) BlocksFault) → lines ≡ same → WritesText lines output result
     → WritesText same output result
 written_as lines same output result is writes = subst (λ l. WritesText l output result) is writes

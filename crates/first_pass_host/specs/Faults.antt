@@ -1,4 +1,4 @@
--- What the program `blocks` says of a fault, and the status that it ends with (this project).
+-- The messages of the program `blocks` for its faults, and its exit status (this project).
 use Rattle.std.specs.Prelude.{ℕ, List, codes}
 use Rattle.first_pass_host.specs.declared.fault.BlocksFault.{BlocksFault}
 use Rattle.first_pass_host.specs.declared.fault.BlocksFault.TheVariants.{OutOfMemory, NotUtf8, BadOptions, ReadFailed, WriteFailed}
@@ -11,7 +11,7 @@ message_of BadOptions = codes "bad options"
 message_of ReadFailed = codes "read failed"
 message_of WriteFailed = codes "write failed"
 
--- 1 where memory was refused, else 2
+-- 1 if an allocation failed, otherwise 2
 abbrev pub status_of : BlocksFault → ℕ
 status_of OutOfMemory = 1
 status_of _ = 2

@@ -1,4 +1,4 @@
--- Lines that are held back before they are written, so that they are written in pieces (this project).
+-- Lines that are held back, so that they are written in pieces (this project).
 use Rattle.std.specs.Prelude.{◌≡◌, ℕ, List, [], ◌++◌, Option, Some, None, Result, Ok, Vec}
 use Rattle.std.specs.declared.alloc.AllocError.{AllocError}
 use Rattle.std.specs.declared.alloc.Global.{Global}
@@ -6,13 +6,13 @@ use Rattle.std.specs.Borrow.{MutBor}
 use Rattle.std.specs.Io.KnownBytes.{Appends}
 use Rattle.first_pass_host.specs.Streams.{Stream}
 
--- of lines, a beginning is written to an output, what comes after it is held, and the rest is left
+-- lines in three parts: the first is written to an output, the next is held back, and the rest remains
 pub record AreUnderWay (lines held left : List ℕ) (output : Stream) : Type 0 where
   pub written : List ℕ
   pub split : (written ++ held) ++ left ≡ lines
   pub appended : Appends output.old output.new written
 
--- what a call does that is given bytes and an item: its result, and the bytes after it
+-- the effect of a call with bytes and an item: its result, and the bytes after it
 abbrev pub Calls : Type 0 → Type 1
 Calls A = MutBor (Vec ℕ Global) → A → Result (Unit {0}) AllocError → MutBor (Vec ℕ Global) → Type 0
 
@@ -20,7 +20,8 @@ Calls A = MutBor (Vec ℕ Global) → A → Result (Unit {0}) AllocError → Mut
 abbrev pub AppendsLine : {A : Type 0} → Calls A → (A → List ℕ) → Type 0
 AppendsLine {A} calls line = (old new : MutBor (Vec ℕ Global)) (x : A) → calls old x (Ok tt) new → new.now.items ≡ old.now.items ++ line x
 
--- items that an iterator gives are read as lines: a call appends that of each, and the lines of what is left are that of the next item and those after it
+-- The lines of the items of an iterator. A call appends the line of its item. The lines of an iterator are the line
+-- of its next item and the lines of the remaining ones.
 pub record AreLines {I A : Type 0} (steps : I → Option A → I → Type 0) (calls : Calls A) (line : A → List ℕ) (lines : I → List ℕ) : Type 0 where
   pub appended : AppendsLine calls line
   pub next : (s t : I) (x : A) → steps s (Some x) t → lines s ≡ line x ++ lines t

@@ -1,4 +1,4 @@
--- Which options the words after a program's name stand for (this project).
+-- The options that the words after a program's name denote (this project).
 use Rattle.std.specs.Prelude.{◌≡◌, ℕ, List, [], ◌∷◌, bit_and, String, string_bytes}
 use Rattle.std.specs.Str.Parse.{IsNumeral, digits_value}
 
@@ -6,11 +6,11 @@ use Rattle.std.specs.Str.Parse.{IsNumeral, digits_value}
 abbrev pub known_bits : ℕ
 known_bits = 65534
 
--- a word that stands for options with these bits: one or more ASCII digits, whose decimal value has no other bits than those of options
+-- a word that denotes options with these bits: one or more ASCII digits, whose decimal value has only bits of options
 abbrev pub StandsFor : List ℕ → ℕ → Type 0
 StandsFor word bits = IsNumeral 10 word × (digits_value 10 word ≡ bits) × (bit_and bits known_bits ≡ bits)
 
--- Words that stand for options with these bits: no word for none, or one word.
+-- words that denote options with these bits: no word for no options, or one word
 abbrev pub StandFor : {A : Type 0} → List (String A) → ℕ → Type 0
 StandFor [] bits = bits ≡ 0
 StandFor (word ∷ []) bits = StandsFor (string_bytes word) bits

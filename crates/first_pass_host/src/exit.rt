@@ -1,4 +1,4 @@
-//! The end of a program.
+//! The exit status of a program.
 
 ghost use Rattle.std.specs.Prelude.{◌≡◌, OnOk, IfErr};
 ghost use Rattle.std.specs.Process.{exit_status};
@@ -7,8 +7,8 @@ ghost use Rattle.first_pass_host.specs.Faults.{status_of};
 use crate::fault::BlocksFault;
 use std::process::ExitCode;
 
-/// The status that a program ends with: 0 if its run succeeded, otherwise that of the fault, whose message is then a
-/// line on standard error.
+/// Returns the exit status of a program: 0 if its run succeeded, otherwise that of the fault. Writes the message of a
+/// fault as a line to standard error.
 pub fn exit_code(rt: &HostRuntime, ended: Result<(), BlocksFault>) -> ExitCode
     ensures ok { OnOk ended (exit_status result ≡ 0) }
     ensures fault { IfErr ended (λ fault. exit_status result ≡ status_of fault) }

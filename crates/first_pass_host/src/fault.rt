@@ -1,4 +1,4 @@
-//! Why a run ended without its whole output.
+//! The faults that end a run before its whole output.
 
 ghost use Rattle.std.specs.Prelude.{◌≡◌};
 ghost use Rattle.first_pass_host.specs.declared.fault.BlocksFault.TheVariants.{OutOfMemory};
@@ -6,23 +6,23 @@ ghost use Rattle.first_pass_host.specs.Faults.{message_of, status_of};
 
 use std::alloc::AllocError;
 
-/// Why a run of the program `blocks` ended without its whole output.
+/// A fault that ends a run of the program `blocks` before its whole output.
 #[derive(Clone, Copy, Debug, PartialEq, Eq)]
 pub enum BlocksFault {
-    /// A request for memory was refused.
+    /// An allocation failed.
     OutOfMemory,
     /// The input is not UTF-8.
     NotUtf8,
-    /// The words are not one numeral of known options at most.
+    /// There is more than one word, or a word is not a numeral of known options.
     BadOptions,
     /// A read failed.
     ReadFailed,
-    /// A write failed, or took no byte.
+    /// A write failed, or wrote no byte.
     WriteFailed,
 }
 
 impl BlocksFault {
-    /// What the program says of it on standard error.
+    /// Returns the message of the program on standard error.
     pub fn message(self) -> &'static str
         ensures { result.now ≡ message_of self }
     {
@@ -35,7 +35,7 @@ impl BlocksFault {
         }
     }
 
-    /// The status that the program ends with.
+    /// Returns the exit status of the program.
     pub fn status(self) -> u8
         ensures { result ≡ status_of self }
     {

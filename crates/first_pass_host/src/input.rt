@@ -7,11 +7,11 @@ use crate::fault::BlocksFault;
 use std::alloc::Global;
 use std::io::Read;
 
-/// How many bytes a read asks for.
+/// The greatest number of bytes of a read.
 const PIECE: usize = 8192;
 
-/// The bytes of the input up to its end, the first read that gives none. A read that fails is
-/// `ReadFailed`; where memory is refused the fault is `OutOfMemory`, and nothing more is read.
+/// Returns all bytes of the input, up to the first read that returns none. Returns `ReadFailed` if a read fails, and
+/// `OutOfMemory` if an allocation fails; nothing more is read then.
 pub fn read_whole<R: Read>(alloc: Global, input: &mut R) -> Result<Vec<u8>, BlocksFault>
     ensures ok { IfOk result (λ bytes. ReadsWhole (R.remaining input.old) (R.remaining input.new) bytes.items) }
     ensures fault { IfErr result IsReadFault }

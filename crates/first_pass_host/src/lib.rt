@@ -1,5 +1,4 @@
-//! What a program takes from where it runs, and gives back: its words, the whole input, the output in pieces, and the
-//! fault that ends it.
+//! Input and output of a program: its words, the whole input, the output in pieces, and its faults.
 #![tactic(auto)]
 
 pub mod exit;

@@ -1,4 +1,4 @@
-//! The word that names the options.
+//! The word for the options.
 
 ghost use Rattle.std.specs.Prelude.{◌≡◌, ◌==◌, ℕ, IfSome, IsNone, slice_index};
 ghost use Rattle.first_pass_items.specs.Bytes.{plus_sign};
@@ -7,9 +7,9 @@ ghost use Rattle.first_pass_host.specs.OptionWord.{StandFor, StandsFor};
 use bitflags::Flags;
 use first_pass_items::option_set::Options;
 
-/// The options that the words after a program's name stand for: none without a word, else those of the
-/// one word, the decimal value of their bits in one or more ASCII digits. `None` where there are more
-/// words, or another byte, or a value that is not that of known options. It takes no memory.
+/// Returns the options that the words after a program's name denote. No word denotes no options. A single word of one
+/// or more ASCII digits denotes the options whose bits are its decimal value. Returns `None` if there are more words,
+/// or if the word has another byte, or a value with bits of no option. Allocates nothing.
 pub fn parse_options(words: &[String]) -> Option<Options>
     ensures some { IfSome result (λ options. StandFor words.now options.0) }
     ensures none { IsNone result → (bits : ℕ) → ¬ StandFor words.now bits }
@@ -21,7 +21,7 @@ pub fn parse_options(words: &[String]) -> Option<Options>
     }
 }
 
-/// The options that a word stands for: the decimal value of their bits in one or more ASCII digits.
+/// The options that a word denotes: those whose bits are its decimal value, in one or more ASCII digits.
 fn options_of(word: &str) -> Option<Options>
     ensures some { IfSome result (λ options. StandsFor word.now options.0) }
     ensures none { IsNone result → (bits : ℕ) → ¬ StandsFor word.now bits }
@@ -35,7 +35,7 @@ fn options_of(word: &str) -> Option<Options>
     }
 }
 
-/// Whether a word begins with the plus sign that `parse` allows before digits.
+/// Returns whether a word begins with a plus sign, which `parse` allows before digits.
 pub fn begins_with_plus(word: &str) -> bool
     ensures { result ≡ (slice_index word.now 0 == plus_sign) }
 {

@@ -11,11 +11,11 @@ use crate::fault::BlocksFault;
 use std::alloc::{AllocError, Global};
 use std::io::Write;
 
-/// How many bytes are held back before they are written.
+/// Held bytes are written when there are at least this many.
 const PIECE: usize = 8192;
 
-/// Writes all of the bytes, in as many writes as it takes. A write that fails is `WriteFailed`, and so
-/// is one that takes no byte; then a beginning of the bytes was written.
+/// Writes all of `bytes`, in as many writes as necessary. Returns `WriteFailed` if a write fails or writes no byte; a
+/// beginning of the bytes was written then.
 pub fn write_whole<W: Write>(output: &mut W, bytes: &[u8]) -> Result<(), BlocksFault>
     ensures ok { OnOk result (Appends (W.contents output.old) (W.contents output.new) bytes.now) }
     ensures front { OnErr result (AppendsFront (W.contents output.old) (W.contents output.new) bytes.now) }
@@ -32,9 +32,9 @@ pub fn write_whole<W: Write>(output: &mut W, bytes: &[u8]) -> Result<(), BlocksF
     Ok(())
 }
 
-/// Writes what is held, once that is a piece of 8,192 bytes or more; then nothing is held. A fault is that of
-/// `write_whole`, and so is what was written then. Lines that are appended to `held`, each with this call after it, are
-/// written in pieces; after the last one `write_whole` writes what is still held.
+/// Writes the bytes in `held` and clears it, if it has at least 8,192 bytes. On a fault, the fault and the written
+/// bytes are those of `write_whole`. To write lines in pieces, append each to `held` and then call this function;
+/// after the last line, write the rest with `write_whole`.
 pub fn write_piece<W: Write>(output: &mut W, held: &mut Vec<u8>) -> Result<(), BlocksFault>
     ensures ok { OnOk result (AreUnderWay held.old.items held.new.items []
         (stream_between (W.contents output.old) (W.contents output.new))) }
@@ -49,9 +49,9 @@ pub fn write_piece<W: Write>(output: &mut W, held: &mut Vec<u8>) -> Result<(), B
     Ok(())
 }
 
-/// Writes a line for each item of an iterator, in order, in pieces. `append` appends the line of an item to what is
-/// held back. A fault is `WriteFailed`, or `OutOfMemory` if a request was refused; a beginning of the lines may be
-/// written then. The contract holds for every way to read items as lines.
+/// Writes a line for each item of an iterator, in order and in pieces. `append` appends the line of an item to the
+/// held bytes. Returns `WriteFailed` if a write fails, and `OutOfMemory` if an allocation fails; a beginning of the
+/// lines may be written then. The contract holds for every way to read items as lines.
 pub fn write_each<I, F, W>(
     alloc: Global,
     items: I,

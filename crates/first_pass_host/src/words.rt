@@ -1,11 +1,12 @@
-//! The words that a program is given.
+//! The words after a program's name.
 
 use crate::fault::BlocksFault;
 use std::alloc::Global;
 use std::env;
 use std::io::ErrorKind;
 
-/// The words after the program's name. `BadOptions` where one is not UTF-8, `OutOfMemory` where memory is refused.
+/// Returns the words after the program's name. Returns `BadOptions` if one is not UTF-8, and `OutOfMemory` if an
+/// allocation fails.
 pub fn words_of<R: env::Env + AllocGlobal>(rt: &R) -> Result<Vec<String>, BlocksFault> {
     let args = match env::args(rt) {
         Ok(args) => args,

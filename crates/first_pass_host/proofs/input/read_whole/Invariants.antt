@@ -2,7 +2,7 @@ use Rattle.std.proofs.Common.{◌-◌, ◌^◌, vec_len}
 use Rattle.std.specs.Io.KnownBytes.{Consumes}
 use Rattle.first_pass_host.proofs.input.read_whole.Given as goal
 
--- what was read is in the bytes
+-- the bytes read so far
 abbrev pub invariant-loop-count : goal.invariant-loop-count
 invariant-loop-count g l = Consumes (g.R.Read.remaining l.initial.input) (g.R.Read.remaining l.input) l.bytes.items
 

@@ -2,7 +2,7 @@ use Rattle.first_pass_host.specs.Held.{AreLines, AreUnderWay}
 use Rattle.first_pass_host.specs.Streams.{stream_between}
 use Rattle.first_pass_host.proofs.output.write_each.Given as goal
 
--- more items may come, and the lines so far are written or held
+-- further items may come, and the lines so far are written or held back
 abbrev pub invariant-loop-item : goal.invariant-loop-item
 invariant-loop-item g l =
     (goal.iterator-loop-item g).can_next l.item-iterator × (goal.iterator-loop-item g).is_finite l.item-iterator
