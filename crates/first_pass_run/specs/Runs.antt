@@ -1,4 +1,4 @@
--- What a run of a program over a text reads and writes, whatever it is that the program says of a text (this project). It is said by a relation: under
+-- The input and output of a run of a program over a text (this project). A program is given by a relation between
 -- options, a text and the whole output for it.
 use Rattle.std.specs.Prelude.{◌≡◌, ◌⊎◌, ℕ, List, String, Result, Err, OnOk, IfErr, IsUtf8}
 use Rattle.std.specs.Io.KnownBytes.{Appends}
@@ -20,18 +20,19 @@ pub record WritesFront (Says : Options → List ℕ → List ℕ → Type 0) (op
   pub says : Says options text whole
   pub appended : AppendsFront output.old output.new whole
 
--- What a fault leaves of a writer, once a text is there: where memory ends, nothing or a beginning of the whole output; where a write fails, a beginning.
+-- the effect of a fault on a writer after the text is read: if an allocation fails, nothing or a beginning of the
+-- output is written; if a write fails, a beginning is
 abbrev pub LeavesReport : (Options → List ℕ → List ℕ → Type 0) → BlocksFault → Options → List ℕ → Stream → Type 0
 LeavesReport Says OutOfMemory options text output = IsUntouched output ⊎ WritesFront Says options text output
 LeavesReport Says WriteFailed options text output = WritesFront Says options text output
 LeavesReport Says _ options text output = ⊥
 
--- What a fault leaves of bytes that were read and a writer: nothing is written of bytes that aren't UTF-8.
+-- the effect of a fault on a writer after bytes are read: nothing is written if they are not UTF-8
 abbrev pub LeavesBytes : (Options → List ℕ → List ℕ → Type 0) → BlocksFault → Options → List ℕ → Stream → Type 0
 LeavesBytes Says NotUtf8 options bytes output = (IsUtf8 bytes → ⊥) × IsUntouched output
 LeavesBytes Says fault options bytes output = IsUtf8 bytes × LeavesReport Says fault options bytes output
 
--- the whole output of a run with these words over a reader and a writer was written
+-- the whole output of a run with these words, over a reader and a writer, is written
 pub record WritesWhole {A : Type 0} (Says : Options → List ℕ → List ℕ → Type 0) (words : List (String A)) (input output : Stream) : Type 0 where
   pub options : Options
   pub stand_for : StandFor words options.0
@@ -40,7 +41,7 @@ pub record WritesWhole {A : Type 0} (Says : Options → List ℕ → List ℕ �
   pub utf8 : IsUtf8 text
   pub written : WritesOutput Says options text output
 
--- what a fault leaves of a text that was read to its end, with the options that the words stand for
+-- the effect of a fault after a text is read to its end, under the options that the words denote
 pub record LeavesRead {A : Type 0} (Says : Options → List ℕ → List ℕ → Type 0) (fault : BlocksFault) (words : List (String A)) (input output : Stream)
     : Type 0 where
   pub options : Options
@@ -49,7 +50,8 @@ pub record LeavesRead {A : Type 0} (Says : Options → List ℕ → List ℕ →
   pub read : ReadsWhole input.old input.new text
   pub leaves : LeavesBytes Says fault options text output
 
--- What a fault leaves of a reader and a writer: nothing is read where the words stand for no options, and nothing written before the whole text is read.
+-- The effect of a fault on a reader and a writer. Nothing is read if the words denote no options. Nothing is written
+-- before the whole text is read.
 abbrev pub Leaves : {A : Type 0} → (Options → List ℕ → List ℕ → Type 0) → BlocksFault → List (String A) → Stream → Stream → Type 0
 Leaves Says BadOptions words input output = ((bits : ℕ) → StandFor words bits → ⊥) × IsUntouched input × IsUntouched output
 Leaves Says ReadFailed words input output = ((bits : ℕ) × StandFor words bits) × IsUntouched output

@@ -1,4 +1,4 @@
-//! The run of a program over a text: its words and its input are read, and what it says of the text is written.
+//! The run of a program over a text: it reads its words and its input, and writes its report.
 #![tactic(auto)]
 
 pub mod program;

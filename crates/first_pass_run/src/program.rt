@@ -7,8 +7,8 @@ use first_pass_host::words::words_of;
 use std::alloc::Global;
 use std::process::ExitCode;
 
-/// What `main` does in a program that writes a report: it runs the report with the words after the program's name,
-/// over standard input and standard output. The status is that of `exit_code`.
+/// Runs a report with the words after the program's name, over standard input and standard output. Returns the exit
+/// status (see `exit_code`). This is all that `main` does in a program that writes a report.
 pub fn run_program<P: Report>(rt: &HostRuntime, report: &P) -> ExitCode {
     exit_code(rt, run_on_host(rt, report))
 }

@@ -1,4 +1,4 @@
-//! Reading a text, and writing what a program says of it.
+//! Reading a text, and writing a report on it.
 
 ghost use Rattle.std.specs.Prelude.{ℕ, List, OnOk, IfErr, IsUtf8};
 ghost use Rattle.first_pass_items.specs.declared.option_set.Options.{Options as OptionSet};
@@ -13,13 +13,13 @@ use std::alloc::Global;
 use std::io::{Read, Write};
 use std::str;
 
-/// What a program says of a text.
+/// A report on a text: the output of a program.
 pub trait Report {
-    // Under options: a text, and the whole output for it.
+    // The relation between options, a text and the whole output for it.
     ghost says: { Self → OptionSet → List ℕ → List ℕ → Type 0 };
 
-    /// Writes the whole output for a text under options. A fault is `OutOfMemory` where a request was refused, or
-    /// `WriteFailed`; what was written then is nothing, or a beginning of the output.
+    /// Writes the whole output for a text under options. Returns `OutOfMemory` if an allocation fails, and
+    /// `WriteFailed` if a write fails; nothing or a beginning of the output was written then.
     fn write_report<W: Write>(
         &self,
         alloc: Global,
@@ -33,13 +33,13 @@ pub trait Report {
             (stream_between (W.contents output.old) (W.contents output.new))) };
 }
 
-/// Reads the input to its end, and writes what a report says of its text under the options that the words stand for.
-/// `words` are those after the program's name (see `parse_options`).
+/// Reads the input to its end, and writes a report on its text under the options that `words` denote. `words` are
+/// those after the program's name (see `parse_options`).
 ///
-/// Faults are found in this order: the options, before the first read and without memory; the reads;
-/// UTF-8 of the whole input; the report. `OutOfMemory` comes at the request that was refused.
-/// What was written at a fault is nothing, or a beginning of the whole output. Reader and writer are lent,
-/// so that what they hold at the end can be said.
+/// Faults are found in this order: the options, before the first read and without an allocation; the reads; UTF-8 of
+/// the whole input; the report. `OutOfMemory` is returned at the allocation that fails. After a fault, nothing or a
+/// beginning of the output was written. Reader and writer are borrowed, so that the contract can describe them at the
+/// end.
 pub fn run_report<P: Report, R: Read, W: Write>(
     report: &P,
     alloc: Global,
@@ -57,7 +57,7 @@ pub fn run_report<P: Report, R: Read, W: Write>(
     report_bytes(report, alloc, bytes.as_slice(), options, output)
 }
 
-/// Writes what a report says of a text that has still to be found to be UTF-8.
+/// Writes a report on bytes that may not be UTF-8.
 fn report_bytes<P: Report, W: Write>(
     report: &P,
     alloc: Global,
