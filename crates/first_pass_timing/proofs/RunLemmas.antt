@@ -1,6 +1,5 @@
--- Runs of the pass, one after the other, and what is told of them.
-use Rattle.std.proofs.Common.{inl, inr, zero, ◌≡◌, ℕ, ◌+◌, ◌-◌, ◌<◌, ◌≤◌, suc, min, true, false, Option, None, Some, List, [], ◌∷◌, ◌++◌, length}
-use Rattle.std.proofs.Common.{length-append}
+-- Successive runs of the pass, their number and their least time.
+use Rattle.std.proofs.Common.{inl, inr, zero, ◌≡◌, ℕ, ◌+◌, ◌-◌, ◌<◌, ◌≤◌, suc, min, true, false, Option, None, Some, List, [], ◌∷◌, ◌++◌, length, length-append}
 use Rattle.std.proofs.Common.{map, take, refl, sym, ap, ◌∙◌, subst, arith}
 use Rattle.std.proofs.Math.Nat.{min-eq_left}
 use Rattle.std.proofs.Math.Seq.{take-append_seam}
@@ -13,7 +12,7 @@ use Rattle.std.specs.Prelude.{All, Contains}
 use Rattle.std.specs.Io.KnownBytes.{Consumes}
 use Rattle.first_pass_timing.specs.Timing.{AreEnough, AreTimed, IsLeast, IsTimed, elapsed, enough, last_end, time_of}
 
--- the last of some runs ended when it did
+-- the end of the last run
 last_end-append : (time : ℕ) (runs : List (ℕ × ℕ)) (run : ℕ × ℕ) → last_end time (runs ++ run ∷ []) ≡ run.1
 unfolding last_end
 last_end-append time [] run = refl
@@ -36,7 +35,7 @@ least_more l n ns least = record {
   below = All-append (λ m. min l n ≤ m) ns (n ∷ []) (λ k d h. omega (arith, least.below k d h)) (λ k d h. omega (arith, (least_one n).below k d h));
 }
 
--- the runs so far, of which the first is known, and was from a time to another; they were not enough before the last
+-- the runs so far, with the first run and the end of the last; without the last they were not enough
 pub record SoFar (asked : Option ℕ) (old new : Option (List ℕ)) (first : ℕ × ℕ) (ended count least : ℕ) : Type 0 where
   pub more : List (ℕ × ℕ)
   pub timed : AreTimed old new (first ∷ more) count least
@@ -54,7 +53,7 @@ first_run asked old new began ended least is read = record {
   fewer = λ k some few. absurd (omega arith);
 }
 
--- another run is timed too
+-- one more run is timed too
 more_timed : (old mid new : Option (List ℕ)) (runs : List (ℕ × ℕ)) (run : ℕ × ℕ) (count least : ℕ)
     → AreTimed old mid runs count least → Consumes mid new (run.0 ∷ run.1 ∷ [])
     → AreTimed old new (runs ++ run ∷ []) (count + 1) (min least (time_of run))
@@ -64,7 +63,7 @@ more_timed old mid new runs run count least timed read = record {
   shortest = rw (map-append time_of runs (run ∷ [])) (least_more least (time_of run) (map time_of runs) timed.shortest);
 }
 
--- the runs before the last one are those that were not enough
+-- the runs before the last one were not enough
 few_at_last : (asked : Option ℕ) (first run : ℕ × ℕ) (more : List (ℕ × ℕ)) (ended count k : ℕ) → last_end first.1 more ≡ ended → count ≡ suc (length more)
     → enough asked count (ended - first.0) ≡ false → k ≡ suc (length more) → enough asked k (elapsed (take k (first ∷ (more ++ run ∷ [])))) ≡ false
 unfolding elapsed
@@ -74,7 +73,7 @@ few_at_last asked first run more ended count k last counted few whole =
     ap (λ rs. enough asked k (elapsed rs)) cut ∙ ap (λ e. enough asked k (e - first.0)) last ∙ ap (λ n. enough asked n (ended - first.0)) (whole ∙ sym counted)
     ∙ few
 
--- another run, where those so far are not enough
+-- one more run, after runs that are not enough
 pub next_run : (asked : Option ℕ) (old mid new : Option (List ℕ)) (first run : ℕ × ℕ) (ended count least counted next : ℕ)
     → SoFar asked old mid first ended count least → enough asked count (ended - first.0) ≡ false
     → counted ≡ count + 1 → next ≡ min least (time_of run) → Consumes mid new (run.0 ∷ run.1 ∷ []) → SoFar asked old new first run.1 counted next
@@ -91,7 +90,7 @@ next_run asked old mid new first run ended count least counted next so_far few m
       ];
     }
 
--- so long all of them took
+-- the time of all runs together
 lasts : (asked : Option ℕ) (first : ℕ × ℕ) (more : List (ℕ × ℕ)) (ended count : ℕ)
     → last_end first.1 more ≡ ended → count ≡ suc (length more) → enough asked count (ended - first.0) ≡ true
     → enough asked (length (first ∷ more)) (elapsed (first ∷ more)) ≡ true
@@ -112,7 +111,7 @@ just_enough (Some asked) runs some many fewer =
       | inr h ↦ omega (arith, h.1)
     ]
 
--- the runs, where they are enough
+-- the runs so far, if they are enough
 pub all_runs : (asked : Option ℕ) (old new : Option (List ℕ)) (first : ℕ × ℕ) (ended count least : ℕ)
     → SoFar asked old new first ended count least → enough asked count (ended - first.0) ≡ true → IsTimed asked old new count least
 all_runs asked old new first ended count least so_far many =

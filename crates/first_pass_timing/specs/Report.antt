@@ -1,4 +1,4 @@
--- The line that a timing of the pass is printed as (this project).
+-- The line of output for a timing of the pass (this project).
 use Rattle.std.specs.Prelude.{ℕ, ◌*◌, ◌/◌, ◌%◌, max, List, ◌++◌, codes, decimal}
 
 -- a number of thousandths, as a decimal fraction
@@ -9,11 +9,12 @@ thousandths n = decimal (n / 1000) ++ codes "." ++ decimal (n / 100 % 10) ++ dec
 abbrev pub tenths : ℕ → List ℕ
 tenths n = decimal (n / 10) ++ codes "." ++ decimal (n % 10)
 
--- how many tenths of a megabyte, of 10^6 bytes, a second are read where so many bytes take so many nanoseconds, of which none count as one
+-- the rate in tenths of a megabyte (10^6 bytes) a second, from bytes and nanoseconds; zero nanoseconds count as one
 abbrev pub rate : ℕ → ℕ → ℕ
 rate bytes nanos = bytes * 10_000 / max 1 nanos
 
--- the line: how long the text is, how many nodes its tree has, how many runs were made, and the least time of a run, in milliseconds and as a rate
+-- the line: the length of the text, the number of nodes of its tree, the number of runs, and the least time of one,
+-- in milliseconds and as a rate
 abbrev pub report_line : ℕ → ℕ → ℕ → ℕ → List ℕ
 report_line bytes nodes runs nanos =
     decimal bytes ++ codes " bytes, " ++ decimal nodes ++ codes " nodes, best of " ++ decimal runs ++ codes " runs: " ++ thousandths (nanos / 1000)

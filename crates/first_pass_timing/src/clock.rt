@@ -1,4 +1,4 @@
-//! What runs are timed by.
+//! The clock that times runs.
 
 ghost use Rattle.std.specs.Prelude.{ℕ, ◌∷◌, [], List, Option, None, IfOk};
 ghost use Rattle.std.specs.Io.KnownBytes.{Consumes};
@@ -6,17 +6,17 @@ ghost use Rattle.std.specs.Io.KnownBytes.{Consumes};
 use std::io;
 use std::rt::Clock;
 
-/// A clock that is read.
+/// A clock.
 pub trait TimeSource {
-    // What the clock will say from here on, in nanoseconds, where that is known.
+    // The remaining readings of the clock, in nanoseconds, if they are known.
     ghost readings: { Self → Option (List ℕ) } = { λ _. None };
 
-    /// The nanoseconds from a time before the first reading to now.
+    /// Returns the nanoseconds from a time before the first reading to now.
     fn nanos(&mut self) -> io::Result<u128>
         ensures { IfOk result (λ nanos. Consumes (readings self.old) (readings self.new) (nanos ∷ [])) };
 }
 
-/// The clock of the operating system that never goes back.
+/// The monotonic clock of the operating system.
 #[derive(Clone, Copy)]
 pub struct HostClock<'a, C>(pub &'a C);
 

@@ -1,4 +1,4 @@
-//! What is told of timed runs: the clock, how many runs are enough, the task that words ask for, and the line.
+//! Timing of runs: the clock, the number of runs that is enough, the task in the words, and the line of output.
 #![tactic(auto)]
 
 pub mod clock;

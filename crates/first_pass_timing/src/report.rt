@@ -1,4 +1,4 @@
-//! The line that a timing is printed as.
+//! The line of output for a timing.
 
 ghost use Rattle.std.specs.Prelude.{◌≡◌, ◌++◌, OnOk};
 ghost use Rattle.first_pass_timing.specs.Report.{report_line, rate, tenths, thousandths};
@@ -7,7 +7,7 @@ use crate::timing::Timing;
 use itoa::{Buffer, Integer};
 use std::alloc::AllocError;
 
-/// Appends the line of a timing of the pass over a text of so many bytes.
+/// Appends the line for a timing of the pass over a text of this many bytes.
 pub fn append_report(line: &mut Vec<u8>, bytes: usize, timing: Timing) -> Result<(), AllocError>
     ensures { OnOk result
         (line.new.items ≡ line.old.items ++ report_line bytes timing.nodes timing.runs timing.nanos) }
@@ -25,8 +25,7 @@ pub fn append_report(line: &mut Vec<u8>, bytes: usize, timing: Timing) -> Result
     Ok(())
 }
 
-/// How many tenths of a megabyte, of 10^6 bytes, are read in a second where so many bytes take so many
-/// nanoseconds, of which none count as one.
+/// The rate in tenths of a megabyte (10^6 bytes) a second, from bytes and nanoseconds. Zero nanoseconds count as one.
 fn rate(bytes: usize, nanos: u128) -> u128
     ensures { result ≡ rate bytes nanos }
 {

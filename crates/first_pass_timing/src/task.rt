@@ -1,4 +1,4 @@
-//! What the words after the program's name ask for.
+//! The task in the words after the program's name.
 
 ghost use Rattle.std.specs.Prelude.{ℕ, IfSome, IsNone};
 ghost use Rattle.first_pass_timing.specs.declared.task.Task.{Task};
@@ -7,23 +7,23 @@ ghost use Rattle.first_pass_timing.specs.Task.{AskFor, AsksFor};
 use first_pass_host::option_word::{begins_with_plus, parse_options};
 use first_pass_items::option_set::Options;
 
-/// What is to be done: the options of the pass, and how many runs are made where that is said.
+/// A task: the options of the pass, and the number of runs, if one is given.
 #[derive(Clone, Copy)]
 pub struct Task {
     pub options: Options,
     pub runs: Option<u32>,
 }
 
-/// The task that the words after a program's name ask for: `[BITS [RUNS]]`, where `BITS` is as of
-/// `parse_options`, and `RUNS` is one or more ASCII digits of a value from 1 to `u32::MAX`. `None` for
-/// any other words. It takes no memory.
+/// Returns the task in the words after a program's name: `[BITS [RUNS]]`. `BITS` is a word for `parse_options`, and
+/// `RUNS` is one or more ASCII digits with a value from 1 to `u32::MAX`. Returns `None` for any other words.
+/// Allocates nothing.
 #[tactic(auto, using(crate::proofs::Words::refused_first, crate::proofs::Words::refused_whole))]
 pub fn parse_task(words: &[String]) -> Option<Task>
     ensures some { IfSome result (λ task. AskFor words.now task) }
     ensures none { IsNone result → (task : Task) → ¬ AskFor words.now task }
 {
     if words.len() != 2 {
-        // Three words and more stand for no options.
+        // Three or more words denote no options.
         let options = parse_options(words)?;
         return Some(Task {
             options,
@@ -38,7 +38,7 @@ pub fn parse_task(words: &[String]) -> Option<Task>
     })
 }
 
-/// How many runs a word asks for.
+/// The number of runs that a word gives.
 fn runs_of(word: &str) -> Option<u32>
     ensures some { IfSome result (AsksFor word.now) }
     ensures none { IsNone result → (runs : ℕ) → ¬ AsksFor word.now runs }

@@ -1,4 +1,4 @@
-//! What is told of runs, and when they are enough.
+//! The results of timed runs, and when runs are enough.
 
 ghost use Rattle.std.specs.Prelude.{◌≡◌, ◌+◌, ◌-◌, ◌<◌, min, false, ◌∷◌, [], IfOk, IfErr};
 ghost use Rattle.std.specs.Io.KnownBytes.{Consumes};
@@ -8,24 +8,24 @@ ghost use Rattle.first_pass_timing.specs.Timing.{enough};
 use crate::clock::TimeSource;
 use first_pass_host::fault::BlocksFault;
 
-/// How many runs are made at least, where no number is asked for.
+/// The least number of runs, if no number is given.
 const LEAST_RUNS: u32 = 5;
 
-/// How many nanoseconds runs are made for at least, where no number is asked for.
+/// The least time of all runs together in nanoseconds, if no number of runs is given.
 const LEAST_NANOS: u128 = 1_000_000_000;
 
-/// What runs over a text gave.
+/// The result of runs over a text.
 #[derive(Clone, Copy)]
 pub struct Timing {
-    /// How many nodes the tree has.
+    /// The number of nodes of the tree.
     pub nodes: usize,
-    /// How many runs were made.
+    /// The number of runs.
     pub runs: u32,
-    /// The least time of a run.
+    /// The least time of a run, in nanoseconds.
     pub nanos: u128,
 }
 
-/// A run: how many nodes its tree has, and what the clock said before and after it.
+/// A run: the number of nodes of its tree, and the readings of the clock before and after it.
 #[derive(Clone, Copy)]
 pub struct Run {
     pub nodes: usize,
@@ -34,7 +34,7 @@ pub struct Run {
 }
 
 impl Run {
-    /// How many nanoseconds the run took, none where the clock went back.
+    /// Returns the nanoseconds that the run took, or 0 if the clock went back.
     pub fn nanos(self) -> u128
         ensures { result ≡ self.ended - self.began }
     {
@@ -43,7 +43,7 @@ impl Run {
 }
 
 impl Timing {
-    /// What is told with a further run.
+    /// Returns the timing with one more run.
     pub fn with(self, run: Run) -> Timing
         requires { self.runs < u32.MAX }
         ensures nodes { result.nodes ≡ run.nodes }
@@ -58,7 +58,7 @@ impl Timing {
     }
 }
 
-/// Whether so many runs, made in so many nanoseconds, are enough.
+/// Returns whether this number of runs, made in this number of nanoseconds, is enough.
 pub fn is_enough(asked: Option<u32>, runs: u32, nanos: u128) -> bool
     ensures value { result ≡ enough asked runs nanos }
     ensures room { result ≡ false → runs < u32.MAX }
@@ -69,7 +69,7 @@ pub fn is_enough(asked: Option<u32>, runs: u32, nanos: u128) -> bool
     }
 }
 
-/// What the clock says.
+/// Reads the clock. Returns `ReadFailed` if that fails.
 pub fn read_clock<T: TimeSource>(clock: &mut T) -> Result<u128, BlocksFault>
     ensures read { IfOk result (λ nanos. Consumes (T.readings clock.old) (T.readings clock.new) (nanos ∷ [])) }
     ensures fault { IfErr result (λ fault. fault ≡ ReadFailed) }
