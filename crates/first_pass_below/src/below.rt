@@ -1,4 +1,4 @@
-//! The names of the crates below: options, items and texts, the tree, and the scanners.
+//! The names of the lower crates: options, items and texts, the tree, and the scanners.
 
 pub use first_pass_entities::entity::scan_entity;
 pub use first_pass_flank::flank::is_punctuation;

@@ -1,5 +1,5 @@
-//! What the block pass stands on: options, items and texts, the tree, the line scanners, the walk over
-//! the bytes at which a token may begin, and delimiter runs.
+//! The base of the block pass: options, items, texts, the tree, the line scanners, delimiter runs, and the walk over
+//! the bytes at which a token may begin.
 #![tactic(auto)]
 
 pub mod below;
