@@ -19,7 +19,7 @@ _first_pass() {
     fi
     case $before in
         -o | --options) _first_pass_names "$word" && return ;;
-        --runs) return ;;
+        --runs | --fresh) return ;;
         =) [ "${COMP_WORDS[COMP_CWORD - 2]-}" != --options ] || { _first_pass_names "$word" && return; } ;;
     esac
     if [ "$word" = = ] && [ "$before" = --options ]; then
@@ -29,7 +29,7 @@ _first_pass() {
     case ${COMP_WORDS[1]} in
         tree) own='--lines --text' ;;
         toc) own='--json' ;;
-        bench) own='--runs' ;;
+        bench) own='--runs --fresh' ;;
     esac
     case $word in
         -*) mapfile -t COMPREPLY < <(compgen -W "--options --help --version $own" -- "$word") ;;

@@ -29,8 +29,9 @@ pub record IsReported (task : Task) (text : List ℕ) (before after : Option (Li
   pub counted : CountsNodes task.options text nodes
   pub runs : ℕ
   pub nanos : ℕ
-  pub timed : IsTimed task.runs before after runs nanos
-  pub line_is : line ≡ report_line (length text) nodes runs nanos
+  pub first : ℕ
+  pub timed : IsTimed task.runs before after runs nanos first
+  pub line_is : line ≡ report_line (length text) nodes runs nanos first
 
 -- The state of a text, a clock and a writer after a fault: nothing is written until the runs are done; after that, a
 -- beginning of the line.

@@ -27,14 +27,16 @@ pub fn time_runs<T: TimeSource>(
 ) -> Result<Timing, BlocksFault>
     ensures nodes { IfOk result (λ timing. CountsNodes options text.now timing.nodes) }
     ensures timed { IfOk result (λ timing.
-        IsTimed asked (T.readings clock.old) (T.readings clock.new) timing.runs timing.nanos) }
+        IsTimed asked (T.readings clock.old) (T.readings clock.new) timing.runs timing.nanos timing.first) }
     ensures fault { IfErr result IsReadFault }
 {
     let first = run_once(clock, alloc, text, options)?;
+    let took = first.nanos();
     let mut timing = Timing {
         nodes: first.nodes,
         runs: 1,
-        nanos: first.nanos(),
+        first: took,
+        nanos: took,
     };
     let mut ended = first.ended;
     while !is_enough(asked, timing.runs, ended.saturating_sub(first.began)) {

@@ -1,5 +1,6 @@
 -- Successive runs of the pass, their number and their least time.
-use Rattle.std.proofs.Common.{inl, inr, zero, ◌≡◌, ℕ, ◌+◌, ◌-◌, ◌<◌, ◌≤◌, suc, min, true, false, Option, None, Some, List, [], ◌∷◌, ◌++◌, length, length-append}
+use Rattle.std.proofs.Common.{inl, inr, zero, ◌≡◌, ℕ, ◌+◌, ◌-◌, ◌<◌, ◌≤◌, suc, min, true, false, Option, None, Some, List, [], ◌∷◌, ◌++◌, length}
+use Rattle.std.proofs.Common.{length-append}
 use Rattle.std.proofs.Common.{map, take, refl, sym, ap, ◌∙◌, subst, arith}
 use Rattle.std.proofs.Math.Nat.{min-eq_left}
 use Rattle.std.proofs.Math.Seq.{take-append_seam}
@@ -112,13 +113,15 @@ just_enough (Some asked) runs some many fewer =
     ]
 
 -- the runs so far, if they are enough
-pub all_runs : (asked : Option ℕ) (old new : Option (List ℕ)) (first : ℕ × ℕ) (ended count least : ℕ)
-    → SoFar asked old new first ended count least → enough asked count (ended - first.0) ≡ true → IsTimed asked old new count least
-all_runs asked old new first ended count least so_far many =
+pub all_runs : (asked : Option ℕ) (old new : Option (List ℕ)) (first : ℕ × ℕ) (ended count least took : ℕ)
+    → SoFar asked old new first ended count least → enough asked count (ended - first.0) ≡ true → took ≡ time_of first
+    → IsTimed asked old new count least took
+all_runs asked old new first ended count least took so_far many first_is =
     let runs = first ∷ so_far.more in
     record {
       runs = runs;
       timed = so_far.timed;
+      first_is = first_is;
       some = omega (arith, so_far.timed.counted);
       enough = just_enough asked runs (omega arith) (lasts asked first so_far.more ended count so_far.last so_far.timed.counted many) so_far.fewer;
     }

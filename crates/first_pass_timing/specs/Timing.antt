@@ -44,10 +44,16 @@ pub record AreTimed (old new : Option (List ℕ)) (runs : List (ℕ × ℕ)) (co
   pub counted : count ≡ length runs
   pub shortest : IsLeast least (map time_of runs)
 
--- the fewest runs that are enough, at least one, between two states of a clock, with their number and the least time
--- of one
-pub record IsTimed (asked : Option ℕ) (old new : Option (List ℕ)) (count least : ℕ) : Type 0 where
+-- the time of the first of some runs, 0 if there is none
+abbrev pub first_time : List (ℕ × ℕ) → ℕ
+first_time [] = 0
+first_time (run ∷ runs) = time_of run
+
+-- the fewest runs that are enough, at least one, between two states of a clock, with their number, the least time of
+-- one, and the time of the first
+pub record IsTimed (asked : Option ℕ) (old new : Option (List ℕ)) (count least first : ℕ) : Type 0 where
   pub runs : List (ℕ × ℕ)
   pub timed : AreTimed old new runs count least
+  pub first_is : first ≡ first_time runs
   pub some : 0 < count
   pub enough : AreEnough asked runs

@@ -1,7 +1,7 @@
 //! The line of output for a timing.
 
 ghost use Rattle.std.specs.Prelude.{◌≡◌, ◌++◌, OnOk};
-ghost use Rattle.first_pass_timing.specs.Report.{report_line, rate, tenths, thousandths};
+ghost use Rattle.first_pass_timing.specs.Report.{report_line, counts_text, time_text, rate, tenths, thousandths};
 
 use crate::timing::Timing;
 use itoa::{Buffer, Integer};
@@ -9,8 +9,20 @@ use std::alloc::AllocError;
 
 /// Appends the line for a timing of the pass over a text of this many bytes.
 pub fn append_report(line: &mut Vec<u8>, bytes: usize, timing: Timing) -> Result<(), AllocError>
-    ensures { OnOk result
-        (line.new.items ≡ line.old.items ++ report_line bytes timing.nodes timing.runs timing.nanos) }
+    ensures { OnOk result (line.new.items
+        ≡ line.old.items ++ report_line bytes timing.nodes timing.runs timing.nanos timing.first) }
+{
+    append_counts(line, bytes, timing)?;
+    append_time(line, bytes, timing.nanos)?;
+    line.extend_from_slice(b"; first run: ")?;
+    append_time(line, bytes, timing.first)?;
+    line.extend_from_slice(b"\n")?;
+    Ok(())
+}
+
+/// Appends the number of bytes, of nodes and of runs.
+fn append_counts(line: &mut Vec<u8>, bytes: usize, timing: Timing) -> Result<(), AllocError>
+    ensures { OnOk result (line.new.items ≡ line.old.items ++ counts_text bytes timing.nodes timing.runs) }
 {
     append_number(line, bytes)?;
     line.extend_from_slice(b" bytes, ")?;
@@ -18,10 +30,17 @@ pub fn append_report(line: &mut Vec<u8>, bytes: usize, timing: Timing) -> Result
     line.extend_from_slice(b" nodes, best of ")?;
     append_number(line, timing.runs)?;
     line.extend_from_slice(b" runs: ")?;
-    append_thousandths(line, timing.nanos / 1000)?;
+    Ok(())
+}
+
+/// Appends a time in nanoseconds, in milliseconds and as a rate for so many bytes.
+fn append_time(line: &mut Vec<u8>, bytes: usize, nanos: u128) -> Result<(), AllocError>
+    ensures { OnOk result (line.new.items ≡ line.old.items ++ time_text bytes nanos) }
+{
+    append_thousandths(line, nanos / 1000)?;
     line.extend_from_slice(b" ms, ")?;
-    append_tenths(line, rate(bytes, timing.nanos))?;
-    line.extend_from_slice(b" MB/s\n")?;
+    append_tenths(line, rate(bytes, nanos))?;
+    line.extend_from_slice(b" MB/s")?;
     Ok(())
 }
 

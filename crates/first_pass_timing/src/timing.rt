@@ -21,6 +21,8 @@ pub struct Timing {
     pub nodes: usize,
     /// The number of runs.
     pub runs: u32,
+    /// The time of the first run, in nanoseconds.
+    pub first: u128,
     /// The least time of a run, in nanoseconds.
     pub nanos: u128,
 }
@@ -48,11 +50,13 @@ impl Timing {
         requires { self.runs < u32.MAX }
         ensures nodes { result.nodes ≡ run.nodes }
         ensures runs { result.runs ≡ self.runs + 1 }
+        ensures first { result.first ≡ self.first }
         ensures nanos { result.nanos ≡ min self.nanos (run.ended - run.began) }
     {
         Timing {
             nodes: run.nodes,
             runs: self.runs + 1,
+            first: self.first,
             nanos: self.nanos.min(run.nanos()),
         }
     }

@@ -41,7 +41,7 @@ fn words_of(alloc: Global, text: &str) -> Result<Vec<String>, AllocError> {
     Ok(words)
 }
 
-/// The line of `bench` for four numbers: bytes, nodes, runs and nanoseconds.
+/// The line of `bench` for five numbers: bytes, nodes, runs, and the nanoseconds of the best and of the first run.
 fn append_timing(alloc: Global, text: &str, answer: &mut Answer) -> Result<(), AllocError> {
     let Some((bytes, timing)) = read_timing(text) else {
         return answer.none();
@@ -55,10 +55,12 @@ fn append_timing(alloc: Global, text: &str, answer: &mut Answer) -> Result<(), A
 fn read_timing(text: &str) -> Option<(usize, Timing)> {
     let (bytes, behind) = text.split_once(' ')?;
     let (nodes, behind) = behind.split_once(' ')?;
-    let (runs, nanos) = behind.split_once(' ')?;
+    let (runs, behind) = behind.split_once(' ')?;
+    let (nanos, first) = behind.split_once(' ')?;
     let timing = Timing {
         nodes: nodes.parse::<usize>().ok()?,
         runs: runs.parse::<u32>().ok()?,
+        first: first.parse::<u128>().ok()?,
         nanos: nanos.parse::<u128>().ok()?,
     };
     Some((bytes.parse::<usize>().ok()?, timing))

@@ -1,4 +1,4 @@
-use Rattle.std.proofs.Common.{◌-◌, ◌^◌}
+use Rattle.std.proofs.Common.{◌≡◌, ◌-◌, ◌^◌}
 use Rattle.first_pass_bench.specs.Bench.{CountsNodes}
 use Rattle.first_pass_timing.proofs.RunLemmas.{SoFar}
 use Rattle.first_pass_bench.proofs.timed.time_runs.Given as goal
@@ -7,7 +7,7 @@ use Rattle.first_pass_bench.proofs.timed.time_runs.Given as goal
 abbrev pub invariant-loop-alloc : goal.invariant-loop-alloc
 invariant-loop-alloc g l =
     SoFar l.asked (g.T.TimeSource.readings l.fn.clock) (g.T.TimeSource.readings l.clock) (l.first.began, l.first.ended) l.ended l.timing.runs l.timing.nanos
-    × CountsNodes l.options l.text l.timing.nodes
+    × CountsNodes l.options l.text l.timing.nodes × (l.timing.first ≡ l.first.ended - l.first.began)
 
 abbrev pub decreases-loop-alloc : goal.decreases-loop-alloc
 decreases-loop-alloc g l = 2 ^ 32 - l.timing.runs
