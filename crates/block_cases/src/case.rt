@@ -38,9 +38,9 @@ pub fn read_case(alloc: Global, group: &str) -> Result<Result<Case<'_>, &'static
 /// The word of the options, if the first line has one, and the lines after it.
 fn read_options(group: &str) -> (Option<&str>, &str) {
     match group.strip_prefix("options ") {
-        Some(behind) => match behind.split_once('\n') {
+        Some(following) => match following.split_once('\n') {
             Some((word, lines)) => (Some(word), lines),
-            None => (Some(behind), ""),
+            None => (Some(following), ""),
         },
         None => (None, group),
     }

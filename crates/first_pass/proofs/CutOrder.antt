@@ -94,7 +94,7 @@ lead_cut text InItem from e x less b h = absurd h
 lead_cut text (InText before) from e x less b (marker, h) = (
   marker,
   record {
-    behind = h.behind;
+    following = h.following;
     order = (let o = h.order in omega arith);
     before = (let o = h.before in omega arith);
     starts = h.starts;
@@ -139,14 +139,14 @@ module _ (text : List ℕ) (w : Within) (from to e d low : ℕ) (n : ℕ × Item
   unfolding Fits
   stays_by less (inl (between, inside, more)) =
       let (row, is, f) = rest (beyond w) n.1.«end» (omega arith) more in
-      let starts = between.behind in
+      let starts = between.following in
       let order = between.order in
       let inner : z.start ≤ z.«end» = omega arith in (
         Node z Empty row,
         laid_as row is,
         inl (
           record {
-            behind = omega arith;
+            following = omega arith;
             order = inner;
             before = fits-order text (beyond w) z.«end» to row f;
             starts = between.starts;
@@ -203,7 +203,7 @@ module _ (text : List ℕ) (w : Within) (from to e d low : ℕ) (n : ℕ × Item
         ap (λ k. (k, extent_of y) ∷ []) depth ∙ sym (laid-one d (extent_of y)),
         fits-one text w (min from e) to (extent_of y)
             (record {
-              behind = omega arith;
+              following = omega arith;
               order = omega arith;
               before = omega arith;
               starts = IsCharBoundary-before_ascii text (e - 1) (omega arith) (omega arith);

@@ -90,7 +90,7 @@ ordered_tokens text f from to [] forest h high o = ordered_later text f from to 
 ordered_tokens text f from to (x ∷ xs) forest h high o =
     let within = order_bound text x.«end» to xs h.4 in
     let one = token_by (is_text x.body && joins_at f x.start f.current) text f from x refl forest
-    (record { behind = h.0; order = h.1; before = omega arith; starts = h.2; ends = h.3 }) (omega arith) o in
+    (record { following = h.0; order = h.1; before = omega arith; starts = h.2; ends = h.3 }) (omega arith) o in
     ordered_tokens text (with_token f x) x.«end» to xs one.0 h.4 high one.1
 
 -- the tokens of a line that begins at an offset are added, of a text that may be cut at another

@@ -10,21 +10,21 @@ use Rattle.first_pass_grammar.proofs.OwnNodes.{own_ended, own_added}
 use Rattle.first_pass_open.specs.OpenBlock.{IsJustPushed, closed_by}
 use Rattle.first_pass_open.specs.Between.{AddsBetween}
 use Rattle.first_pass_tables.specs.Appends.{with_below, ClosesBetween}
-use Rattle.first_pass.specs.Holds.{behind_row}
+use Rattle.first_pass.specs.Holds.{after_row}
 use Rattle.first_pass_order.proofs.CountLemmas.{block_count}
 use Rattle.first_pass_order.proofs.OrderLemmas.{ordered_same, ordered_later, ordered_added, ordered_closed}
 
 -- a row is added, or none
 pub row_ordered : (text : List ℕ) (old new : Forest Item) (at ix : ℕ) (row : Option (ℕ × TreeIndex)) → at ≤ ix → ix ≤ length text → (row ≡ None → new ≡ old)
     → IfSome row (λ r. r.0 ≤ length text) → IfSome row (λ r. AddsBetween text at r.0 old new) → IsOrderedTo text old at
-    → IsOrderedTo text new (behind_row row ix)
+    → IsOrderedTo text new (after_row row ix)
 row_ordered text old new at ix None low within same ends adds o =
     subst (λ (f : Forest Item). IsOrderedTo text f ix) (sym (same refl)) (ordered_later text old at ix low within o)
 row_ordered text old new at ix (Some (stop, place)) low within same ends adds o =
     subst (λ (f : Forest Item). IsOrderedTo text f stop) (sym adds.tree_is) (ordered_added text old at stop adds.items adds.fits ends o)
 
 pub row_count : (text : List ℕ) (old new : Forest Item) (from ix : ℕ) (row : Option (ℕ × TreeIndex)) → (row ≡ None → new ≡ old)
-    → IfSome row (λ r. AddsBetween text from r.0 old new) → from < behind_row row ix → GrowsBy from (behind_row row ix) old.nodes new.nodes
+    → IfSome row (λ r. AddsBetween text from r.0 old new) → from < after_row row ix → GrowsBy from (after_row row ix) old.nodes new.nodes
 row_count text old new from ix None same adds apart =
     let is = ap (λ (f : Forest Item). own_nodes f.nodes) (same refl) in
     omega arith

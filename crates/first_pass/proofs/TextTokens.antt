@@ -33,7 +33,7 @@ chain_ordered : (text : List ℕ) (f : Forest Item) (from to : ℕ) (chain : Lis
 chain_ordered text f from to [] h high o = ordered_later text f from to h high o
 chain_ordered text f from to (x ∷ xs) h high o =
     let rest = order_bound text x.«end» to xs h.4 in
-    let between : IsBetween text from x.«end» (extent_of x) = record { behind = h.0; order = h.1; before = omega arith; starts = h.2; ends = h.3 } in
+    let between : IsBetween text from x.«end» (extent_of x) = record { following = h.0; order = h.1; before = omega arith; starts = h.2; ends = h.3 } in
     chain_ordered text (appended f x) x.«end» to xs h.4 high (ordered_appended text f from x.«end» x between (omega arith) o)
 
 -- the items before an added chain are unchanged
@@ -72,8 +72,8 @@ marked_tokens text d from start to (Some m) chain stands h e =
     )
 
 module _ (d : Document) (utf8 : IsUtf8 d.text) (f : Forest Item) (block : TreeIndex) (l : TextLines) (h : HoldsText d f block l) where
-  abbrev behind : ℕ
-  behind = start_of (length d.text) l.left
+  abbrev following : ℕ
+  following = start_of (length d.text) l.left
 
   abbrev whole_chain : List Item
   whole_chain = marker_items h.marker ++ l.chain
@@ -89,21 +89,21 @@ module _ (d : Document) (utf8 : IsUtf8 d.text) (f : Forest Item) (block : TreeIn
       ap (λ (g : Forest Item). item_at g block) h.tree_is ∙ ap (option_map (λ (n : ℕ × Item). n.1)) (front_kept h.before whole_chain block block_in)
       ∙ h.paragraph
 
-  text_within : (in_order.stop ≤ behind) × (behind ≤ length d.text)
+  text_within : (in_order.stop ≤ following) × (following ≤ length d.text)
   text_within =
-      let left : behind ≡ in_order.left_at = ap (start_of (length d.text)) in_order.left_is ∙ start_of-lines d.text in_order.left_at in_order.left_within in
+      let left : following ≡ in_order.left_at = ap (start_of (length d.text)) in_order.left_is ∙ start_of-lines d.text in_order.left_at in_order.left_within in
       (in_order.before, omega (arith, in_order.left_within))
 
-  whole_ordered : IsOrderedTo d.text (chained h.before whole_chain) behind
+  whole_ordered : IsOrderedTo d.text (chained h.before whole_chain) following
   whole_ordered =
       let up = text_within in
-      subst (λ g. IsOrderedTo d.text g behind) (sym (marked_is h.before h.marker l.chain))
-      (ordered_later d.text (chained (with_child h.before h.marker) l.chain) in_order.stop behind up.0 up.1
+      subst (λ g. IsOrderedTo d.text g following) (sym (marked_is h.before h.marker l.chain))
+      (ordered_later d.text (chained (with_child h.before h.marker) l.chain) in_order.stop following up.0 up.1
       (chain_ordered d.text (with_child h.before h.marker) h.start in_order.stop l.chain in_order.order (omega (arith, up.0, up.1)) h.ordered))
 
   -- The open paragraph is in order.
-  pub open_ordered : IsOrderedTo d.text f behind
-  open_ordered = subst (λ g. IsOrderedTo d.text g behind) (sym h.tree_is) whole_ordered
+  pub open_ordered : IsOrderedTo d.text f following
+  open_ordered = subst (λ g. IsOrderedTo d.text g following) (sym h.tree_is) whole_ordered
 
   -- Its children are tokens.
   pub open_tokens : HoldsTokens d.text f block
@@ -111,7 +111,7 @@ module _ (d : Document) (utf8 : IsUtf8 d.text) (f : Forest Item) (block : TreeIn
       let spine : f.spine ≡ h.before.spine = ap (λ (g : Forest Item). g.spine) h.tree_is ∙ chained-spine h.before whole_chain in
       let depth : length f.spine + 1 ≡ length h.before.spine + 1 = ap (λ (s : List TreeIndex). length s + 1) spine in
       let rest : List (ℕ × Item) = at_depth (length h.before.spine + 1) (leaves whole_chain) in
-      let behind : drop (block.0 + 1) f.nodes ≡ rest =
+      let following : drop (block.0 + 1) f.nodes ≡ rest =
       ap (λ k. drop k f.nodes) h.opened.last
       ∙ ap (drop (length h.before.nodes)) (ap (λ (g : Forest Item). g.nodes) h.tree_is ∙ chained-nodes h.before whole_chain)
       ∙ drop-append_seam h.before.nodes rest in
@@ -120,6 +120,6 @@ module _ (d : Document) (utf8 : IsUtf8 d.text) (f : Forest Item) (block : TreeIn
         there = its_item;
         has_text = refl;
         tokens = subst (λ k. AreTokens d.text k h.start (drop (block.0 + 1) f.nodes)) (sym depth)
-            (subst (AreTokens d.text (length h.before.spine + 1) h.start) (sym behind)
+            (subst (AreTokens d.text (length h.before.spine + 1) h.start) (sym following)
             (marked_tokens d.text (length h.before.spine + 1) h.from h.start in_order.stop h.marker l.chain h.stands in_order.order in_order.escapes));
       }

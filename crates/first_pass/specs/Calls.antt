@@ -102,7 +102,7 @@ pub record AddsRule (old new : FirstPass) (ix size next : ℕ) : Type 0 where
       → AddsBetween (source_text old) from (ix + size) (tree_of old) (tree_of new)
   pub order : (at : ℕ) → at ≤ ix → IsCharBoundary (source_text old) ix → IsCharBoundary (source_text old) (ix + size)
       → IsOrderedAt (source_text old) (reading_of old) at → IsOrderedAt (source_text old) (reading_of new) next
-  pub behind : next ≡ ix + size
+  pub following : next ≡ ix + size
 
 -- A paragraph, setext heading or table is added, after the marker of its task list item if it has one. Its nodes lie
 -- between the start of the text, or of that marker, and the offset at which reading continues. If the marker has no

@@ -26,9 +26,9 @@ use Rattle.first_pass.specs.Kept.{KeepsNames}
 use Rattle.first_pass.specs.Views.{allocs_of, reading_of, source_options, source_text, tree_of, with_tree}
 
 -- where reading continues after a row of a table: at its end, or at the given offset if there is no row (this project)
-abbrev pub behind_row : Option (ℕ × TreeIndex) → ℕ → ℕ
-behind_row None at = at
-behind_row (Some row) at = row.0
+abbrev pub after_row : Option (ℕ × TreeIndex) → ℕ → ℕ
+after_row None at = at
+after_row (Some row) at = row.0
 
 -- a text marked as escaped is directly after a backslash, and that backslash is at or after an offset (CommonMark 2.4)
 abbrev pub StandsAfterBackslash : List ℕ → ℕ → Item → Type 0

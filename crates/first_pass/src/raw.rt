@@ -10,7 +10,7 @@ ghost use Rattle.first_pass_grammar.specs.RawLines.{range_text, range_html};
 ghost use Rattle.first_pass_grammar.specs.CodeBlocks.{IsFencedCode, IsMetadata};
 ghost use Rattle.first_pass_grammar.specs.HtmlBlocks.{IsHtml};
 ghost use Rattle.first_pass_names.specs.TableEntries.{names_of};
-ghost use Rattle.first_pass_raw.specs.RawBlocks.{range_of, AppendsRaw, IsPlaceAt, AddsIndented, AddsRaw, fenced_behind, metadata_behind, html_to_end, html_to_blank};
+ghost use Rattle.first_pass_raw.specs.RawBlocks.{range_of, AppendsRaw, IsPlaceAt, AddsIndented, AddsRaw, fenced_after, metadata_after, html_to_end, html_to_blank};
 ghost use Rattle.first_pass.specs.Calls.{AddsHtmlToBlank, AddsLineBlock, AppendsBytes};
 ghost use Rattle.first_pass.specs.Views.{allocs_of, context_in, reading_of, source_options, source_text, tree_of};
 
@@ -137,7 +137,7 @@ impl<'a> FirstPass<'a> {
     ) -> Result<usize, AllocError>
         requires boundary { IsCharBoundary (source_text self.old) start_ix }
         requires fence { code_fence (drop start_ix (source_text self.old)) ≡ Some (n_fence_char, fence_ch) }
-        ensures block { IfOk result (λ next. let e = fenced_behind (source_text self.old)
+        ensures block { IfOk result (λ next. let e = fenced_after (source_text self.old)
             (context_in self.old).path indent fence_ch n_fence_char start_ix in
             AddsRaw (document (source_text self.old) (source_options self.old) (names_of (allocs_of self.new))) (λ d.
             IsFencedCode d start_ix n_fence_char e.places e.«end») e.left (tree_of self.old) (tree_of self.new)
@@ -171,7 +171,7 @@ impl<'a> FirstPass<'a> {
     ) -> Result<usize, AllocError>
         requires boundary { IsCharBoundary (source_text self.old) start_ix }
         requires byte { is_content metadata_block_ch ≡ true }
-        ensures block { IfOk result (λ next. let e = metadata_behind (source_text self.old)
+        ensures block { IfOk result (λ next. let e = metadata_after (source_text self.old)
             (context_in self.old).path metadata_block_ch start_ix in
             AddsRaw (document (source_text self.old) (source_options self.old) (names_of (allocs_of self.new))) (λ d.
             IsMetadata d start_ix metadata_block_ch e.places e.«end») e.left (tree_of self.old) (tree_of self.new)

@@ -7,7 +7,7 @@ ghost use Rattle.first_pass_grammar.specs.Leaves.{document};
 ghost use Rattle.first_pass_open.specs.OpenBlock.{IsJustPushed};
 ghost use Rattle.first_pass_tables.specs.Appends.{IsOpenNode, open_table, ReadsRow, ReadsRowLine};
 ghost use Rattle.first_pass.specs.Calls.{ClosesTable, ReadsRowFrom};
-ghost use Rattle.first_pass.specs.Holds.{behind_row};
+ghost use Rattle.first_pass.specs.Holds.{after_row};
 ghost use Rattle.first_pass.specs.Views.{allocs_of, braces_of, source_options, source_text, tree_of};
 
 use crate::state::FirstPass;
@@ -66,7 +66,7 @@ impl<'a> FirstPass<'a> {
             row_cells ix
             (open_table (tree_of self.old) missing_empty_cells.old (braces_of self.old))
             (open_table (tree_of self.new) missing_empty_cells.new (braces_of self.new)) row) }
-        ensures kept { IfOk result (λ row. ReadsRowFrom self.old self.new ix (behind_row row ix)) }
+        ensures kept { IfOk result (λ row. ReadsRowFrom self.old self.new ix (after_row row ix)) }
     {
         let mut table = TableSoFar {
             missing_empty_cells: *missing_empty_cells,
@@ -108,7 +108,7 @@ impl<'a> FirstPass<'a> {
             row_cells ix
             (open_table (tree_of self.old) missing_empty_cells.old (braces_of self.old))
             (open_table (tree_of self.new) missing_empty_cells.new (braces_of self.new)) row) }
-        ensures kept { IfOk result (λ row. ReadsRowFrom self.old self.new ix (behind_row row ix)) }
+        ensures kept { IfOk result (λ row. ReadsRowFrom self.old self.new ix (after_row row ix)) }
     {
         let mut table = TableSoFar {
             missing_empty_cells: *missing_empty_cells,

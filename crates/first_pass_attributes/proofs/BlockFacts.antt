@@ -11,18 +11,18 @@ use Rattle.std.proofs.lemmas.List.{get_or-reverse, get_or-drop, get_or-append-ad
 use Rattle.std.proofs.lemmas.List.Sums.{prefix_len_passes, suffix_len_is, suffix_len-le-length, AllPass-from_list_all, list_all-from_AllPass}
 use Rattle.std.proofs.Math.Seq.{take-append_seam, drop-length, get_or-append_seam}
 use Rattle.first_pass_items.specs.Bytes.{left_brace, right_brace}
-use Rattle.first_pass_attributes.specs.AttributeBlocks.{ends, is_behind_block, is_inside_block, Braces, braces, opening_brace, attribute_block}
+use Rattle.first_pass_attributes.specs.AttributeBlocks.{ends, is_after_block, is_inside_block, Braces, braces, opening_brace, attribute_block}
 use Rattle.first_pass_attributes.specs.AttributeBlocks.{IsAttributeBlock}
 
 -- bytes without the trailing ones that pass a test, and these trailing ones
 abbrev left : (ℕ → Bool) → List ℕ → List ℕ
 left p bs = take (length bs - suffix_len p bs) bs
 
-abbrev behind : (ℕ → Bool) → List ℕ → List ℕ
-behind p bs = drop (length bs - suffix_len p bs) bs
+abbrev following : (ℕ → Bool) → List ℕ → List ℕ
+following p bs = drop (length bs - suffix_len p bs) bs
 
-behind-passes : (p : ℕ → Bool) (bs : List ℕ) → list_all p (behind p bs) ≡ true
-behind-passes p bs =
+following-passes : (p : ℕ → Bool) (bs : List ℕ) → list_all p (following p bs) ≡ true
+following-passes p bs =
     let n : ℕ = length bs - suffix_len p bs in
     list_all-from_AllPass p (drop n bs) (λ k d l.
     let short = suffix_len-le-length p bs in
@@ -34,8 +34,8 @@ behind-passes p bs =
     let f : slice_index_or (drop n bs) k d ≡ slice_index_or bs (n + k) d = get_or-drop n bs k d in
     ap p (f ∙ ap (λ i. slice_index_or bs i d) (sym back) ∙ sym e) ∙ prefix_len_passes p (reverse bs) j d low)
 
-left-and-behind : (p : ℕ → Bool) (bs : List ℕ) → bs ≡ left p bs ++ behind p bs
-left-and-behind p bs = sym (take-append-drop (length bs - suffix_len p bs) bs)
+left-and-following : (p : ℕ → Bool) (bs : List ℕ) → bs ≡ left p bs ++ following p bs
+left-and-following p bs = sym (take-append-drop (length bs - suffix_len p bs) bs)
 
 -- a byte that does not pass, before bytes that do
 suffix-at : (p : ℕ → Bool) (xs : List ℕ) (x : ℕ) (ys : List ℕ) → p x ≡ false → list_all p ys ≡ true → suffix_len p (xs ++ x ∷ ys) ≡ length ys
@@ -100,14 +100,14 @@ opening-at front inside h =
     ∙ ap (λ t. if t then Some (length (front ++ left_brace ∷ []) - 1) else None) (ends-with front left_brace)
     ∙ ap Some (front-length front left_brace)
 
-block-at : (front inside behind : List ℕ) → list_all is_inside_block inside ≡ true → list_all is_behind_block behind ≡ true
-    → attribute_block ((front ++ left_brace ∷ inside) ++ right_brace ∷ behind) ≡ Some (braces (length front) (length (front ++ left_brace ∷ inside)))
+block-at : (front inside following : List ℕ) → list_all is_inside_block inside ≡ true → list_all is_after_block following ≡ true
+    → attribute_block ((front ++ left_brace ∷ inside) ++ right_brace ∷ following) ≡ Some (braces (length front) (length (front ++ left_brace ∷ inside)))
 unfolding attribute_block
-block-at front inside behind h g =
+block-at front inside following h g =
     let before : List ℕ = front ++ left_brace ∷ inside in
     let whole : List ℕ = before ++ right_brace ∷ [] in
     let last : ℕ = length whole - 1 in
-    let kept = left-at is_behind_block before right_brace behind refl g in
+    let kept = left-at is_after_block before right_brace following refl g in
     ap (λ bs. if ends right_brace bs then option_map (λ opening. braces opening (length bs - 1)) (opening_brace (take (length bs - 1) bs)) else None) kept
     ∙ ap (λ t. if t then option_map (λ opening. braces opening last) (opening_brace (take last whole)) else None) (ends-with before right_brace)
     ∙ ap (λ bs. option_map (λ opening. braces opening last) (opening_brace bs)) (front-bytes before right_brace)
@@ -121,8 +121,8 @@ pub block-only : (heading : List ℕ) (block : Braces) → IsAttributeBlock head
 block-only heading block is =
     let before : List ℕ = is.front ++ left_brace ∷ is.inside in
     let long : length before ≡ length is.front + suc (length is.inside) = length-append is.front (left_brace ∷ is.inside) in
-    let parts : heading ≡ before ++ right_brace ∷ is.behind = is.parts ∙ sym (append_assoc is.front (left_brace ∷ is.inside) (right_brace ∷ is.behind)) in
-    ap attribute_block parts ∙ block-at is.front is.inside is.behind is.plain is.aside
+    let parts : heading ≡ before ++ right_brace ∷ is.following = is.parts ∙ sym (append_assoc is.front (left_brace ∷ is.inside) (right_brace ∷ is.following)) in
+    ap attribute_block parts ∙ block-at is.front is.inside is.following is.plain is.aside
     ∙ ap Some (braces-same block (length is.front) (length before) is.opens (is.closes ∙ omega arith))
 
 -- the converse
@@ -143,17 +143,17 @@ opening-found bs k e =
     let kept : List ℕ = left is_inside_block bs in
     let found = if-some (ends left_brace kept) (Some (length kept - 1)) k e in
     let front : List ℕ = take (length kept - 1) kept in
-    let inside : List ℕ = behind is_inside_block bs in
+    let inside : List ℕ = following is_inside_block bs in
     let cut : kept ≡ front ++ left_brace ∷ [] = split-end kept left_brace found.0 (omega arith) in
     let parts : bs ≡ front ++ left_brace ∷ inside =
-    left-and-behind is_inside_block bs ∙ ap (λ l. l ++ inside) cut ∙ append_assoc front (left_brace ∷ []) inside in
+    left-and-following is_inside_block bs ∙ ap (λ l. l ++ inside) cut ∙ append_assoc front (left_brace ∷ []) inside in
     let place : length kept - 1 ≡ k = cc in
-    (front, inside, parts, behind-passes is_inside_block bs, sym place ∙ omega (arith, length-take (length kept - 1) kept))
+    (front, inside, parts, following-passes is_inside_block bs, sym place ∙ omega (arith, length-take (length kept - 1) kept))
 
 pub block-found : (heading : List ℕ) (block : Braces) → attribute_block heading ≡ Some block → IsAttributeBlock heading block
 unfolding attribute_block
 block-found heading block e =
-    let kept : List ℕ = left is_behind_block heading in
+    let kept : List ℕ = left is_after_block heading in
     let n : ℕ = length kept - 1 in
     let before : List ℕ = take n kept in
     let found = if-some (ends right_brace kept) (option_map (λ opening. braces opening n) (opening_brace before)) block e in
@@ -161,17 +161,17 @@ block-found heading block e =
     let opened = opening-found before block.opening some.0 in
     let front : List ℕ = opened.0 in
     let inside : List ℕ = opened.1 in
-    let rest : List ℕ = behind is_behind_block heading in
+    let rest : List ℕ = following is_after_block heading in
     let cut : kept ≡ before ++ right_brace ∷ [] = split-end kept right_brace found.0 (omega arith) in
     let long : length before ≡ length front + suc (length inside) = ap length opened.2 ∙ length-append front (left_brace ∷ inside) in
     record {
       front = front;
       inside = inside;
-      behind = rest;
-      parts = left-and-behind is_behind_block heading ∙ ap (λ l. l ++ rest) cut ∙ append_assoc before (right_brace ∷ []) rest
+      following = rest;
+      parts = left-and-following is_after_block heading ∙ ap (λ l. l ++ rest) cut ∙ append_assoc before (right_brace ∷ []) rest
           ∙ ap (λ l. l ++ right_brace ∷ rest) opened.2 ∙ append_assoc front (left_brace ∷ inside) (right_brace ∷ rest);
       plain = opened.3;
-      aside = behind-passes is_behind_block heading;
+      aside = following-passes is_after_block heading;
       opens = opened.4;
       closes = some.1 ∙ omega (arith, length-take n kept, long);
     }

@@ -40,13 +40,13 @@ within bs h = λ k d l.
       | inr high ↦ no_white b high
     ]
 
-words-behind : (gap bs : List ℕ) → All (λ b. is_between_words b ≡ true) gap → words (gap ++ bs) ≡ words bs
+words-following : (gap bs : List ℕ) → All (λ b. is_between_words b ≡ true) gap → words (gap ++ bs) ≡ words bs
 unfolding words
-words-behind [] bs h = refl
-words-behind (b ∷ gap) bs h =
+words-following [] bs h = refl
+words-following (b ∷ gap) bs h =
     ap (filter (λ part. nat_lt 0 (length part)))
     (slice_split-cons_yes is_between_words b (gap ++ bs) (All-head (λ c. is_between_words c ≡ true) b gap h))
-    ∙ words-behind gap bs (All-tail (λ c. is_between_words c ≡ true) b gap h)
+    ∙ words-following gap bs (All-tail (λ c. is_between_words c ≡ true) b gap h)
 
 word-last : (x : List ℕ) → 0 < length x → All (λ b. is_between_words b ≡ false) x → words x ≡ x ∷ []
 unfolding words
@@ -71,9 +71,9 @@ word-first x (b ∷ c ∷ sep) rest some h s one none = absurd (omega arith)
 pub words-cut : (gap x sep rest bs : List ℕ) → bs ≡ gap ++ (x ++ (sep ++ rest)) → 0 < length x
     → NoCharPasses is_ascii_whitespace x → AllPass is_ascii_whitespace gap → IsAsciiSeparator sep rest → words bs ≡ x ∷ words rest
 words-cut gap x sep rest bs e some h g s =
-    ap words e ∙ words-behind gap (x ++ (sep ++ rest)) (between gap g) ∙ word-first x sep rest some (within x h) (between sep s.0) s.1 s.2
+    ap words e ∙ words-following gap (x ++ (sep ++ rest)) (between gap g) ∙ word-first x sep rest some (within x h) (between sep s.0) s.1 s.2
 
 -- white space has no words
 pub words-none : (bs : List ℕ) → AllPass is_ascii_whitespace bs → words bs ≡ []
 unfolding words
-words-none bs h = ap words (sym (append-nil bs)) ∙ words-behind bs [] (between bs h)
+words-none bs h = ap words (sym (append-nil bs)) ∙ words-following bs [] (between bs h)

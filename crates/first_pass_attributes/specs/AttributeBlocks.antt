@@ -11,8 +11,8 @@ abbrev pub ends : ℕ → List ℕ → Bool
 ends c bs = slice_index bs (length bs - 1) == c
 
 -- a byte that may follow an attribute block: a space, a tab or a line ending (this project)
-abbrev pub is_behind_block : ℕ → Bool
-is_behind_block b = is_blank b || is_line_end b
+abbrev pub is_after_block : ℕ → Bool
+is_after_block b = is_blank b || is_line_end b
 
 -- a byte that can't be between the braces of an attribute block: `{`, `}`, `<`, `>`, `\` or a line ending
 -- (this project)
@@ -42,7 +42,7 @@ opening_brace bs =
 -- the attribute block of a heading: only spaces, tabs and line endings follow its closing brace (this project)
 unfoldable pub attribute_block : List ℕ → Option Braces
 attribute_block bs =
-    let kept = take (length bs - suffix_len is_behind_block bs) bs in
+    let kept = take (length bs - suffix_len is_after_block bs) bs in
     let closing = length kept - 1 in
     if ends right_brace kept then option_map (λ opening. braces opening closing) (opening_brace (take closing kept)) else None
 
@@ -51,10 +51,10 @@ attribute_block bs =
 pub record IsAttributeBlock (heading : List ℕ) (block : Braces) : Type 0 where
   pub front : List ℕ
   pub inside : List ℕ
-  pub behind : List ℕ
-  pub parts : heading ≡ front ++ left_brace ∷ (inside ++ right_brace ∷ behind)
+  pub following : List ℕ
+  pub parts : heading ≡ front ++ left_brace ∷ (inside ++ right_brace ∷ following)
   pub plain : list_all is_inside_block inside ≡ true
-  pub aside : list_all is_behind_block behind ≡ true
+  pub aside : list_all is_after_block following ≡ true
   pub opens : block.opening ≡ length front
   pub closes : block.closing ≡ length front + 1 + length inside
 

@@ -4,7 +4,7 @@ ghost use Rattle.std.specs.List.{suffix_len};
 ghost use Rattle.std.specs.Option.{option_map};
 ghost use Rattle.std.specs.Prelude.{◌≡◌, ◌≤◌, ◌<◌, ◌+◌, ◌-◌, length, true, take, slice_index, IfSome, IfOk, OnOk, IsSomeAnd, Some, None, IsUtf8, IsCharBoundary, filter, [], ◌∷◌};
 ghost use Rattle.first_pass_items.specs.Bytes.{left_brace, right_brace};
-ghost use Rattle.first_pass_attributes.specs.AttributeBlocks.{ends as ends_with, is_behind_block, is_inside_block, opening_brace as opening_of, length_before_block, inside_block};
+ghost use Rattle.first_pass_attributes.specs.AttributeBlocks.{ends as ends_with, is_after_block, is_inside_block, opening_brace as opening_of, length_before_block, inside_block};
 ghost use Rattle.first_pass_attributes.specs.Attributes.{is_telling, key_and_value as key_and_value_of, with_words, attributes_of, pair_in, attributes_in};
 
 use first_pass_lines::lines::{is_blank, is_line_end};
@@ -30,7 +30,7 @@ pub fn extract_attribute_block_content_from_header_text(
     ensures between { IsUtf8 heading.now
         → IfSome result.1 (λ r. IsCharBoundary heading.now r.start × IsCharBoundary heading.now r.«end») }
 {
-    let kept = without_last(heading, scan_behind_block(heading));
+    let kept = without_last(heading, scan_after_block(heading));
     if !ends(kept, b'}') {
         return (heading.len(), None);
     }
@@ -42,8 +42,8 @@ pub fn extract_attribute_block_content_from_header_text(
 }
 
 // The number of trailing bytes that may follow an attribute block.
-fn scan_behind_block(bytes: &[u8]) -> usize
-    ensures value { result ≡ suffix_len is_behind_block bytes.now }
+fn scan_after_block(bytes: &[u8]) -> usize
+    ensures value { result ≡ suffix_len is_after_block bytes.now }
     ensures within { result ≤ length bytes.now }
 {
     bytes

@@ -60,8 +60,8 @@ entry_is at x found h =
     let stop = d.end_is in
     cc
 
-pub behind_boundary : (text : List ℕ) (e : ℕ) → IsUtf8 text → IsCharBoundary text e → IsCharBoundary text (e + line_len (drop e text))
-behind_boundary text e u b =
+pub after_boundary : (text : List ℕ) (e : ℕ) → IsUtf8 text → IsCharBoundary text e → IsCharBoundary text (e + line_len (drop e text))
+after_boundary text e u b =
     elim (cases_lt e (length text)) [
       | inl within ↦ line_end_boundary text e u b within
       | inr past ↦ (let none : line_len (drop e text) ≡ 0 = ap line_len (drop_all e text past) ∙ line_len-none in
@@ -82,7 +82,7 @@ one_more text around nested q at x found before now u i there here h some b is =
       less = omega arith;
       within = b.0;
       no_end = ap is_line_end (ap (slice_index text) (sym last) ∙ sym (get_or-drop at text (x.size - 1) 0)) ∙ ends.1;
-      boundary = behind_boundary text (at + found.0) u b;
+      boundary = after_boundary text (at + found.0) u b;
       entry = link_entry (found.1, found.2);
       here = λ plain.
           (let nothing : reference_at false around (drop at text) ≡ Some x = subst (λ z. reference_at z around (drop at text) ≡ Some x) plain here in

@@ -19,7 +19,7 @@ use Rattle.first_pass_grammar.specs.Footnotes.{footnote_head_at}
 use Rattle.first_pass_grammar.specs.Kinds.{is_blank_rest}
 use Rattle.first_pass_grammar.specs.Leaves.{Document, around}
 use Rattle.first_pass_grammar.specs.Openers.{item_head, item_start, definition_head, definition_start}
-use Rattle.first_pass_grammar.specs.Skeleton.{From, Inside, Blanks, behind_marker, task_alone, next_is_blank, opening_of, OpensNode}
+use Rattle.first_pass_grammar.specs.Skeleton.{From, Inside, Blanks, after_marker, task_alone, next_is_blank, opening_of, OpensNode}
 use Rattle.first_pass_grammar.specs.Skeleton.{Opens, Level}
 use Rattle.first_pass_grammar.specs.Derivation.{Tables, node_of}
 use Rattle.first_pass_grammar.specs.Completion.{OtherClosed, AreBelow}
@@ -62,12 +62,12 @@ marked_top f x ix rest spine within =
 
 ready_marked : (d : Document) (defined : Tables) (f : Forest Item) (marker : Option Item) (p : Place) (blanks : Option ℕ) (lines : List Place)
     (ix : TreeIndex) (rest : List TreeIndex) → IsNoParagraph marker → f.spine ≡ ix ∷ rest → is_list (top_body f) ≡ false
-    → ReadyAt d defined f false (task_alone marker p blanks) lines → ReadyAt d defined (with_child f marker) false (behind_marker blanks) lines
+    → ReadyAt d defined f false (task_alone marker p blanks) lines → ReadyAt d defined (with_child f marker) false (after_marker blanks) lines
 ready_marked d defined f None p blanks lines ix rest other spine none ready = ready
 ready_marked d defined f (Some x) p blanks lines ix rest other spine none ready =
     let os : List ℕ = map (λ (i : TreeIndex). i.0) f.spine in
     let g : Forest Item = appended f x in
-    let from : From = behind_marker blanks in
+    let from : From = after_marker blanks in
     let k = completes-mark d defined (closed_in f) ready.frames f.nodes os x p blanks lines (plain_open d.options f ready.frames ready.are_open none)
     (other x refl) ready.completes in
     let within : ix.0 < length f.nodes =

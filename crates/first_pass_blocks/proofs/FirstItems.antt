@@ -44,7 +44,7 @@ IsUntitled (x ∷ items) = is_possible x.1.body ≡ false
 abbrev OpensUntitled : Opening → Type 0
 OpensUntitled (OpensLeaf BlankLine there left) = Unit {0}
 OpensUntitled (OpensLeaf (Block b) there left) = IsUntitled b.items
-OpensUntitled (OpensNode head inside behind) = Unit {0}
+OpensUntitled (OpensNode head inside following) = Unit {0}
 
 untitled_is : (x : ℕ × Item) (more items : List (ℕ × Item)) → items ≡ x ∷ more → is_possible x.1.body ≡ false → IsUntitled items
 untitled_is x more items is own = subst IsUntitled (sym is) own

@@ -11,7 +11,7 @@ use Rattle.first_pass_lines.specs.Places.{Place, offset, line_end, IsPlaceOf}
 use Rattle.first_pass_lines.proofs.LineFacts.{line_len-inside}
 use Rattle.first_pass_lines.proofs.PlaceFacts.{place_length}
 use Rattle.first_pass_links.specs.Labels.{label_at}
-use Rattle.first_pass_links.specs.Footnotes.{begins_footnote, head_behind, footnote_head}
+use Rattle.first_pass_links.specs.Footnotes.{begins_footnote, head_after, footnote_head}
 use Rattle.first_pass_grammar.specs.Containers.{Context}
 use Rattle.first_pass_grammar.specs.Kinds.{unindented}
 use Rattle.first_pass_grammar.specs.Leaves.{document}
@@ -20,7 +20,7 @@ use Rattle.first_pass_open.proofs.PlaceLemmas.{all_keep, line_start_end}
 use Rattle.first_pass_blocks.specs.declared.state.BlockPass.{BlockPass}
 use Rattle.first_pass_blocks.specs.FootnoteHeads.{footnote_mark_at, head_read, OpenedFootnote, after_head, IsAfterHead, TriesFootnote}
 use Rattle.first_pass_blocks.specs.Views.{context_in, reading_of, source_of, source_text, tree_of}
-use Rattle.first_pass_blocks.proofs.HeadLemmas.{head_behind_is}
+use Rattle.first_pass_blocks.proofs.HeadLemmas.{head_after_is}
 use Rattle.first_pass_lists.proofs.NoEmptyItem.{footnote_begun_none}
 use Rattle.first_pass_blocks.proofs.FootnoteSteps.{passes_note}
 use Rattle.first_pass_blocks.proofs.OrderSteps.{unindented_later}
@@ -37,7 +37,7 @@ pub no_mark : (around : Context) (p : Place) → footnote_mark_at around.options
 unfolding footnote_head_at footnote_head
 no_mark around p h =
     no_mark_by (has around.options footnotes) (nat_lt (indent p.rest) 4) (begins_footnote (unindented p).rest.left) (offset (unindented p))
-    (option_and_then (head_behind (drop 2 (unindented p).rest.left)) (label_at (footnote_prefix around) false (drop 2 (unindented p).rest.left))) h
+    (option_and_then (head_after (drop 2 (unindented p).rest.left)) (label_at (footnote_prefix around) false (drop 2 (unindented p).rest.left))) h
 
 marked_by : (t u v : Bool) (at n : ℕ) → (if t && (u && v) then Some at else None) ≡ Some n → (at ≡ n) × ((t && u) ≡ true)
 marked_by true true true at n h = let same : at ≡ n = cc in (same, refl)
@@ -96,7 +96,7 @@ pub note_opened : (old new : BlockPass) (p q : Place) (start n : ℕ) (head : �
     → footnote_at (in_table (tree_of old).nodes (tree_of old).spine) (context_in old) (drop start (source_text old)) ≡ Some head
     → n ≡ head_read (gfm_footnotes (source_of old).options) head.0 (drop (start + head.0) (source_text old))
     → OpenedFootnote start head old new → 3 < n → IsAfterHead (source_of old) (start + n) q → TriesFootnote old new p q true
-note_opened old new p q start n head utf8 at forest none same mark is n_is opened some behind =
+note_opened old new p q start n head utf8 at forest none same mark is n_is opened some following =
     let text : List ℕ = source_text old in
     let around : Context = context_in old in
     let gfm : Bool = gfm_footnotes (source_of old).options in
@@ -112,21 +112,21 @@ note_opened old new p q start n head utf8 at forest none same mark is n_is opene
     subst (λ (k : ℕ). OpenedFootnote k head old new) (sym here) opened in
     let low = unindented_later text p.line p.rest utf8 at in
     let a = place_length text p at in
-    let b = place_length text q behind.place in
-    let later = behind.later in
-    let ends = behind.ends in
+    let b = place_length text q following.place in
+    let later = following.later in
+    let ends = following.ends in
     let e : ℕ = start + n in
     let line : line_end p ≡ offset p + line_len (drop (offset p) text) = ap (λ bs. offset p + line_len bs) at.left in
     let stop = line_start_end text e in
     let far = line_after text (offset p) e (omega arith) in (
-      (behind.place, omega arith, omega arith, omega arith),
+      (following.place, omega arith, omega arith, omega arith),
       omega arith,
       ap (λ r. r.empty_item) opened.opened ∙ footnote_begun_none start opened.index (reading_of old),
       passes_note old new p q head utf8 at forest none same opens
           (λ no_table. m.1 ∙ ap (λ (t : Bool). footnote_at t around (drop start text)) (sym no_table) ∙ is) around nested
-          (ap (λ (k : ℕ). footnote_at nested around (drop k text)) here ∙ is) behind.place (omega arith)
+          (ap (λ (k : ℕ). footnote_at nested around (drop k text)) here ∙ is) following.place (omega arith)
           (λ names.
-          head_behind_is (document text (source_of old).options names) p (footnote_prefix around) nested head n utf8 at head_is size
-          ∙ ap (λ (k : ℕ). after_head gfm text (k + n)) here ∙ sym behind.there)
-          behind.boundary,
+          head_after_is (document text (source_of old).options names) p (footnote_prefix around) nested head n utf8 at head_is size
+          ∙ ap (λ (k : ℕ). after_head gfm text (k + n)) here ∙ sym following.there)
+          following.boundary,
     )

@@ -30,7 +30,7 @@ use Rattle.first_pass_blocks.specs.FootnoteHeads.{OpenedFootnote}
 use Rattle.first_pass_blocks.specs.Views.{allocs_of, reading_of, source_of, source_text, tree_of}
 use Rattle.first_pass_grammar.specs.Containers.{Context}
 use Rattle.first_pass_blocks.proofs.WrittenLemmas.{footnote_written}
-use Rattle.first_pass_ready.proofs.FootnoteLemmas.{behind_note, note_is_open}
+use Rattle.first_pass_ready.proofs.FootnoteLemmas.{after_note, note_is_open}
 use Rattle.first_pass_blocks.proofs.OrderSteps.{line_or-below, ordered_on, ordered_note_in, top_begun, unindented_later}
 use Rattle.first_pass_order.proofs.CountLemmas.{note_count}
 use Rattle.first_pass_order.proofs.NamedLemmas.{note_named}
@@ -43,7 +43,7 @@ module _ (old new : BlockPass) (p q : Place) (head : ℕ × List ℕ) (utf8 : Is
     (begins : in_table (tree_of old).nodes (tree_of old).spine ≡ false → footnote_head_at (context_of (source_of old).options (tree_of old)) p ≡ Some head)
     (around : Context) (nested : Bool) (here_is : footnote_at nested around (drop (offset (unindented p)) (source_text old)) ≡ Some head)
     (place : IsPlaceOf (source_text old) q) (later : offset (unindented p) + 4 ≤ q.line)
-    (there : (names : Names) → behind_note (document (source_text old) (source_of old).options names) p (lines_from (source_text old) (line_end p)) head.0
+    (there : (names : Names) → after_note (document (source_text old) (source_of old).options names) p (lines_from (source_text old) (line_end p)) head.0
     ≡ (q, lines_from (source_text old) (line_end q))) where
   abbrev text : List ℕ
   text = source_text old
@@ -87,9 +87,9 @@ module _ (old new : BlockPass) (p q : Place) (head : ℕ × List ℕ) (utf8 : Is
       } in
       let o = note_is_open d (tables_of (allocs_of old)) (reading_of old) p lines head opened.index forest is_head named none ready in
       let now : Reading = footnote_begun start opened.index (reading_of old) in
-      let unblank : ReadyAt d (told_label (tables_of (allocs_of old)) head.1) now.tree now.blank (Inside (behind_note d p lines head.0).0)
-      (behind_note d p lines head.0).1 = subst (λ t. ReadyAt d (told_label (tables_of (allocs_of old)) head.1) now.tree t
-      (Inside (behind_note d p lines head.0).0) (behind_note d p lines head.0).1) (sym o.blank) o.ready in
+      let unblank : ReadyAt d (told_label (tables_of (allocs_of old)) head.1) now.tree now.blank (Inside (after_note d p lines head.0).0)
+      (after_note d p lines head.0).1 = subst (λ t. ReadyAt d (told_label (tables_of (allocs_of old)) head.1) now.tree t
+      (Inside (after_note d p lines head.0).0) (after_note d p lines head.0).1) (sym o.blank) o.ready in
       let moved : ReadyAt d (told_label (tables_of (allocs_of old)) head.1) now.tree now.blank (Inside q) (lines_from text (line_end q)) =
       subst (λ (z : Place × List Place). ReadyAt d (told_label (tables_of (allocs_of old)) head.1) now.tree now.blank (Inside z.0) z.1) (there more) unblank in
       let told' = subst (λ (z : Tables). ReadyAt d z now.tree now.blank (Inside q) (lines_from text (line_end q))) (sym opened.told) moved in

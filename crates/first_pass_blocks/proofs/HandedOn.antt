@@ -55,14 +55,14 @@ stop_by : (n : ℕ) (path : List Container) (line : Place) (lines : List Place) 
 stop_by n path line lines further None is rest = inl refl
 stop_by n path line lines further (Some q) is rest = stop_line n path line lines further q (at_line_end q.rest.left) (is_blank_rest q.rest) is refl rest
 
-stops_behind : (n : ℕ) (path : List Container) (lines : List Place) → StopsBlank n path (extent (in_containers path blank_judge) n lines)
+stops_after : (n : ℕ) (path : List Container) (lines : List Place) → StopsBlank n path (extent (in_containers path blank_judge) n lines)
 unfolding extent
-stops_behind n path [] = inl refl
-stops_behind n path (line ∷ lines) =
-    stop_by n path line lines (extent (in_containers path blank_judge) n lines) (taken path line) refl (stops_behind n path lines)
+stops_after n path [] = inl refl
+stops_after n path (line ∷ lines) =
+    stop_by n path line lines (extent (in_containers path blank_judge) n lines) (taken path line) refl (stops_after n path lines)
 
 pub html_stops : (n : ℕ) (path : List Container) (p : Place) (lines : List Place) → StopsBlank n path (until_blank n path p lines)
-html_stops n path p lines = stops_behind n path lines
+html_stops n path p lines = stops_after n path lines
 
 -- an added block changes no path
 pub path_added : (options : Options) (f : Forest Item) (items : List (ℕ × Item)) → IsForest f → path_of options (added f items) ≡ path_of options f

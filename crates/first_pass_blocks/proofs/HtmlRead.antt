@@ -11,7 +11,7 @@ use Rattle.first_pass_grammar.specs.Completion.{lines_from}
 use Rattle.first_pass_names.specs.TableEntries.{tables_of, told_by, names_of, NamesMore}
 use Rattle.first_pass_open.specs.Path.{path_of}
 use Rattle.first_pass_open.proofs.PlaceLemmas.{all_keep}
-use Rattle.first_pass_raw.specs.RawBlocks.{IsPlaceAt, behind_line_at, html_to_blank}
+use Rattle.first_pass_raw.specs.RawBlocks.{IsPlaceAt, after_line_at, html_to_blank}
 use Rattle.first_pass_lists.specs.Closing.{top_body, is_list, list_finished}
 use Rattle.first_pass_lists.specs.declared.reading.Reading.{Reading}
 use Rattle.first_pass_kinds.proofs.KindLemmas.{kind_says}
@@ -45,10 +45,10 @@ pub html_read : (old new : BlockPass) (p : Place) (at columns next : ℕ) → Is
     → source_of new ≡ source_of old → NamesMore (allocs_of old) (allocs_of new)
     → (reading_of new).empty_item ≡ (list_finished p.line (reading_of old)).empty_item
     → (reading_of new).blank ≡ (list_finished p.line (reading_of old)).blank
-    → (behind_line_at (source_text old) at ≤ next) × IsCharBoundary (source_text old) next
+    → (after_line_at (source_text old) at ≤ next) × IsCharBoundary (source_text old) next
     → AddsHtml (source_text old) (source_options old) (names_of (allocs_of new)) at columns (unindented p) (list_finished p.line (reading_of old)).tree
     (tree_of new) next → ReadsLeaf old new p next
-html_read old new p at columns next u i empty forest forest_after kind columns_is at_is source adds empty_is blank_is behind block =
+html_read old new p at columns next u i empty forest forest_after kind columns_is at_is source adds empty_is blank_is following block =
     let text = source_text old in
     let options = source_options old in
     let now = names_of (allocs_of new) in
@@ -61,21 +61,21 @@ html_read old new p at columns next u i empty forest forest_after kind columns_i
     let low = unindented_later text p.line p.rest u i in
     let begins = found_boundary text p at u i at_is in
     let there = html_stands text p at u i at_is in
-    let here : behind_line_at text at ≡ line_end p = ap (behind_line_at text) at_is ∙ line_end_of text p j in
-    let later = behind.0 in
+    let here : after_line_at text at ≡ line_end p = ap (after_line_at text) at_is ∙ line_end_of text p j in
+    let later = following.0 in
     let width = (columns_are _ _ columns_is (kind_says options p.rest HtmlToBlank kind)).0 in
     let none = empty_is ∙ list_finished_none p.line r in
     let blank = blank_is ∙ list_finished_blank p.line r in
     let added = html_blank_added text options now p q.tree tree at next at_is j columns width block in
     let some = left_before p (leaf_left options p.rest HtmlToBlank kind (λ b. cc)) in
-    let grows = to_blank_few text options now q.tree tree at next u begins behind.1.0 columns z there block (offset p) (omega arith) (omega arith) in
+    let grows = to_blank_few text options now q.tree tree at next u begins following.1.0 columns z there block (offset p) (omega arith) (omega arith) in
     let same = list_finished_count p.line r in
     let path : path_of options tree ≡ path_of options q.tree = ap (path_of options) block.tree_is ∙ path_added options q.tree block.items forest_after in
     record {
       source = source;
       names = adds.names;
       later = omega arith;
-      boundary = behind.1;
+      boundary = following.1;
       ready = λ more extends ready. subst (λ t. Ready (document text options more) t (reading_of new) (lines_from text next)) (sym (ap told_by adds.entries))
           (ready_kind text options (tables_of (allocs_of old)) now more r tree p HtmlToBlank false next forest kind refl refl extends added empty ready
           (reading_of new).empty_item (reading_of new).blank none blank);
@@ -85,12 +85,12 @@ html_read old new p at columns next u i empty forest forest_after kind columns_i
       order = λ o. let outside = list_finished_outside p.line r o.1.1.nested in
           let after = added_outside q.tree block.items outside.0 outside.1 in
           let read = ordered_finished text r p.line (offset p) p.line at (omega arith) (omega arith) (inl (refl, o.0)) begins.0 begins empty o.1 in
-          read_stopped options text (reading_of new) (path_of options q.tree) e next behind.1 none (λ old. blank) path
-          (html_stops (length text) (path_of options q.tree) z (lines_from text (behind_line_at text (offset z)))) block.left_is
+          read_stopped options text (reading_of new) (path_of options q.tree) e next following.1 none (λ old. blank) path
+          (html_stops (length text) (path_of options q.tree) z (lines_from text (after_line_at text (offset z)))) block.left_is
           (subst (λ f. AreNested f.nodes f.spine) (sym block.tree_is) after.0) (ap (λ f. is_list (top_body f)) block.tree_is ∙ after.1)
           (block_ordered text q (reading_of new) at at e.«end» read.0 (omega arith)
-          (to_blank_between text options now q.tree tree at next u begins behind.1.0 columns z there block)
-          (to_blank_ends text options now q.tree tree at next u begins behind.1.0 z there).0 none);
+          (to_blank_between text options now q.tree tree at next u begins following.1.0 columns z there block)
+          (to_blank_ends text options now q.tree tree at next u begins following.1.0 z there).0 none);
       whole = λ h k. block_whole now (names_of (allocs_of old)) q.tree tree added.items adds.names added.tree_is
           (kind_whole text options now p HtmlToBlank false q.tree tree next i added)
           (kind_silent text options now p HtmlToBlank false q.tree tree next added)

@@ -27,7 +27,7 @@ use Rattle.first_pass_grammar.specs.Blocks.{LeafBlock, block_at, leaf_block}
 use Rattle.first_pass_grammar.specs.Skeleton.{Line, Opening, OpensLeaf, OpensAs}
 use Rattle.first_pass_grammar.specs.Completion.{lines_from}
 use Rattle.first_pass_open.specs.Path.{path_of, context_of}
-use Rattle.first_pass_raw.specs.RawBlocks.{IsPlaceAt, behind_line_at, code_behind, AddsIndented, AddsRaw, metadata_behind, fenced_behind, html_to_end}
+use Rattle.first_pass_raw.specs.RawBlocks.{IsPlaceAt, after_line_at, code_after, AddsIndented, AddsRaw, metadata_after, fenced_after, html_to_end}
 use Rattle.first_pass_raw.specs.RawBlocks.{html_to_blank}
 use Rattle.first_pass_order.specs.LeafBlocks.{AddsKind}
 use Rattle.first_pass_kinds.specs.Found.{marked_kind}
@@ -51,8 +51,8 @@ unfolding OpensAs
 code_added text options names p old new next blank place a =
     let q : Place = moved_columns 4 p in
     let path : List Container = path_of options old in
-    let ends : behind_line_at text (offset q) ≡ line_end p = ap (λ (bs : List ℕ). offset q + line_len bs) (sym place.left) ∙ columns_line_end 4 p in
-    let same : code_behind text path (offset q) ≡ code_lines path (lines_from text (line_end p)) = ap (λ n. code_lines path (lines_from text n)) ends in
+    let ends : after_line_at text (offset q) ≡ line_end p = ap (λ (bs : List ℕ). offset q + line_len bs) (sym place.left) ∙ columns_line_end 4 p in
+    let same : code_after text path (offset q) ≡ code_lines path (lines_from text (line_end p)) = ap (λ n. code_lines path (lines_from text n)) ends in
     record {
       items = a.items;
       tree_is = a.tree_is;
@@ -69,21 +69,21 @@ code_added text options names p old new next blank place a =
 -- the contract of a block at an offset, for the place there
 module _ (text : List ℕ) (options : Options) (names : Names) (p : Place) (old new : Forest Item) (at next : ℕ) (at_is : at ≡ offset (unindented p))
     (place : IsPlaceOf text (unindented p)) where
-  pub ends_here : behind_line_at text at ≡ line_end p
-  ends_here = ap (behind_line_at text) at_is ∙ line_end_of text p place
+  pub ends_here : after_line_at text at ≡ line_end p
+  ends_here = ap (after_line_at text) at_is ∙ line_end_of text p place
 
   pub is_here : IsPlaceAt text at (unindented p)
   is_here = record { offset_is = sym at_is; left_is = place.left ∙ ap (λ n. drop n text) (sym at_is) }
 
   -- metadata
   pub metadata_added : (byte : ℕ) → (
-      let e : Extent = metadata_behind text (path_of options old) byte at in
+      let e : Extent = metadata_after text (path_of options old) byte at in
       AddsRaw (document text options names) (λ d. IsMetadata d at byte e.places e.«end») e.left old new next)
       → AddsKind (document text options names) p (Metadata byte) false old new next
   unfolding OpensAs
   metadata_added byte a =
       let path : List Container = path_of options old in
-      let e : Extent = metadata_behind text path byte at in
+      let e : Extent = metadata_after text path byte at in
       let f : Extent = metadata_lines (length text) path byte (lines_from text (line_end p)) in
       let same : e ≡ f = ap (λ n. metadata_lines (length text) path byte (lines_from text n)) ends_here in
       record {
@@ -99,13 +99,13 @@ module _ (text : List ℕ) (options : Options) (names : Names) (p : Place) (old 
 
   -- a fenced code block
   pub fenced_added : (count byte columns : ℕ) → columns ≡ indent p.rest → (
-      let e : Extent = fenced_behind text (path_of options old) columns byte count at in
+      let e : Extent = fenced_after text (path_of options old) columns byte count at in
       AddsRaw (document text options names) (λ d. IsFencedCode d at count e.places e.«end») e.left old new next)
       → AddsKind (document text options names) p (FencedCode count byte) false old new next
   unfolding OpensAs
   fenced_added count byte columns width a =
       let path : List Container = path_of options old in
-      let e : Extent = fenced_behind text path columns byte count at in
+      let e : Extent = fenced_after text path columns byte count at in
       let f : Extent = fenced_lines (length text) path (indent p.rest) byte count (lines_from text (line_end p)) in
       let same : e ≡ f = ap (λ n. fenced_lines (length text) path columns byte count (lines_from text n)) ends_here
       ∙ ap (λ k. fenced_lines (length text) path k byte count (lines_from text (line_end p))) width in

@@ -5,7 +5,7 @@ use Rattle.first_pass_lines.specs.Places.{Place, offset, line_end, IsPlaceOf}
 use Rattle.first_pass_grammar.specs.Leaves.{document}
 use Rattle.first_pass_grammar.specs.Kinds.{unindented}
 use Rattle.first_pass_names.specs.TableEntries.{names_of, NamesMore}
-use Rattle.first_pass_raw.specs.RawBlocks.{behind_line_at}
+use Rattle.first_pass_raw.specs.RawBlocks.{after_line_at}
 use Rattle.first_pass_open.specs.Between.{AddsBetween}
 use Rattle.first_pass_kinds.specs.Found.{IsFoundAt, marked_kind}
 use Rattle.first_pass_kinds.specs.declared.kinds.Found.TheVariants.{Marked}
@@ -49,21 +49,21 @@ heading_found pass p level columns at f =
     ∙ found_says (source_options pass) p (AtxHeading level) columns at f.found
 
 module _ (old new : BlockPass) (p : Place) (leaf : MarkedLeaf) (columns at next : ℕ) (f : IsFoundIn old p leaf columns at) where
-  here : behind_line_at (source_text old) at ≡ line_end p
-  here = ap (behind_line_at (source_text old)) f.found.at_is ∙ line_end_of (source_text old) p (all_keep (source_text old) p.line p.rest f.utf8 f.place)
+  here : after_line_at (source_text old) at ≡ line_end p
+  here = ap (after_line_at (source_text old)) f.found.at_is ∙ line_end_of (source_text old) p (all_keep (source_text old) p.line p.rest f.utf8 f.place)
 
   -- a block of one line
-  pub line_read : next ≡ line_end p → (behind_line_at (source_text old) at ≤ next) × IsCharBoundary (source_text old) next
+  pub line_read : next ≡ line_end p → (after_line_at (source_text old) at ≤ next) × IsCharBoundary (source_text old) next
   line_read ends =
       let same = here in (omega arith, subst (IsCharBoundary (source_text old)) (sym ends) (place_end (source_text old) p f.utf8 f.place))
 
   pub leaf_added : source_of new ≡ source_of old → NamesMore (allocs_of old) (allocs_of new) → (reading_of new).empty_item ≡ (reading_of old).empty_item
-      → (reading_of new).blank ≡ (reading_of old).blank → (behind_line_at (source_text old) at ≤ next) × IsCharBoundary (source_text old) next
+      → (reading_of new).blank ≡ (reading_of old).blank → (after_line_at (source_text old) at ≤ next) × IsCharBoundary (source_text old) next
       → ((from : ℕ) → from ≤ at → AddsBetween (source_text old) from next (tree_of old) (tree_of new))
       → AddsKind (document (source_text old) (source_options old) (names_of (allocs_of new))) p (marked_kind leaf) false (tree_of old) (tree_of new) next
       → AddsLeaf old new p (marked_kind leaf) next
-  leaf_added source more empty blank behind fits block =
-      let later = behind.0 in
+  leaf_added source more empty blank following fits block =
+      let later = following.0 in
       let same = here in
       let at_is = f.found.at_is in
       let low = unindented_later (source_text old) p.line p.rest f.utf8 f.place in
@@ -74,6 +74,6 @@ module _ (old new : BlockPass) (p : Place) (leaf : MarkedLeaf) (columns at next 
         block = adds_so (source_text old) (source_options old) (names_of (allocs_of new)) p (marked_kind leaf) (marked_kind leaf) false
             (reading_of new).blank (tree_of old) (tree_of new) next refl (blank ∙ f.not_blank) block;
         later = omega arith;
-        boundary = behind.1;
+        boundary = following.1;
         fits = λ from before. fits from (omega arith);
       }

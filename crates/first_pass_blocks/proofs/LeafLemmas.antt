@@ -225,7 +225,7 @@ lazy_read d defined r p lines left at block shows opens none lazy =
     let l : Level = lvl frames (tail (closed_in f) false) in
     let first : IsFirst d l (At p ALeafAlone) lines (OpensLeaf (Block block) Line left) = record {
       place = p;
-      behind = lines;
+      following = lines;
       begins = refl;
       opens = subst (λ z. OpensBlockAt d z p lines (OpensLeaf (Block block) Line left)) path opens;
     } in
@@ -302,7 +302,7 @@ ready_blank_leaf d defined r p lines kind none (inr lazy) =
     let blank : OpensAs d (containers_of frames) p lines Blank (OpensLeaf BlankLine Line lines) = refl in
     let first : IsFirst d (lvl frames t) (At p ALeafAlone) lines (OpensLeaf BlankLine Line lines) = record {
       place = p;
-      behind = lines;
+      following = lines;
       begins = refl;
       opens = (Blank, kind, blank);
     } in
@@ -443,7 +443,7 @@ ready_text d defined r new p at next marker items mark at_is place is new_is non
     let opens = opens_text d (containers_of frames) p at next (Some marker) items at_is place here in
     let l : Level = lvl frames (tail (closed_in f) false) in
     let first : IsFirst d l (At p (TextOf marker)) lines (OpensLeaf (Block block) Line left) =
-    record { place = p; behind = lines; begins = refl; opens = opens } in
+    record { place = p; following = lines; begins = refl; opens = opens } in
     let read : IsRead d defined f block left = record {
       frames = frames;
       are_open = ready.are_open;

@@ -24,7 +24,7 @@ use Rattle.first_pass_grammar.specs.Order.{is_task_marker}
 use Rattle.first_pass_grammar.specs.OpenOrder.{is_in_item}
 use Rattle.first_pass_grammar.specs.Openers.{item_head, item_start, after_task, quote_head, quote_begun, definition_head, definition_start}
 use Rattle.first_pass_grammar.specs.Openers.{Start, start_at}
-use Rattle.first_pass_grammar.specs.Skeleton.{From, Inside, At, TextOf, Opening, OpensNode, Opens, Level, may_define, opening_of, behind_tag}
+use Rattle.first_pass_grammar.specs.Skeleton.{From, Inside, At, TextOf, Opening, OpensNode, Opens, Level, may_define, opening_of, after_tag}
 use Rattle.first_pass_grammar.specs.Derivation.{Tables, node_of, list_flags}
 use Rattle.first_pass_grammar.specs.Completion.{Closed, OtherClosed, ParagraphAt, DefinitionClosed, TitleAt, lines_from, Frame, InContainer, InList}
 use Rattle.first_pass_grammar.specs.Completion.{InDefinitions, containers_of, AreBelow, IsPlain}
@@ -54,15 +54,15 @@ or_false true = refl
 or_false false = refl
 
 -- the opening of a quote opens a block, and ends any list at its line
-quote_away : (b : Option ItemBody) (closed : Closed) (p : Place) (kind : Option BlockQuoteKind) (behind : List Place) (inside : From)
-    → EndsListAt p.line b closed (OpensNode (quote_head p kind) inside behind)
-quote_away None closed p kind behind inside = tt
-quote_away (Some (ListBody flags list number)) closed p kind behind inside = (refl, refl)
-quote_away (Some (DefinitionList flags)) OtherClosed p kind behind inside = tt
-quote_away (Some (DefinitionList flags)) (ParagraphAt at) p kind behind inside = tt
-quote_away (Some (DefinitionList flags)) (DefinitionClosed e blanks) p kind behind inside = (refl, refl)
-quote_away (Some (DefinitionList flags)) (TitleAt e at) p kind behind inside = tt
-quote_away (Some b) closed p kind behind inside = tt
+quote_away : (b : Option ItemBody) (closed : Closed) (p : Place) (kind : Option BlockQuoteKind) (following : List Place) (inside : From)
+    → EndsListAt p.line b closed (OpensNode (quote_head p kind) inside following)
+quote_away None closed p kind following inside = tt
+quote_away (Some (ListBody flags list number)) closed p kind following inside = (refl, refl)
+quote_away (Some (DefinitionList flags)) OtherClosed p kind following inside = tt
+quote_away (Some (DefinitionList flags)) (ParagraphAt at) p kind following inside = tt
+quote_away (Some (DefinitionList flags)) (DefinitionClosed e blanks) p kind following inside = (refl, refl)
+quote_away (Some (DefinitionList flags)) (TitleAt e at) p kind following inside = tt
+quote_away (Some b) closed p kind following inside = tt
 
 -- the opening there, over the frames
 finished_opens : (d : Document) (defined : Tables) (old new : Reading) (p : Place) (lines : List Place) (opening : Opening)
@@ -77,23 +77,23 @@ finished_path d defined old new p lines opening done =
     sym (open_path d.options new.tree.nodes new.tree.spine done.ready.0.frames done.ready.0.are_open) ∙ done.path
 
 -- a block quote of a kind is open, for any place where blocks continue in it
-pub quote_is_open : (d : Document) (defined : Tables) (r : Reading) (p : Place) (lines behind : List Place) (kind : Option BlockQuoteKind) (inside : From)
-    → IsForest r.tree → Opens d (level_of d.options r.tree r.blank) p lines (OpensNode (quote_head p kind) inside behind) → r.empty_item ≡ None
+pub quote_is_open : (d : Document) (defined : Tables) (r : Reading) (p : Place) (lines following : List Place) (kind : Option BlockQuoteKind) (inside : From)
+    → IsForest r.tree → Opens d (level_of d.options r.tree r.blank) p lines (OpensNode (quote_head p kind) inside following) → r.empty_item ≡ None
     → ReadyAt d defined r.tree r.blank (Inside p) lines
-    → HasBegun d defined r (begun (quote_start p) (BlockQuoteBody kind) (list_finished p.line r)) (BlockQuote kind) inside behind
-quote_is_open d defined r p lines behind kind inside forest opens none ready =
-    let opening : Opening = OpensNode (quote_head p kind) inside behind in
+    → HasBegun d defined r (begun (quote_start p) (BlockQuoteBody kind) (list_finished p.line r)) (BlockQuote kind) inside following
+quote_is_open d defined r p lines following kind inside forest opens none ready =
+    let opening : Opening = OpensNode (quote_head p kind) inside following in
     let q : Reading = list_finished p.line r in
     let done = ready_finished d defined r p lines p.line opening forest (opens_stays d (level_of d.options r.tree r.blank) p lines opening refl opens) opens tt
-    refl (quote_away (top_body r.tree) (closed_in r.tree) p kind behind inside) none ready in
+    refl (quote_away (top_body r.tree) (closed_in r.tree) p kind following inside) none ready in
     let f : Forest Item = q.tree in
     let now = done.ready.0 in
-    let k = completes-quote d defined (closed_in f) now.frames f.nodes (map (λ (i : TreeIndex). i.0) f.spine) p lines behind kind (quote_start p) p.line 0
+    let k = completes-quote d defined (closed_in f) now.frames f.nodes (map (λ (i : TreeIndex). i.0) f.spine) p lines following kind (quote_start p) p.line 0
     inside done.ready.1 (finished_opens d defined r q p lines opening done) now.completes in
     record {
-      is_begun = subst (IsBegun d defined (with_open f (node_of (quote_start p) 0 (BlockQuoteBody kind))) (BlockQuote kind) inside behind)
+      is_begun = subst (IsBegun d defined (with_open f (node_of (quote_start p) 0 (BlockQuoteBody kind))) (BlockQuote kind) inside following)
           (finished_path d defined r q p lines opening done)
-          (begun_ready d defined f (node_of (quote_start p) 0 (BlockQuoteBody kind)) (BlockQuote kind) now.frames inside behind refl refl now.are_open
+          (begun_ready d defined f (node_of (quote_start p) 0 (BlockQuoteBody kind)) (BlockQuote kind) now.frames inside following refl refl now.are_open
           now.completes.below k);
       blank = done.blank;
       none = done.none;
@@ -123,14 +123,14 @@ pub ready_tagged : (d : Document) (defined : Tables) (r : Reading) (p : Place) (
 ready_tagged d defined r p lines inside kind forest bare begins none ready =
     let q : Reading = begun (quote_start p) (BlockQuoteBody (Some kind)) (list_finished p.line r) in
     let path : List Container = path_of d.options r.tree in
-    let from : From × List Place = behind_tag (around d (BlockQuote (Some kind) ∷ path)) lines in
+    let from : From × List Place = after_tag (around d (BlockQuote (Some kind) ∷ path)) lines in
     let opens = opens_start d (level_of d.options r.tree r.blank) p lines (quote_begun p (Some kind) inside) bare begins in
     let now = quote_is_open d defined r p lines from.1 (Some kind) from.0 forest opens none ready in
     record {
       kind = Some kind;
       quote = top_opened (list_finished p.line r).tree (node_of (quote_start p) 0 (BlockQuoteBody (Some kind)));
       blank = now.blank;
-      ready = subst (λ z. ReadyAt d defined q.tree false (behind_tag (around d z) lines).0 (behind_tag (around d z) lines).1) (sym now.is_begun.path_is)
+      ready = subst (λ z. ReadyAt d defined q.tree false (after_tag (around d z) lines).0 (after_tag (around d z) lines).1) (sym now.is_begun.path_is)
           now.is_begun.ready;
     }
 
@@ -307,15 +307,15 @@ item_absent None found old new e h = (refl, h.1)
 item_absent (Some item) found old new e h = (let z : None ≡ Some (marker_of item.0) = sym e ∙ h.0 in cc)
 
 -- the place where blocks continue after the markers of an item
-abbrev pub behind_task : Option Item → Place → From
-behind_task None p = Inside p
-behind_task (Some marker) p = At p (TextOf marker)
+abbrev pub past_task : Option Item → Place → From
+past_task None p = Inside p
+past_task (Some marker) p = At p (TextOf marker)
 
 -- the opening from the markers
 inside_by : (d : Document) (path : List Container) (p : Place) (lines : List Place) (byte number columns : ℕ) (marker : Option Item) (rest : Rest)
     → is_blank_rest rest ≡ false
     → opening_of d path p lines (item_start p (byte, number, columns) (marker, rest))
-    ≡ OpensNode (item_head p byte number columns) (behind_task marker (at_rest p rest)) lines
+    ≡ OpensNode (item_head p byte number columns) (past_task marker (at_rest p rest)) lines
 inside_by d path p lines byte number columns None rest h = rw h refl
 inside_by d path p lines byte number columns (Some x) rest h = rw h refl
 
@@ -325,9 +325,9 @@ pub ready_item : (d : Document) (defined : Tables) (r : Reading) (p : Place) (li
     → begins_at d r p ≡ Some (item_start p (byte, number, columns) (marker, rest))
     → is_blank_rest rest ≡ false → r.empty_item ≡ None → ReadyAt d defined r.tree r.blank (Inside p) lines
     → (let q : Reading = item_opened (offset p) byte number columns r in
-    (q.blank ≡ false) × (now : ReadyAt d defined q.tree false (behind_task marker (at_rest p rest)) lines) × IsPlain now.frames)
+    (q.blank ≡ false) × (now : ReadyAt d defined q.tree false (past_task marker (at_rest p rest)) lines) × IsPlain now.frames)
 ready_item d defined r p lines byte number columns marker rest forest bare begins some none ready =
-    let from : From = behind_task marker (at_rest p rest) in
+    let from : From = past_task marker (at_rest p rest) in
     let l : Level = level_of d.options r.tree r.blank in
     let opens : Opens d l p lines (OpensNode (item_head p byte number columns) from lines) =
     subst (Opens d l p lines) (inside_by d (path_of d.options r.tree) p lines byte number columns marker rest some)
@@ -368,7 +368,7 @@ after_opened None q mark none inside = none
 after_opened (Some x) q mark none inside = (mark x refl, none, inside)
 
 pub ready_after : (d : Document) (defined : Tables) (r : Reading) (p : Place) (e : ℕ) (marker : Option Item) → line_end p ≡ e
-    → (r.blank ≡ false) × (now : ReadyAt d defined r.tree false (behind_task marker p) (lines_from d.text e)) × IsPlain now.frames
+    → (r.blank ≡ false) × (now : ReadyAt d defined r.tree false (past_task marker p) (lines_from d.text e)) × IsPlain now.frames
     → ReadyOn d defined r (after_at p e (after_task marker))
 ready_after d defined r p e None ends (blank, ready, plain) =
     subst (λ (n : ℕ). ReadyAt d defined r.tree r.blank (Inside p) (lines_from d.text n)) (sym ends)

@@ -21,7 +21,7 @@ use Rattle.first_pass_lines.proofs.PlaceFacts.{place_length, columns_keep, colum
 use Rattle.first_pass_grammar.specs.declared.kind.Container.TheVariants.{BlockQuote}
 use Rattle.first_pass_grammar.specs.Containers.{prefix}
 use Rattle.first_pass_grammar.specs.Kinds.{all_taken, unindented}
-use Rattle.first_pass_grammar.specs.Openers.{task_by, task_behind}
+use Rattle.first_pass_grammar.specs.Openers.{task_by, task_after}
 use Rattle.first_pass_grammar.specs.Derivation.{node_of}
 use Rattle.first_pass_grammar.specs.OpenOrder.{IsOrderedTo}
 use Rattle.first_pass_open.specs.OpenBlock.{with_child}
@@ -198,11 +198,11 @@ mark_by text line r (Some task) from x u h i low is =
     let y : Item = record { start = offset (place_at line r); «end» = offset (place_at line task.1); body = TaskListMarker task.0 } in
     let same : y ≡ x = cc in
     subst (λ (z : Item). StandsBefore text from (offset (place_at line task.1)) (Some z)) same
-    (refl, record { behind = low; order = order; before = omega arith; starts = i.boundary; ends = k.0.boundary })
+    (refl, record { following = low; order = order; before = omega arith; starts = i.boundary; ends = k.0.boundary })
 
 pub mark_stands : (text : List ℕ) (options : Options) (line : ℕ) (r s : Rest) (from : ℕ) (marker : Option Item) (x : Item)
-    → IsUtf8 text → IsPlaceOf text (place_at line r) → from ≤ offset (place_at line r) → marker ≡ (task_behind options line r).0
-    → s ≡ (task_behind options line r).1 → marker ≡ Some x → StandsBefore text from (offset (place_at line s)) (Some x)
+    → IsUtf8 text → IsPlaceOf text (place_at line r) → from ≤ offset (place_at line r) → marker ≡ (task_after options line r).0
+    → s ≡ (task_after options line r).1 → marker ≡ Some x → StandsBefore text from (offset (place_at line s)) (Some x)
 mark_stands text options line r s from marker x u i low is rest some =
     subst (λ (z : Rest). StandsBefore text from (offset (place_at line z)) (Some x)) (sym rest)
     (mark_by text line r (if has options 16 then task_of r else None) from x u (λ task h. option_on (has options 16) (task_of r) task h) i low (sym is ∙ some))
@@ -222,7 +222,7 @@ marked_by text f start at next None low mid high o stands = ordered_later text f
 marked_by text f start at next (Some x) low mid high o stands =
     let b = (stands x refl).1 in
     let e = b.before in
-    ordered_appended text f start next x (record { behind = b.behind; order = b.order; before = omega arith; starts = b.starts; ends = b.ends }) high o
+    ordered_appended text f start next x (record { following = b.following; order = b.order; before = omega arith; starts = b.starts; ends = b.ends }) high o
 
 item_no_list : (body : ItemBody) → is_item (Some body) ≡ true → is_list (Some body) ≡ false
 item_no_list (ListItemBody columns) item = refl
@@ -281,7 +281,8 @@ block_ordered text old new at start next o low fits within none =
 stands_earlier : (text : List ℕ) (a b to : ℕ) (marker : Option Item) → a ≤ b → StandsBefore text b to marker → StandsBefore text a to marker
 stands_earlier text a b to None low h = (let t : b ≤ to = h in omega arith)
 stands_earlier text a b to (Some x) low h =
-    (let m : b ≤ x.start = h.1.behind in (h.0, record { behind = omega arith; order = h.1.order; before = h.1.before; starts = h.1.starts; ends = h.1.ends }))
+    (let m : b ≤ x.start = h.1.following in
+    (h.0, record { following = omega arith; order = h.1.order; before = h.1.before; starts = h.1.starts; ends = h.1.ends }))
 
 -- the same for a paragraph, after a task list item marker or not
 pub text_ordered : (text : List ℕ) (old new : Reading) (at start next : ℕ) (marker : Option Item) → IsOrderedAt text old at → StandsBefore text at start marker

@@ -14,12 +14,12 @@ use Rattle.first_pass_grammar.specs.Extents.{Extent}
 use Rattle.first_pass_grammar.specs.CodeBlocks.{IsFencedCode, IsMetadata}
 use Rattle.first_pass_grammar.specs.HtmlBlocks.{IsHtml}
 use Rattle.first_pass_open.specs.Path.{path_of}
-use Rattle.first_pass_raw.specs.RawBlocks.{IsPlaceAt, code_behind, AddsIndented, AddsRaw, metadata_behind, fenced_behind, html_to_end, html_to_blank}
+use Rattle.first_pass_raw.specs.RawBlocks.{IsPlaceAt, code_after, AddsIndented, AddsRaw, metadata_after, fenced_after, html_to_end, html_to_blank}
 use Rattle.first_pass_names.proofs.NameLemmas.{extends_none}
 use Rattle.first_pass_raw.proofs.IndentedLemmas.{first_at, first_is}
 use Rattle.first_pass_raw.proofs.RawOrder.{ArePlaced, AreFew, IsPlaced, html_few, to_blank_left, fence_plain, ends_before_next, kept_last, indented_fits}
-use Rattle.first_pass_raw.proofs.RawOrder.{fenced_fits, metadata_fits, html_fits, indented_behind_placed, indented_behind_few, fenced_behind_placed}
-use Rattle.first_pass_raw.proofs.RawOrder.{metadata_behind_placed, to_end_placed, to_blank_placed, fenced_behind_before, metadata_behind_before}
+use Rattle.first_pass_raw.proofs.RawOrder.{fenced_fits, metadata_fits, html_fits, indented_after_placed, indented_after_few, fenced_after_placed}
+use Rattle.first_pass_raw.proofs.RawOrder.{metadata_after_placed, to_end_placed, to_blank_placed, fenced_after_before, metadata_after_before}
 use Rattle.first_pass_raw.proofs.RawOrder.{to_end_before}
 use Rattle.first_pass_open.specs.Between.{AddsBetween}
 use Rattle.first_pass_grammar.specs.OpenOrder.{within_top}
@@ -40,32 +40,32 @@ module _ (text : List ℕ) (options : Options) (names : Names) (old new : Forest
     (within : next ≤ length text) where
   pub fenced_between : (columns byte count : ℕ) → code_fence (drop start text) ≡ Some (count, byte)
       → (
-      let e : Extent = fenced_behind text (path_of options old) columns byte count start in
+      let e : Extent = fenced_after text (path_of options old) columns byte count start in
       AddsRaw (document text options names) (λ d. IsFencedCode d start count e.places e.«end») e.left old new next)
       → (from : ℕ) → from ≤ start → AddsBetween text from next old new
   fenced_between columns byte count fence a from low =
-      let e : Extent = fenced_behind text (path_of options old) columns byte count start in
+      let e : Extent = fenced_after text (path_of options old) columns byte count start in
       let before = ends_before_next text e next within a.left_is
-      (fenced_behind_before text u (path_of options old) columns byte count start (fence_plain (drop start text) (count, byte) fence) b) in
+      (fenced_after_before text u (path_of options old) columns byte count start (fence_plain (drop start text) (count, byte) fence) b) in
       record {
         items = a.items;
         tree_is = a.tree_is;
         fits = between-any text (within_top old) from _ a.items (fenced_fits (document text options names) start count e a.items u
-            (a.are names (extends_none names)) b (fenced_behind_placed text u (path_of options old) columns byte count start b) from next low before);
+            (a.are names (extends_none names)) b (fenced_after_placed text u (path_of options old) columns byte count start b) from next low before);
       }
 
   pub metadata_between : (byte : ℕ) → is_content byte ≡ true → (
-      let e : Extent = metadata_behind text (path_of options old) byte start in
+      let e : Extent = metadata_after text (path_of options old) byte start in
       AddsRaw (document text options names) (λ d. IsMetadata d start byte e.places e.«end») e.left old new next)
       → (from : ℕ) → from ≤ start → AddsBetween text from next old new
   metadata_between byte plain a from low =
-      let e : Extent = metadata_behind text (path_of options old) byte start in
-      let before = ends_before_next text e next within a.left_is (metadata_behind_before text u (path_of options old) byte start plain b) in
+      let e : Extent = metadata_after text (path_of options old) byte start in
+      let before = ends_before_next text e next within a.left_is (metadata_after_before text u (path_of options old) byte start plain b) in
       record {
         items = a.items;
         tree_is = a.tree_is;
         fits = between-any text (within_top old) from _ a.items (metadata_fits (document text options names) start byte e a.items u
-            (a.are names (extends_none names)) b (metadata_behind_placed text u (path_of options old) byte start b) from next low before);
+            (a.are names (extends_none names)) b (metadata_after_placed text u (path_of options old) byte start b) from next low before);
       }
 
   pub to_end_between : (until : BlockEnd) (columns : ℕ) → ((p : Place) → IsPlaceAt text start p → let e : Extent = html_to_end text
@@ -129,8 +129,8 @@ module _ (text : List ℕ) (options : Options) (names : Names) (old new : Forest
       let p : Place = first_at text start owed in
       let i = first_is text start owed in
       let a = adds p i refl in
-      let all = code_behind text (path_of options old) (offset p) in
-      let placed = indented_behind_placed text u (path_of options old) p (place_of text start p b i) in
+      let all = code_after text (path_of options old) (offset p) in
+      let placed = indented_after_placed text u (path_of options old) p (place_of text start p b i) in
       let ends : start_of (length text) all.1 ≡ next = ap (start_of (length text)) (sym a.left_is) ∙ start_of-lines text next within in
       let last = kept_last text (offset p) (start_of (length text) all.1) (p ∷ all.0) placed in
       let low' = i.offset_is in
@@ -139,5 +139,5 @@ module _ (text : List ℕ) (options : Options) (names : Names) (old new : Forest
         tree_is = a.tree_is;
         fits = between-any text (within_top old) from _ a.items
             (indented_fits (document text options names) p all.0 a.items (start_of (length text) all.1) u (a.is names (extends_none names)) placed
-            (indented_behind_few text u (path_of options old) p (place_of text start p b i)) from next (omega arith) (omega arith));
+            (indented_after_few text u (path_of options old) p (place_of text start p b i)) from next (omega arith) (omega arith));
       }

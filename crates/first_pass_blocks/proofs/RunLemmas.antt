@@ -107,9 +107,9 @@ lines_on (suc fuel) text a e few less within no_end =
     ]
 
 -- The lines after a definition that begins and ends at two offsets: those after the line in which it ends.
-pub lines_behind_it : (text : List ℕ) (p : Place) (e : ℕ) → IsPlaceOf text p → offset p < e → e ≤ length text → is_line_end (slice_index text (e - 1)) ≡ false
+pub lines_after_it : (text : List ℕ) (p : Place) (e : ℕ) → IsPlaceOf text p → offset p < e → e ≤ length text → is_line_end (slice_index text (e - 1)) ≡ false
     → (lines_beyond e (lines_from text (line_end p)) ≡ lines_from text (e + line_len (drop e text))) × (line_end p ≤ e + line_len (drop e text))
-lines_behind_it text p e i less within no_end =
+lines_after_it text p e i less within no_end =
     let ends : line_end p ≡ offset p + line_len (drop (offset p) text) = ap (λ bs. offset p + line_len bs) i.left in
     let r = lines_on e text (offset p) e (omega arith) less within no_end in
     let low = r.1 in
@@ -156,10 +156,10 @@ told_more : (before mid now : Tables) (a : List LinkEntry) (x : LinkEntry) → m
 told_more before mid now a x h k = k ∙ ap (λ t. told t (x ∷ [])) h ∙ told-append before a (x ∷ [])
 
 -- the lines after it, if its entry gives its end
-behind_entry : (text : List ℕ) (q : Place) (e : ℕ) (x : LinkEntry)
+after_entry : (text : List ℕ) (q : Place) (e : ℕ) (x : LinkEntry)
     → x.«end» ≡ e → lines_beyond e (lines_from text (line_end q)) ≡ lines_from text (e + line_len (drop e text))
     → lines_beyond x.«end» (lines_from text (line_end q)) ≡ lines_from text (e + line_len (drop e text))
-behind_entry text q e x is lines = ap (λ n. lines_beyond n (lines_from text (line_end q))) is ∙ lines
+after_entry text q e x is lines = ap (λ n. lines_beyond n (lines_from text (line_end q))) is ∙ lines
 
 -- One more definition, after which the line continues the run.
 pub run_goes_on : (text : List ℕ) (around : Context) (nested : Bool) (p q : Place) (e next : ℕ) (before mid now : Tables)
@@ -169,10 +169,10 @@ pub run_goes_on : (text : List ℕ) (around : Context) (nested : Bool) (p q : Pl
     → RunSoFar text around nested p (text_at text around.path next) before now
 unfolding IsRun
 run_goes_on text around nested p q e next before mid now u at within goes r one =
-    let behind = lines_behind_it text q e r.stands one.less one.within one.no_end in
+    let following = lines_after_it text q e r.stands one.less one.within one.no_end in
     let begins : IsCharBoundary text next = subst (IsCharBoundary text) (sym at) one.boundary in
     let there = text_place text next around.path u begins in
-    let low = behind.1 in
+    let low = following.1 in
     let ends = r.ends in
     let some = line_len-within text next within in
     let more = some.0 in
@@ -180,7 +180,7 @@ run_goes_on text around nested p q e next before mid now u at within goes r one 
     let line : Place = line_place next (drop next text) in
     let left : List Place = lines_from text (next + line_len (drop next text)) in
     let lines : lines_beyond x.«end» (lines_from text (line_end q)) ≡ line ∷ left =
-    behind_entry text q e x one.ends behind.0 ∙ ap (lines_from text) (sym at) ∙ lines_at-line text next within in
+    after_entry text q e x one.ends following.0 ∙ ap (lines_from text) (sym at) ∙ lines_at-line text next within in
     let far = there.1 in
     record {
       stands = there.0;
@@ -212,11 +212,11 @@ pub run_ends : (text : List ℕ) (around : Context) (nested : Bool) (p q : Place
     → RunSoFar text around nested p q before mid → IsOneMore text around nested q e mid now → ReadsRun text around nested p before now (NextLine line next)
 unfolding IsRun
 run_ends text around nested p q e line next before mid now at here ends r one =
-    let behind = lines_behind_it text q e r.stands one.less one.within one.no_end in
+    let following = lines_after_it text q e r.stands one.less one.within one.no_end in
     let x : LinkEntry = one.entry in
     let lines : lines_beyond x.«end» (lines_from text (line_end q)) ≡ lines_from text next =
-    behind_entry text q e x one.ends behind.0 ∙ ap (lines_from text) (sym at) in
-    let low = behind.1 in
+    after_entry text q e x one.ends following.0 ∙ ap (lines_from text) (sym at) in
+    let low = following.1 in
     record {
       place = q;
       stands = r.stands;

@@ -22,7 +22,7 @@ use Rattle.first_pass_grammar.specs.Kinds.{item_at, definition_marker_at, is_bla
 use Rattle.first_pass_grammar.specs.Leaves.{Document, document, around}
 use Rattle.first_pass_items.specs.OptionWords.{has, definition_list}
 use Rattle.first_pass_grammar.specs.declared.kind.AfterMarker.TheVariants.{OnLine, LineEnds}
-use Rattle.first_pass_grammar.specs.Openers.{Start, item_start, item_head, task_behind, after_task, tag_behind, quote_begun, definition_head}
+use Rattle.first_pass_grammar.specs.Openers.{Start, item_start, item_head, task_after, after_task, tag_after, quote_begun, definition_head}
 use Rattle.first_pass_grammar.specs.Openers.{definition_start, start_at}
 use Rattle.first_pass_grammar.specs.Completion.{lines_from}
 use Rattle.first_pass_grammar.specs.Names.{Names}
@@ -30,7 +30,7 @@ use Rattle.first_pass_grammar.specs.Order.{is_task_marker}
 use Rattle.first_pass_grammar.specs.OpenOrder.{item_on_top}
 use Rattle.first_pass_grammar.proofs.OpenerFacts.{start_cases}
 use Rattle.first_pass_open.specs.declared.source.Source.{Source}
-use Rattle.first_pass_open.proofs.PlaceLemmas.{item_keeps, item_shorter, definition_keeps, definition_shorter, markers_keep, mark_is_task, behind_keeps}
+use Rattle.first_pass_open.proofs.PlaceLemmas.{item_keeps, item_shorter, definition_keeps, definition_shorter, markers_keep, mark_is_task, past_keeps}
 use Rattle.first_pass_open.proofs.PlaceLemmas.{prefix_keeps, quote_prefix_shorter}
 use Rattle.first_pass_open.proofs.PlaceLemmas.{place_end}
 use Rattle.first_pass_lists.specs.Closing.{top_body, takes_definition, with_tree, is_list, list_kept, loosened_top, begun, list_finished, list_continued}
@@ -122,42 +122,42 @@ module _ (source : Source) (r : Reading) (p : Place) (utf8 : IsUtf8 source.text.
   begins_as names s is = ap (λ (t : Bool). start_at source.options (has source.options definition_list && t) p) (takes_same r.tree) ∙ is
 
   -- a list item
-  module _ (byte number columns : ℕ) (behind : Rest) (is : item_at p.rest ≡ Some ((byte, number, columns), behind))
-      (begins : start_at source.options may p ≡ Some (item_start p (byte, number, columns) (task_behind source.options p.line behind))) where
+  module _ (byte number columns : ℕ) (following : Rest) (is : item_at p.rest ≡ Some ((byte, number, columns), following))
+      (begins : start_at source.options may p ≡ Some (item_start p (byte, number, columns) (task_after source.options p.line following))) where
     abbrev rest : Rest
-    rest = (task_behind source.options p.line behind).1
+    rest = (task_after source.options p.line following).1
 
     abbrev opened_item : Reading
     opened_item = item_opened (offset p) byte number columns r
 
-    task : (marker : Option Item) → marker ≡ (task_behind source.options p.line behind).0 → task_behind source.options p.line behind ≡ (marker, rest)
+    task : (marker : Option Item) → marker ≡ (task_after source.options p.line following).0 → task_after source.options p.line following ≡ (marker, rest)
     task marker same = ap (λ (o : Option Item). (o, rest)) (sym same)
 
-    begins_with : (names : Names) (marker : Option Item) → marker ≡ (task_behind source.options p.line behind).0
+    begins_with : (names : Names) (marker : Option Item) → marker ≡ (task_after source.options p.line following).0
         → begins_at (doc names) r p ≡ Some (item_start p (byte, number, columns) (marker, rest))
     begins_with names marker same =
         begins_as names (item_start p (byte, number, columns) (marker, rest))
         (begins ∙ ap (λ t. Some (item_start p (byte, number, columns) t)) (task marker same))
 
-    is_task : (marker : Option Item) → marker ≡ (task_behind source.options p.line behind).0 → (x : Item) → marker ≡ Some x → is_task_marker x.body ≡ true
-    is_task marker same x some = mark_is_task source.options p.line behind x (sym same ∙ some)
+    is_task : (marker : Option Item) → marker ≡ (task_after source.options p.line following).0 → (x : Item) → marker ≡ Some x → is_task_marker x.body ≡ true
+    is_task marker same x some = mark_is_task source.options p.line following x (sym same ∙ some)
 
     -- more of its line is left
-    item_line : (marker : Option Item) → marker ≡ (task_behind source.options p.line behind).0 → is_blank_rest rest ≡ false
+    item_line : (marker : Option Item) → marker ≡ (task_after source.options p.line following).0 → is_blank_rest rest ≡ false
         → IsAfter (after_task marker) opened_item × (length rest.left < length p.rest.left)
         × IsInLine text p.line (line_end p) (at_rest p rest)
         × ReadsTo source line r opened_item (InLine p) (after_at (at_rest p rest) (line_end p) (after_task marker))
     item_line marker same some =
         let under = below in
-        let j = markers_keep text source.options p.line p.rest ((byte, number, columns), behind) rest utf8 is refl at in
-        let k = item_keeps text p.line p.rest ((byte, number, columns), behind) utf8 is at in
+        let j = markers_keep text source.options p.line p.rest ((byte, number, columns), following) rest utf8 is refl at in
+        let k = item_keeps text p.line p.rest ((byte, number, columns), following) utf8 is at in
         let less = j.2 in
-        let shorter = item_shorter p.rest ((byte, number, columns), behind) is in
+        let shorter = item_shorter p.rest ((byte, number, columns), following) is in
         let low = offset_later text p.line p.rest rest at j.0 (omega arith) in
         let top = top_begun (offset p) (ListItemBody columns) (list_continued (offset p) byte number r) in
-        let mark = offset_later text p.line p.rest behind at k.0 (omega arith) in
-        let first_marker = offset_before text p.line p.rest behind at k.0 shorter in
-        let task_less = (behind_keeps text source.options p.line behind utf8 k.0).2 in (
+        let mark = offset_later text p.line p.rest following at k.0 (omega arith) in
+        let first_marker = offset_before text p.line p.rest following at k.0 shorter in
+        let task_less = (past_keeps text source.options p.line following utf8 k.0).2 in (
           after_opened marker opened_item (is_task marker same) (list_continued_none (offset p) byte number r) (ap item_on_top top),
           j.2,
           (j.0, refl, j.1),
@@ -169,14 +169,14 @@ module _ (source : Source) (r : Reading) (p : Place) (utf8 : IsUtf8 source.text.
             order = λ ordered.
                 ordered_container source.options text opened_item (offset p) (line_end p) (at_rest p rest) marker (ap is_list top) low j.0.within ordered.0
                 (ordered_item text r p.line (offset p) byte number columns (omega arith) at.within at.boundary none ordered.1)
-                (λ x is_mark. mark_stands text source.options p.line behind rest (offset p) marker x utf8 k.0 mark same refl is_mark);
+                (λ x is_mark. mark_stands text source.options p.line following rest (offset p) marker x utf8 k.0 mark same refl is_mark);
             few = λ first grows.
-                container_count text line (offset p) (offset (place_at p.line behind)) (line_end p) (at_rest p rest) first r.tree.nodes
+                container_count text line (offset p) (offset (place_at p.line following)) (line_end p) (at_rest p rest) first r.tree.nodes
                 opened_item.tree.nodes marker grows (item_count (offset p) byte number columns r) (omega arith) first_marker
-                (offset_later text p.line behind rest k.0 j.0 (omega arith))
+                (offset_later text p.line following rest k.0 j.0 (omega arith))
                 (λ x is_mark. (
-                  mark_stands text source.options p.line behind rest (offset (place_at p.line behind)) marker x utf8 k.0 (omega arith) same refl is_mark,
-                  offset_before text p.line behind rest k.0 j.0 (mark_shorter source.options p.line behind rest marker x same refl is_mark),
+                  mark_stands text source.options p.line following rest (offset (place_at p.line following)) marker x utf8 k.0 (omega arith) same refl is_mark,
+                  offset_before text p.line following rest k.0 j.0 (mark_shorter source.options p.line following rest marker x same refl is_mark),
                 ));
             named = λ names h. item_named names (offset p) byte number columns r h;
             whole = λ names h. item_whole names (offset p) byte number columns r forest h;
@@ -184,17 +184,17 @@ module _ (source : Source) (r : Reading) (p : Place) (utf8 : IsUtf8 source.text.
         )
 
     -- its line ends
-    item_over : (marker : Option Item) → marker ≡ (task_behind source.options p.line behind).0 → is_blank_rest rest ≡ true
+    item_over : (marker : Option Item) → marker ≡ (task_after source.options p.line following).0 → is_blank_rest rest ≡ true
         → IsOpened source line r p (record { head = item_head p byte number columns; after = LineEnds marker; rest = rest })
     item_over marker same over =
         let e : ℕ = line_end p in
         let under = below in
-        let j = markers_keep text source.options p.line p.rest ((byte, number, columns), behind) rest utf8 is refl at in
-        let k = item_keeps text p.line p.rest ((byte, number, columns), behind) utf8 is at in
-        let shorter = item_shorter p.rest ((byte, number, columns), behind) is in
+        let j = markers_keep text source.options p.line p.rest ((byte, number, columns), following) rest utf8 is refl at in
+        let k = item_keeps text p.line p.rest ((byte, number, columns), following) utf8 is at in
+        let shorter = item_shorter p.rest ((byte, number, columns), following) is in
         let here = place_before_end p in
         let there = place_before_end (at_rest p rest) in
-        let mark = offset_later text p.line p.rest behind at k.0 (omega arith) in
+        let mark = offset_later text p.line p.rest following at k.0 (omega arith) in
         let some = left_before p (omega arith) in (
           tt,
           j.2,
@@ -208,7 +208,7 @@ module _ (source : Source) (r : Reading) (p : Place) (utf8 : IsUtf8 source.text.
                 inl (ordered_empty_item text (offset p) (offset (at_rest p rest)) e (ListItemBody columns) (list_continued (offset p) byte number r) marker
                 opened_item.blank refl here (omega (arith, there, j.1)) ends.0 ends
                 (ordered_item text r p.line (offset p) byte number columns (omega arith) at.within at.boundary none ordered.1)
-                (λ x is_mark. mark_stands text source.options p.line behind rest (offset p) marker x utf8 k.0 mark same refl is_mark));
+                (λ x is_mark. mark_stands text source.options p.line following rest (offset p) marker x utf8 k.0 mark same refl is_mark));
             few = λ first grows.
                 let two = item_count (offset p) byte number columns r in
                 let one = child_count opened_item.tree marker in
@@ -218,7 +218,7 @@ module _ (source : Source) (r : Reading) (p : Place) (utf8 : IsUtf8 source.text.
           },
         )
 
-    item_on : (marker : Option Item) → marker ≡ (task_behind source.options p.line behind).0 → is_blank_rest rest ≡ false
+    item_on : (marker : Option Item) → marker ≡ (task_after source.options p.line following).0 → is_blank_rest rest ≡ false
         → IsOpened source line r p (record { head = item_head p byte number columns; after = after_task marker; rest = rest })
     item_on None same some = item_line None same some
     item_on (Some x) same some = item_line (Some x) same some
@@ -226,23 +226,23 @@ module _ (source : Source) (r : Reading) (p : Place) (utf8 : IsUtf8 source.text.
     item_by : (t : Bool) → is_blank_rest rest ≡ t
         → IsOpened source line r p (record {
           head = item_head p byte number columns;
-          after = if t then LineEnds (task_behind source.options p.line behind).0 else after_task (task_behind source.options p.line behind).0;
+          after = if t then LineEnds (task_after source.options p.line following).0 else after_task (task_after source.options p.line following).0;
           rest = rest;
         })
-    item_by true over = item_over (task_behind source.options p.line behind).0 refl over
-    item_by false some = item_on (task_behind source.options p.line behind).0 refl some
+    item_by true over = item_over (task_after source.options p.line following).0 refl over
+    item_by false some = item_on (task_after source.options p.line following).0 refl some
 
   -- a block quote
   module _ (inside : Rest) (is : prefix (BlockQuote None) p.rest ≡ Some inside)
-      (begins : start_at source.options may p ≡ Some (quote_begun p (tag_behind source.options inside) inside)) where
+      (begins : start_at source.options may p ≡ Some (quote_begun p (tag_after source.options inside) inside)) where
     abbrev opened_quote : Option BlockQuoteKind → Reading
     opened_quote kind = begun (quote_start p) (BlockQuoteBody kind) (list_finished p.line r)
 
-    begins_kind : (names : Names) (kind : Option BlockQuoteKind) → tag_behind source.options inside ≡ kind
+    begins_kind : (names : Names) (kind : Option BlockQuoteKind) → tag_after source.options inside ≡ kind
         → begins_at (doc names) r p ≡ Some (quote_begun p kind inside)
     begins_kind names kind tag = begins_as names (quote_begun p kind inside) (begins ∙ ap (λ k. Some (quote_begun p k inside)) tag)
 
-    quote_by : (kind : Option BlockQuoteKind) → tag_behind source.options inside ≡ kind → IsOpened source line r p (quote_begun p kind inside)
+    quote_by : (kind : Option BlockQuoteKind) → tag_after source.options inside ≡ kind → IsOpened source line r p (quote_begun p kind inside)
     quote_by None tag =
         let under = below in
         let j = prefix_keeps text p.line (BlockQuote None) p.rest inside utf8 is at in
@@ -368,10 +368,10 @@ module _ (source : Source) (r : Reading) (p : Place) (utf8 : IsUtf8 source.text.
   start_opens s begins_it =
       start_cases source.options may p OpensIt
       (λ item is begins.
-      item_by item.0.0 item.0.1 item.0.2 item.1 is begins (is_blank_rest (task_behind source.options p.line item.1).1) refl)
+      item_by item.0.0 item.0.1 item.0.2 item.1 is begins (is_blank_rest (task_after source.options p.line item.1).1) refl)
       (λ marker no_item is begins.
       definition_by marker.0 marker.1 is (definition_may marker no_item begins) begins (is_blank_rest marker.1) refl)
-      (λ inside no_item is begins. quote_by inside is begins (tag_behind source.options inside) refl) s begins_it begins_it
+      (λ inside no_item is begins. quote_by inside is begins (tag_after source.options inside) refl) s begins_it begins_it
 
   -- no container begins there
   pub no_start : start_at source.options may p ≡ None → ReadsTo source line r r (InLine p) (LeafAt p)

@@ -19,7 +19,7 @@ use Rattle.first_pass_grammar.specs.declared.kind.Container.TheVariants.{BlockQu
 use Rattle.first_pass_grammar.specs.Containers.{at_rest, front}
 use Rattle.first_pass_grammar.specs.Kinds.{Continued, continued, unindented, interrupts, ends_tag}
 use Rattle.first_pass_grammar.specs.Leaves.{Document}
-use Rattle.first_pass_grammar.specs.Skeleton.{From, Line, At, ALeafAlone, behind_tag}
+use Rattle.first_pass_grammar.specs.Skeleton.{From, Line, At, ALeafAlone, after_tag}
 use Rattle.first_pass_grammar.specs.Completion.{lines_from, Closed, OtherClosed, ParagraphAt, DefinitionClosed, TitleAt, Frame, InContainer}
 use Rattle.first_pass_completion.proofs.Extending.{tail}
 use Rattle.first_pass_completion.proofs.Completions.{counted_after}
@@ -76,25 +76,25 @@ tag_end around =
     ∙ end_by around (continued around.path (line_rest []))
 
 tag_by : (around : Context) (line : Place) (lines : List Place) (t : Bool) → ends_tag around line.rest ≡ t
-    → behind_tag around (line ∷ lines) ≡ (if t then (Line, line ∷ lines) else (At (unindented (at_rest line (front around.path line.rest))) ALeafAlone, lines))
+    → after_tag around (line ∷ lines) ≡ (if t then (Line, line ∷ lines) else (At (unindented (at_rest line (front around.path line.rest))) ALeafAlone, lines))
 tag_by around line lines t is = rw is refl
 
 -- the place where blocks continue after its tag, in the line at an offset
 tag_line : (around : Context) (text : List ℕ) (at : ℕ) (t : Bool) → ends_tag around (line_rest (drop at text)) ≡ t
     → (let lines : List Place = lines_from text at in
-    behind_tag around lines ≡ (if t then (Line, lines)
+    after_tag around lines ≡ (if t then (Line, lines)
     else (At (unindented (place_at at (front around.path (line_rest (drop at text))))) ALeafAlone, lines_from text (at + line_len (drop at text)))))
 tag_line around text at t is =
     elim (cases_lt at (length text)) [
       | inl within ↦ (
           let first = lines_at-line text at within in
-          ap (behind_tag around) first ∙ tag_by around (line_place at (drop at text)) (lines_from text (at + line_len (drop at text))) t is
+          ap (after_tag around) first ∙ tag_by around (line_place at (drop at text)) (lines_from text (at + line_len (drop at text))) t is
           ∙ ap (λ z. if t then (Line, z)
           else (At (unindented (place_at at (front around.path (line_rest (drop at text))))) ALeafAlone, lines_from text (at + line_len (drop at text))))
           (sym first))
       | inr past ↦ (let none : lines_from text at ≡ [] = lines_at-end text at past in
           let over : t ≡ true = sym is ∙ ap (λ bs. ends_tag around (line_rest bs)) (ends_past text at past) ∙ tag_end around in
-          ap (behind_tag around) none ∙ ap (λ z. (Line, z)) (sym none) ∙ ap (λ u. if u then (Line, lines_from text at)
+          ap (after_tag around) none ∙ ap (λ z. (Line, z)) (sym none) ∙ ap (λ u. if u then (Line, lines_from text at)
           else (At (unindented (place_at at (front around.path (line_rest (drop at text))))) ALeafAlone, lines_from text (at + line_len (drop at text))))
           (sym over))
     ]
@@ -104,7 +104,7 @@ pub ready_any_line : (d : Document) (defined : Tables) (r : Reading) (at : ℕ) 
     → r.empty_item ≡ None → ReadyTagged d defined r (lines_from d.text at) → Ready d defined r (lines_from d.text at)
 ready_any_line d defined r at is none tagged =
     let lines : List Place = lines_from d.text at in
-    let here : behind_tag (context_of d.options r.tree) lines ≡ (Line, lines) = tag_line (context_of d.options r.tree) d.text at true is in
+    let here : after_tag (context_of d.options r.tree) lines ≡ (Line, lines) = tag_line (context_of d.options r.tree) d.text at true is in
     ready_plain d defined r lines none (subst (λ t. ReadyAt d defined r.tree t Line lines) (sym tagged.blank)
     (subst (λ (z : From × List Place). ReadyAt d defined r.tree false z.0 z.1) here tagged.ready))
 

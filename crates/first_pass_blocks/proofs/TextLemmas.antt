@@ -34,7 +34,7 @@ use Rattle.first_pass_open.specs.Between.{line_end_at, AddsBetween}
 use Rattle.first_pass_open.specs.Path.{path_of}
 use Rattle.first_pass_open.specs.declared.source.Source.{Source}
 use Rattle.first_pass_blocks.specs.declared.state.BlockPass.{BlockPass}
-use Rattle.first_pass_blocks.specs.declared.definition.RunEnd.TheVariants.{NextLine, Paragraph as TextBehind}
+use Rattle.first_pass_blocks.specs.declared.definition.RunEnd.TheVariants.{NextLine, Paragraph as TextAfter}
 use Rattle.first_pass_blocks.specs.Views.{allocs_of, context_in, reading_of, source_of, source_options, source_text, tree_of}
 use Rattle.first_pass_ready.specs.State.{closed_in, Ready}
 use Rattle.first_pass_order.specs.Ordered.{IsReadTo}
@@ -43,7 +43,7 @@ use Rattle.first_pass_blocks.specs.Progress.{ReadsLeaf}
 use Rattle.first_pass_blocks.specs.Runs.{IsLater, ReadsRun}
 use Rattle.first_pass_blocks.specs.TextsAdded.{AddsText, IsTextAt}
 use Rattle.first_pass_blocks.specs.Titles.{current_end, is_paragraph_last, title_read, ReadsTitle}
-use Rattle.first_pass_ready.proofs.AddedLemmas.{body_behind}
+use Rattle.first_pass_ready.proofs.AddedLemmas.{body_after}
 use Rattle.first_pass_ready.proofs.BegunLemmas.{no_table}
 use Rattle.first_pass_order.proofs.CountLemmas.{count, list_finished_count, title_kept_count, definitions_left_count, block_count, leaf_left, left_before}
 use Rattle.first_pass_order.proofs.DefinitionOrder.{read_definitions_left, read_title_kept}
@@ -121,11 +121,11 @@ run_line old mid new p nested line next u i empty forest kind nest source names 
     let far = w.says.1 in
     let further = unindented_later text p.line p.rest u i in
     let named = ap names_of allocs ∙ names in
-    let behind : reading_of new ≡ list_finished q.line r = reading ∙ ap (λ e. list_finished e r) w.says.0 in
+    let following : reading_of new ≡ list_finished q.line r = reading ∙ ap (λ e. list_finished e r) w.says.0 in
     let here = place_before_end q in
     let last = w.says.2 in
     let high = last.0 in
-    let same = ap count behind in
+    let same = ap count following in
     let few = list_finished_count q.line r in
     let before = place_before_end p in
     record {
@@ -138,15 +138,15 @@ run_line old mid new p nested line next u i empty forest kind nest source names 
           let plain = nest ∙ leaf_plain d (tables_of (allocs_of old)) r p (lines_from text (line_end p)) ready in
           let run = run_from text (context_in old) p w.definitions (Ended q (lines_from text next)) (w.run plain) in
           subst (λ z. Ready d z (reading_of new) (lines_from text next)) (sym (ap tables_of allocs ∙ w.defined plain))
-          (subst (λ z. Ready d (told (tables_of (allocs_of old)) w.definitions) z (lines_from text next)) (sym behind)
+          (subst (λ z. Ready d (told (tables_of (allocs_of old)) w.definitions) z (lines_from text next)) (sym following)
           (ready_ended d (tables_of (allocs_of old)) r p q next w.definitions forest kind run empty ready));
-      named = λ h. subst (λ (z : Reading). AreNamed (names_of (allocs_of new)) z.tree.nodes) (sym behind)
+      named = λ h. subst (λ (z : Reading). AreNamed (names_of (allocs_of new)) z.tree.nodes) (sym following)
           (subst (λ z. AreNamed z (list_finished q.line r).tree.nodes) (sym named) (list_finished_named (names_of (allocs_of old)) q.line r h));
       written = λ h. subst (λ z. TablesAreWritten text z) (sym allocs) (written h);
-      order = λ o. inl (subst (λ z. IsReadTo text z next) (sym behind)
+      order = λ o. inl (subst (λ z. IsReadTo text z next) (sym following)
           (ordered_finished text r q.line (offset q) q.line next (omega arith) (omega arith) (inl (refl, later_line text p q o.0 w.later)) high last empty
           (later_ordered text r.tree p q further w.later w.stands o.1)));
-      whole = λ h k. subst (IsReadWhole (names_of (allocs_of new))) (sym behind)
+      whole = λ h k. subst (IsReadWhole (names_of (allocs_of new))) (sym following)
           (subst (λ z. IsReadWhole z (list_finished q.line r)) (sym named) (list_finished_whole (names_of (allocs_of old)) q.line r forest k));
       few = omega arith;
     }
@@ -172,7 +172,7 @@ pub run_text : (old mid new : BlockPass) (p : Place) (nested : Bool) (at next : 
     → IsKind (source_options old) p.rest Paragraph
     → nested ≡ in_table (tree_of old).nodes (tree_of old).spine → source_of mid ≡ source_of old → names_of (allocs_of mid) ≡ names_of (allocs_of old)
     → (TablesAreWritten (source_text old) (allocs_of old) → TablesAreWritten (source_text old) (allocs_of mid))
-    → ReadsRun (source_text old) (context_in old) nested (unindented p) (tables_of (allocs_of old)) (tables_of (allocs_of mid)) (TextBehind at)
+    → ReadsRun (source_text old) (context_in old) nested (unindented p) (tables_of (allocs_of old)) (tables_of (allocs_of mid)) (TextAfter at)
     → source_of new ≡ source_of mid → NamesMore (allocs_of mid) (allocs_of new) → line_end_at (source_text old) at ≤ next
     → IsCharBoundary (source_text old) next → ReadsText old new p at next → ReadsLeaf old new p next
 run_text old mid new p nested at next u i kind nest source names written w source' adds later boundary t =
@@ -269,7 +269,7 @@ first_begins k (x ∷ items) = refl
 
 last_begins : (f : Forest Item) (items : List (ℕ × Item)) → is_paragraph_last (added f items) ≡ begins_paragraph items
 last_begins f items =
-    ap (λ o. option_map_or is_paragraph_body o false) (body_behind f.nodes (at_depth (length f.spine + 1) items)) ∙ first_begins (length f.spine + 1) items
+    ap (λ o. option_map_or is_paragraph_body o false) (body_after f.nodes (at_depth (length f.spine + 1) items)) ∙ first_begins (length f.spine + 1) items
 
 is_paragraph_by : (o : Option ItemBody) → option_map_or is_paragraph_body o false ≡ true → o ≡ Some ParagraphBody
 is_paragraph_by None h = cc
@@ -373,7 +373,7 @@ pub run_title : (old mid new : BlockPass) (p : Place) (nested : Bool) (at next :
     → nested ≡ in_table (tree_of old).nodes (tree_of old).spine → source_of mid ≡ source_of old → reading_of mid ≡ reading_of old
     → names_of (allocs_of mid) ≡ names_of (allocs_of old)
     → (TablesAreWritten (source_text old) (allocs_of old) → TablesAreWritten (source_text old) (allocs_of mid))
-    → ReadsRun (source_text old) (context_in old) nested (unindented p) (tables_of (allocs_of old)) (tables_of (allocs_of mid)) (TextBehind at)
+    → ReadsRun (source_text old) (context_in old) nested (unindented p) (tables_of (allocs_of old)) (tables_of (allocs_of mid)) (TextAfter at)
     → is_after_definition (tree_of mid) ≡ true → ReadsTitle mid new at next → ReadsLeaf old new p next
 run_title old mid new p nested at next u i empty forest kind nest source reading names written w after t =
     let own = names_of (allocs_of new) in

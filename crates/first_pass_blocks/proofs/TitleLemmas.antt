@@ -28,7 +28,7 @@ use Rattle.first_pass_completion.proofs.Extending.{tail, lvl, length-ended}
 use Rattle.first_pass_grammar.proofs.Finishes.{CompletesAt}
 use Rattle.first_pass_completion.proofs.Flags.{completes-reended}
 use Rattle.first_pass_completion.proofs.FlatBlocks.{kind_holds}
-use Rattle.first_pass_completion.proofs.SilentTexts.{silent_behind}
+use Rattle.first_pass_completion.proofs.SilentTexts.{silent_past}
 use Rattle.first_pass_grammar.proofs.TableItems.{deeper_nodes}
 use Rattle.first_pass_grammar.proofs.TableMarks.{tokens_show}
 use Rattle.first_pass_grammar.proofs.Tightening.{modify-append}
@@ -45,7 +45,7 @@ use Rattle.first_pass_blocks.specs.Titles.{current_end}
 use Rattle.first_pass_ready.proofs.ClosedIn.{level_of, open_level}
 use Rattle.first_pass_ready.proofs.FinishLemmas.{EndsListAt}
 use Rattle.first_pass_blocks.proofs.LeafLemmas.{no_container, text_opens, opens_flow}
-use Rattle.first_pass_ready.proofs.LeftBlocks.{IsBehindDefinition, behind_definition}
+use Rattle.first_pass_ready.proofs.LeftBlocks.{IsAfterDefinition, past_definition}
 use Rattle.first_pass_ready.proofs.OpenLemmas.{open_below, frame-append, frame-ended}
 use Rattle.first_pass_ready.proofs.StateLemmas.{ready_plain}
 use Rattle.first_pass_blocks.proofs.TextsFlat.{text_flat}
@@ -74,11 +74,11 @@ last_at f (Some ix) flags top h =
     let l = last_item (top_end f) ix flags (slice_get f.nodes ix.0) (subst (λ t. title_by t ix (body_at f.nodes ix.0) ≡ None) top h) in
     (l.0, ap (λ t. option_map_or (closed_below (top_end f) t ix.0) (item_at f ix) (closed_none t)) top ∙ l.1)
 
-behind_top : (f : Forest Item) (b : IsBehindDefinition f) → top_body f ≡ Some (DefinitionList b.flags)
-behind_top f b = ap (λ (s : List TreeIndex). option_and_then (λ (ix : TreeIndex). body_at f.nodes ix.0) (slice_get s 0)) b.spine ∙ b.body
+after_top : (f : Forest Item) (b : IsAfterDefinition f) → top_body f ≡ Some (DefinitionList b.flags)
+after_top f b = ap (λ (s : List TreeIndex). option_and_then (λ (ix : TreeIndex). body_at f.nodes ix.0) (slice_get s 0)) b.spine ∙ b.body
 
-pub behind_last : (f : Forest Item) → IsBehindDefinition f → (blanks : Bool) × (closed_in f ≡ DefinitionClosed (current_end f) blanks)
-behind_last f b = last_at f f.current b.flags (behind_top f b) b.none
+pub after_last : (f : Forest Item) → IsAfterDefinition f → (blanks : Bool) × (closed_in f ≡ DefinitionClosed (current_end f) blanks)
+after_last f b = last_at f f.current b.flags (after_top f b) b.none
 
 -- the node at a place with another end, and the first of further nodes
 end_of : (nodes : List (ℕ × Item)) (o e : ℕ) → o < length nodes
@@ -88,12 +88,12 @@ end_of [] o e low = absurd (omega arith)
 end_of (n ∷ nodes) zero e low = refl
 end_of (n ∷ nodes) (suc o) e low = end_of nodes o e (omega arith)
 
-item_behind : (nodes : List (ℕ × Item)) (n : ℕ × Item) (more : List (ℕ × Item)) (i : ℕ) → i ≡ length nodes
+item_past : (nodes : List (ℕ × Item)) (n : ℕ × Item) (more : List (ℕ × Item)) (i : ℕ) → i ≡ length nodes
     → option_map (λ (m : ℕ × Item). m.1) (slice_get (nodes ++ n ∷ more) i) ≡ Some n.1
-item_behind [] n more zero h = refl
-item_behind [] n more (suc i) h = absurd (omega arith)
-item_behind (m ∷ nodes) n more zero h = absurd (omega arith)
-item_behind (m ∷ nodes) n more (suc i) h = item_behind nodes n more i (omega arith)
+item_past [] n more zero h = refl
+item_past [] n more (suc i) h = absurd (omega arith)
+item_past (m ∷ nodes) n more zero h = absurd (omega arith)
+item_past (m ∷ nodes) n more (suc i) h = item_past nodes n more i (omega arith)
 
 -- The tree with a possible title: the nodes that were read after the definition, and the end of that as the recorded
 -- end of the list.
@@ -146,7 +146,7 @@ module _ (f : Forest Item) (x : ℕ × Item) (items : List (ℕ × Item)) (e : �
   kept_closed : (flags : ListFlags) → body_at f.nodes ix.0 ≡ Some (DefinitionList flags) → closed_in kept ≡ TitleAt e (length f.nodes)
   kept_closed flags body =
       let here : item_at kept (record { 0 = length f.nodes }) ≡ Some title_item =
-      item_behind (ended f.nodes ix.0 e) (length f.spine + 1 + x.0, title_item) (at_depth (length f.spine + 1) items) (length f.nodes)
+      item_past (ended f.nodes ix.0 e) (length f.spine + 1 + x.0, title_item) (at_depth (length f.spine + 1) items) (length f.nodes)
       (sym (length-ended f.nodes ix.0 e)) in
       ap (λ o. option_map_or (closed_below (top_end kept) (top_body kept) (length f.nodes)) o (closed_none (top_body kept))) here
       ∙ ap (λ t. closed_below (top_end kept) t (length f.nodes) title_item) (kept_top flags body) ∙ ap (λ z. TitleAt z (length f.nodes)) kept_end
@@ -155,7 +155,7 @@ module _ (f : Forest Item) (x : ℕ × Item) (items : List (ℕ × Item)) (e : �
   kept_silent h =
       let k : ℕ = length f.spine + 1 in
       subst (SilentFrom kept.nodes) (length-ended f.nodes ix.0 e)
-      (silent_behind (ended f.nodes ix.0 e) (k + x.0, title_item) (at_depth k items)
+      (silent_past (ended f.nodes ix.0 e) (k + x.0, title_item) (at_depth k items)
       (λ names depth start end. refl, deeper_nodes ShowsNothing k items h))
 
   kept_open : (options : Options) (frames : List Frame) → AreBelow (length f.nodes) (map (λ (i : TreeIndex). i.0) f.spine)
@@ -193,7 +193,7 @@ module _ (f : Forest Item) (x : ℕ × Item) (items : List (ℕ × Item)) (e : �
 -- a ready state with a possible title
 module _ (d : Document) (defined : Tables) (r : Reading) (p : Place) (lines left : List Place) (block : LeafBlock) (x : ℕ × Item) (items : List (ℕ × Item))
     (is : block.items ≡ x ∷ items) (begins : begins_paragraph block.items ≡ true) (gap : block.gap ≡ false) (forest : IsForest r.tree)
-    (b : IsBehindDefinition r.tree) (none : r.empty_item ≡ None) (shows : AreEachNode ShowsNothing items) where
+    (b : IsAfterDefinition r.tree) (none : r.empty_item ≡ None) (shows : AreEachNode ShowsNothing items) where
   title_ready : Opens d (level_of d.options r.tree r.blank) p lines (OpensLeaf (Block block) Line left) → ReadyAt d defined r.tree r.blank (Inside p) lines
       → Ready d (told defined block.definitions) (title_kept (current_end r.tree) (with_tree r (added r.tree (x ∷ items)))) left
   title_ready opens ready =
@@ -202,7 +202,7 @@ module _ (d : Document) (defined : Tables) (r : Reading) (p : Place) (lines left
       let ix : TreeIndex = b.place in
       let rest : List TreeIndex = b.outer in
       let low = (subst (AreIn (length f.nodes)) b.spine (open_are_in f.nodes f.spine forest.opened)).0 in
-      let last = behind_last f b in
+      let last = after_last f b in
       let def = in_definitions d.options f.nodes ix rest b.flags ready.frames b.body
       (subst (λ s. AreOpen d.options f.nodes s ready.frames) b.spine ready.are_open) in
       let here : List Frame = InDefinitions def.loose ∷ def.outer in
@@ -229,8 +229,8 @@ module _ (d : Document) (defined : Tables) (r : Reading) (p : Place) (lines left
       (ready_plain d (told defined block.definitions) (record r { tree = g; blank = false }) left none now)
 
 -- right after a definition no block quote is innermost
-not_quote : (f : Forest Item) (kind : Option BlockQuoteKind) → IsBehindDefinition f → top_body f ≡ Some (BlockQuoteBody kind) → ⊥
-not_quote f kind b quote = let z = sym (behind_top f b) ∙ quote in cc
+not_quote : (f : Forest Item) (kind : Option BlockQuoteKind) → IsAfterDefinition f → top_body f ≡ Some (BlockQuoteBody kind) → ⊥
+not_quote f kind b quote = let z = sym (after_top f b) ∙ quote in cc
 
 module _ (d : Document) (defined : Tables) (r : Reading) (p q : Place) (at next : ℕ) (xs : List LinkEntry) (items : List (ℕ × Item)) (forest : IsForest r.tree)
     (kind : IsKind d.options p.rest Paragraph) (place : IsPlaceOf d.text q) (at_is : at ≡ offset q)
@@ -253,9 +253,9 @@ module _ (d : Document) (defined : Tables) (r : Reading) (p q : Place) (at next 
       let left : List Place = lines_from d.text next in
       let holds = kind_holds ShowsNothing d (tokens_show d.names.texts) (path_of d.options r.tree) p lines _ _ text_opening in
       let shows : AreEachNode ShowsNothing more = subst (λ z. AreEachNode ShowsNothing (drop 1 z)) is (holds.0.tokens begins) in
-      title_ready d defined r p lines left text_block first more is begins refl forest (behind_definition r.tree after) none shows
+      title_ready d defined r p lines left text_block first more is begins refl forest (past_definition r.tree after) none shows
       (no_container d r.tree r.blank p lines Paragraph (OpensLeaf (Block text_block) Line left) bare no_start kind text_opening) ready
-  kept_by first more is begins (inr lazy) = absurd (not_quote r.tree lazy.kind (behind_definition r.tree after) lazy.quote)
+  kept_by first more is begins (inr lazy) = absurd (not_quote r.tree lazy.kind (past_definition r.tree after) lazy.quote)
 
   -- a paragraph is kept as a possible title
   pub ready_kept : begins_paragraph items ≡ true → ReadyLeaf d defined r p (lines_from d.text (line_end p))
@@ -270,9 +270,9 @@ pub away_left : (r : Reading) (q : Place) (xs : List LinkEntry) (items : List (�
     → begins_paragraph items ≡ false
     → EndsListAt (current_end r.tree) (top_body r.tree) (closed_in r.tree) (OpensLeaf (Block (flowing_block q xs items)) Line left)
 away_left r q xs items left after other =
-    let b = behind_definition r.tree after in
-    let last = behind_last r.tree b in
+    let b = past_definition r.tree after in
+    let last = after_last r.tree b in
     let e : ℕ = current_end r.tree in
     let o : Opening = OpensLeaf (Block (flowing_block q xs items)) Line left in
     subst (λ z. EndsListAt e (top_body r.tree) z o) (sym last.1)
-    (subst (λ z. EndsListAt e z (DefinitionClosed e last.0) o) (sym (behind_top r.tree b)) (other, refl))
+    (subst (λ z. EndsListAt e z (DefinitionClosed e last.0) o) (sym (after_top r.tree b)) (other, refl))

@@ -19,7 +19,7 @@ use Rattle.first_pass_items.specs.CowText.{text_of}
 use Rattle.first_pass_grammar.specs.Kinds.{unindented}
 use Rattle.first_pass_grammar.specs.Derivation.{told_label}
 use Rattle.first_pass_grammar.specs.Completion.{lines_from}
-use Rattle.first_pass_grammar.specs.Footnotes.{footnote_at, footnote_head_at, label_bytes, behind_head}
+use Rattle.first_pass_grammar.specs.Footnotes.{footnote_at, footnote_head_at, label_bytes, past_head}
 use Rattle.first_pass_names.specs.TableEntries.{entries, TellsFootnote, tables_of, names_of, refdefs_of}
 use Rattle.first_pass_lists.specs.Closing.{footnote_begun}
 use Rattle.first_pass_open.specs.declared.source.Source.{Source}
@@ -77,7 +77,7 @@ head_end text «end» = line_place «end» (drop «end» text)
 -- the place where blocks continue after a head that ends at an offset, and the lines after that place (this project)
 abbrev pub after_head : Bool → List ℕ → ℕ → Place × List Place
 after_head true text «end» = (head_end text «end», lines_from text (line_end (head_end text «end»)))
-after_head false text «end» = behind_head false (head_end text «end») (lines_from text (line_end (head_end text «end»)))
+after_head false text «end» = past_head false (head_end text «end») (lines_from text (line_end (head_end text «end»)))
 
 -- Blocks continue at a place after such a head in a source; its line does not begin before the end of the head
 -- (this project).

@@ -16,7 +16,7 @@ use Rattle.first_pass_grammar.specs.Names.{Names, AreNamed}
 use Rattle.first_pass_grammar.specs.WholeTables.{HasWholeTables}
 use Rattle.first_pass_grammar.specs.Order.{GrowsBy}
 use Rattle.first_pass_grammar.specs.OpenOrder.{IsOrderedTo}
-use Rattle.first_pass_grammar.specs.Skeleton.{From, Inside, At, ALeafAlone, TextOf, behind_tag}
+use Rattle.first_pass_grammar.specs.Skeleton.{From, Inside, At, ALeafAlone, TextOf, after_tag}
 use Rattle.first_pass_grammar.specs.Completion.{lines_from, IsPlain}
 use Rattle.first_pass_open.specs.Path.{context_of}
 use Rattle.first_pass_open.specs.declared.source.Source.{Source}
@@ -50,7 +50,7 @@ pub record ReadyInQuote (d : Document) (defined : Tables) (r : Reading) (from : 
 
 -- ready before the line after the tag of a block quote
 abbrev pub ReadyTagged : Document → Tables → Reading → List Place → Type 0
-ReadyTagged d defined r lines = ReadyInQuote d defined r (behind_tag (context_of d.options r.tree) lines).0 (behind_tag (context_of d.options r.tree) lines).1
+ReadyTagged d defined r lines = ReadyInQuote d defined r (after_tag (context_of d.options r.tree) lines).0 (after_tag (context_of d.options r.tree) lines).1
 
 -- ready in that line, at the place of a leaf block that belongs to the quote
 abbrev pub ReadyLazy : Document → Tables → Reading → Place → List Place → Type 0

@@ -39,15 +39,15 @@ SaysEnd text q (NextLine line next) = (line ≡ q.line) × (line_end q ≤ next)
 SaysEnd text q (Paragraph at) = at ≡ offset q
 
 -- All link reference definitions from a place on are read, and the tables have what they define.
-pub record ReadsRun (text : List ℕ) (around : Context) (nested : Bool) (p : Place) (before now : Tables) (behind : RunEnd) : Type 0 where
+pub record ReadsRun (text : List ℕ) (around : Context) (nested : Bool) (p : Place) (before now : Tables) (following : RunEnd) : Type 0 where
   pub place : Place
   pub stands : IsPlaceOf text place
   pub later : IsLater text p place
   pub ends : line_end p ≤ line_end place
-  pub says : SaysEnd text place behind
+  pub says : SaysEnd text place following
   pub definitions : List LinkEntry
   pub defined : nested ≡ false → now ≡ told before definitions
-  pub run : nested ≡ false → IsRun around p (lines_from text (line_end p)) definitions (beyond_of text place behind)
+  pub run : nested ≡ false → IsRun around p (lines_from text (line_end p)) definitions (beyond_of text place following)
 
 -- Link reference definitions were put into a pass's table, and nothing else changed. If the entries of the tables
 -- were written in the text, they still are.

@@ -14,7 +14,7 @@ ghost use Rattle.first_pass_blocks.specs.Views.{allocs_of, context_in, source_te
 use crate::state::BlockPass;
 use first_pass_definitions::reference::parse_refdef_total;
 use first_pass_items::item::Item;
-use first_pass_kinds::interrupt::scan_line_behind_tag;
+use first_pass_kinds::interrupt::scan_line_after_tag;
 use first_pass_lines::lines::scan_blank_line;
 use first_pass_lines::places::{next_line, rest_of};
 use first_pass_open::source::Source;
@@ -49,7 +49,7 @@ pub fn scan_next_line_or_lazy_continuation<'input>(
     ensures err { OnErr result (line_may_head (context_of source.now.options tree.now)
         (line_rest bytes.now) ≡ true) }
 {
-    let line = scan_line_behind_tag(source, bytes, tree)?;
+    let line = scan_line_after_tag(source, bytes, tree)?;
     let Some(rest) = line else {
         return Ok(None);
     };
@@ -66,11 +66,11 @@ impl<'a> BlockPass<'a> {
         requires utf8 { IsUtf8 (source_text self.old) }
         requires boundary { IsCharBoundary (source_text self.old) at }
         ensures kept { OnOk result (PutsDefinitions self.old self.new) }
-        ensures run { IfOk result (λ behind. (p : Place) → p.line ≡ line → offset p ≡ at
+        ensures run { IfOk result (λ following. (p : Place) → p.line ≡ line → offset p ≡ at
             → IsPlaceOf (source_text self.old) p
             → ReadsRun (source_text self.old) (context_in self.old)
             (in_table (tree_of self.old).nodes (tree_of self.old).spine) p (tables_of (allocs_of self.old))
-            (tables_of (allocs_of self.new)) behind) }
+            (tables_of (allocs_of self.new)) following) }
     {
         self.source.is_short();
         let mut line = line;

@@ -37,7 +37,7 @@ impl<'a> BlockPass<'a> {
         match self.parse_footnote(start)? {
             None => Ok(false),
             Some(size) => {
-                *place = place_behind_head(&self.source, start + size);
+                *place = place_after_head(&self.source, start + size);
                 Ok(true)
             }
         }
@@ -91,7 +91,7 @@ fn footnote_mark<'a>(source: &Source<'a>, place: &Place<'a>) -> Option<usize>
 
 // The place where blocks continue after the head of a footnote definition: at its end, the offset `end`; in the old
 // form, if the rest of that line is blank and another line follows, at the start of the next line.
-fn place_behind_head<'a>(source: &Source<'a>, end: usize) -> Place<'a>
+fn place_after_head<'a>(source: &Source<'a>, end: usize) -> Place<'a>
     requires utf8 { IsUtf8 source.now.text.now }
     requires boundary { IsCharBoundary source.now.text.now end }
     ensures { IsAfterHead source.now end result }

@@ -4,7 +4,7 @@ ghost use Rattle.std.specs.Prelude.{◌≡◌, Some, None, MatchOption, IsSomeAn
 ghost use Rattle.first_pass_lines.specs.Places.{IsPlaceOf};
 ghost use Rattle.first_pass_grammar.specs.Containers.{at_rest};
 ghost use Rattle.first_pass_grammar.specs.Kinds.{item_at, definition_marker_at};
-ghost use Rattle.first_pass_grammar.specs.Openers.{task_behind, tag_behind, after_quote, start_at};
+ghost use Rattle.first_pass_grammar.specs.Openers.{task_after, tag_after, after_quote, start_at};
 ghost use Rattle.first_pass_blocks.specs.Starts.{marker_of, item_after, TellsStart};
 
 use bitflags::Flags;
@@ -110,7 +110,7 @@ fn after_quote(tag: Option<BlockQuoteKind>) -> AfterMarker
 
 // The kind that a tag here gives a block quote, if there is a tag and the option is on.
 fn scan_tag<'a>(options: Options, line_start: &LineStart<'a>) -> Option<BlockQuoteKind>
-    ensures { result ≡ tag_behind options line_start.now }
+    ensures { result ≡ tag_after options line_start.now }
 {
     if !options.contains(Options::ENABLE_GFM) {
         return None;
@@ -123,9 +123,9 @@ fn scan_tag<'a>(options: Options, line_start: &LineStart<'a>) -> Option<BlockQuo
 fn scan_task<'a>(source: &Source<'a>, place: &mut Place<'a>) -> Option<Item>
     requires utf8 { IsUtf8 source.now.text.now }
     requires place { IsPlaceOf source.now.text.now place.old }
-    ensures marker { result ≡ (task_behind source.now.options place.old.line place.old.rest).0 }
+    ensures marker { result ≡ (task_after source.now.options place.old.line place.old.rest).0 }
     ensures place { place.new
-        ≡ at_rest place.old (task_behind source.now.options place.old.line place.old.rest).1 }
+        ≡ at_rest place.old (task_after source.now.options place.old.line place.old.rest).1 }
 {
     if !source.options.contains(Options::ENABLE_TASKLISTS) {
         return None;

@@ -30,7 +30,7 @@ use crate::text::parse_paragraph;
 use first_pass_grammar::AfterMarker;
 use first_pass_items::item::Item;
 use first_pass_items::option_set::Options;
-use first_pass_kinds::interrupt::scan_line_behind_tag;
+use first_pass_kinds::interrupt::scan_line_after_tag;
 use first_pass_kinds::kinds::{Found, kind_at};
 use first_pass_lines::places::{next_line, rest_of};
 use first_pass_lists::reading::Reading;
@@ -109,8 +109,8 @@ impl<'a> BlockPass<'a> {
             }
             AfterMarker::LineEnds(_) => Ok(line_over(&self.source, &place)),
             AfterMarker::TagAlone => {
-                let behind = line_over(&self.source, &place);
-                let next = self.parse_tagged(behind)?;
+                let following = line_over(&self.source, &place);
+                let next = self.parse_tagged(following)?;
                 Ok(next)
             }
         }
@@ -124,7 +124,7 @@ impl<'a> BlockPass<'a> {
         ensures { IfOk result (λ next. ReadsBlock self.old self.new start (TaggedAt start) next) }
     {
         let bytes = rest_of(self.source.text.as_bytes(), start);
-        match scan_line_behind_tag(&self.source, bytes, &self.reading.tree)? {
+        match scan_line_after_tag(&self.source, bytes, &self.reading.tree)? {
             None => Ok(start),
             Some(rest) => {
                 let next = self.parse_leaf(Place { line: start, rest })?;
@@ -163,9 +163,9 @@ impl<'a> BlockPass<'a> {
         ensures { IfOk result (λ next. ReadsLeaf self.old self.new place.entry next) }
     {
         self.source.is_short();
-        let mut behind = place.copy();
-        let (found, columns) = kind_at(&self.source, &mut behind, &mut self.metadata_ends);
-        let next = self.parse_kind(place, found, columns, behind.offset())?;
+        let mut following = place.copy();
+        let (found, columns) = kind_at(&self.source, &mut following, &mut self.metadata_ends);
+        let next = self.parse_kind(place, found, columns, following.offset())?;
         Ok(next)
     }
 

@@ -10,13 +10,13 @@ use std::alloc::{AllocError, Global};
 pub fn read_shown(alloc: Global, shown: &str) -> Result<String, AllocError> {
     let mut text = String::new(alloc);
     for character in shown.chars() {
-        text.push(behind_picture(character))?;
+        text.push(after_picture(character))?;
     }
     Ok(text)
 }
 
 /// The character of a picture; any other character is unchanged.
-fn behind_picture(character: char) -> char {
+fn after_picture(character: char) -> char {
     match character {
         '\u{2400}'..='\u{2420}' => char::from_u32(character as u32 - 0x2400).unwrap_or(character),
         _ => character,

@@ -16,7 +16,7 @@ use Rattle.first_pass_grammar.specs.Before.{after_block}
 use Rattle.first_pass_grammar.specs.Skeleton.{From, Inside, Opening, OpensLeaf, OpensNode, Opens, level}
 use Rattle.first_pass_grammar.specs.Kinds.{Kind}
 use Rattle.first_pass_grammar.specs.Rows.{ALeaf, Joins, ItemsOf, DefinitionsTo, Rows, End, OneOf, Definitions, any_gap, is_loose, is_paragraph}
-use Rattle.first_pass_grammar.specs.Rows.{closing_place, list_until, items_behind, list_behind, what_of, row_of, row_of_leaf, titled, gap_before}
+use Rattle.first_pass_grammar.specs.Rows.{closing_place, list_until, items_after, list_after, what_of, row_of, row_of_leaf, titled, gap_before}
 use Rattle.first_pass_grammar.specs.Rows.{container_row, rows_of, definitions_first}
 use Rattle.first_pass_grammar.specs.Derivation.{Tables, items_of}
 use Rattle.first_pass_grammar.specs.Completion.{title_left, list_closed, OtherClosed, ParagraphAt, DefinitionClosed, TitleAt, Pending, NoList, OneList}
@@ -63,7 +63,7 @@ LeafAway (DefinitionsTo e) at b = (begins_paragraph b.items ≡ false) × ((if i
 abbrev pub OpensAway : Joins → ℕ → Opening → Type 0
 OpensAway list at (OpensLeaf BlankLine there left) = ⊥
 OpensAway list at (OpensLeaf (Block b) there left) = LeafAway list at b
-OpensAway list at (OpensNode head inside behind) = (head_closes head ≡ at) × (joins list head.opener ≡ false)
+OpensAway list at (OpensNode head inside following) = (head_closes head ≡ at) × (joins list head.opener ≡ false)
 
 -- an opening that ends a definition list is no definition
 other_joins : (e : ℕ) (o : Opener) → joins (DefinitionsTo e) o ≡ false → is_definition o ≡ false
@@ -75,7 +75,7 @@ other_joins e (DefinitionMarker columns) h = h
 away_other : (e at : ℕ) (o : Opening) → OpensAway (DefinitionsTo e) at o → opens_definition o ≡ false
 away_other e at (OpensLeaf BlankLine there left) away = absurd away
 away_other e at (OpensLeaf (Block b) there left) away = refl
-away_other e at (OpensNode head inside behind) away = other_joins e head.opener away.1
+away_other e at (OpensNode head inside following) away = other_joins e head.opener away.1
 
 -- the first block of a sequence ends the list; it is also flat
 abbrev EndsList : Joins → ℕ → Skeleton → Type 0
@@ -116,18 +116,18 @@ ends_list d list at (OpensLeaf BlankLine there left) (Then leaf next) away known
 ends_list d list at (OpensLeaf (Block b) there left) (Then BlankLine next) away (there', left', (alike, flat)) = absurd alike.0
 ends_list d list at (OpensLeaf (Block b) there left) (Then (Block b') next) away (there', left', (alike, flat)) =
     (leaf_away d list at b b' there there' left left' alike away, flat.1)
-ends_list d list at (OpensLeaf leaf there left) (Node head' e' kids' next') away (inside', behind', (alike, flat)) = absurd alike
-ends_list d list at (OpensNode head inside behind) (Then leaf' next') away (there', left', (alike, flat)) = absurd alike
-ends_list d list at (OpensNode head inside behind) (Node head' e' kids' next') away (inside', behind', (alike, flat)) = (
+ends_list d list at (OpensLeaf leaf there left) (Node head' e' kids' next') away (inside', following', (alike, flat)) = absurd alike
+ends_list d list at (OpensNode head inside following) (Then leaf' next') away (there', left', (alike, flat)) = absurd alike
+ends_list d list at (OpensNode head inside following) (Node head' e' kids' next') away (inside', following', (alike, flat)) = (
   sym (sym (closes_alone head.opener head.line head.start) ∙ ap head_closes alike.0.0 ∙ closes_alone head'.opener head'.line head'.start) ∙ away.0,
   sym (sym (joins_alone list head.opener) ∙ ap (λ (h : Head). joins list h.opener) alike.0.0 ∙ joins_alone list head'.opener) ∙ away.1,
 )
 
 -- The rows of what ends a list include none that continues it.
 pub record AreAway (list : Joins) (at last : ℕ) (rows : Rows) : Type 0 where
-  pub none : items_behind list rows ≡ End
+  pub none : items_after list rows ≡ End
   pub until : list_until list last rows ≡ at
-  pub past : list_behind list rows ≡ rows
+  pub past : list_after list rows ≡ rows
 
 container_away : (list : Joins) (at last : ℕ) (opener : Opener) (line start e : ℕ) (gap : Bool) (inner next : Rows)
     → (let head : Head = record { opener = opener; line = line; start = start } in
@@ -226,12 +226,12 @@ close_step d defined frames list run blanks loose nodes o os p lines at opening 
       seq = seq_moved d s path closed here p lines mid (record { to = alike.back; back = alike.to }) (same_back here closed s first) seq;
       items = λ last is. ap (rendered k last nodes (OneList o list loose)) (rows_moved q here closed last s same)
           ∙ ap (λ z. list_closed nodes o (suc (suc k)) (loose || is_loose z) (list_until list last (r last))
-          ++ (items_of (suc k) (not (loose || is_loose z)) z ++ items_of k false (list_behind list (r last)))) (w last).none
-          ∙ ap (λ z. list_closed nodes o (suc (suc k)) (loose || false) z ++ items_of k false (list_behind list (r last))) (w last).until
+          ++ (items_of (suc k) (not (loose || is_loose z)) z ++ items_of k false (list_after list (r last)))) (w last).none
+          ∙ ap (λ z. list_closed nodes o (suc (suc k)) (loose || false) z ++ items_of k false (list_after list (r last))) (w last).until
           ∙ ap (λ z. list_closed nodes o (suc (suc k)) (loose || false) at ++ items_of k false z) (w last).past
           ∙ ap (λ z. list_closed nodes o (suc (suc k)) z at ++ items_of k false (r last)) (or-false loose);
       counts = counts_moved q here closed s first;
-      gaps = λ last. ap (λ z. any_gap (list_behind list z)) (rows_moved q here closed last s same) ∙ ap any_gap (w last).past;
+      gaps = λ last. ap (λ z. any_gap (list_after list z)) (rows_moved q here closed last s same) ∙ ap any_gap (w last).past;
     })
     (λ s. refl)
     (finish_moved d _ _ _ _ _ _ _ _ _ os (Inside p) lines forest tables refl (plain_before (tail OtherClosed run) frames plain)

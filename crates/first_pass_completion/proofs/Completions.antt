@@ -14,8 +14,8 @@ use Rattle.first_pass_grammar.specs.Leaves.{Document, around}
 use Rattle.first_pass_grammar.specs.Blocks.{LeafBlock, BlankLine, Block, block_at, Nil, Then}
 use Rattle.first_pass_grammar.specs.Before.{LastOther, LastParagraph, Before, last_container, list_is_open, after_blank, after_block}
 use Rattle.first_pass_grammar.specs.Before.{is_paragraph_body, begins_paragraph, is_run, last_after_run, last_block, before_end}
-use Rattle.first_pass_grammar.specs.Skeleton.{From, Line, Inside, Blanks, At, TextOf, MarkAlone, behind_marker, Opening, OpensLeaf, OpensText, Opens}
-use Rattle.first_pass_grammar.specs.Skeleton.{level, Left, InLine, Ends, ends_old_footnote, going, onward, behind_first, end_of_left, end_before, IsFirst}
+use Rattle.first_pass_grammar.specs.Skeleton.{From, Line, Inside, Blanks, At, TextOf, MarkAlone, after_marker, Opening, OpensLeaf, OpensText, Opens}
+use Rattle.first_pass_grammar.specs.Skeleton.{level, Left, InLine, Ends, ends_old_footnote, going, onward, after_first, end_of_left, end_before, IsFirst}
 use Rattle.first_pass_grammar.specs.Skeleton.{IsSequence}
 use Rattle.first_pass_grammar.specs.Kinds.{Paragraph, unindented, is_blank_rest}
 use Rattle.first_pass_grammar.specs.Rows.{ItemsOf, Rows, any_gap, rows_of}
@@ -67,10 +67,10 @@ leaf_last place closed frames b plain =
 -- a leaf block before which no gap is noted
 block_step : (d : Document) (defined : Tables) (closed : Closed) (frames : List Frame) (nodes : List (ℕ × Item)) (os : List ℕ) (from : From)
     (lines left : List Place) (b : LeafBlock) (forest : List (ℕ × Item)) (tables : Tables)
-    → IsPlain frames → EndsAlike (length d.text) from (behind_first from Line) → FlatBlock b × OwnParagraph b
+    → IsPlain frames → EndsAlike (length d.text) from (after_first from Line) → FlatBlock b × OwnParagraph b
     → IsFirst d (lvl frames (tail closed false)) from lines (OpensLeaf (Block b) Line left)
     → FinishesAt d (told defined b.definitions) (tail (closed_after (length nodes) b closed) b.gap) frames (nodes ++ block_items (suc (length os)) false b) os
-    (behind_first from Line) left forest tables
+    (after_first from Line) left forest tables
     → FinishesAt d defined (tail closed false) frames nodes os from lines forest tables
 unfolding IsSequence rows_of before_end definitions_of footnotes_of
 block_step d defined closed frames nodes os from lines left b forest tables plain alike (flat, own) first fin =
@@ -80,7 +80,7 @@ block_step d defined closed frames nodes os from lines left b forest tables plai
     let before : Before = before_of frames (tail closed false) in
     let now : Closed = closed_after (length nodes) b closed in
     extend d defined (told defined b.definitions) frames (NoList closed) (NoList now) before (after_block before b) false nodes (nodes ++ added) os
-    from (behind_first from Line) lines left forest tables (λ s. Then (Block b) s) plain alike
+    from (after_first from Line) lines left forest tables (λ s. Then (Block b) s) plain alike
     (λ s mid seq. record {
       seq = (Line, left, first, seq);
       items = λ last is. leaf_nodes k last nodes closed b false (rows_of q (after_block before b) last s) flat own;
@@ -88,22 +88,22 @@ block_step d defined closed frames nodes os from lines left b forest tables plai
       gaps = λ last. leaf_gaps (length nodes) closed b false (rows_of q (after_block before b) last s) flat;
     })
     (λ s. told_leaf defined b s)
-    (finish_moved d _ (NoList now) _ _ _ _ _ _ _ os (behind_first from Line) left forest tables refl
+    (finish_moved d _ (NoList now) _ _ _ _ _ _ _ os (after_first from Line) left forest tables refl
     (ap (λ z. stands_after z b.gap) (leaf_last (length nodes) closed frames b plain)) (sym (loosened_in-false frames)) refl fin)
 
 -- a blank line in a state with a list that may continue
 blank_step : (d : Document) (defined : Tables) (frames : List Frame) (list : Pending) (before : Before) (nodes : List (ℕ × Item)) (os : List ℕ) (from : From)
     (lines left : List Place) (forest : List (ℕ × Item)) (tables : Tables)
-    → IsPlain frames → EndsAlike (length d.text) from (behind_first from Line)
+    → IsPlain frames → EndsAlike (length d.text) from (after_first from Line)
     → IsFirst d (level (containers_of frames) before) from lines (OpensLeaf BlankLine Line left)
-    → Finish d defined list (after_blank (in_quote (containers_of frames)) before) frames nodes os (behind_first from Line) left forest tables
+    → Finish d defined list (after_blank (in_quote (containers_of frames)) before) frames nodes os (after_first from Line) left forest tables
     → Finish d defined list before frames nodes os from lines forest tables
 unfolding IsSequence rows_of before_end definitions_of footnotes_of
 blank_step d defined frames list before nodes os from lines left forest tables plain alike first fin =
     let now : Before = after_blank (in_quote (containers_of frames)) before in
-    extend d defined defined frames list list before now false nodes nodes os from (behind_first from Line) lines left forest tables (λ s. Then BlankLine s)
+    extend d defined defined frames list list before now false nodes nodes os from (after_first from Line) lines left forest tables (λ s. Then BlankLine s)
     plain alike (λ s mid seq. record { seq = (Line, left, first, seq); items = λ last is. refl; counts = refl; gaps = λ last. refl }) (λ s. refl)
-    (subst (λ z. Finish d defined list now z nodes os (behind_first from Line) left forest tables) (sym (loosened_in-false frames)) fin)
+    (subst (λ z. Finish d defined list now z nodes os (after_first from Line) left forest tables) (sym (loosened_in-false frames)) fin)
 
 -- Rows that do not begin with definitions follow the last child.
 pub beside_all : (k last : ℕ) (nodes : List (ℕ × Item)) (closed : Closed) (rows : Rows) → definitions_first rows ≡ None
@@ -144,11 +144,11 @@ completes-enter d defined t frames nodes os line q lines is old c = record {
 -- after a leaf block, wherever it begins
 pub completes-leaf : (d : Document) (defined : Tables) (closed : Closed) (frames : List Frame) (nodes : List (ℕ × Item)) (os : List ℕ) (from : From)
     (lines left : List Place) (b : LeafBlock)
-    → IsPlain frames → EndsAlike (length d.text) from (behind_first from Line) → OwnFrom from
+    → IsPlain frames → EndsAlike (length d.text) from (after_first from Line) → OwnFrom from
     → IsFirst d (lvl frames (tail closed false)) from lines (OpensLeaf (Block b) Line left)
     → CompletesAt d defined (tail closed false) frames nodes os from lines
     → CompletesAt d (told defined b.definitions) (tail (closed_after (length nodes) b closed) b.gap) frames (nodes ++ block_items (suc (length os)) false b) os
-    (behind_first from Line) left
+    (after_first from Line) left
 completes-leaf d defined closed frames nodes os from lines left b plain alike flat first c = record {
   below = AreBelow-more _ _ os (let k = length-append nodes (block_items (suc (length os)) false b) in omega arith) c.below;
   shape = c.shape;
@@ -180,9 +180,9 @@ pub completes-text : (d : Document) (defined : Tables) (closed : Closed) (frames
 unfolding going
 completes-text d defined closed frames nodes os marker p lines left b plain other opens c =
     completes-leaf d defined closed frames nodes os (At p (TextOf marker)) lines left b plain (λ path mid. refl) other
-    (record { place = p; behind = lines; begins = refl; opens = opens }) c
+    (record { place = p; following = lines; begins = refl; opens = opens }) c
 
-mark_alike : (n : ℕ) (blanks : Option ℕ) (path : List Container) (mid : Left) → end_of_left n path blanks mid ≡ end_before n path (behind_marker blanks) mid
+mark_alike : (n : ℕ) (blanks : Option ℕ) (path : List Container) (mid : Left) → end_of_left n path blanks mid ≡ end_before n path (after_marker blanks) mid
 mark_alike n None path mid = refl
 mark_alike n (Some e) path mid = refl
 
@@ -191,17 +191,17 @@ pub completes-mark : (d : Document) (defined : Tables) (closed : Closed) (frames
     (p : Place) (blanks : Option ℕ) (lines : List Place)
     → IsPlain frames → is_paragraph_body marker.body ≡ false
     → CompletesAt d defined (tail closed false) frames nodes os (At p (MarkAlone marker blanks)) lines
-    → CompletesAt d defined fresh frames (nodes ++ (suc (length os), marker) ∷ []) os (behind_marker blanks) lines
+    → CompletesAt d defined fresh frames (nodes ++ (suc (length os), marker) ∷ []) os (after_marker blanks) lines
 unfolding with_links going
 completes-mark d defined closed frames nodes os marker p blanks lines plain other c =
     let deep : suc (length os) + 0 ≡ suc (length os) = omega arith in
     let b : LeafBlock = block_at Paragraph p ((0, marker) ∷ []) false in
     let last : closed_after (length nodes) b closed ≡ OtherClosed = ap (λ (t : Bool). if t then ParagraphAt (length nodes) else OtherClosed) other in
-    subst (λ z. CompletesAt d defined (tail z false) frames (nodes ++ (suc (length os), marker) ∷ []) os (behind_marker blanks) lines) last
+    subst (λ z. CompletesAt d defined (tail z false) frames (nodes ++ (suc (length os), marker) ∷ []) os (after_marker blanks) lines) last
     (subst (λ depth. CompletesAt d defined (tail (closed_after (length nodes) b closed) false) frames (nodes ++ (depth, marker) ∷ []) os
-    (behind_marker blanks) lines) deep
+    (after_marker blanks) lines) deep
     (completes-leaf d defined closed frames nodes os (At p (MarkAlone marker blanks)) lines lines b plain (mark_alike (length d.text) blanks) other
-    (record { place = p; behind = lines; begins = refl; opens = refl }) c))
+    (record { place = p; following = lines; begins = refl; opens = refl }) c))
 
 -- whether the blank lines after open nodes include a counting one, after one more blank line
 abbrev pub counted_after : List Frame → Tail → Bool
@@ -213,9 +213,9 @@ after_blank_line frames t = tail t.closed (counted_after frames t)
 
 blank_any : (d : Document) (defined : Tables) (frames : List Frame) (t : Tail) (nodes : List (ℕ × Item)) (os : List ℕ) (from : From)
     (lines left : List Place) (forest : List (ℕ × Item)) (tables : Tables)
-    → IsShaped frames → EndsAlike (length d.text) from (behind_first from Line)
+    → IsShaped frames → EndsAlike (length d.text) from (after_first from Line)
     → IsFirst d (lvl frames t) from lines (OpensLeaf BlankLine Line left)
-    → FinishesAt d defined (after_blank_line frames t) frames nodes os (behind_first from Line) left forest tables
+    → FinishesAt d defined (after_blank_line frames t) frames nodes os (after_first from Line) left forest tables
     → FinishesAt d defined t frames nodes os from lines forest tables
 unfolding Finish
 blank_any d defined [] t nodes os from lines left forest tables shape alike first fin =
@@ -235,8 +235,8 @@ blank_any d defined (InDefinitions loose ∷ frames) t nodes (o ∷ os) from lin
 -- after a blank line, wherever it begins
 pub completes-blank : (d : Document) (defined : Tables) (t : Tail) (frames : List Frame) (nodes : List (ℕ × Item)) (os : List ℕ) (from : From)
     (lines left : List Place)
-    → EndsAlike (length d.text) from (behind_first from Line) → IsFirst d (lvl frames t) from lines (OpensLeaf BlankLine Line left)
-    → CompletesAt d defined t frames nodes os from lines → CompletesAt d defined (after_blank_line frames t) frames nodes os (behind_first from Line) left
+    → EndsAlike (length d.text) from (after_first from Line) → IsFirst d (lvl frames t) from lines (OpensLeaf BlankLine Line left)
+    → CompletesAt d defined t frames nodes os from lines → CompletesAt d defined (after_blank_line frames t) frames nodes os (after_first from Line) left
 completes-blank d defined t frames nodes os from lines left alike first c = record {
   below = c.below;
   shape = c.shape;
@@ -267,7 +267,7 @@ completes-only_blank d defined t c frames nodes os e line p lines other is blank
     ap (λ (z : Bool). t.run || (not z || list_is_open (last_plain t.closed))) other ∙ or-true t.run in
     subst (λ z. CompletesAt d defined (tail t.closed z) here nodes os (Blanks e) lines) counts
     (completes-blank d defined t here nodes os (Blanks e) (line ∷ lines) lines (λ path mid. refl)
-    (record { place = p; behind = lines; begins = begins_blank d.options (lvl here t) e line p lines is blank; opens = opens }) k)
+    (record { place = p; following = lines; begins = begins_blank d.options (lvl here t) e line p lines is blank; opens = opens }) k)
 
 -- At the end of the text, if nothing is open, the nodes are the forest.
 pub completes-end : (d : Document) (defined : Tables) (t : Tail) (nodes : List (ℕ × Item))

@@ -18,7 +18,7 @@ use Rattle.first_pass_grammar.specs.Before.{LastItem, Before, nothing}
 use Rattle.first_pass_grammar.specs.Before.{after_container, before_end}
 use Rattle.first_pass_grammar.specs.Skeleton.{From, Inside, OpensNode, Opens}
 use Rattle.first_pass_grammar.specs.Skeleton.{level, onward, end_before, IsSequence}
-use Rattle.first_pass_grammar.specs.Rows.{AList, ItemsOf, Rows, OneOf, any_gap, is_loose, list_until, items_behind, list_behind, row_of, rows_of}
+use Rattle.first_pass_grammar.specs.Rows.{AList, ItemsOf, Rows, OneOf, any_gap, is_loose, list_until, items_after, list_after, row_of, rows_of}
 use Rattle.first_pass_grammar.specs.Rows.{definitions_first}
 use Rattle.first_pass_grammar.specs.LinkTables.{with_labels}
 use Rattle.first_pass_grammar.specs.Derivation.{Tables, told_label, definitions_of, footnotes_of, told_by, node_of, list_flags}
@@ -41,16 +41,16 @@ ended-mid nodes more k e x = modify-at nodes more (k, x) (length nodes) (λ y. r
 
 -- a block quote that is opened, before which no gap is noted
 quote_step : (d : Document) (defined : Tables) (closed : Closed) (frames : List Frame) (nodes : List (ℕ × Item)) (os : List ℕ) (p : Place)
-    (lines behind : List Place) (kind : Option BlockQuoteKind) (start line some_end : ℕ) (inside : From)
+    (lines following : List Place) (kind : Option BlockQuoteKind) (start line some_end : ℕ) (inside : From)
     (forest : List (ℕ × Item)) (tables : Tables)
     → IsPlain frames → StaysAt d (containers_of frames) p
     → Opens d (lvl frames (tail closed false)) p lines
-    (OpensNode (record { opener = QuoteMarker kind; start = start; line = line }) inside behind)
+    (OpensNode (record { opener = QuoteMarker kind; start = start; line = line }) inside following)
     → FinishesAt d defined fresh (InContainer (BlockQuote kind) ∷ frames) (nodes ++ (suc (length os), node_of start some_end (BlockQuoteBody kind)) ∷ [])
-    (length nodes ∷ os) inside behind forest tables
+    (length nodes ∷ os) inside following forest tables
     → FinishesAt d defined (tail closed false) frames nodes os (Inside p) lines forest tables
 unfolding Finish IsSequence rows_of before_end items_of any_gap rendered definitions_first definitions_of footnotes_of
-quote_step d defined closed frames nodes os p lines behind kind start line some_end inside forest tables plain stays opens
+quote_step d defined closed frames nodes os p lines following kind start line some_end inside forest tables plain stays opens
     (kids, mid, inner, fin) =
     let n : ℕ = length d.text in
     let path : List Container = containers_of frames in
@@ -70,7 +70,7 @@ quote_step d defined closed frames nodes os p lines behind kind start line some_
     extend d defined (told_by defined kids) frames (NoList closed) (NoList OtherClosed) before now false nodes later os
     (Inside p) (onward mid).0 lines (onward mid).1 forest tables (λ s. Node head e kids s) plain (alike_onward n p mid)
     (λ s left seq. record {
-      seq = (inside, behind, mid, first_here d (level path before) p lines (OpensNode head inside behind) stays opens, inner, refl, seq);
+      seq = (inside, following, mid, first_here d (level path before) p lines (OpensNode head inside following) stays opens, inner, refl, seq);
       items = λ last is. (beside_all k last nodes closed (all last s) refl).0 ∙ sym (append_assoc nodes (y ∷ items) _);
       counts = refl;
       gaps = λ last. ap any_gap (beside_all k last nodes closed (all last s) refl).1;
@@ -98,13 +98,13 @@ unfolding items_of rows_of is_loose rendered
 list_items quoted d last e start some_end byte number columns line flags before nodes kids s =
     let rows : Rows = rows_of false nothing e kids in
     let next : Rows = rows_of quoted (after_container (ListItem columns) (before_end false nothing kids)) last s in
-    let loose : Bool = any_gap rows || is_loose (items_behind (ItemsOf byte) next) in
+    let loose : Bool = any_gap rows || is_loose (items_after (ItemsOf byte) next) in
     let until : ℕ = list_until (ItemsOf byte) last next in
     let entry : ℕ × Item = (suc d, node_of start e (ListItemBody columns)) in
     let list : ℕ × Item = (d, node_of start until (ListBody (list_flags (not loose)) byte number)) in
     let a : List (ℕ × Item) = items_of (suc (suc d)) (not loose) rows in
-    let b : List (ℕ × Item) = items_of (suc d) (not loose) (items_behind (ItemsOf byte) next) in
-    let c : List (ℕ × Item) = items_of d false (list_behind (ItemsOf byte) next) in
+    let b : List (ℕ × Item) = items_of (suc d) (not loose) (items_after (ItemsOf byte) next) in
+    let c : List (ℕ × Item) = items_of d false (list_after (ItemsOf byte) next) in
     sym (ap (λ z. z ++ (b ++ c))
     (list_closed-mid nodes (entry ∷ items_of (suc (suc d)) false rows) d start some_end (suc (suc d)) byte number flags loose until)
     ∙ ap (λ z. (nodes ++ list ∷ z) ++ (b ++ c)) (closed_item d e loose (node_of start e (ListItemBody columns)) kids)
@@ -113,17 +113,17 @@ list_items quoted d last e start some_end byte number columns line flags before 
 
 -- a list that is opened with its first item, before which no gap is noted
 list_step : (d : Document) (defined : Tables) (closed : Closed) (frames : List Frame) (nodes : List (ℕ × Item)) (os : List ℕ) (p : Place)
-    (lines behind : List Place) (byte number columns start line some_end other_end : ℕ) (flags : ListFlags) (inside : From)
+    (lines following : List Place) (byte number columns start line some_end other_end : ℕ) (flags : ListFlags) (inside : From)
     (forest : List (ℕ × Item)) (tables : Tables)
     → IsPlain frames → StaysAt d (containers_of frames) p
     → Opens d (lvl frames (tail closed false)) p lines
-    (OpensNode (record { opener = ItemMarker byte number columns; start = start; line = line }) inside behind)
+    (OpensNode (record { opener = ItemMarker byte number columns; start = start; line = line }) inside following)
     → FinishesAt d defined fresh (InContainer (ListItem columns) ∷ InList byte false ∷ frames)
     (nodes ++ (suc (length os), node_of start some_end (ListBody flags byte number)) ∷
-    (suc (suc (length os)), node_of start other_end (ListItemBody columns)) ∷ []) (suc (length nodes) ∷ length nodes ∷ os) inside behind forest tables
+    (suc (suc (length os)), node_of start other_end (ListItemBody columns)) ∷ []) (suc (length nodes) ∷ length nodes ∷ os) inside following forest tables
     → FinishesAt d defined (tail closed false) frames nodes os (Inside p) lines forest tables
 unfolding Finish IsSequence rows_of before_end items_of any_gap rendered definitions_first definitions_of footnotes_of
-list_step d defined closed frames nodes os p lines behind byte number columns start line some_end other_end flags inside forest tables plain stays opens
+list_step d defined closed frames nodes os p lines following byte number columns start line some_end other_end flags inside forest tables plain stays opens
     (kids, mid, inner, fin) =
     let n : ℕ = length d.text in
     let path : List Container = containers_of frames in
@@ -145,7 +145,7 @@ list_step d defined closed frames nodes os p lines behind byte number columns st
     extend d defined (told_by defined kids) frames (NoList closed) list before now false nodes later os
     (Inside p) (onward mid).0 lines (onward mid).1 forest tables (λ s. Node head e kids s) plain (alike_onward n p mid)
     (λ s left seq. record {
-      seq = (inside, behind, mid, first_here d (level path before) p lines (OpensNode head inside behind) stays opens, inner, refl, seq);
+      seq = (inside, following, mid, first_here d (level path before) p lines (OpensNode head inside following) stays opens, inner, refl, seq);
       items = λ last is. (beside_all k last nodes closed (all last s) refl).0
           ∙ list_items (in_quote path) k last e start some_end byte number columns line flags before nodes kids s;
       counts = refl;
@@ -157,7 +157,7 @@ list_step d defined closed frames nodes os p lines behind byte number columns st
 
 -- rows that begin with a list of this byte
 list_first : (byte number until line start : ℕ) (gap : Bool) (items past : Rows)
-    → list_behind (ItemsOf byte) (OneOf (record { what = AList byte number until; line = line; start = start; gap = gap }) items past) ≡ past
+    → list_after (ItemsOf byte) (OneOf (record { what = AList byte number until; line = line; start = start; gap = gap }) items past) ≡ past
 list_first byte number until line start gap items past = let t = eqb-same byte in rw t refl
 
 -- the next item of a list
@@ -171,7 +171,7 @@ joined_item : (quoted : Bool) (k last e start byte number columns line o : ℕ) 
     let next : Rows = rows_of quoted now last s in
     (rendered k last nodes (OneList o (ItemsOf byte) loose) rows
     ≡ rendered k last (nodes ++ (suc k, node_of start e (ListItemBody columns)) ∷ items_of (suc (suc k)) false inner) list next)
-    × (any_gap (list_behind (ItemsOf byte) rows) ≡ any_gap (list_behind (ItemsOf byte) next)))
+    × (any_gap (list_after (ItemsOf byte) rows) ≡ any_gap (list_after (ItemsOf byte) next)))
 unfolding items_of rows_of rendered
 joined_item quoted k last e start byte number columns line o before loose nodes kids s h =
     let head : Head = record { opener = ItemMarker byte number columns; start = start; line = line } in
@@ -183,15 +183,15 @@ joined_item quoted k last e start byte number columns line o before loose nodes 
 
 -- an item that is opened in a list that continues
 item_step : (d : Document) (defined : Tables) (closed : Closed) (frames : List Frame) (run loose : Bool) (nodes : List (ℕ × Item)) (o : ℕ) (os : List ℕ)
-    (p : Place) (lines behind : List Place) (byte number columns start line some_end : ℕ) (inside : From) (forest : List (ℕ × Item)) (tables : Tables)
+    (p : Place) (lines following : List Place) (byte number columns start line some_end : ℕ) (inside : From) (forest : List (ℕ × Item)) (tables : Tables)
     → IsPlain frames → o < length nodes → StaysAt d (containers_of frames) p
     → Opens d (level (containers_of frames) (stands_after LastItem run)) p lines
-    (OpensNode (record { opener = ItemMarker byte number columns; start = start; line = line }) inside behind)
+    (OpensNode (record { opener = ItemMarker byte number columns; start = start; line = line }) inside following)
     → FinishesAt d defined fresh (InContainer (ListItem columns) ∷ InList byte (loose || run) ∷ frames)
-    (nodes ++ (suc (suc (length os)), node_of start some_end (ListItemBody columns)) ∷ []) (length nodes ∷ o ∷ os) inside behind forest tables
+    (nodes ++ (suc (suc (length os)), node_of start some_end (ListItemBody columns)) ∷ []) (length nodes ∷ o ∷ os) inside following forest tables
     → FinishesAt d defined (tail closed run) (InList byte loose ∷ frames) nodes (o ∷ os) (Inside p) lines forest tables
 unfolding Finish IsSequence before_end any_gap rendered definitions_of footnotes_of
-item_step d defined closed frames run loose nodes o os p lines behind byte number columns start line some_end inside forest tables plain below stays opens
+item_step d defined closed frames run loose nodes o os p lines following byte number columns start line some_end inside forest tables plain below stays opens
     (kids, mid, inner, fin) =
     let n : ℕ = length d.text in
     let path : List Container = containers_of frames in
@@ -211,7 +211,7 @@ item_step d defined closed frames run loose nodes o os p lines behind byte numbe
     extend d defined (told_by defined kids) frames (OneList o (ItemsOf byte) loose) list before now false nodes later os
     (Inside p) (onward mid).0 lines (onward mid).1 forest tables (λ s. Node head e kids s) plain (alike_onward n p mid)
     (λ s left seq. record {
-      seq = (inside, behind, mid, first_here d (level path before) p lines (OpensNode head inside behind) stays opens, inner, refl, seq);
+      seq = (inside, following, mid, first_here d (level path before) p lines (OpensNode head inside following) stays opens, inner, refl, seq);
       items = λ last is. (joined_item q k last e start byte number columns line o before loose nodes kids s below).0;
       counts = refl;
       gaps = λ last. (joined_item q k last e start byte number columns line o before loose nodes kids s below).1;
@@ -222,35 +222,35 @@ item_step d defined closed frames run loose nodes o os p lines behind byte numbe
 
 -- a block quote is opened
 pub completes-quote : (d : Document) (defined : Tables) (closed : Closed) (frames : List Frame) (nodes : List (ℕ × Item)) (os : List ℕ) (p : Place)
-    (lines behind : List Place) (kind : Option BlockQuoteKind) (start line some_end : ℕ) (inside : From)
+    (lines following : List Place) (kind : Option BlockQuoteKind) (start line some_end : ℕ) (inside : From)
     → IsPlain frames
     → Opens d (lvl frames (tail closed false)) p lines
-    (OpensNode (record { opener = QuoteMarker kind; start = start; line = line }) inside behind)
+    (OpensNode (record { opener = QuoteMarker kind; start = start; line = line }) inside following)
     → CompletesAt d defined (tail closed false) frames nodes os (Inside p) lines
     → CompletesAt d defined fresh (InContainer (BlockQuote kind) ∷ frames) (nodes ++ (suc (length os), node_of start some_end (BlockQuoteBody kind)) ∷ [])
-    (length nodes ∷ os) inside behind
-completes-quote d defined closed frames nodes os p lines behind kind start line some_end inside plain opens k =
+    (length nodes ∷ os) inside following
+completes-quote d defined closed frames nodes os p lines following kind start line some_end inside plain opens k =
     let l : length (nodes ++ (suc (length os), node_of start some_end (BlockQuoteBody kind)) ∷ []) ≡ length nodes + 1 =
     length-append nodes ((suc (length os), node_of start some_end (BlockQuoteBody kind)) ∷ []) in
     record {
       below = (omega arith, k.below);
       shape = (plain, k.shape);
       whole = whole_by _ _ _ _ _ _ _ _ (λ forest tables fin. finish_derives _ _ _ _ _ _ _ _ k forest tables
-          (quote_step d defined closed frames nodes os p lines behind kind start line some_end inside forest tables plain
+          (quote_step d defined closed frames nodes os p lines following kind start line some_end inside forest tables plain
           (opens_stays d (lvl frames (tail closed false)) p lines _ refl opens) opens fin));
     }
 
 -- a list is opened, with its first item
 pub completes-list : (d : Document) (defined : Tables) (closed : Closed) (frames : List Frame) (nodes : List (ℕ × Item)) (os : List ℕ) (p : Place)
-    (lines behind : List Place) (byte number columns start line some_end other_end : ℕ) (flags : ListFlags) (inside : From)
+    (lines following : List Place) (byte number columns start line some_end other_end : ℕ) (flags : ListFlags) (inside : From)
     → IsPlain frames
     → Opens d (lvl frames (tail closed false)) p lines
-    (OpensNode (record { opener = ItemMarker byte number columns; start = start; line = line }) inside behind)
+    (OpensNode (record { opener = ItemMarker byte number columns; start = start; line = line }) inside following)
     → CompletesAt d defined (tail closed false) frames nodes os (Inside p) lines
     → CompletesAt d defined fresh (InContainer (ListItem columns) ∷ InList byte false ∷ frames)
     (nodes ++ (suc (length os), node_of start some_end (ListBody flags byte number)) ∷ (suc (suc (length os)), node_of start other_end (ListItemBody columns))
-    ∷ []) (suc (length nodes) ∷ length nodes ∷ os) inside behind
-completes-list d defined closed frames nodes os p lines behind byte number columns start line some_end other_end flags inside plain opens k =
+    ∷ []) (suc (length nodes) ∷ length nodes ∷ os) inside following
+completes-list d defined closed frames nodes os p lines following byte number columns start line some_end other_end flags inside plain opens k =
     let more : List (ℕ × Item) =
     (suc (length os), node_of start some_end (ListBody flags byte number)) ∷ (suc (suc (length os)), node_of start other_end (ListItemBody columns)) ∷ [] in
     let l : length (nodes ++ more) ≡ length nodes + 2 = length-append nodes more in
@@ -258,41 +258,41 @@ completes-list d defined closed frames nodes os p lines behind byte number colum
       below = (omega arith, (omega arith, k.below));
       shape = (tt, (plain, k.shape));
       whole = whole_by _ _ _ _ _ _ _ _ (λ forest tables fin. finish_derives _ _ _ _ _ _ _ _ k forest tables
-          (list_step d defined closed frames nodes os p lines behind byte number columns start line some_end other_end flags inside forest tables plain
+          (list_step d defined closed frames nodes os p lines following byte number columns start line some_end other_end flags inside forest tables plain
           (opens_stays d (lvl frames (tail closed false)) p lines _ refl opens) opens fin));
     }
 
 -- an item is opened in a list that continues
 pub completes-item : (d : Document) (defined : Tables) (closed : Closed) (run loose : Bool) (frames : List Frame) (nodes : List (ℕ × Item)) (o : ℕ)
-    (os : List ℕ) (p : Place) (lines behind : List Place) (byte number columns start line some_end : ℕ) (inside : From)
+    (os : List ℕ) (p : Place) (lines following : List Place) (byte number columns start line some_end : ℕ) (inside : From)
     → Opens d (lvl (InList byte loose ∷ frames) (tail closed run)) p lines
-    (OpensNode (record { opener = ItemMarker byte number columns; start = start; line = line }) inside behind)
+    (OpensNode (record { opener = ItemMarker byte number columns; start = start; line = line }) inside following)
     → CompletesAt d defined (tail closed run) (InList byte loose ∷ frames) nodes (o ∷ os) (Inside p) lines
     → CompletesAt d defined fresh (InContainer (ListItem columns) ∷ InList byte (loose || run) ∷ frames)
-    (nodes ++ (suc (suc (length os)), node_of start some_end (ListItemBody columns)) ∷ []) (length nodes ∷ o ∷ os) inside behind
-completes-item d defined closed run loose frames nodes o os p lines behind byte number columns start line some_end inside opens k =
+    (nodes ++ (suc (suc (length os)), node_of start some_end (ListItemBody columns)) ∷ []) (length nodes ∷ o ∷ os) inside following
+completes-item d defined closed run loose frames nodes o os p lines following byte number columns start line some_end inside opens k =
     let l : length (nodes ++ (suc (suc (length os)), node_of start some_end (ListItemBody columns)) ∷ []) ≡ length nodes + 1 =
     length-append nodes ((suc (suc (length os)), node_of start some_end (ListItemBody columns)) ∷ []) in
     record {
       below = (omega arith, k.below);
       shape = (tt, k.shape);
       whole = whole_by _ _ _ _ _ _ _ _ (λ forest tables fin. finish_derives _ _ _ _ _ _ _ _ k forest tables
-          (item_step d defined closed frames run loose nodes o os p lines behind byte number columns start line some_end inside forest tables
+          (item_step d defined closed frames run loose nodes o os p lines following byte number columns start line some_end inside forest tables
           k.shape.0 k.below.0 (opens_stays d (lvl (InList byte loose ∷ frames) (tail closed run)) p lines _ refl opens) opens fin));
     }
 
 -- a footnote definition that is opened, before which no gap is noted
 footnote_step : (d : Document) (defined : Tables) (closed : Closed) (frames : List Frame) (nodes : List (ℕ × Item)) (os : List ℕ) (p : Place)
-    (lines behind : List Place) (columns : ℕ) (index : CowIndex) (label : List ℕ) (start line some_end : ℕ) (inside : From)
+    (lines following : List Place) (columns : ℕ) (index : CowIndex) (label : List ℕ) (start line some_end : ℕ) (inside : From)
     (forest : List (ℕ × Item)) (tables : Tables)
     → IsPlain frames → StaysAt d (containers_of frames) p
     → Opens d (lvl frames (tail closed false)) p lines
-    (OpensNode (record { opener = FootnoteMarker columns index label; start = start; line = line }) inside behind)
+    (OpensNode (record { opener = FootnoteMarker columns index label; start = start; line = line }) inside following)
     → FinishesAt d (told_label defined label) fresh (InContainer (FootnoteDefinition columns) ∷ frames)
-    (nodes ++ (suc (length os), node_of start some_end (FootnoteDefinitionBody index)) ∷ []) (length nodes ∷ os) inside behind forest tables
+    (nodes ++ (suc (length os), node_of start some_end (FootnoteDefinitionBody index)) ∷ []) (length nodes ∷ os) inside following forest tables
     → FinishesAt d defined (tail closed false) frames nodes os (Inside p) lines forest tables
 unfolding Finish IsSequence rows_of before_end items_of any_gap rendered definitions_first definitions_of footnotes_of with_labels
-footnote_step d defined closed frames nodes os p lines behind columns index label start line some_end inside forest tables plain stays opens
+footnote_step d defined closed frames nodes os p lines following columns index label start line some_end inside forest tables plain stays opens
     (kids, mid, inner, fin) =
     let n : ℕ = length d.text in
     let path : List Container = containers_of frames in
@@ -313,7 +313,7 @@ footnote_step d defined closed frames nodes os p lines behind columns index labe
     extend d defined (told_by (told_label defined label) kids) frames (NoList closed) (NoList OtherClosed) before now false nodes later os
     (Inside p) (onward mid).0 lines (onward mid).1 forest tables (λ s. Node head e kids s) plain (alike_onward n p mid)
     (λ s left seq. record {
-      seq = (inside, behind, mid, first_here d (level path before) p lines (OpensNode head inside behind) stays opens, inner, refl, seq);
+      seq = (inside, following, mid, first_here d (level path before) p lines (OpensNode head inside following) stays opens, inner, refl, seq);
       items = λ last is. (beside_all k last nodes closed (all last s) refl).0 ∙ sym (append_assoc nodes (y ∷ items) _);
       counts = refl;
       gaps = λ last. ap any_gap (beside_all k last nodes closed (all last s) refl).1;
@@ -324,19 +324,20 @@ footnote_step d defined closed frames nodes os p lines behind columns index labe
 
 -- a footnote definition is opened where no other one ends
 pub completes-footnote : (d : Document) (defined : Tables) (closed : Closed) (frames : List Frame) (nodes : List (ℕ × Item)) (os : List ℕ) (p : Place)
-    (lines behind : List Place) (columns : ℕ) (index : CowIndex) (label : List ℕ) (start line some_end : ℕ) (inside : From)
+    (lines following : List Place) (columns : ℕ) (index : CowIndex) (label : List ℕ) (start line some_end : ℕ) (inside : From)
     → IsPlain frames → StaysAt d (containers_of frames) p
     → Opens d (lvl frames (tail closed false)) p lines
-    (OpensNode (record { opener = FootnoteMarker columns index label; start = start; line = line }) inside behind)
+    (OpensNode (record { opener = FootnoteMarker columns index label; start = start; line = line }) inside following)
     → CompletesAt d defined (tail closed false) frames nodes os (Inside p) lines
     → CompletesAt d (told_label defined label) fresh (InContainer (FootnoteDefinition columns) ∷ frames)
-    (nodes ++ (suc (length os), node_of start some_end (FootnoteDefinitionBody index)) ∷ []) (length nodes ∷ os) inside behind
-completes-footnote d defined closed frames nodes os p lines behind columns index label start line some_end inside plain stays opens k =
+    (nodes ++ (suc (length os), node_of start some_end (FootnoteDefinitionBody index)) ∷ []) (length nodes ∷ os) inside following
+completes-footnote d defined closed frames nodes os p lines following columns index label start line some_end inside plain stays opens k =
     let l : length (nodes ++ (suc (length os), node_of start some_end (FootnoteDefinitionBody index)) ∷ []) ≡ length nodes + 1 =
     length-append nodes ((suc (length os), node_of start some_end (FootnoteDefinitionBody index)) ∷ []) in
     record {
       below = (omega arith, k.below);
       shape = (plain, k.shape);
       whole = whole_by _ _ _ _ _ _ _ _ (λ forest tables fin. finish_derives _ _ _ _ _ _ _ _ k forest tables
-          (footnote_step d defined closed frames nodes os p lines behind columns index label start line some_end inside forest tables plain stays opens fin));
+          (footnote_step d defined closed frames nodes os p lines following columns index label start line some_end inside forest tables plain stays opens
+          fin));
     }

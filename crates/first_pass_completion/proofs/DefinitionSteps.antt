@@ -13,7 +13,7 @@ use Rattle.first_pass_grammar.specs.Blocks.{LeafBlock, Block, Head, DefinitionMa
 use Rattle.first_pass_grammar.specs.Before.{LastParagraph, LastDefinition, Before, nothing, begins_paragraph, after_block, after_container}
 use Rattle.first_pass_grammar.specs.Before.{before_end}
 use Rattle.first_pass_grammar.specs.Skeleton.{From, Line, Inside, OpensLeaf, OpensNode, Opens, level, onward, end_before, IsSequence}
-use Rattle.first_pass_grammar.specs.Rows.{DefinitionsTo, Rows, any_gap, list_behind, leaf_row, gap_before, rows_of}
+use Rattle.first_pass_grammar.specs.Rows.{DefinitionsTo, Rows, any_gap, list_after, leaf_row, gap_before, rows_of}
 use Rattle.first_pass_grammar.specs.Derivation.{Tables, told, told_by, node_of, items_of, definitions_of, footnotes_of}
 use Rattle.first_pass_grammar.specs.Completion.{ended, with_title, title_taken, ParagraphAt, DefinitionClosed, TitleAt, Pending, NoList, OneList}
 use Rattle.first_pass_grammar.specs.Completion.{OneTitle, rows_beyond, rendered, Frame, InContainer, InDefinitions, containers_of, AreBelow, IsPlain}
@@ -48,20 +48,20 @@ Joined quoted k list before nodes later o loose columns start line = (e last : �
     (rendered k last nodes list rows
     ≡ rendered k last (later ++ (suc k, definition_node start e columns) ∷ items_of (suc (suc k)) false inner)
     (OneList o (DefinitionsTo e) (loose || any_gap inner)) next)
-    × (any_gap (rows_beyond list rows) ≡ any_gap (list_behind (DefinitionsTo e) next)))
+    × (any_gap (rows_beyond list rows) ≡ any_gap (list_after (DefinitionsTo e) next)))
 
 -- a definition that is opened
 definition_step : (d : Document) (defined : Tables) (frames : List Frame) (list : Pending) (before : Before) (loose : Bool) (nodes later : List (ℕ × Item))
-    (o : ℕ) (os : List ℕ) (p : Place) (lines behind : List Place) (columns start line some_end : ℕ) (inside : From) (forest : List (ℕ × Item))
+    (o : ℕ) (os : List ℕ) (p : Place) (lines following : List Place) (columns start line some_end : ℕ) (inside : From) (forest : List (ℕ × Item))
     (tables : Tables)
     → IsPlain frames → StaysAt d (containers_of frames) p
-    → Opens d (level (containers_of frames) before) p lines (OpensNode (definition_head_at columns start line) inside behind)
+    → Opens d (level (containers_of frames) before) p lines (OpensNode (definition_head_at columns start line) inside following)
     → Joined (in_quote (containers_of frames)) (suc (length os)) list before nodes later o loose columns start line
     → FinishesAt d defined fresh (InContainer (Definition columns) ∷ InDefinitions loose ∷ frames)
-    (later ++ (suc (suc (length os)), definition_node start some_end columns) ∷ []) (length later ∷ o ∷ os) inside behind forest tables
+    (later ++ (suc (suc (length os)), definition_node start some_end columns) ∷ []) (length later ∷ o ∷ os) inside following forest tables
     → Finish d defined list before frames nodes os (Inside p) lines forest tables
 unfolding Finish IsSequence before_end any_gap rendered definitions_of footnotes_of
-definition_step d defined frames list before loose nodes later o os p lines behind columns start line some_end inside forest tables plain stays opens joined
+definition_step d defined frames list before loose nodes later o os p lines following columns start line some_end inside forest tables plain stays opens joined
     (kids, mid, inner, fin) =
     let n : ℕ = length d.text in
     let path : List Container = containers_of frames in
@@ -79,7 +79,7 @@ definition_step d defined frames list before loose nodes later o os p lines behi
     extend d defined (told_by defined kids) frames list list' before now false nodes whole os
     (Inside p) (onward mid).0 lines (onward mid).1 forest tables (λ s. Node head e kids s) plain (alike_onward n p mid)
     (λ s left seq. record {
-      seq = (inside, behind, mid, first_here d (level path before) p lines (OpensNode head inside behind) stays opens, inner, refl, seq);
+      seq = (inside, following, mid, first_here d (level path before) p lines (OpensNode head inside following) stays opens, inner, refl, seq);
       items = λ last is. (joined e last kids s).0;
       counts = refl;
       gaps = λ last. (joined e last kids s).1;
@@ -89,29 +89,29 @@ definition_step d defined frames list before loose nodes later o os p lines behi
     (subst (λ z. Finish d (told_by defined kids) list' now frames z os (onward mid).0 (onward mid).1 forest tables) same fin))
 
 first_step : (d : Document) (defined : Tables) (run : Bool) (frames : List Frame) (nodes : List (ℕ × Item)) (at : ℕ) (os : List ℕ) (p : Place)
-    (lines behind : List Place) (columns start line some_end : ℕ) (inside : From) (forest : List (ℕ × Item)) (tables : Tables)
+    (lines following : List Place) (columns start line some_end : ℕ) (inside : From) (forest : List (ℕ × Item)) (tables : Tables)
     → IsPlain frames → at < length nodes → StaysAt d (containers_of frames) p
-    → Opens d (lvl frames (tail (ParagraphAt at) run)) p lines (OpensNode (definition_head_at columns start line) inside behind)
+    → Opens d (lvl frames (tail (ParagraphAt at) run)) p lines (OpensNode (definition_head_at columns start line) inside following)
     → FinishesAt d defined fresh (InContainer (Definition columns) ∷ InDefinitions run ∷ frames)
-    (with_title nodes at ++ (suc (suc (length os)), definition_node start some_end columns) ∷ []) (length (with_title nodes at) ∷ at ∷ os) inside behind
+    (with_title nodes at ++ (suc (suc (length os)), definition_node start some_end columns) ∷ []) (length (with_title nodes at) ∷ at ∷ os) inside following
     forest tables
     → FinishesAt d defined (tail (ParagraphAt at) run) frames nodes os (Inside p) lines forest tables
-first_step d defined run frames nodes at os p lines behind columns start line some_end inside forest tables plain inside_of stays opens fin =
+first_step d defined run frames nodes at os p lines following columns start line some_end inside forest tables plain inside_of stays opens fin =
     let before : Before = before_of frames (tail (ParagraphAt at) run) in
-    definition_step d defined frames (NoList (ParagraphAt at)) before run nodes (with_title nodes at) at os p lines behind columns start line some_end inside
+    definition_step d defined frames (NoList (ParagraphAt at)) before run nodes (with_title nodes at) at os p lines following columns start line some_end inside
     forest tables plain stays opens
     (λ e last kids s. first_definition (in_quote (containers_of frames)) (suc (length os)) last e start columns line at before nodes kids s inside_of) fin
 
 -- The first definition after a paragraph is opened. The paragraph becomes a title, and both are in a definition list
 -- at the paragraph's place.
 pub completes-first_definition : (d : Document) (defined : Tables) (run : Bool) (frames : List Frame) (nodes : List (ℕ × Item)) (at : ℕ) (os : List ℕ)
-    (p : Place) (lines behind : List Place) (columns start line some_end : ℕ) (inside : From)
+    (p : Place) (lines following : List Place) (columns start line some_end : ℕ) (inside : From)
     → IsPlain frames → at < length nodes → AreBelow at os
-    → Opens d (lvl frames (tail (ParagraphAt at) run)) p lines (OpensNode (definition_head_at columns start line) inside behind)
+    → Opens d (lvl frames (tail (ParagraphAt at) run)) p lines (OpensNode (definition_head_at columns start line) inside following)
     → CompletesAt d defined (tail (ParagraphAt at) run) frames nodes os (Inside p) lines
     → CompletesAt d defined fresh (InContainer (Definition columns) ∷ InDefinitions run ∷ frames)
-    (with_title nodes at ++ (suc (suc (length os)), definition_node start some_end columns) ∷ []) (length (with_title nodes at) ∷ at ∷ os) inside behind
-completes-first_definition d defined run frames nodes at os p lines behind columns start line some_end inside plain inside_of below opens k =
+    (with_title nodes at ++ (suc (suc (length os)), definition_node start some_end columns) ∷ []) (length (with_title nodes at) ∷ at ∷ os) inside following
+completes-first_definition d defined run frames nodes at os p lines following columns start line some_end inside plain inside_of below opens k =
     let l : length (with_title nodes at ++ (suc (suc (length os)), definition_node start some_end columns) ∷ []) ≡ length (with_title nodes at) + 1 =
     length-append (with_title nodes at) ((suc (suc (length os)), definition_node start some_end columns) ∷ []) in
     let m : length (with_title nodes at) ≡ suc (length nodes) = length-with_title nodes at inside_of in
@@ -119,19 +119,19 @@ completes-first_definition d defined run frames nodes at os p lines behind colum
       below = (omega arith, (omega arith, below));
       shape = (tt, (plain, k.shape));
       whole = whole_by _ _ _ _ _ _ _ _ (λ forest tables fin. finish_derives _ _ _ _ _ _ _ _ k forest tables
-          (first_step d defined run frames nodes at os p lines behind columns start line some_end inside forest tables plain inside_of
+          (first_step d defined run frames nodes at os p lines following columns start line some_end inside forest tables plain inside_of
           (opens_stays d (lvl frames (tail (ParagraphAt at) run)) p lines _ refl opens) opens fin));
     }
 
 -- a definition is opened after a possible title, which becomes a title
 pub completes-title_definition : (d : Document) (defined : Tables) (e at : ℕ) (run loose : Bool) (frames : List Frame) (nodes : List (ℕ × Item)) (o : ℕ)
-    (os : List ℕ) (p : Place) (lines behind : List Place) (columns start line some_end : ℕ) (inside : From)
-    → Opens d (lvl (InDefinitions loose ∷ frames) (tail (TitleAt e at) run)) p lines (OpensNode (definition_head_at columns start line) inside behind)
+    (os : List ℕ) (p : Place) (lines following : List Place) (columns start line some_end : ℕ) (inside : From)
+    → Opens d (lvl (InDefinitions loose ∷ frames) (tail (TitleAt e at) run)) p lines (OpensNode (definition_head_at columns start line) inside following)
     → CompletesAt d defined (tail (TitleAt e at) run) (InDefinitions loose ∷ frames) nodes (o ∷ os) (Inside p) lines
     → CompletesAt d defined fresh (InContainer (Definition columns) ∷ InDefinitions (loose || run) ∷ frames)
-    (title_taken nodes at ++ (suc (suc (length os)), definition_node start some_end columns) ∷ []) (length (title_taken nodes at) ∷ o ∷ os) inside behind
+    (title_taken nodes at ++ (suc (suc (length os)), definition_node start some_end columns) ∷ []) (length (title_taken nodes at) ∷ o ∷ os) inside following
 unfolding Finish
-completes-title_definition d defined e at run loose frames nodes o os p lines behind columns start line some_end inside opens k =
+completes-title_definition d defined e at run loose frames nodes o os p lines following columns start line some_end inside opens k =
     let l : length (title_taken nodes at ++ (suc (suc (length os)), definition_node start some_end columns) ∷ []) ≡ length (title_taken nodes at) + 1 =
     length-append (title_taken nodes at) ((suc (suc (length os)), definition_node start some_end columns) ∷ []) in
     let m : length (title_taken nodes at) ≡ length nodes = length-taken nodes at in
@@ -141,7 +141,7 @@ completes-title_definition d defined e at run loose frames nodes o os p lines be
       below = (omega arith, (omega arith, k.below.1));
       shape = (tt, k.shape);
       whole = whole_by _ _ _ _ _ _ _ _ (λ forest tables fin. finish_derives _ _ _ _ _ _ _ _ k forest tables
-          (definition_step d defined frames (OneTitle o at e loose) before (loose || run) nodes (title_taken nodes at) o os p lines behind columns start line
+          (definition_step d defined frames (OneTitle o at e loose) before (loose || run) nodes (title_taken nodes at) o os p lines following columns start line
           some_end inside forest tables k.shape.0 (opens_stays d (level (containers_of frames) before) p lines _ refl opens) opens
           (λ x last kids s. title_definition (in_quote (containers_of frames)) (suc (length os)) last x start columns line o at e before loose nodes kids s b)
           fin));
@@ -149,14 +149,14 @@ completes-title_definition d defined e at run loose frames nodes o os p lines be
 
 -- a definition is opened after a definition
 pub completes-definition : (d : Document) (defined : Tables) (e : ℕ) (blanks run loose : Bool) (frames : List Frame) (nodes : List (ℕ × Item)) (o : ℕ)
-    (os : List ℕ) (p : Place) (lines behind : List Place) (columns start line some_end : ℕ) (inside : From)
+    (os : List ℕ) (p : Place) (lines following : List Place) (columns start line some_end : ℕ) (inside : From)
     → Opens d (lvl (InDefinitions loose ∷ frames) (tail (DefinitionClosed e blanks) run)) p lines
-    (OpensNode (definition_head_at columns start line) inside behind)
+    (OpensNode (definition_head_at columns start line) inside following)
     → CompletesAt d defined (tail (DefinitionClosed e blanks) run) (InDefinitions loose ∷ frames) nodes (o ∷ os) (Inside p) lines
     → CompletesAt d defined fresh (InContainer (Definition columns) ∷ InDefinitions (loose || run) ∷ frames)
-    (nodes ++ (suc (suc (length os)), definition_node start some_end columns) ∷ []) (length nodes ∷ o ∷ os) inside behind
+    (nodes ++ (suc (suc (length os)), definition_node start some_end columns) ∷ []) (length nodes ∷ o ∷ os) inside following
 unfolding Finish
-completes-definition d defined e blanks run loose frames nodes o os p lines behind columns start line some_end inside opens k =
+completes-definition d defined e blanks run loose frames nodes o os p lines following columns start line some_end inside opens k =
     let l : length (nodes ++ (suc (suc (length os)), definition_node start some_end columns) ∷ []) ≡ length nodes + 1 =
     length-append nodes ((suc (suc (length os)), definition_node start some_end columns) ∷ []) in
     let b : o < length nodes = k.below.0 in
@@ -165,7 +165,7 @@ completes-definition d defined e blanks run loose frames nodes o os p lines behi
       below = (omega arith, k.below);
       shape = (tt, k.shape);
       whole = whole_by _ _ _ _ _ _ _ _ (λ forest tables fin. finish_derives _ _ _ _ _ _ _ _ k forest tables
-          (definition_step d defined frames (OneList o (DefinitionsTo e) loose) before (loose || run) nodes nodes o os p lines behind columns start line
+          (definition_step d defined frames (OneList o (DefinitionsTo e) loose) before (loose || run) nodes nodes o os p lines following columns start line
           some_end inside forest tables k.shape.0 (opens_stays d (level (containers_of frames) before) p lines _ refl opens) opens
           (λ x last kids s. joined_definition (in_quote (containers_of frames)) (suc (length os)) last x start columns line o e before loose nodes kids s b)
           fin));

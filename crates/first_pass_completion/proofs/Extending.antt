@@ -208,7 +208,7 @@ extend d defined defined' (InContainer c ∷ frames) list list' before before' g
 enter_first : (d : Document) (l : Level) (line q : Place) (lines : List Place) (opening : Opening) → taken l.path line ≡ Some q
     → ends_old_footnote l ≡ false → IsFirst d l (Inside q) lines opening → IsFirst d l Line (line ∷ lines) opening
 enter_first d l line q lines opening is old first =
-    record { place = first.place; behind = first.behind; begins = enters d.options l line q lines is old ∙ first.begins; opens = first.opens }
+    record { place = first.place; following = first.following; begins = enters d.options l line q lines is old ∙ first.begins; opens = first.opens }
 
 enter_seq : (d : Document) (s : Skeleton) (l : Level) (line q : Place) (lines : List Place) (left : Left) → taken l.path line ≡ Some q
     → ends_old_footnote l ≡ false → IsSequence d s l (Inside q) lines left → IsSequence d s l Line (line ∷ lines) left
@@ -216,8 +216,8 @@ unfolding IsSequence
 enter_seq d Nil l line q lines left is old seq = enters d.options l line q lines is old ∙ seq
 enter_seq d (Then leaf next) l line q lines left is old (there, mid, first, seq) =
     (there, mid, enter_first d l line q lines (OpensLeaf leaf there mid) is old first, seq)
-enter_seq d (Node head e kids next) l line q lines left is old (inside, behind, mid, first, inner, ends, seq) =
-    (inside, behind, mid, enter_first d l line q lines (OpensNode head inside behind) is old first, inner, ends, seq)
+enter_seq d (Node head e kids next) l line q lines left is old (inside, following, mid, first, inner, ends, seq) =
+    (inside, following, mid, enter_first d l line q lines (OpensNode head inside following) is old first, inner, ends, seq)
 
 pub enter_step : (d : Document) (defined : Tables) (frames : List Frame) (list : Pending) (before : Before) (nodes : List (ℕ × Item)) (os : List ℕ)
     (line q : Place) (lines : List Place) (forest : List (ℕ × Item)) (tables : Tables) → taken (containers_of frames) line ≡ Some q
@@ -255,7 +255,7 @@ stays_outside d path p out = ap (λ (b : Bool). b && is_some (footnote_head_at (
 -- the label of a container that opens, if it has one
 abbrev pub label_opened : Opening → List (List ℕ)
 label_opened (OpensLeaf leaf there left) = []
-label_opened (OpensNode head inside behind) = label_of head.opener
+label_opened (OpensNode head inside following) = label_of head.opener
 
 no_head : (d : Document) (l : Level) (p : Place) (lines : List Place) (head : Option (ℕ × List ℕ)) (o : Opening) → label_opened o ≡ []
     → MatchOption head (OpensBy d l.path p lines (start_at d.options (may_define d l) p) o) (λ h. OpensFootnote d p lines h o) → head ≡ None
@@ -270,7 +270,7 @@ opens_stays d l p lines o none opens = stays_without d l.path p (no_head d l p l
 pub first_here : (d : Document) (l : Level) (p : Place) (lines : List Place) (opening : Opening)
     → StaysAt d l.path p → Opens d l p lines opening → IsFirst d l (Inside p) lines opening
 first_here d l p lines opening stays opens =
-    record { place = p; behind = lines; begins = begins_inside d.options l p lines stays; opens = opens }
+    record { place = p; following = lines; begins = begins_inside d.options l p lines stays; opens = opens }
 
 pub alike_onward : (n : ℕ) (p : Place) (left : Left) → EndsAlike n (Inside p) (onward left).0
 alike_onward n p (Lines lines) path mid = refl

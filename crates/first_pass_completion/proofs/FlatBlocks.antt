@@ -112,7 +112,7 @@ module _ (P : ItemBody → Type 0) where
   abbrev pub HoldsInOpening : Opening → Type 0
   HoldsInOpening (OpensLeaf BlankLine there left) = Unit {0}
   HoldsInOpening (OpensLeaf (Block b) there left) = HoldsInBlock P b × OwnParagraph b
-  HoldsInOpening (OpensNode head inside behind) = Unit {0}
+  HoldsInOpening (OpensNode head inside following) = Unit {0}
 
   text_block : (b : LeafBlock) → b.kind ≡ Paragraph → HoldsInText b.start b.items → HoldsInBlock P b × OwnParagraph b
   text_block b is h = (
@@ -226,7 +226,7 @@ module _ (P : ItemBody → Type 0) (d : Document) (holds : HoldsOfTokens d.names
   -- a property of each token of a text holds for each item after the first of a paragraph that opens
   pub opened_holds : (l : Level) (from : From) (lines : List Place) (b : LeafBlock) (there : From) (left : List Place) → HoldsOfMarker P from
       → IsFirst d l from lines (OpensLeaf (Block b) there left) → HoldsInBlock P b × OwnParagraph b
-  opened_holds l from lines b there left mark first = opens_at l from first.place first.behind (OpensLeaf (Block b) there left) mark first.opens
+  opened_holds l from lines b there left mark first = opens_at l from first.place first.following (OpensLeaf (Block b) there left) mark first.opens
 
 -- The first block of a sequence is flat, and its paragraph starts where it does.
 pub opened_own : (d : Document) (l : Level) (from : From) (lines : List Place) (b : LeafBlock) (there : From) (left : List Place) → OwnFrom from

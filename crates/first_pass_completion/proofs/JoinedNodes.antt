@@ -8,7 +8,7 @@ use Rattle.first_pass_grammar.specs.Before.{Before, nothing, after_container, be
 use Rattle.first_pass_grammar.specs.Blocks.{DefinitionMarker, Head, Skeleton, Node}
 use Rattle.first_pass_grammar.specs.Rows.{Joins, DefinitionsTo, Rows, OneOf, Definitions, definitions_first}
 use Rattle.first_pass_grammar.specs.Rows.{Row, row_of, any_gap, is_loose, list_until}
-use Rattle.first_pass_grammar.specs.Rows.{items_behind, list_behind, rows_of}
+use Rattle.first_pass_grammar.specs.Rows.{items_after, list_after, rows_of}
 use Rattle.first_pass_grammar.specs.Derivation.{node_of, items_of}
 use Rattle.first_pass_grammar.specs.Completion.{ended, with_title, title_taken, title_left, list_closed, ParagraphAt, NoList, OneList}
 use Rattle.first_pass_grammar.specs.Completion.{OneTitle, rows_beyond, after_paragraph, after_title, rendered}
@@ -25,23 +25,23 @@ or_four false false c e = refl
 pub joined : (k last o e : ℕ) (joins : Joins) (loose : Bool) (row : Row) (x : Item) (nodes : List (ℕ × Item)) (kids : Skeleton) (next : Rows)
     → o < length nodes
     → (let inner : Rows = rows_of false nothing e kids in
-    let more : Rows = items_behind joins next in
+    let more : Rows = items_after joins next in
     let items : Rows = OneOf row inner more in
     let now : Bool = loose || is_loose items in
     ((tight : Bool) → items_of (suc k) tight items ≡ (suc k, x) ∷ (items_of (suc (suc k)) tight inner ++ items_of (suc k) tight more))
-    → list_closed nodes o (suc (suc k)) now (list_until joins last next) ++ (items_of (suc k) (not now) items ++ items_of k false (list_behind joins next))
+    → list_closed nodes o (suc (suc k)) now (list_until joins last next) ++ (items_of (suc k) (not now) items ++ items_of k false (list_after joins next))
     ≡ rendered k last (nodes ++ (suc k, x) ∷ items_of (suc (suc k)) false inner) (OneList o joins ((loose || row.gap) || any_gap inner)) next)
 unfolding is_loose rendered
 joined k last o e joins loose row x nodes kids next h f =
     let inner : Rows = rows_of false nothing e kids in
-    let more : Rows = items_behind joins next in
+    let more : Rows = items_after joins next in
     let items : Rows = OneOf row inner more in
     let until : ℕ = list_until joins last next in
     let all : Bool = ((loose || row.gap) || any_gap inner) || is_loose more in
     let closed : List (ℕ × Item) = list_closed nodes o (suc (suc k)) all until in
     let a : List (ℕ × Item) = items_of (suc (suc k)) (not all) inner in
     let b : List (ℕ × Item) = items_of (suc k) (not all) more in
-    let c : List (ℕ × Item) = items_of k false (list_behind joins next) in
+    let c : List (ℕ × Item) = items_of k false (list_after joins next) in
     ap (λ z. list_closed nodes o (suc (suc k)) z until ++ (items_of (suc k) (not z) items ++ c)) (or_four loose row.gap (any_gap inner) (is_loose more))
     ∙ ap (λ z. closed ++ (z ++ c)) (f (not all))
     ∙ sym (ap (λ z. z ++ (b ++ c)) (list_closed-append nodes ((suc k, x) ∷ items_of (suc (suc k)) false inner) o (suc (suc k)) all until h)
@@ -64,7 +64,7 @@ pub first_definition : (quoted : Bool) (k last e start columns line at : ℕ) (b
     (rendered k last nodes (NoList (ParagraphAt at)) rows
     ≡ rendered k last (with_title nodes at ++ (suc k, node_of start e (DefinitionListDefinition columns)) ∷ items_of (suc (suc k)) false inner)
     (OneList at (DefinitionsTo e) (before.counted || any_gap inner)) next)
-    × (any_gap (rows_beyond (NoList (ParagraphAt at)) rows) ≡ any_gap (list_behind (DefinitionsTo e) next)))
+    × (any_gap (rows_beyond (NoList (ParagraphAt at)) rows) ≡ any_gap (list_after (DefinitionsTo e) next)))
 unfolding items_of rows_of rendered definitions_first
 first_definition quoted k last e start columns line at before nodes kids s h =
     let next : Rows = rows_of quoted (after_container (Definition columns) (before_end false nothing kids)) last s in
@@ -84,7 +84,7 @@ pub title_definition : (quoted : Bool) (k last e start columns line place at e0 
     (rendered k last nodes (OneTitle place at e0 loose) rows
     ≡ rendered k last (title_taken nodes at ++ (suc k, node_of start e (DefinitionListDefinition columns)) ∷ items_of (suc (suc k)) false inner)
     (OneList place (DefinitionsTo e) ((loose || before.counted) || any_gap inner)) next)
-    × (any_gap (rows_beyond (OneTitle place at e0 loose) rows) ≡ any_gap (list_behind (DefinitionsTo e) next)))
+    × (any_gap (rows_beyond (OneTitle place at e0 loose) rows) ≡ any_gap (list_after (DefinitionsTo e) next)))
 unfolding items_of rows_of rendered definitions_first
 title_definition quoted k last e start columns line place at e0 before loose nodes kids s h =
     let next : Rows = rows_of quoted (after_container (Definition columns) (before_end false nothing kids)) last s in
@@ -105,7 +105,7 @@ pub joined_definition : (quoted : Bool) (k last e start columns line place e0 : 
     (rendered k last nodes (OneList place (DefinitionsTo e0) loose) rows
     ≡ rendered k last (nodes ++ (suc k, node_of start e (DefinitionListDefinition columns)) ∷ items_of (suc (suc k)) false inner)
     (OneList place (DefinitionsTo e) ((loose || before.counted) || any_gap inner)) next)
-    × (any_gap (list_behind (DefinitionsTo e0) rows) ≡ any_gap (list_behind (DefinitionsTo e) next)))
+    × (any_gap (list_after (DefinitionsTo e0) rows) ≡ any_gap (list_after (DefinitionsTo e) next)))
 unfolding items_of rows_of rendered
 joined_definition quoted k last e start columns line place e0 before loose nodes kids s h =
     let next : Rows = rows_of quoted (after_container (Definition columns) (before_end false nothing kids)) last s in
@@ -127,8 +127,8 @@ pub list-ended : (k last : ℕ) (nodes : List (ℕ × Item)) (o x : ℕ) (joins 
     → rendered k last (ended nodes o x) (OneList o joins loose) r ≡ rendered k last nodes (OneList o joins loose) r
 unfolding rendered
 list-ended k last nodes o x joins loose r =
-    let now : Bool = loose || is_loose (items_behind joins r) in
-    ap (λ z. z ++ (items_of (suc k) (not now) (items_behind joins r) ++ items_of k false (list_behind joins r)))
+    let now : Bool = loose || is_loose (items_after joins r) in
+    ap (λ z. z ++ (items_of (suc k) (not now) (items_after joins r) ++ items_of k false (list_after joins r)))
     (closed-ended nodes o x (suc (suc k)) now (list_until joins last r))
 
 pub title-ended : (k last : ℕ) (nodes : List (ℕ × Item)) (o x at e : ℕ) (loose : Bool) (r : Rows)
@@ -142,6 +142,6 @@ pub list-reflagged : (k last : ℕ) (nodes : List (ℕ × Item)) (o : ℕ) (l : 
     → rendered k last (reflagged nodes o l) (OneList o joins loose) r ≡ rendered k last nodes (OneList o joins loose) r
 unfolding rendered
 list-reflagged k last nodes o l joins loose r =
-    let now : Bool = loose || is_loose (items_behind joins r) in
-    ap (λ z. z ++ (items_of (suc k) (not now) (items_behind joins r) ++ items_of k false (list_behind joins r)))
+    let now : Bool = loose || is_loose (items_after joins r) in
+    ap (λ z. z ++ (items_of (suc k) (not now) (items_after joins r) ++ items_of k false (list_after joins r)))
     (closed-reflagged nodes o (suc (suc k)) l now (list_until joins last r))

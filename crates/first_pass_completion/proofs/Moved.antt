@@ -37,7 +37,7 @@ is_definition (DefinitionMarker columns) = true
 -- what opens is a definition
 abbrev pub opens_definition : Opening → Bool
 opens_definition (OpensLeaf leaf there left) = false
-opens_definition (OpensNode head inside behind) = is_definition head.opener
+opens_definition (OpensNode head inside following) = is_definition head.opener
 
 -- What opens at a place is the same, whichever of two states precedes it.
 pub record OpensAlike (d : Document) (path : List Container) (before before' : Before) (p : Place) : Type 0 where
@@ -126,20 +126,20 @@ pub opens_first : (d : Document) (path : List Container) (before : Before) (p : 
     → IsFirst d (level path before) (Inside p) lines o → Opens d (level path before) p lines o
 opens_first d path before p lines o f =
     let l = level path before in
-    let at = begins_at d.options l (Inside p) lines f.place f.behind f.begins in
-    subst (λ z. Opens d l p z o) at.1 (subst (λ z. Opens d l z f.behind o) at.0 f.opens)
+    let at = begins_at d.options l (Inside p) lines f.place f.following f.begins in
+    subst (λ z. Opens d l p z o) at.1 (subst (λ z. Opens d l z f.following o) at.0 f.opens)
 
 first_moved : (d : Document) (path : List Container) (before before' : Before) (p : Place) (lines : List Place) (o : Opening)
     → OpensAlike d path before before' p
     → IsFirst d (level path before) (Inside p) lines o → IsFirst d (level path before') (Inside p) lines o
 first_moved d path before before' p lines o alike first =
-    let at = begins_at d.options (level path before) (Inside p) lines first.place first.behind first.begins in
+    let at = begins_at d.options (level path before) (Inside p) lines first.place first.following first.begins in
     let here : OpensAlike d path before before' first.place = subst (λ z. OpensAlike d path before before' z) (sym at.0) alike in
     record {
       place = first.place;
-      behind = first.behind;
+      following = first.following;
       begins = going_inside d.options path before' before p lines ∙ first.begins;
-      opens = here.to first.behind o first.opens;
+      opens = here.to first.following o first.opens;
     }
 
 -- after the first block of a sequence the state is the same, whichever of two states precedes that block
@@ -162,8 +162,8 @@ seq_moved d (Then (Block b) next) path before before' p lines mid alike same (th
   first_moved d path before before' p lines (OpensLeaf (Block b) there left) alike first,
   subst (λ z. IsSequence d next (level path z) there left mid) same seq,
 )
-seq_moved d (Node head e kids next) path before before' p lines mid alike same (inside, behind, left, first, inner, ends, seq) =
-    (inside, behind, left, first_moved d path before before' p lines (OpensNode head inside behind) alike first, inner, ends, seq)
+seq_moved d (Node head e kids next) path before before' p lines mid alike same (inside, following, left, first, inner, ends, seq) =
+    (inside, following, left, first_moved d path before before' p lines (OpensNode head inside following) alike first, inner, ends, seq)
 
 -- the first block of a sequence has the same row too
 abbrev pub SameFirst : Before → Before → Skeleton → Type 0
@@ -209,7 +209,7 @@ counts_moved quoted before before' (Node head e kids next) same = refl
 abbrev pub FlatOpened : Opening → Type 0
 FlatOpened (OpensLeaf BlankLine there left) = Unit {0}
 FlatOpened (OpensLeaf (Block b) there left) = FlatBlock b × OwnParagraph b
-FlatOpened (OpensNode head inside behind) = Unit {0}
+FlatOpened (OpensNode head inside following) = Unit {0}
 
 -- the first block opens alike to this, and is flat
 abbrev pub Known : Document → Opening → Opening → Type 0
@@ -219,7 +219,7 @@ Known d o o' = AlikeOpening d.names d.names o o' × FlatOpened o'
 abbrev pub FirstHas : (Opening → Type 0) → Skeleton → Type 0
 FirstHas P Nil = ⊥
 FirstHas P (Then leaf next) = (there : From) × (left : List Place) × P (OpensLeaf leaf there left)
-FirstHas P (Node head e kids next) = (inside : From) × (behind : List Place) × P (OpensNode head inside behind)
+FirstHas P (Node head e kids next) = (inside : From) × (following : List Place) × P (OpensNode head inside following)
 
 some_block : (d : Document) (l : Level) (p : Place) (lines : List Place) (left : Left) → StaysAt d l.path p
     → going d.options l (Inside p) lines ≡ Ends left → ⊥
@@ -245,14 +245,14 @@ known_first d path before p lines mid o (Then leaf next) stays opens (there, lef
   left,
   (alike_first d path before p lines o (OpensLeaf leaf there left) opens first, flat_leaf d (level path before) p lines leaf there left first),
 )
-known_first d path before p lines mid o (Node head e kids next) stays opens (inside, behind, left, first, inner, ends, seq) =
-    (inside, behind, (alike_first d path before p lines o (OpensNode head inside behind) opens first, tt))
+known_first d path before p lines mid o (Node head e kids next) stays opens (inside, following, left, first, inner, ends, seq) =
+    (inside, following, (alike_first d path before p lines o (OpensNode head inside following) opens first, tt))
 
 -- what opens is a block, not a blank line
 abbrev pub OpensBlock : Opening → Type 0
 OpensBlock (OpensLeaf BlankLine there left) = ⊥
 OpensBlock (OpensLeaf (Block b) there left) = Unit {0}
-OpensBlock (OpensNode head inside behind) = Unit {0}
+OpensBlock (OpensNode head inside following) = Unit {0}
 
 definition_alone : (o : Opener) → is_definition (opener_alone o) ≡ is_definition o
 definition_alone (QuoteMarker kind) = refl
@@ -275,7 +275,7 @@ first_is_other d o Nil block other known = known
 first_is_other d (OpensLeaf BlankLine there left) (Then leaf next) block other known = absurd block
 first_is_other d (OpensLeaf (Block b) there left) (Then BlankLine next) block other (there', left', (alike, flat)) = absurd alike.0
 first_is_other d (OpensLeaf (Block b) there left) (Then (Block b') next) block other (there', left', (alike, flat)) = flat
-first_is_other d (OpensLeaf leaf there left) (Node head' e' kids' next') block other (inside', behind', (alike, flat)) = absurd alike
-first_is_other d (OpensNode head inside behind) (Then leaf' next') block other (there', left', (alike, flat)) = absurd alike
-first_is_other d (OpensNode head inside behind) (Node head' e' kids' next') block other (inside', behind', (alike, flat)) =
+first_is_other d (OpensLeaf leaf there left) (Node head' e' kids' next') block other (inside', following', (alike, flat)) = absurd alike
+first_is_other d (OpensNode head inside following) (Then leaf' next') block other (there', left', (alike, flat)) = absurd alike
+first_is_other d (OpensNode head inside following) (Node head' e' kids' next') block other (inside', following', (alike, flat)) =
     sym (definition_alike head head' alike.0.0) ∙ other

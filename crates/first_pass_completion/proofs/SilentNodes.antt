@@ -10,7 +10,7 @@ use Rattle.first_pass_tree.specs.Tight.{tight_body, tightened}
 use Rattle.first_pass_grammar.specs.declared.kind.Container.{Container}
 use Rattle.first_pass_grammar.specs.declared.kind.Container.TheVariants.{BlockQuote, ListItem, FootnoteDefinition, Definition}
 use Rattle.first_pass_grammar.specs.Names.{Names}
-use Rattle.first_pass_grammar.specs.Rows.{Definitions, definitions_first, Rows, is_loose, list_until, items_behind, list_behind}
+use Rattle.first_pass_grammar.specs.Rows.{Definitions, definitions_first, Rows, is_loose, list_until, items_after, list_after}
 use Rattle.first_pass_grammar.specs.Derivation.{items_of}
 use Rattle.first_pass_grammar.specs.Completion.{ended, flagged, with_title, title_taken, title_left, list_closed, Closed, OtherClosed, ParagraphAt}
 use Rattle.first_pass_grammar.specs.Completion.{DefinitionClosed, TitleAt, Pending, NoList, OneList, OneTitle, not_apart, closed_with, after_paragraph}
@@ -246,10 +246,10 @@ more_both names nodes mid after (a, e) (b, f) = (
       ∙ ap (λ (z : List Mark). marks names nodes ++ z) (sym (table_marks-append a b)),
 )
 
-more_behind : (names : Names) (nodes closed more : List (ℕ × Item)) → marks names closed ≡ marks names nodes → AreWholeTables names more
+more_after : (names : Names) (nodes closed more : List (ℕ × Item)) → marks names closed ≡ marks names nodes → AreWholeTables names more
     → ShowsMore names nodes (closed ++ more)
 unfolding AreWholeTables
-more_behind names nodes closed more same (tables, e, full) = (
+more_after names nodes closed more same (tables, e, full) = (
   tables,
   marks-append names closed more ∙ ap (λ (z : List Mark). z ++ marks names more) same ∙ ap (λ (z : List Mark). marks names nodes ++ z) e,
 )
@@ -258,7 +258,7 @@ more_behind names nodes closed more same (tables, e, full) = (
 closed_shows : (names : Names) (depth : ℕ) (nodes now : List (ℕ × Item)) (place : ℕ) (loose : Bool) (ds : Definitions) → marks names now ≡ marks names nodes
     → IsSilent now place → HoldsOfFirst (AreWholeTables names) (Some ds) → ShowsMore names nodes (closed_with depth now place loose ds)
 closed_shows names depth nodes now place loose ds same silent h =
-    more_behind names nodes (list_closed now place (suc (suc depth)) loose ds.«end») _
+    more_after names nodes (list_closed now place (suc (suc depth)) loose ds.«end») _
     (marks_closed names now place (suc (suc depth)) loose ds.«end» silent ∙ same)
     (whole_both names (items_of (suc depth) (not loose) ds.items) (items_of depth false ds.beside)
     (forest_whole names (suc depth) (not loose) ds.items h.0) (forest_whole names depth false ds.beside h.1))
@@ -267,7 +267,7 @@ paragraph_shows : (names : Names) (depth : ℕ) (nodes now : List (ℕ × Item))
     → marks names now ≡ marks names nodes → SilentFrom now place → HoldsOfFirst (AreWholeTables names) o → WholeRows names rows
     → ShowsMore names nodes (after_paragraph depth now place o rows)
 paragraph_shows names depth nodes now place None rows same silent f h =
-    more_behind names nodes now (items_of depth false rows) same (forest_whole names depth false rows h)
+    more_after names nodes now (items_of depth false rows) same (forest_whole names depth false rows h)
 paragraph_shows names depth nodes now place (Some ds) rows same silent f h =
     closed_shows names depth nodes (with_title now place) place (is_loose ds.items) ds (marks_titled names now place silent ∙ same)
     (silent_titled now place place silent (from_at now place silent)) f
@@ -275,13 +275,13 @@ paragraph_shows names depth nodes now place (Some ds) rows same silent f h =
 after_shows : (names : Names) (depth : ℕ) (nodes : List (ℕ × Item)) (closed : Closed) (rows : Rows) → SilentClosed nodes closed → WholeRows names rows
     → ShowsMore names nodes (after_closed depth nodes closed rows)
 after_shows names depth nodes OtherClosed rows silent h =
-    more_behind names nodes nodes (items_of depth false rows) refl (forest_whole names depth false rows h)
+    more_after names nodes nodes (items_of depth false rows) refl (forest_whole names depth false rows h)
 after_shows names depth nodes (ParagraphAt place) rows silent h =
     paragraph_shows names depth nodes nodes place (definitions_first rows) rows refl silent (first_rows (AreWholeTables names) rows h) h
 after_shows names depth nodes (DefinitionClosed e blanks) rows silent h =
-    more_behind names nodes nodes (items_of depth false rows) refl (forest_whole names depth false rows h)
+    more_after names nodes nodes (items_of depth false rows) refl (forest_whole names depth false rows h)
 after_shows names depth nodes (TitleAt e place) rows silent h =
-    more_behind names nodes nodes (items_of depth false rows) refl (forest_whole names depth false rows h)
+    more_after names nodes nodes (items_of depth false rows) refl (forest_whole names depth false rows h)
 
 -- the list of a possible title, with or without the title
 apart_by : (names : Names) (t : Bool) (ds : Definitions) → HoldsOfFirst (AreWholeTables names) (Some ds)
@@ -311,12 +311,12 @@ pub rendered_shows : (names : Names) (depth last : ℕ) (nodes : List (ℕ × It
 unfolding rendered
 rendered_shows names depth last nodes (NoList closed) rows silent h = after_shows names depth nodes closed rows silent h
 rendered_shows names depth last nodes (OneList place joins loose) rows silent h =
-    let now : Bool = loose || is_loose (items_behind joins rows) in
-    more_behind names nodes (list_closed nodes place (suc (suc depth)) now (list_until joins last rows)) _
+    let now : Bool = loose || is_loose (items_after joins rows) in
+    more_after names nodes (list_closed nodes place (suc (suc depth)) now (list_until joins last rows)) _
     (marks_closed names nodes place (suc (suc depth)) now (list_until joins last rows) silent)
-    (whole_both names (items_of (suc depth) (not now) (items_behind joins rows)) (items_of depth false (list_behind joins rows))
-    (forest_whole names (suc depth) (not now) (items_behind joins rows) (items_rows (AreWholeTables names) joins rows h))
-    (forest_whole names depth false (list_behind joins rows) (list_rows (AreWholeTables names) joins rows h)))
+    (whole_both names (items_of (suc depth) (not now) (items_after joins rows)) (items_of depth false (list_after joins rows))
+    (forest_whole names (suc depth) (not now) (items_after joins rows) (items_rows (AreWholeTables names) joins rows h))
+    (forest_whole names depth false (list_after joins rows) (list_rows (AreWholeTables names) joins rows h)))
 rendered_shows names depth last nodes (OneTitle place title e loose) rows silent h =
     title_shows names depth nodes place title e loose (not_apart (definitions_first rows)) rows silent.0 silent.1
     (unless_apart names (definitions_first rows) (first_rows (AreWholeTables names) rows h)) h
@@ -354,7 +354,7 @@ pub silent_rendered : (depth last : ℕ) (nodes : List (ℕ × Item)) (list : Pe
 unfolding rendered
 silent_rendered depth last nodes (NoList closed) rows i silent h = silent_after depth nodes closed rows i silent h
 silent_rendered depth last nodes (OneList place joins loose) rows i silent h =
-    silent_front _ _ i (silent_closed nodes place (suc (suc depth)) (loose || is_loose (items_behind joins rows)) (list_until joins last rows) i h)
+    silent_front _ _ i (silent_closed nodes place (suc (suc depth)) (loose || is_loose (items_after joins rows)) (list_until joins last rows) i h)
 silent_rendered depth last nodes (OneTitle place title e loose) rows i silent h =
     silent_title depth nodes place title e loose (not_apart (definitions_first rows)) rows i silent.1 h
 

@@ -32,14 +32,14 @@ opened_silent d l from lines b there left mark first begins =
     text_silent b.items begins (opened_holds ShowsNothing d (tokens_show d.names.texts) l from lines b there left mark first).0.tokens
 
 -- nodes that are no part of a table, after others
-pub silent_behind : (nodes : List (ℕ × Item)) (n : ℕ × Item) (more : List (ℕ × Item)) → AreEachNode ShowsNothing (n ∷ more)
+pub silent_past : (nodes : List (ℕ × Item)) (n : ℕ × Item) (more : List (ℕ × Item)) → AreEachNode ShowsNothing (n ∷ more)
     → SilentFrom (nodes ++ n ∷ more) (length nodes)
-silent_behind [] n more h = h
-silent_behind (m ∷ nodes) n more h = silent_behind nodes n more h
+silent_past [] n more h = h
+silent_past (m ∷ nodes) n more h = silent_past nodes n more h
 
 -- a paragraph added at a depth
 pub silent_added : (nodes : List (ℕ × Item)) (depth : ℕ) (items : List (ℕ × Item)) → begins_paragraph items ≡ true → AreEachNode ShowsNothing items
     → SilentFrom (nodes ++ at_depth depth items) (length nodes)
 silent_added nodes depth [] begins h = cc
 silent_added nodes depth (x ∷ items) begins h =
-    silent_behind nodes (depth + x.0, x.1) (at_depth depth items) (deeper_nodes ShowsNothing depth (x ∷ items) h)
+    silent_past nodes (depth + x.0, x.1) (at_depth depth items) (deeper_nodes ShowsNothing depth (x ∷ items) h)

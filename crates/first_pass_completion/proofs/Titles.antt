@@ -12,7 +12,7 @@ use Rattle.first_pass_grammar.specs.Before.{begins_paragraph, is_run}
 use Rattle.first_pass_grammar.specs.Blocks.{LeafBlock}
 use Rattle.first_pass_grammar.specs.Rows.{Joins, DefinitionsTo, Rows, End, OneOf, Definitions, apart_after, definitions_of_row, definitions_first, titled}
 use Rattle.first_pass_grammar.specs.Rows.{leaf_row, row_of_leaf, ADefinitionList, ATitle, WithTitle, Apart, Row, any_gap, is_loose, is_untitled, is_run_row}
-use Rattle.first_pass_grammar.specs.Rows.{list_behind, is_apart, is_list_of, was_possible_title, closing_place, ends_at}
+use Rattle.first_pass_grammar.specs.Rows.{list_after, is_apart, is_list_of, was_possible_title, closing_place, ends_at}
 use Rattle.first_pass_grammar.specs.Derivation.{node_of, list_flags, as_title, block_items, items_of}
 use Rattle.first_pass_grammar.specs.Completion.{with_title, title_taken, title_left, list_closed, Closed, OtherClosed, ParagraphAt, DefinitionClosed, TitleAt}
 use Rattle.first_pass_grammar.specs.Completion.{NoList, OneList, OneTitle, beside_or, rows_beyond, not_apart, closed_with}
@@ -296,17 +296,17 @@ possible_any k last nodes place e loose b r None is flat own h first = possible_
 possible_any k last nodes place e loose b r (Some ds) is flat own h first =
     possible_by ds.apart k last nodes place e loose b r ds refl is flat own h first
 
-behind_titled : (t : Bool) (e : ℕ) (b : LeafBlock) (ds : Definitions) → ds.apart ≡ t
-    → any_gap (list_behind (DefinitionsTo e) (titled b false ds)) ≡ any_gap ds.beside
+after_titled : (t : Bool) (e : ℕ) (b : LeafBlock) (ds : Definitions) → ds.apart ≡ t
+    → any_gap (list_after (DefinitionsTo e) (titled b false ds)) ≡ any_gap ds.beside
 unfolding any_gap
-behind_titled true e b ds apart = let j = apart_by ds.apart ∙ ap not apart in rw j refl
-behind_titled false e b ds apart = let j = apart_by ds.apart ∙ ap not apart in rw j refl
+after_titled true e b ds apart = let j = apart_by ds.apart ∙ ap not apart in rw j refl
+after_titled false e b ds apart = let j = apart_by ds.apart ∙ ap not apart in rw j refl
 
-behind_any : (e : ℕ) (b : LeafBlock) (r : Rows) (o : Option Definitions)
-    → any_gap (list_behind (DefinitionsTo e) (before_definitions b false o r)) ≡ any_gap (beside_or o r)
+after_any : (e : ℕ) (b : LeafBlock) (r : Rows) (o : Option Definitions)
+    → any_gap (list_after (DefinitionsTo e) (before_definitions b false o r)) ≡ any_gap (beside_or o r)
 unfolding any_gap
-behind_any e b r None = refl
-behind_any e b r (Some ds) = behind_titled _ e b ds refl
+after_any e b r None = refl
+after_any e b r (Some ds) = after_titled _ e b ds refl
 
 -- a possible title after a definition
 pub possible_title : (k last : ℕ) (nodes : List (ℕ × Item)) (place e : ℕ) (loose : Bool) (b : LeafBlock) (r : Rows)
@@ -319,9 +319,9 @@ possible_title k last nodes place e loose b r is flat own h =
     ∙ possible_any k last nodes place e loose b r (definitions_first r) is flat own h refl
 
 pub possible_gaps : (place at e : ℕ) (loose : Bool) (b : LeafBlock) (r : Rows) → begins_paragraph b.items ≡ true
-    → any_gap (list_behind (DefinitionsTo e) (leaf_row b false r)) ≡ any_gap (rows_beyond (OneTitle place at e loose) r)
+    → any_gap (list_after (DefinitionsTo e) (leaf_row b false r)) ≡ any_gap (rows_beyond (OneTitle place at e loose) r)
 possible_gaps place at e loose b r is =
-    ap (λ z. any_gap (list_behind (DefinitionsTo e) z)) (paragraph_row b false r is) ∙ behind_any e b r (definitions_first r)
+    ap (λ z. any_gap (list_after (DefinitionsTo e) z)) (paragraph_row b false r is) ∙ after_any e b r (definitions_first r)
 
 -- A possible title becomes a paragraph after its list if no definitions follow it directly: link reference definitions
 -- or another block come between.

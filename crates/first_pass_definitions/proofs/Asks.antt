@@ -5,8 +5,8 @@ use Rattle.std.specs.Borrow.{Bor}
 use Rattle.std.specs.declared.alloc.AllocError.{AllocError}
 use Rattle.std.proofs.lemmas.Bool.{cases_Bool}
 use Rattle.std.proofs.lemmas.List.{drop-drop}
-use Rattle.first_pass_links.specs.Labels.{label_at, CanErr, ErrsBehind, IsRewritten, HasNoBracket}
-use Rattle.first_pass_links.proofs.Labels.{place_behind}
+use Rattle.first_pass_links.specs.Labels.{label_at, CanErr, ErrsAfter, IsRewritten, HasNoBracket}
+use Rattle.first_pass_links.proofs.Labels.{place_past}
 use Rattle.std.specs.Option.{option_map, option_map_or, option_and_then}
 use Rattle.first_pass_lines.specs.Lines.{begins, eol_len, blank_len}
 use Rattle.first_pass_lines.specs.Places.{line_rest}
@@ -14,7 +14,7 @@ use Rattle.first_pass_links.specs.Destinations.{unescaped_upto, destination_at}
 use Rattle.first_pass_items.specs.OptionWords.{gfm_footnotes}
 use Rattle.first_pass_links.specs.Footnotes.{begins_footnote}
 use Rattle.first_pass_grammar.specs.Containers.{Context}
-use Rattle.first_pass_grammar.specs.Definitions.{title_prefix, title_at, title_behind, title_beyond, alone_behind, space_at, target_at}
+use Rattle.first_pass_grammar.specs.Definitions.{title_prefix, title_at, title_after, title_beyond, alone_after, space_at, target_at}
 use Rattle.first_pass_grammar.specs.Definitions.{deepest_nesting, prefix_crossed, LinkReference, reference_at}
 use Rattle.first_pass_kinds.specs.Memory.{line_may_head}
 use Rattle.first_pass_labels.specs.declared.label_table.LinkDef.{LinkDef}
@@ -23,8 +23,8 @@ use Rattle.first_pass_items.specs.declared.cow_str.CowStr.{CowStr}
 use Rattle.first_pass_definitions.proofs.Targets.{shifted, IsLabelAnswer, IsReferenceAnswer, label_found, IsTitleRead, read_to, IsDest, space_found}
 use Rattle.first_pass_definitions.proofs.Targets.{dest_found}
 use Rattle.first_pass_definitions.proofs.Targets.{TargetFound}
-use Rattle.first_pass_definitions.specs.Memory.{LabelAsks, TargetAsks, ReferenceAsks, BehindAsks, PartsAsk, line_asks, text_asks}
-use Rattle.first_pass_definitions.specs.Memory.{behind_asks, MeetsTable}
+use Rattle.first_pass_definitions.specs.Memory.{LabelAsks, TargetAsks, ReferenceAsks, AfterAsks, PartsAsk, line_asks, text_asks}
+use Rattle.first_pass_definitions.specs.Memory.{after_asks, MeetsTable}
 
 -- a fact of an error
 pub on_err : {A E P : Type 0} (r : Result A E) → P → OnErr r P
@@ -87,7 +87,7 @@ none_or_some (suc n) = inr (omega arith)
 -- a label
 pub label_asks : (around : Context) (prefix : List ℕ → Option ℕ) (t u : Bool) (bs : List ℕ) (post : Bor (List ℕ) → Result (Option ℕ) AllocError → Type 0)
     → t ≡ u → CanErr prefix t bs post
-    → ((at : ℕ) → ErrsBehind bs at post → line_may_head around (line_rest (drop (at + 1) bs)) ≡ true)
+    → ((at : ℕ) → ErrsAfter bs at post → line_may_head around (line_rest (drop (at + 1) bs)) ≡ true)
     → IsRewritten prefix u bs ⊎ (HasNoBracket prefix bs × MeetsTable around bs)
 label_asks around prefix t u bs post k (inl z) f = inl (subst (λ x. IsRewritten prefix x bs) k z)
 label_asks around prefix t u bs post k (inr (n, s)) f = inr (n, (s.0, s.1.within, s.1.line_end, f s.0 s.1))
@@ -95,7 +95,7 @@ label_asks around prefix t u bs post k (inr (n, s)) f = inr (n, (s.0, s.1.within
 -- and that of a footnote
 pub footnote_asks : (around : Context) (prefix : List ℕ → Option ℕ) (t u : Bool) (bs : List ℕ) (post : Bor (List ℕ) → Result (Option ℕ) AllocError → Type 0)
     → t ≡ u → begins_footnote bs ≡ true → CanErr prefix t (drop 2 bs) post
-    → ((at : ℕ) → ErrsBehind (drop 2 bs) at post
+    → ((at : ℕ) → ErrsAfter (drop 2 bs) at post
     → (gfm_footnotes around.options ≡ false) × (line_may_head around (line_rest (drop (at + 1) (drop 2 bs))) ≡ true))
     → (begins_footnote bs ≡ true)
     × (IsRewritten prefix u (drop 2 bs) ⊎ (HasNoBracket prefix (drop 2 bs) × (gfm_footnotes around.options ≡ false) × MeetsTable around (drop 2 bs)))
@@ -103,16 +103,16 @@ footnote_asks around prefix t u bs post k m (inl z) f = (m, inl (subst (λ x. Is
 footnote_asks around prefix t u bs post k m (inr (n, s)) f = let both = f s.0 s.1 in (m, inr (n, both.0, (s.0, s.1.within, s.1.line_end, both.1)))
 
 -- a place after another
-pub place_from : (text behind bs : List ℕ) (start at : ℕ) → IsCharBoundary text start → bs ≡ drop start text → IsCharBoundary bs at → behind ≡ drop at bs
-    → IsCharBoundary text (start + at) × (behind ≡ drop (start + at) text)
-place_from text behind bs start at p is b e =
-    (place_behind text start at p.0 (subst (λ ys. IsCharBoundary ys at) is b), e ∙ ap (drop at) is ∙ drop-drop at start text)
+pub place_from : (text following bs : List ℕ) (start at : ℕ) → IsCharBoundary text start → bs ≡ drop start text → IsCharBoundary bs at → following ≡ drop at bs
+    → IsCharBoundary text (start + at) × (following ≡ drop (start + at) text)
+place_from text following bs start at p is b e =
+    (place_past text start at p.0 (subst (λ ys. IsCharBoundary ys at) is b), e ∙ ap (drop at) is ∙ drop-drop at start text)
 
 -- a target step by step
 pub dest_asks : (around : Context) (text : List ℕ) (start at lines n : ℕ) (b : Bor (List ℕ))
     → Some (at, lines) ≡ shifted start (space_at around (drop start text))
-    → IsDest (destination_at deepest_nesting (drop at text)) (Some (n, b)) → behind_asks around (drop (at + n) text) ≡ true
-    → BehindAsks around (drop start text)
+    → IsDest (destination_at deepest_nesting (drop at text)) (Some (n, b)) → after_asks around (drop (at + n) text) ≡ true
+    → AfterAsks around (drop start text)
 dest_asks around text start at lines n b h k a =
     let s = space_found (space_at around (drop start text)) start at lines h in
     let d = dest_found (destination_at deepest_nesting (drop at text)) n b k in
@@ -125,7 +125,7 @@ dest_asks around text start at lines n b h k a =
       space_is = s.1;
       dest = d.0;
       dest_is = ap (destination_at deepest_nesting) (sym there) ∙ d.1;
-      asks = ap (behind_asks around) (drop-drop (s.0.0 + d.0.0) start text ∙ ap (λ m. drop m text) (sym sum)) ∙ a;
+      asks = ap (after_asks around) (drop-drop (s.0.0 + d.0.0) start text ∙ ap (λ m. drop m text) (sym sum)) ∙ a;
     }
 
 pub parts_ask : (around : Context) (text : List ℕ) (start e : ℕ) (b : Bor (List ℕ)) (title : Option CowStr) (t u : Bool)
@@ -134,7 +134,7 @@ pub parts_ask : (around : Context) (text : List ℕ) (start e : ℕ) (b : Bor (L
 parts_ask around text start e b title t u k f p = rw f.is (subst (λ x. PartsAsk x f.target) k p)
 
 alone_none : (bs : List ℕ) (n len : ℕ) (title : CowStr) (o : Option (ℕ × List ℕ))
-    → IsTitleRead o (read_to len title) → is_some (blank_len (drop (n + len) bs)) ≡ false → option_and_then (alone_behind n bs) o ≡ None
+    → IsTitleRead o (read_to len title) → is_some (blank_len (drop (n + len) bs)) ≡ false → option_and_then (alone_after n bs) o ≡ None
 alone_none bs n len title None h k = refl
 alone_none bs n len title (Some t) h k =
     let e : is_some (blank_len (drop (n + t.0) bs)) ≡ false = ap (λ m. is_some (blank_len (drop (n + m) bs))) (sym h.0) ∙ k in
@@ -143,7 +143,7 @@ alone_none bs n len title (Some t) h k =
 -- a title is none if its line is not blank after it
 pub title_crowded : (around : Context) (text : List ℕ) (at start k len : ℕ) (title : CowStr) → Some (start, k) ≡ shifted at (space_at around (drop at text))
     → IsTitleRead (title_at around (drop start text)) (read_to len title) → is_some (blank_len (drop (start + len) text)) ≡ false
-    → title_behind around (drop at text) ≡ None
+    → title_after around (drop at text) ≡ None
 title_crowded around text at start k len title h r b =
     let s = space_found (space_at around (drop at text)) at start k h in
     let bs = drop at text in

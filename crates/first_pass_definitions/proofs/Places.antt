@@ -7,7 +7,7 @@ use Rattle.std.proofs.lemmas.List.{drop-drop, get_or-drop}
 use Rattle.first_pass_lines.specs.Lines.{begins, eol_len, blank_len}
 use Rattle.first_pass_lines.specs.Rest.{Rest}
 use Rattle.first_pass_lines.specs.Places.{place_at, IsPlaceOf}
-use Rattle.first_pass_links.proofs.Labels.{place_behind}
+use Rattle.first_pass_links.proofs.Labels.{place_past}
 use Rattle.first_pass_kinds.specs.Rests.{IsRestOf}
 
 pub part_boundary : (text : List ℕ) (a n : ℕ) → a ≤ length text → IsCharBoundary text (a + n) → IsCharBoundary (drop a text) n
@@ -29,7 +29,7 @@ rest_further text bytes xs k r e b =
     record {
       within = omega arith;
       are = d ∙ ap (λ m. drop m text) (sym n);
-      boundary = subst (IsCharBoundary text) (sym n) (place_behind text s k (omega arith) (subst (λ ys. IsCharBoundary ys k) r.are b));
+      boundary = subst (IsCharBoundary text) (sym n) (place_past text s k (omega arith) (subst (λ ys. IsCharBoundary ys k) r.are b));
     }
 
 -- a place in a line of the rest
@@ -78,6 +78,7 @@ pub label_fits : {X : Type 0} (r : Result (Option (ℕ × X)) AllocError) (text 
     → IfOk r (λ answer. IfSome answer (λ (found : ℕ × X). (0 < found.0) × (found.0 ≤ length bytes)))
     → IfOk r (λ answer. IfSome answer (λ (found : ℕ × X). IsCharBoundary bytes found.0))
     → IfOk r (λ answer. IfSome answer (λ (found : ℕ × X). (0 < found.0) × IsCharBoundary text (s + found.0)))
-label_fits (Err e) text bytes s b is within behind = tt
-label_fits (Ok None) text bytes s b is within behind = tt
-label_fits (Ok (Some found)) text bytes s b is within behind = (within.0, place_behind text s found.0 b.0 (subst (λ xs. IsCharBoundary xs found.0) is behind))
+label_fits (Err e) text bytes s b is within following = tt
+label_fits (Ok None) text bytes s b is within following = tt
+label_fits (Ok (Some found)) text bytes s b is within following =
+    (within.0, place_past text s found.0 b.0 (subst (λ xs. IsCharBoundary xs found.0) is following))

@@ -10,7 +10,7 @@ use Rattle.std.specs.Option.{option_map, option_and_then, option_map_or}
 use Rattle.std.proofs.lemmas.List.{drop-drop, get_or-drop}
 use Rattle.std.proofs.lemmas.Option.{cond_some}
 use Rattle.first_pass_lines.specs.Lines.{is_line_end, ends_line, begins, blank_len}
-use Rattle.first_pass_links.specs.Destinations.{unescaped_upto, ends_brackets, bracketed_at, ends_run, longer, if_closed, closes_none, nesting_behind}
+use Rattle.first_pass_links.specs.Destinations.{unescaped_upto, ends_brackets, bracketed_at, ends_run, longer, if_closed, closes_none, nesting_after}
 use Rattle.first_pass_links.specs.Destinations.{run_len}
 use Rattle.first_pass_links.specs.Destinations.{unbracketed, destination_at}
 use Rattle.first_pass_links.specs.Escapes.{begins_escape}
@@ -18,9 +18,9 @@ use Rattle.first_pass_links.proofs.Destinations.{first_byte}
 use Rattle.first_pass_links.specs.Labels.{joined, bytes_of, offsets_of, label_at}
 use Rattle.first_pass_grammar.specs.Containers.{Context}
 use Rattle.first_pass_grammar.specs.Definitions.{prefix_crossed, space_at, with_line_feeds, ends_title, title_end, title_text, title_prefix, title_at}
-use Rattle.first_pass_grammar.specs.Definitions.{alone_behind, title_beyond, title_behind, behind_destination, deepest_nesting, Target, target_of}
+use Rattle.first_pass_grammar.specs.Definitions.{alone_after, title_beyond, title_after, after_destination, deepest_nesting, Target, target_of}
 use Rattle.first_pass_grammar.specs.Definitions.{target_from}
-use Rattle.first_pass_grammar.specs.Definitions.{target_beyond, target_at, LinkReference, reference_of, reference_behind, reference_at}
+use Rattle.first_pass_grammar.specs.Definitions.{target_beyond, target_at, LinkReference, reference_of, reference_after, reference_at}
 
 -- the parts of a result
 and_some : {A B : Type 0} (k : A → Option B) (o : Option A) (r : B) → option_and_then k o ≡ Some r → (a : A) × (o ≡ Some a) × (k a ≡ Some r)
@@ -39,14 +39,14 @@ abbrev BlankAt : List ℕ → ℕ → Type 0
 BlankAt bs n = is_some (blank_len (drop n bs)) ≡ true
 
 titled_by : (t : Bool) (around : Context) (bs : List ℕ) (n : ℕ) (r : ℕ × List ℕ)
-    → (if t then None else option_and_then (alone_behind n bs) (title_at around (drop n bs))) ≡ Some r → BlankAt bs r.0
+    → (if t then None else option_and_then (alone_after n bs) (title_at around (drop n bs))) ≡ Some r → BlankAt bs r.0
 titled_by true around bs n r h = cc
 titled_by false around bs n r h =
-    let t = and_some (alone_behind n bs) (title_at around (drop n bs)) r h in
+    let t = and_some (alone_after n bs) (title_at around (drop n bs)) r h in
     let p = cond_some (is_some (blank_len (drop (n + t.0.0) bs))) (n + t.0.0, t.0.1) r t.2 in
     ap (λ (q : ℕ × List ℕ). is_some (blank_len (drop q.0 bs))) (sym p.1) ∙ p.0
 
-titled_blank : (around : Context) (bs : List ℕ) (r : ℕ × List ℕ) → title_behind around bs ≡ Some r → BlankAt bs r.0
+titled_blank : (around : Context) (bs : List ℕ) (r : ℕ × List ℕ) → title_after around bs ≡ Some r → BlankAt bs r.0
 titled_blank around bs r h =
     let s = and_some (title_beyond around bs) (space_at around bs) r h in titled_by (s.0.0 == 0) around bs s.0.0 r s.2
 
@@ -59,25 +59,25 @@ further_by None bs f g h =
     let p = cond_some (is_some (blank_len bs)) (nothing_further) f h in ap (λ (q : ℕ × Option (List ℕ)). is_some (blank_len (drop q.0 bs))) (sym p.1) ∙ p.0
 further_by (Some t) bs f g h = ap (λ (q : ℕ × Option (List ℕ)). is_some (blank_len (drop q.0 bs))) (sym (some_same (t.0, Some t.1) f h)) ∙ g t refl
 
-further_blank : (around : Context) (bs : List ℕ) (f : ℕ × Option (List ℕ)) → behind_destination around bs ≡ Some f → BlankAt bs f.0
-unfolding behind_destination
-further_blank around bs f h = further_by (title_behind around bs) bs f (titled_blank around bs) h
+further_blank : (around : Context) (bs : List ℕ) (f : ℕ × Option (List ℕ)) → after_destination around bs ≡ Some f → BlankAt bs f.0
+unfolding after_destination
+further_blank around bs f h = further_by (title_after around bs) bs f (titled_blank around bs) h
 
 pub target_blank : (around : Context) (bs : List ℕ) (t : ℕ × Target) → target_at around bs ≡ Some t → BlankAt bs t.0
 unfolding target_at
 target_blank around bs t h =
     let s = and_some (target_beyond around bs) (space_at around bs) t h in
     let d = and_some (target_from around s.0.0 (drop s.0.0 bs)) (destination_at deepest_nesting (drop s.0.0 bs)) t s.2 in
-    let f = map_some (target_of s.0.0 d.0) (behind_destination around (drop d.0.0 (drop s.0.0 bs))) t d.2 in
+    let f = map_some (target_of s.0.0 d.0) (after_destination around (drop d.0.0 (drop s.0.0 bs))) t d.2 in
     let b = further_blank around (drop d.0.0 (drop s.0.0 bs)) f.0 f.1 in
     ap (λ (q : ℕ × Target). is_some (blank_len (drop q.0 bs))) (sym f.2)
     ∙ ap (λ xs. is_some (blank_len xs)) (sym (drop-drop f.0.0 (s.0.0 + d.0.0) bs) ∙ ap (drop f.0.0) (sym (drop-drop d.0.0 s.0.0 bs))) ∙ b
 
-behind_by : (t : Bool) (around : Context) (bs : List ℕ) (l : ℕ × List ℕ) (r : LinkReference)
+following_by : (t : Bool) (around : Context) (bs : List ℕ) (l : ℕ × List ℕ) (r : LinkReference)
     → (if t then option_map (reference_of (l.0 + 2) l.1) (target_at around (drop (l.0 + 1) bs)) else None) ≡ Some r → (cs : List ℕ) → bs ≡ drop 1 cs
     → BlankAt cs r.size
-behind_by false around bs l r h cs e = cc
-behind_by true around bs l r h cs e =
+following_by false around bs l r h cs e = cc
+following_by true around bs l r h cs e =
     let t = map_some (reference_of (l.0 + 2) l.1) (target_at around (drop (l.0 + 1) bs)) r h in
     let b = target_blank around (drop (l.0 + 1) bs) t.0 t.1 in
     let i : 1 + (l.0 + 1 + t.0.0) ≡ l.0 + 2 + t.0.0 = omega arith in
@@ -86,12 +86,12 @@ behind_by true around bs l r h cs e =
     ap (λ (q : LinkReference). is_some (blank_len (drop q.size cs))) (sym t.2) ∙ ap (λ xs. is_some (blank_len xs)) (sym d) ∙ b
 
 reference_by : (t : Bool) (in_table : Bool) (around : Context) (bs : List ℕ) (r : LinkReference)
-    → (if t then option_and_then (reference_behind around (drop 1 bs)) (label_at (prefix_crossed true around) in_table (drop 1 bs)) else None) ≡ Some r
+    → (if t then option_and_then (reference_after around (drop 1 bs)) (label_at (prefix_crossed true around) in_table (drop 1 bs)) else None) ≡ Some r
     → BlankAt bs r.size
 reference_by false in_table around bs r h = cc
 reference_by true in_table around bs r h =
-    let l = and_some (reference_behind around (drop 1 bs)) (label_at (prefix_crossed true around) in_table (drop 1 bs)) r h in
-    behind_by (begins 58 (drop l.0.0 (drop 1 bs))) around (drop 1 bs) l.0 r l.2 bs refl
+    let l = and_some (reference_after around (drop 1 bs)) (label_at (prefix_crossed true around) in_table (drop 1 bs)) r h in
+    following_by (begins 58 (drop l.0.0 (drop 1 bs))) around (drop 1 bs) l.0 r l.2 bs refl
 
 -- After a definition the rest of its line is blank (CommonMark 4.7).
 pub reference_blank : (in_table : Bool) (around : Context) (bs : List ℕ) (r : LinkReference) → reference_at in_table around bs ≡ Some r
@@ -130,15 +130,15 @@ run_by : (e x c d : Bool) (deepest nesting b : ℕ) (bs : List ℕ) (k i : ℕ) 
     else (if x then longer 1 (run_len deepest nesting 1 bs)
     else (if c then Some 0
     else (if d then None
-    else longer 1 (run_len deepest (nesting_behind b nesting) 0 bs))))) ≡ Some k → i < k → RunPlain deepest nesting 1 bs ⊎ (begins_escape (b ∷ bs) ≡ false)
-    → RunPlain deepest (nesting_behind b nesting) 0 bs → Plain (b ∷ bs) i
+    else longer 1 (run_len deepest (nesting_after b nesting) 0 bs))))) ≡ Some k → i < k → RunPlain deepest nesting 1 bs ⊎ (begins_escape (b ∷ bs) ≡ false)
+    → RunPlain deepest (nesting_after b nesting) 0 bs → Plain (b ∷ bs) i
 run_by true x c d deepest nesting b bs k i h g f l p q = absurd (closed_by (nesting == 0) k i f l)
 run_by false true c d deepest nesting b bs k i h g f l (inl p) q = one_more (run_len deepest nesting 1 bs) b bs k i f l (no_control b h) (λ n j. p n j)
 run_by false true c d deepest nesting b bs k i h g f l (inr p) q = cc
 run_by false false true d deepest nesting b bs k i h g f l p q = let e : 0 ≡ k = some_same 0 k f in absurd (omega arith)
 run_by false false false true deepest nesting b bs k i h g f l p q = cc
 run_by false false false false deepest nesting b bs k i h g f l p q =
-    one_more (run_len deepest (nesting_behind b nesting) 0 bs) b bs k i f l (no_control b h) (λ n j. q n j)
+    one_more (run_len deepest (nesting_after b nesting) 0 bs) b bs k i f l (no_control b h) (λ n j. q n j)
 
 nothing_by : (m deepest nesting k i : ℕ) → run_len deepest nesting m [] ≡ Some k → i < k → Plain [] i
 nothing_by m deepest nesting k i h l = refl
@@ -158,8 +158,8 @@ run_plain : (deepest nesting m : ℕ) (bs : List ℕ) → Inside m bs → RunPla
 unfolding run_len
 run_plain deepest nesting m [] p = λ k i h l. nothing_by m deepest nesting k i h l
 run_plain deepest nesting zero (b ∷ bs) p = λ k i h l.
-    run_by (ends_run b) (begins_escape (b ∷ bs)) (closes_none b nesting) (nat_lt deepest (nesting_behind b nesting)) deepest nesting b bs k i refl refl h l
-    (aside_by (begins_escape (b ∷ bs)) deepest nesting b bs refl (run_plain deepest nesting 1 bs)) (run_plain deepest (nesting_behind b nesting) 0 bs tt)
+    run_by (ends_run b) (begins_escape (b ∷ bs)) (closes_none b nesting) (nat_lt deepest (nesting_after b nesting)) deepest nesting b bs k i refl refl h l
+    (aside_by (begins_escape (b ∷ bs)) deepest nesting b bs refl (run_plain deepest nesting 1 bs)) (run_plain deepest (nesting_after b nesting) 0 bs tt)
 run_plain deepest nesting (suc zero) (b ∷ bs) p =
     λ k i h l. one_more (run_len deepest nesting 0 bs) b bs k i h l p (λ n j. run_plain deepest nesting 0 bs tt n j)
 run_plain deepest nesting (suc (suc m)) (b ∷ bs) p = absurd p
@@ -305,10 +305,10 @@ part_plain bs n k m e p =
     ap is_line_end (ap (slice_index bs) (sym i) ∙ sym (get_or-drop n bs (k - 1) 0)) ∙ p.1
 
 titled_last_by : (t : Bool) (around : Context) (bs : List ℕ) (n : ℕ) (r : ℕ × List ℕ)
-    → (if t then None else option_and_then (alone_behind n bs) (title_at around (drop n bs))) ≡ Some r → (0 < r.0) × Plain bs (r.0 - 1)
+    → (if t then None else option_and_then (alone_after n bs) (title_at around (drop n bs))) ≡ Some r → (0 < r.0) × Plain bs (r.0 - 1)
 titled_last_by true around bs n r h = cc
 titled_last_by false around bs n r h =
-    let t = and_some (alone_behind n bs) (title_at around (drop n bs)) r h in
+    let t = and_some (alone_after n bs) (title_at around (drop n bs)) r h in
     let p = cond_some (is_some (blank_len (drop (n + t.0.0) bs))) (n + t.0.0, t.0.1) r t.2 in
     let e : n + t.0.0 ≡ r.0 = ap (λ (q : ℕ × List ℕ). q.0) p.1 in
     let l = title_last around (drop n bs) t.0 t.1 in
@@ -323,11 +323,11 @@ further_last_by (Some t) bs f g h =
     let e : t.0 ≡ f.0 = ap (λ (q : ℕ × Option (List ℕ)). q.0) (some_same (t.0, Some t.1) f h) in
     inr (subst (λ k. (0 < k) × Plain bs (k - 1)) e (g t refl))
 
-further_last : (around : Context) (bs : List ℕ) (f : ℕ × Option (List ℕ)) → behind_destination around bs ≡ Some f
+further_last : (around : Context) (bs : List ℕ) (f : ℕ × Option (List ℕ)) → after_destination around bs ≡ Some f
     → (f.0 ≡ 0) ⊎ ((0 < f.0) × Plain bs (f.0 - 1))
-unfolding behind_destination
+unfolding after_destination
 further_last around bs f h =
-    further_last_by (title_behind around bs) bs f
+    further_last_by (title_after around bs) bs f
     (λ r e. (let s = and_some (title_beyond around bs) (space_at around bs) r e in titled_last_by (s.0.0 == 0) around
     bs s.0.0 r s.2)) h
 
@@ -336,7 +336,7 @@ unfolding target_at
 target_last around bs t h =
     let s = and_some (target_beyond around bs) (space_at around bs) t h in
     let d = and_some (target_from around s.0.0 (drop s.0.0 bs)) (destination_at deepest_nesting (drop s.0.0 bs)) t s.2 in
-    let f = map_some (target_of s.0.0 d.0) (behind_destination around (drop d.0.0 (drop s.0.0 bs))) t d.2 in
+    let f = map_some (target_of s.0.0 d.0) (after_destination around (drop d.0.0 (drop s.0.0 bs))) t d.2 in
     let e : s.0.0 + d.0.0 + f.0.0 ≡ t.0 = ap (λ (q : ℕ × Target). q.0) f.2 in
     let l = dest_last deepest_nesting (drop s.0.0 bs) d.0 d.1 in
     let some = l.0 in (
@@ -351,11 +351,11 @@ target_last around bs t h =
       ],
     )
 
-behind_last_by : (t : Bool) (around : Context) (bs : List ℕ) (l : ℕ × List ℕ) (r : LinkReference)
+after_last_by : (t : Bool) (around : Context) (bs : List ℕ) (l : ℕ × List ℕ) (r : LinkReference)
     → (if t then option_map (reference_of (l.0 + 2) l.1) (target_at around (drop (l.0 + 1) bs)) else None) ≡ Some r → (cs : List ℕ)
     → bs ≡ drop 1 cs → (0 < r.size) × Plain cs (r.size - 1)
-behind_last_by false around bs l r h cs e = cc
-behind_last_by true around bs l r h cs e =
+after_last_by false around bs l r h cs e = cc
+after_last_by true around bs l r h cs e =
     let t = map_some (reference_of (l.0 + 2) l.1) (target_at around (drop (l.0 + 1) bs)) r h in
     let s : l.0 + 2 + t.0.0 ≡ r.size = ap (λ (q : LinkReference). q.size) t.2 in
     let i : 1 + (l.0 + 1) ≡ l.0 + 2 = omega arith in
@@ -364,12 +364,12 @@ behind_last_by true around bs l r h cs e =
     (omega arith, part_plain cs (l.0 + 2) t.0.0 r.size (sym s) (b.0, ap (λ xs. is_line_end (slice_index xs (t.0.0 - 1))) (sym d) ∙ b.1))
 
 reference_last_by : (t : Bool) (in_table : Bool) (around : Context) (bs : List ℕ) (r : LinkReference)
-    → (if t then option_and_then (reference_behind around (drop 1 bs)) (label_at (prefix_crossed true around) in_table (drop 1 bs)) else None) ≡ Some r
+    → (if t then option_and_then (reference_after around (drop 1 bs)) (label_at (prefix_crossed true around) in_table (drop 1 bs)) else None) ≡ Some r
     → (0 < r.size) × Plain bs (r.size - 1)
 reference_last_by false in_table around bs r h = cc
 reference_last_by true in_table around bs r h =
-    let l = and_some (reference_behind around (drop 1 bs)) (label_at (prefix_crossed true around) in_table (drop 1 bs)) r h in
-    behind_last_by (begins 58 (drop l.0.0 (drop 1 bs))) around (drop 1 bs) l.0 r l.2 bs refl
+    let l = and_some (reference_after around (drop 1 bs)) (label_at (prefix_crossed true around) in_table (drop 1 bs)) r h in
+    after_last_by (begins 58 (drop l.0.0 (drop 1 bs))) around (drop 1 bs) l.0 r l.2 bs refl
 
 -- A definition has a byte, and its last one is no line ending (CommonMark 4.7).
 pub reference_last : (in_table : Bool) (around : Context) (bs : List ℕ) (r : LinkReference) → reference_at in_table around bs ≡ Some r

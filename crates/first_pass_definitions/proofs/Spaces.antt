@@ -11,11 +11,11 @@ use Rattle.first_pass_lines.specs.Places.{line_rest, line_place, place_at, IsPla
 use Rattle.first_pass_lines.proofs.LineFacts.{line_len-eol}
 use Rattle.first_pass_lines.proofs.PlaceFacts.{line_is_place, white_keeps, line_end_boundary}
 use Rattle.first_pass_grammar.specs.Containers.{Context}
-use Rattle.first_pass_grammar.specs.Definitions.{crossed, prefix_crossed, space_beyond, space_behind, space_at}
+use Rattle.first_pass_grammar.specs.Definitions.{crossed, prefix_crossed, space_beyond, space_after, space_at}
 
 -- A character begins after white space, and after a line ending.
-pub white_behind : (text : List ℕ) (s : ℕ) → IsUtf8 text → IsCharBoundary text s → IsCharBoundary text (s + prefix_len is_white (drop s text))
-white_behind text s u b =
+pub white_past : (text : List ℕ) (s : ℕ) → IsUtf8 text → IsCharBoundary text s → IsCharBoundary text (s + prefix_len is_white (drop s text))
+white_past text s u b =
     let p = white_keeps text (line_place s (drop s text)) u (line_is_place text s b) in
     let e : s + (0 + prefix_len is_white (drop s text)) ≡ s + prefix_len is_white (drop s text) = omega arith in
     subst (IsCharBoundary text) e p.boundary
@@ -23,8 +23,8 @@ white_behind text s u b =
 past_end : (xs : List ℕ) (e : ℕ) → xs ≡ [] → eol_len xs ≡ Some e → e ≡ 0
 past_end xs e h k = let z : Some 0 ≡ Some e = ap eol_len (sym h) ∙ k in cc
 
-pub eol_behind : (text : List ℕ) (s e : ℕ) → IsUtf8 text → IsCharBoundary text s → eol_len (drop s text) ≡ Some e → IsCharBoundary text (s + e)
-eol_behind text s e u b h = elim (cases_lt s (length text)) [
+pub eol_after : (text : List ℕ) (s e : ℕ) → IsUtf8 text → IsCharBoundary text s → eol_len (drop s text) ≡ Some e → IsCharBoundary text (s + e)
+eol_after text s e u b h = elim (cases_lt s (length text)) [
   | inl some ↦ subst (λ k. IsCharBoundary text (s + k)) (line_len-eol (drop s text) e h) (line_end_boundary text s u b some)
   | inr none ↦ (let z = past_end (drop s text) e (drop_all s text none) h in let k : s ≡ s + e = omega arith in subst (IsCharBoundary text) k b)
 ]
@@ -33,14 +33,14 @@ eol_behind text s e u b h = elim (cases_lt s (length text)) [
 pub place_white : (text : List ℕ) (line n : ℕ) (r : Rest) → IsUtf8 text → IsPlaceOf text (place_at line r)
     → n ≡ prefix_len is_white (drop (line + r.taken) text) → IsCharBoundary text (line + r.taken + n)
 place_white text line n r u i h =
-    let b = white_behind text (line + r.taken) u i.boundary in subst (λ k. IsCharBoundary text (line + r.taken + k)) (sym h) b
+    let b = white_past text (line + r.taken) u i.boundary in subst (λ k. IsCharBoundary text (line + r.taken + k)) (sym h) b
 
 -- white space at an offset, up to an offset
 abbrev shifted : ℕ → Option (ℕ × ℕ) → Option (ℕ × ℕ)
 shifted s o = option_map (λ (x : ℕ × ℕ). (s + x.0, x.1)) o
 
 space_is : (around : Context) (bs : List ℕ) (n : ℕ) (o : Option ℕ) → prefix_len is_white bs ≡ n → eol_len (drop n bs) ≡ o
-    → space_at around bs ≡ space_behind around bs n o
+    → space_at around bs ≡ space_after around bs n o
 unfolding space_at
 space_is around bs n o e f = rw e (rw f refl)
 

@@ -16,15 +16,15 @@ use Rattle.first_pass_links.specs.Labels.{label_at}
 use Rattle.first_pass_entities.specs.Texts.{Borrows}
 use Rattle.first_pass_links.proofs.Destinations.{first_byte}
 use Rattle.first_pass_grammar.specs.Containers.{Context}
-use Rattle.first_pass_grammar.specs.Definitions.{prefix_crossed, space_at, title_at, alone_behind, title_beyond, title_behind, behind_destination}
-use Rattle.first_pass_grammar.specs.Definitions.{deepest_nesting, Target, target_of, target_from, target_at, LinkReference, reference_of, reference_behind}
+use Rattle.first_pass_grammar.specs.Definitions.{prefix_crossed, space_at, title_at, alone_after, title_beyond, title_after, after_destination}
+use Rattle.first_pass_grammar.specs.Definitions.{deepest_nesting, Target, target_of, target_from, target_at, LinkReference, reference_of, reference_after}
 use Rattle.first_pass_grammar.specs.Definitions.{reference_at}
 use Rattle.first_pass_definitions.specs.Reading.{IsReadText, IsReadTitle}
 use Rattle.first_pass_definitions.specs.Found.{IsUnescaped, HasTitle, IsDefinition, IsTarget, IsReference}
 
 -- results for the text after a destination
-abbrev pub IsTitleBehind : ℕ → Option (ℕ × List ℕ) → Option (ℕ × CowStr) → Type 0
-IsTitleBehind at o answer = MatchOption o (answer ≡ None) (λ title. IsSomeAnd answer (λ found. (found.0 ≡ at + title.0) × IsReadText title.1 found.1))
+abbrev pub IsTitleAfter : ℕ → Option (ℕ × List ℕ) → Option (ℕ × CowStr) → Type 0
+IsTitleAfter at o answer = MatchOption o (answer ≡ None) (λ title. IsSomeAnd answer (λ found. (found.0 ≡ at + title.0) × IsReadText title.1 found.1))
 
 abbrev pub IsFurther : ℕ → Option (ℕ × Option (List ℕ)) → Option (ℕ × Option CowStr) → Type 0
 IsFurther at o answer = MatchOption o (answer ≡ None) (λ further. IsSomeAnd answer (λ found. (found.0 ≡ at + further.0) × IsReadTitle further.1 found.1))
@@ -50,7 +50,7 @@ space_is start k at m n h = ap (λ (o : Option (ℕ × ℕ)). option_map_or (λ 
 
 read_by : (bs : List ℕ) (at n len : ℕ) (title : CowStr) (o : Option (ℕ × List ℕ)) → IsTitleRead o (read_to len title)
     → (list_any is_line_end (text_of title) ≡ false → Borrows (text_of title) title) → is_some (blank_len (drop (n + len) bs)) ≡ true
-    → IsTitleBehind at (option_and_then (alone_behind n bs) o) (Some (at + n + len, title))
+    → IsTitleAfter at (option_and_then (alone_after n bs) o) (Some (at + n + len, title))
 read_by bs at n len title None h borrows blank = absurd (no_title len title h)
 read_by bs at n len title (Some t) h borrows blank =
     let same : n + len ≡ n + t.0 = ap (λ k. n + k) h.0 in
@@ -65,50 +65,50 @@ none_at (suc m) start at there apart = grind (arith, nat_tests)
 space_read_by : (around : Context) (text : List ℕ) (at start k len : ℕ) (title : CowStr) (o : Option (ℕ × ℕ))
     → space_to start k ≡ option_map (λ s. (at + s.0, s.1)) o → (start ≡ at → ⊥) → IsTitleRead (title_at around (drop start text)) (read_to len title)
     → (list_any is_line_end (text_of title) ≡ false → Borrows (text_of title) title) → is_some (blank_len (drop (start + len) text)) ≡ true
-    → IsTitleBehind at (option_and_then (title_beyond around (drop at text)) o) (Some (start + len, title))
+    → IsTitleAfter at (option_and_then (title_beyond around (drop at text)) o) (Some (start + len, title))
 space_read_by around text at start k len title None is apart read borrows blank = absurd (no_space_to start k is)
 space_read_by around text at start k len title (Some s) is apart read borrows blank =
     let there : start ≡ at + s.0 = space_is start k at s.0 s.1 is in
     let some : (s.0 == 0) ≡ false = none_at s.0 start at there apart in
-    let behind : IsTitleRead (title_at around (drop s.0 (drop at text))) (read_to len title) =
+    let following : IsTitleRead (title_at around (drop s.0 (drop at text))) (read_to len title) =
     subst (λ bs. IsTitleRead (title_at around bs) (read_to len title)) (ap (λ n. drop n text) there ∙ sym (drop-drop s.0 at text)) read in
     let rest : is_some (blank_len (drop (s.0 + len) (drop at text))) ≡ true =
     subst (λ bs. is_some (blank_len bs) ≡ true) (ap (λ n. drop n text) (let e = there in omega arith) ∙ sym (drop-drop (s.0 + len) at text)) blank in
     let far : at + s.0 + len ≡ start + len = omega arith in
-    rw some (subst (λ e. IsTitleBehind at (option_and_then (alone_behind s.0 (drop at text)) (title_at around (drop s.0 (drop at text)))) (Some (e, title))) far
-    (read_by (drop at text) at s.0 len title (title_at around (drop s.0 (drop at text))) behind borrows rest))
+    rw some (subst (λ e. IsTitleAfter at (option_and_then (alone_after s.0 (drop at text)) (title_at around (drop s.0 (drop at text)))) (Some (e, title))) far
+    (read_by (drop at text) at s.0 len title (title_at around (drop s.0 (drop at text))) following borrows rest))
 
 -- the title after a destination and white space, with a blank rest of its line after it
 pub title_read : (around : Context) (text : List ℕ) (at start k len : ℕ) (title : CowStr)
     → space_to start k ≡ option_map (λ s. (at + s.0, s.1)) (space_at around (drop at text)) → (start ≡ at → ⊥)
     → IsTitleRead (title_at around (drop start text)) (read_to len title)
     → (list_any is_line_end (text_of title) ≡ false → Borrows (text_of title) title) → is_some (blank_len (drop (start + len) text)) ≡ true
-    → IsTitleBehind at (title_behind around (drop at text)) (Some (start + len, title))
+    → IsTitleAfter at (title_after around (drop at text)) (Some (start + len, title))
 title_read around text at start k len title is = space_read_by around text at start k len title (space_at around (drop at text)) is
 
-titled_by : (o : Option (ℕ × List ℕ)) (d : Option (ℕ × Option (List ℕ))) (at e : ℕ) (title : CowStr) → IsTitleBehind at o (Some (e, title))
+titled_by : (o : Option (ℕ × List ℕ)) (d : Option (ℕ × Option (List ℕ))) (at e : ℕ) (title : CowStr) → IsTitleAfter at o (Some (e, title))
     → IsFurther at (option_map_or (λ (t : ℕ × List ℕ). Some (t.0, Some t.1)) o d) (Some (e, Some title))
 titled_by None d at e title h = cc
 titled_by (Some t) d at e title h = h
 
-pub titled : (around : Context) (bs : List ℕ) (at e : ℕ) (title : CowStr) → IsTitleBehind at (title_behind around bs) (Some (e, title))
-    → IsFurther at (behind_destination around bs) (Some (e, Some title))
-unfolding behind_destination
-titled around bs at e title h = titled_by (title_behind around bs) _ at e title h
+pub titled : (around : Context) (bs : List ℕ) (at e : ℕ) (title : CowStr) → IsTitleAfter at (title_after around bs) (Some (e, title))
+    → IsFurther at (after_destination around bs) (Some (e, Some title))
+unfolding after_destination
+titled around bs at e title h = titled_by (title_after around bs) _ at e title h
 
-untitled_by : (o : Option (ℕ × List ℕ)) (at : ℕ) → IsTitleBehind at o None → o ≡ None
+untitled_by : (o : Option (ℕ × List ℕ)) (at : ℕ) → IsTitleAfter at o None → o ≡ None
 untitled_by None at h = refl
 untitled_by (Some t) at h = absurd h
 
-pub alone : (around : Context) (bs : List ℕ) (at : ℕ) → IsTitleBehind at (title_behind around bs) None → is_some (blank_len bs) ≡ true
-    → IsFurther at (behind_destination around bs) (Some (at, None))
-unfolding behind_destination
-alone around bs at h k = rw (untitled_by (title_behind around bs) at h) (rw k (omega arith, tt))
+pub alone : (around : Context) (bs : List ℕ) (at : ℕ) → IsTitleAfter at (title_after around bs) None → is_some (blank_len bs) ≡ true
+    → IsFurther at (after_destination around bs) (Some (at, None))
+unfolding after_destination
+alone around bs at h k = rw (untitled_by (title_after around bs) at h) (rw k (omega arith, tt))
 
-pub not_alone : (around : Context) (bs : List ℕ) (at : ℕ) → IsTitleBehind at (title_behind around bs) None → is_some (blank_len bs) ≡ false
-    → IsFurther at (behind_destination around bs) None
-unfolding behind_destination
-not_alone around bs at h k = rw (untitled_by (title_behind around bs) at h) (rw k refl)
+pub not_alone : (around : Context) (bs : List ℕ) (at : ℕ) → IsTitleAfter at (title_after around bs) None → is_some (blank_len bs) ≡ false
+    → IsFurther at (after_destination around bs) None
+unfolding after_destination
+not_alone around bs at h k = rw (untitled_by (title_after around bs) at h) (rw k refl)
 
 further_found : (o : Option (ℕ × Option (List ℕ))) (at e : ℕ) (title : Option CowStr) → IsFurther at o (Some (e, title))
     → (f : ℕ × Option (List ℕ)) × (o ≡ Some f) × (e ≡ at + f.0) × IsReadTitle f.1 title
@@ -163,21 +163,21 @@ no_dest around text start at lines h k =
     at_dest around text start at s.0 s.1 s.2
     ∙ ap (option_and_then (target_from around s.0.0 (drop at text))) (dest_none (destination_at deepest_nesting (drop at text)) k)
 
-behind_dest : (around : Context) (text : List ℕ) (start at n : ℕ) (s : ℕ × ℕ) (d : ℕ × List ℕ) → space_at around (drop start text) ≡ Some s
+after_dest : (around : Context) (text : List ℕ) (start at n : ℕ) (s : ℕ × ℕ) (d : ℕ × List ℕ) → space_at around (drop start text) ≡ Some s
     → at ≡ start + s.0 → destination_at deepest_nesting (drop at text) ≡ Some d → n ≡ d.0
-    → target_at around (drop start text) ≡ option_map (target_of s.0 d) (behind_destination around (drop (at + n) text))
-behind_dest around text start at n s d e h k l =
+    → target_at around (drop start text) ≡ option_map (target_of s.0 d) (after_destination around (drop (at + n) text))
+after_dest around text start at n s d e h k l =
     at_dest around text start at s e h ∙ ap (option_and_then (target_from around s.0 (drop at text))) k
-    ∙ ap (λ xs. option_map (target_of s.0 d) (behind_destination around xs)) (drop-drop d.0 at text ∙ ap (λ m. drop (at + m) text) (sym l))
+    ∙ ap (λ xs. option_map (target_of s.0 d) (after_destination around xs)) (drop-drop d.0 at text ∙ ap (λ m. drop (at + m) text) (sym l))
 
 pub no_further : (around : Context) (text : List ℕ) (start at lines n : ℕ) (b : Bor (List ℕ))
     → Some (at, lines) ≡ shifted start (space_at around (drop start text)) → IsDest (destination_at deepest_nesting (drop at text)) (Some (n, b))
-    → IsFurther (at + n) (behind_destination around (drop (at + n) text)) None → target_at around (drop start text) ≡ None
+    → IsFurther (at + n) (after_destination around (drop (at + n) text)) None → target_at around (drop start text) ≡ None
 no_further around text start at lines n b h k f =
     let s = space_found (space_at around (drop start text)) start at lines h in
     let d = dest_found (destination_at deepest_nesting (drop at text)) n b k in
-    behind_dest around text start at n s.0 d.0 s.1 s.2 d.1 d.2
-    ∙ ap (option_map (target_of s.0.0 d.0)) (further_none (behind_destination around (drop (at + n) text)) (at + n) f)
+    after_dest around text start at n s.0 d.0 s.1 s.2 d.1 d.2
+    ∙ ap (option_map (target_of s.0.0 d.0)) (further_none (after_destination around (drop (at + n) text)) (at + n) f)
 
 -- a target that is found
 pub record TargetFound (around : Context) (text : List ℕ) (start e : ℕ) (b : Bor (List ℕ)) (title : Option CowStr) : Type 0 where
@@ -191,18 +191,18 @@ pub record TargetFound (around : Context) (text : List ℕ) (start e : ℕ) (b :
 pub target_found : (around : Context) (text : List ℕ) (start at lines n e : ℕ) (b : Bor (List ℕ)) (title : Option CowStr)
     → Some (at, lines) ≡ shifted start (space_at around (drop start text))
     → IsDest (destination_at deepest_nesting (drop at text)) (Some (n, b))
-    → IsFurther (at + n) (behind_destination around (drop (at + n) text)) (Some (e, title)) → TargetFound around text start e b title
+    → IsFurther (at + n) (after_destination around (drop (at + n) text)) (Some (e, title)) → TargetFound around text start e b title
 target_found around text start at lines n e b title h k f =
     let s = space_found (space_at around (drop start text)) start at lines h in
     let d = dest_found (destination_at deepest_nesting (drop at text)) n b k in
-    let r = further_found (behind_destination around (drop (at + n) text)) (at + n) e title f in
+    let r = further_found (after_destination around (drop (at + n) text)) (at + n) e title f in
     let i = s.2 in
     let j = d.2 in
     let l = r.2 in
     record {
       size = s.0.0 + d.0.0 + r.0.0;
       target = record { dest = d.0.1; title = r.0.1 };
-      is = behind_dest around text start at n s.0 d.0 s.1 s.2 d.1 d.2 ∙ ap (option_map (target_of s.0.0 d.0)) r.1;
+      is = after_dest around text start at n s.0 d.0 s.1 s.2 d.1 d.2 ∙ ap (option_map (target_of s.0.0 d.0)) r.1;
       end_is = omega arith;
       dest_is = d.3;
       title_is = r.3;
@@ -233,11 +233,11 @@ unfolding reference_at
 no_bracket in_table around bs h = rw h refl
 
 at_label : (in_table : Bool) (around : Context) (text : List ℕ) (start : ℕ) → begins 91 (drop start text) ≡ true
-    → reference_at in_table around (drop start text) ≡ option_and_then (reference_behind around (drop (start + 1) text))
+    → reference_at in_table around (drop start text) ≡ option_and_then (reference_after around (drop (start + 1) text))
     (label_at (prefix_crossed true around) in_table (drop (start + 1) text))
 unfolding reference_at
 at_label in_table around text start h =
-    rw h (ap (λ xs. option_and_then (reference_behind around xs) (label_at (prefix_crossed true around) in_table xs)) (drop-drop 1 start text))
+    rw h (ap (λ xs. option_and_then (reference_after around xs) (label_at (prefix_crossed true around) in_table xs)) (drop-drop 1 start text))
 
 -- results for labels
 abbrev pub IsLabelAnswer : Option (ℕ × List ℕ) → Option (ℕ × CowStr) → Type 0
@@ -256,7 +256,7 @@ pub no_label : (in_table : Bool) (around : Context) (text : List ℕ) (start : �
     → IsLabelAnswer (label_at (prefix_crossed true around) in_table (drop (start + 1) text)) None
     → reference_at in_table around (drop start text) ≡ None
 no_label in_table around text start h k =
-    at_label in_table around text start h ∙ ap (option_and_then (reference_behind around (drop (start + 1) text)))
+    at_label in_table around text start h ∙ ap (option_and_then (reference_after around (drop (start + 1) text)))
     (label_none (label_at (prefix_crossed true around) in_table (drop (start + 1) text)) k)
 
 colon_by : (t : Bool) (in_table : Bool) (around : Context) (text : List ℕ) (start n : ℕ) (l : ℕ × List ℕ) → begins 91 (drop start text) ≡ true
@@ -268,7 +268,7 @@ colon_by t in_table around text start n l h k e f =
     let a : drop l.0 (drop (start + 1) text) ≡ drop (start + 1 + n) text = drop-drop l.0 (start + 1) text ∙ ap (λ m. drop (start + 1 + m) text) (sym e) in
     let i : start + 1 + (l.0 + 1) ≡ start + 1 + n + 1 = omega arith in
     let b : drop (l.0 + 1) (drop (start + 1) text) ≡ drop (start + 1 + n + 1) text = drop-drop (l.0 + 1) (start + 1) text ∙ ap (λ m. drop m text) i in
-    at_label in_table around text start h ∙ ap (option_and_then (reference_behind around (drop (start + 1) text))) k
+    at_label in_table around text start h ∙ ap (option_and_then (reference_after around (drop (start + 1) text))) k
     ∙ rw (ap (begins 58) a ∙ f) (rw b refl)
 
 pub no_colon : (in_table : Bool) (around : Context) (text : List ℕ) (start n : ℕ) (label : CowStr) → begins 91 (drop start text) ≡ true
@@ -319,5 +319,5 @@ is_reference in_table around text start n m label definition h k f t =
     (reference_by in_table start n m l.0 label definition (target_at around (drop (start + 1 + n + 1) text)) l.2 l.3 t)
 
 -- after an ASCII byte
-pub behind_byte : (byte : ℕ) (text : List ℕ) (at : ℕ) → byte < 128 → IsUtf8 text → begins byte (drop at text) ≡ true → IsCharBoundary text (at + 1)
-behind_byte byte text at low u h = let there = first_byte byte text at h in IsCharBoundary-after_ascii text at u there.0 (omega (arith, there.1, low))
+pub after_byte : (byte : ℕ) (text : List ℕ) (at : ℕ) → byte < 128 → IsUtf8 text → begins byte (drop at text) ≡ true → IsCharBoundary text (at + 1)
+after_byte byte text at low u h = let there = first_byte byte text at h in IsCharBoundary-after_ascii text at u there.0 (omega (arith, there.1, low))

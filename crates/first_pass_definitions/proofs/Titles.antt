@@ -21,7 +21,7 @@ use Rattle.std.proofs.lemmas.Str.{IsCharBoundary-after_ascii}
 use Rattle.first_pass_grammar.specs.Containers.{Context}
 use Rattle.first_pass_grammar.specs.Definitions.{with_line_feeds, ends_title, title_end, title_text, title_prefix, title_at}
 use Rattle.first_pass_definitions.specs.Reading.{ClosesTitle, stops_title, goes_on_at}
-use Rattle.first_pass_links.proofs.Labels.{joined_behind}
+use Rattle.first_pass_links.proofs.Labels.{joined_after}
 
 -- the bytes of a title from an offset on, each after its offset
 pub left_of : (List ℕ → Option ℕ) → ℕ → List ℕ → List (ℕ × ℕ)
@@ -34,35 +34,35 @@ title_of close cs =
     if begins close (drop n (bytes_of cs)) then Some (slice_index (offsets_of cs) n + 1, take n (bytes_of cs)) else None
 
 -- a title after these bytes
-abbrev pub behind_text : List ℕ → Option (ℕ × List ℕ) → Option (ℕ × List ℕ)
-behind_text w o = option_map (λ (t : ℕ × List ℕ). (t.0, w ++ t.1)) o
+abbrev pub after_text : List ℕ → Option (ℕ × List ℕ) → Option (ℕ × List ℕ)
+after_text w o = option_map (λ (t : ℕ × List ℕ). (t.0, w ++ t.1)) o
 
 pub whole_title : (prefix : List ℕ → Option ℕ) (close : ℕ) (bs : List ℕ) → title_of close (left_of prefix 0 bs) ≡ title_text prefix close bs
 unfolding title_of left_of title_text
 whole_title prefix close bs = refl
 
-behind_none : (w : List ℕ) (o : Option (ℕ × List ℕ)) → o ≡ None → behind_text w o ≡ None
-behind_none w o h = rw h refl
+past_none : (w : List ℕ) (o : Option (ℕ × List ℕ)) → o ≡ None → after_text w o ≡ None
+past_none w o h = rw h refl
 
-pub behind_nothing : (o : Option (ℕ × List ℕ)) → behind_text [] o ≡ o
-behind_nothing None = refl
-behind_nothing (Some t) = refl
+pub after_nothing : (o : Option (ℕ × List ℕ)) → after_text [] o ≡ o
+after_nothing None = refl
+after_nothing (Some t) = refl
 
-pub behind_behind : (v w : List ℕ) (o : Option (ℕ × List ℕ)) → behind_text v (behind_text w o) ≡ behind_text (v ++ w) o
-behind_behind v w None = refl
-behind_behind v w (Some t) = ap (λ bs. Some (t.0, bs)) (sym (append_assoc v w t.1))
+pub after_following : (v w : List ℕ) (o : Option (ℕ × List ℕ)) → after_text v (after_text w o) ≡ after_text (v ++ w) o
+after_following v w None = refl
+after_following v w (Some t) = ap (λ bs. Some (t.0, bs)) (sym (append_assoc v w t.1))
 
 -- byte by byte
 pub title-nil : (close : ℕ) → title_of close [] ≡ None
 unfolding title_of unescaped_upto
 title-nil close = refl
 
-some_by : (t : Bool) (x : ℕ × List ℕ) (b : List ℕ) → (if t then Some (x.0, b ++ x.1) else None) ≡ behind_text b (if t then Some x else None)
+some_by : (t : Bool) (x : ℕ × List ℕ) (b : List ℕ) → (if t then Some (x.0, b ++ x.1) else None) ≡ after_text b (if t then Some x else None)
 some_by true x b = refl
 some_by false x b = refl
 
 title-byte : (close o b : ℕ) (cs : List (ℕ × ℕ)) → begins_escape (b ∷ bytes_of cs) ≡ false → ends_title close b ≡ false
-    → title_of close ((o, b) ∷ cs) ≡ behind_text (b ∷ []) (title_of close cs)
+    → title_of close ((o, b) ∷ cs) ≡ after_text (b ∷ []) (title_of close cs)
 unfolding title_of
 title-byte close o b cs e f =
     let n : ℕ = unescaped_upto (ends_title close) 0 (bytes_of cs) in
@@ -70,7 +70,7 @@ title-byte close o b cs e f =
     rw u (some_by (begins close (drop n (bytes_of cs))) (slice_index (offsets_of cs) n + 1, take n (bytes_of cs)) (b ∷ []))
 
 title-escape : (close o b u p : ℕ) (cs : List (ℕ × ℕ)) → begins_escape (b ∷ p ∷ bytes_of cs) ≡ true
-    → title_of close ((o, b) ∷ (u, p) ∷ cs) ≡ behind_text (b ∷ p ∷ []) (title_of close cs)
+    → title_of close ((o, b) ∷ (u, p) ∷ cs) ≡ after_text (b ∷ p ∷ []) (title_of close cs)
 unfolding title_of
 title-escape close o b u p cs e =
     let n : ℕ = unescaped_upto (ends_title close) 0 (bytes_of cs) in
@@ -179,11 +179,11 @@ line_upto close bs = unescaped_upto (stops_title close) 0 bs
 
 abbrev AsItStands : (List ℕ → Option ℕ) → ℕ → ℕ → List ℕ → Type 0
 AsItStands prefix close at bs =
-    title_of close (left_of prefix at bs) ≡ behind_text (take (line_upto close bs) bs) (title_of close
+    title_of close (left_of prefix at bs) ≡ after_text (take (line_upto close bs) bs) (title_of close
     (left_of prefix (at + line_upto close bs) (drop (line_upto close bs) bs)))
 
 stands_stopped : (prefix : List ℕ → Option ℕ) (close at : ℕ) (bs : List ℕ) → line_upto close bs ≡ 0 → AsItStands prefix close at bs
-stands_stopped prefix close at bs h = let e : at + 0 ≡ at = omega arith in rw h (rw e (sym (behind_nothing (title_of close (left_of prefix at bs)))))
+stands_stopped prefix close at bs h = let e : at + 0 ≡ at = omega arith in rw h (rw e (sym (after_nothing (title_of close (left_of prefix at bs)))))
 
 not_stopped : (close b : ℕ) → stops_title close b ≡ false → (is_line_end b ≡ false) × (ends_title close b ≡ false)
 not_stopped close b h = or_parts (is_line_end b) (ends_title close b) h
@@ -198,8 +198,8 @@ stands_byte prefix close at b bs e s f =
     rw k (rw o (
     ap (title_of close) (left-byte prefix at b bs p.0)
     ∙ title-byte close at b (left_of prefix (at + 1) bs) (same_escape prefix (at + 1) b bs ∙ e) p.1
-    ∙ ap (behind_text (b ∷ [])) f
-    ∙ behind_behind (b ∷ []) (take n bs) (title_of close (left_of prefix (at + 1 + n) (drop n bs)))))
+    ∙ ap (after_text (b ∷ [])) f
+    ∙ after_following (b ∷ []) (take n bs) (title_of close (left_of prefix (at + 1 + n) (drop n bs)))))
 
 escape_parts : (b p : ℕ) (bs : List ℕ) → begins_escape (b ∷ p ∷ bs) ≡ true → (is_line_end b ≡ false) × (is_line_end p ≡ false)
 escape_parts b p bs e = (grind (arith, nat_tests, e), grind (arith, nat_tests, e))
@@ -214,8 +214,8 @@ stands_escape prefix close at b p bs e f =
     rw k (rw o (
     ap (title_of close) (left-byte prefix at b (p ∷ bs) q.0 ∙ ap (λ cs. (at, b) ∷ cs) (left-byte prefix (at + 1) p bs q.1))
     ∙ title-escape close at b (at + 1) p (left_of prefix (at + 1 + 1) bs) e
-    ∙ ap (behind_text (b ∷ p ∷ [])) f
-    ∙ behind_behind (b ∷ p ∷ []) (take n bs) (title_of close (left_of prefix (at + 1 + 1 + n) (drop n bs)))))
+    ∙ ap (after_text (b ∷ p ∷ [])) f
+    ∙ after_following (b ∷ p ∷ []) (take n bs) (title_of close (left_of prefix (at + 1 + 1 + n) (drop n bs)))))
 
 stands_by : (s e : Bool) (prefix : List ℕ → Option ℕ) (close at b p : ℕ) (bs : List ℕ) → ClosesTitle close → stops_title close b ≡ s
     → begins_escape (b ∷ p ∷ bs) ≡ e → AsItStands prefix close (at + 1) (p ∷ bs) → AsItStands prefix close (at + 1 + 1) bs
@@ -259,28 +259,28 @@ no_feed h at (b ∷ bs) g = no_feed_by (ends_line b bs) (h bs) h at b bs refl re
 fed_10 : (prefix : List ℕ → Option ℕ) (at n : ℕ) (bs : List ℕ) → prefix bs ≡ Some n
     → left_of prefix at (10 ∷ bs) ≡ (at, 10) ∷ left_of prefix (at + 1 + n) (drop n bs)
 unfolding left_of joined with_line_feeds
-fed_10 prefix at n bs f = rw f (ap (λ cs. (at, 10) ∷ with_line_feeds cs) (joined_behind prefix (at + 1) n bs))
+fed_10 prefix at n bs f = rw f (ap (λ cs. (at, 10) ∷ with_line_feeds cs) (joined_after prefix (at + 1) n bs))
 
 fed_13 : (prefix : List ℕ → Option ℕ) (at n : ℕ) (bs : List ℕ) → begins 10 bs ≡ false → prefix bs ≡ Some n → begins 10 (drop n bs) ≡ false
     → left_of prefix at (13 ∷ bs) ≡ (at, 10) ∷ left_of prefix (at + 1 + n) (drop n bs)
 unfolding left_of joined with_line_feeds
 fed_13 prefix at n bs h f g =
-    rw h (rw f (rw (joined_behind prefix (at + 1) n bs) (rw (no_feed prefix (at + 1 + n) (drop n bs) g) refl)))
+    rw h (rw f (rw (joined_after prefix (at + 1) n bs) (rw (no_feed prefix (at + 1 + n) (drop n bs) g) refl)))
 
 fed_both : (prefix : List ℕ → Option ℕ) (at n : ℕ) (bs : List ℕ) → prefix bs ≡ Some n
     → left_of prefix at (13 ∷ 10 ∷ bs) ≡ (at + 1, 10) ∷ left_of prefix (at + 2 + n) (drop n bs)
 unfolding left_of joined with_line_feeds
 fed_both prefix at n bs f =
     let e : at + 1 + 1 ≡ at + 2 = omega arith in
-    rw f (rw e (ap (λ cs. (at + 1, 10) ∷ with_line_feeds cs) (joined_behind prefix (at + 2) n bs)))
+    rw f (rw e (ap (λ cs. (at + 1, 10) ∷ with_line_feeds cs) (joined_after prefix (at + 2) n bs)))
 
-fed_title : (close o : ℕ) (cs ds : List (ℕ × ℕ)) → ClosesTitle close → cs ≡ (o, 10) ∷ ds → title_of close cs ≡ behind_text (10 ∷ []) (title_of close ds)
+fed_title : (close o : ℕ) (cs ds : List (ℕ × ℕ)) → ClosesTitle close → cs ≡ (o, 10) ∷ ds → title_of close cs ≡ after_text (10 ∷ []) (title_of close ds)
 fed_title close o cs ds c e = ap (title_of close) e ∙ title-byte close o 10 ds refl (feed-plain close c)
 
 abbrev GoesOn : (List ℕ → Option ℕ) → ℕ → ℕ → ℕ → List ℕ → ℕ → Type 0
 GoesOn prefix close at n bs e =
     prefix (drop e bs) ≡ Some n → begins 10 (drop n (drop e bs)) ≡ false
-    → title_of close (left_of prefix at bs) ≡ behind_text (10 ∷ []) (title_of close (left_of prefix (at + e + n) (drop n (drop e bs))))
+    → title_of close (left_of prefix at bs) ≡ after_text (10 ∷ []) (title_of close (left_of prefix (at + e + n) (drop n (drop e bs))))
 
 goes_on_by : (t u v : Bool) (prefix : List ℕ → Option ℕ) (close at n e b : ℕ) (bs : List ℕ) → ClosesTitle close → (b == 10) ≡ t → (b == 13) ≡ u
     → begins 10 bs ≡ v
@@ -338,7 +338,7 @@ stops_by false true true prefix close at e b (x ∷ bs) c h k l f =
     let y : x ≡ 10 = eqb-true x 10 l in
     let i : 2 ≡ e = cc in
     subst (StopsThere prefix close at (b ∷ x ∷ bs)) i (λ p. rw d (rw y (
-    fed_title close at _ [] c (stopped_both prefix at bs p) ∙ behind_none (10 ∷ []) (title_of close []) (title-nil close))))
+    fed_title close at _ [] c (stopped_both prefix at bs p) ∙ past_none (10 ∷ []) (title_of close []) (title-nil close))))
 stops_by false false v prefix close at e b bs c h k l f = cc
 
 stops_there : (prefix : List ℕ → Option ℕ) (close at e : ℕ) (bs : List ℕ) → ClosesTitle close → eol_len bs ≡ Some e → StopsThere prefix close at bs e
@@ -441,26 +441,26 @@ no_break prefix close from at text c is g k =
 
 some_by_break : (o q : Option ℕ) (prefix : List ℕ → Option ℕ) (close at next e : ℕ) (text : List ℕ) → ClosesTitle close → 0 < length (drop at text)
     → eol_len (drop at text) ≡ Some e → prefix (drop (at + e) text) ≡ q → option_map (λ n. at + e + n) q ≡ Some next → begins 10 (drop next text) ≡ false
-    → title_of close (left_of prefix at (drop at text)) ≡ behind_text (10 ∷ []) (title_of close (left_of prefix next (drop next text)))
+    → title_of close (left_of prefix at (drop at text)) ≡ after_text (10 ∷ []) (title_of close (left_of prefix next (drop next text)))
 some_by_break o None prefix close at next e text c l h p k g = cc
 some_by_break o (Some n) prefix close at next e text c l h p k g =
     let i : at + e + n ≡ next = cc in
     let d : drop n (drop e (drop at text)) ≡ drop (at + e + n) text = ap (drop n) (drop-drop e at text) ∙ drop-drop n (at + e) text in
     let a = goes_on prefix close at n e (drop at text) c h l (ap prefix (drop-drop e at text) ∙ p)
     (ap (begins 10) d ∙ ap (λ k. begins 10 (drop k text)) i ∙ g) in
-    a ∙ ap (λ xs. behind_text (10 ∷ []) (title_of close (left_of prefix (at + e + n) xs))) d
-    ∙ ap (λ k. behind_text (10 ∷ []) (title_of close (left_of prefix k (drop k text)))) i
+    a ∙ ap (λ xs. after_text (10 ∷ []) (title_of close (left_of prefix (at + e + n) xs))) d
+    ∙ ap (λ k. after_text (10 ∷ []) (title_of close (left_of prefix k (drop k text)))) i
 
 some_break_by : (o : Option ℕ) (prefix : List ℕ → Option ℕ) (close at next : ℕ) (text : List ℕ) → ClosesTitle close → 0 < length (drop at text)
     → eol_len (drop at text) ≡ o
     → option_and_then (λ e. option_map (λ n. at + e + n) (prefix (drop (at + e) text))) o ≡ Some next → begins 10 (drop next text) ≡ false
-    → title_of close (left_of prefix at (drop at text)) ≡ behind_text (10 ∷ []) (title_of close (left_of prefix next (drop next text)))
+    → title_of close (left_of prefix at (drop at text)) ≡ after_text (10 ∷ []) (title_of close (left_of prefix next (drop next text)))
 some_break_by None prefix close at next text c l h k g = cc
 some_break_by (Some e) prefix close at next text c l h k g = some_by_break (Some e) (prefix (drop (at + e) text)) prefix close at next e text c l h refl k g
 
 pub some_break : (prefix : List ℕ → Option ℕ) (close at next : ℕ) (text : List ℕ) → ClosesTitle close → at < length text
     → Some next ≡ goes_on_at prefix text at → begins 10 (drop next text) ≡ false
-    → title_of close (left_of prefix at (drop at text)) ≡ behind_text (10 ∷ []) (title_of close (left_of prefix next (drop next text)))
+    → title_of close (left_of prefix at (drop at text)) ≡ after_text (10 ∷ []) (title_of close (left_of prefix next (drop next text)))
 some_break prefix close at next text c l k g =
     let d = length-drop at text in
     some_break_by (eol_len (drop at text)) prefix close at next text c (omega arith) refl (sym k) g
@@ -468,14 +468,14 @@ some_break prefix close at next text c l k g =
 -- the line from one offset up to another
 pub line_is : (prefix : List ℕ → Option ℕ) (close from at : ℕ) (text : List ℕ) → ClosesTitle close
     → at ≡ from + unescaped_upto (stops_title close) 0 (drop from text)
-    → title_of close (left_of prefix from (drop from text)) ≡ behind_text (part text from at) (title_of close (left_of prefix at (drop at text)))
+    → title_of close (left_of prefix from (drop from text)) ≡ after_text (part text from at) (title_of close (left_of prefix at (drop at text)))
 line_is prefix close from at text c is =
     let k : ℕ = line_upto close (drop from text) in
     let n : at - from ≡ k = omega arith in
     as_it_stands prefix close from (drop from text) c
-    ∙ ap (λ xs. behind_text (take k (drop from text)) (title_of close (left_of prefix (from + k) xs))) (drop-drop k from text)
-    ∙ ap (λ m. behind_text (take k (drop from text)) (title_of close (left_of prefix m (drop m text)))) (sym is)
-    ∙ ap (λ m. behind_text (take m (drop from text)) (title_of close (left_of prefix at (drop at text)))) (sym n)
+    ∙ ap (λ xs. after_text (take k (drop from text)) (title_of close (left_of prefix (from + k) xs))) (drop-drop k from text)
+    ∙ ap (λ m. after_text (take k (drop from text)) (title_of close (left_of prefix m (drop m text)))) (sym is)
+    ∙ ap (λ m. after_text (take m (drop from text)) (title_of close (left_of prefix at (drop at text)))) (sym n)
 
 -- A line of a title stops at a character boundary.
 low_39 : (b : ℕ) → stops_title 39 b ≡ true → b < 128
@@ -506,32 +506,32 @@ stop_place close from at text c is l =
 
 -- the title that a line ends
 pub title_found : (prefix : List ℕ → Option ℕ) (close from at : ℕ) (w text : List ℕ) → ClosesTitle close
-    → behind_text w (title_of close (left_of prefix from (drop from text))) ≡ title_text prefix close text
+    → after_text w (title_of close (left_of prefix from (drop from text))) ≡ title_text prefix close text
     → at ≡ from + unescaped_upto (stops_title close) 0 (drop from text) → begins close (drop at text) ≡ true
     → title_text prefix close text ≡ Some (at + 1, w ++ part text from at)
 title_found prefix close from at w text c so is g =
-    sym so ∙ ap (behind_text w) (line_is prefix close from at text c is ∙ ap (behind_text (part text from at)) (ends_there prefix close at (drop at text) c g))
+    sym so ∙ ap (after_text w) (line_is prefix close from at text c is ∙ ap (after_text (part text from at)) (ends_there prefix close at (drop at text) c g))
     ∙ ap (λ xs. Some (at + 1, w ++ xs)) (append-nil (part text from at))
 
 pub no_title : (prefix : List ℕ → Option ℕ) (close from at : ℕ) (w text : List ℕ) → ClosesTitle close
-    → behind_text w (title_of close (left_of prefix from (drop from text))) ≡ title_text prefix close text
+    → after_text w (title_of close (left_of prefix from (drop from text))) ≡ title_text prefix close text
     → at ≡ from + unescaped_upto (stops_title close) 0 (drop from text) → begins close (drop at text) ≡ false → None ≡ goes_on_at prefix text at
     → title_text prefix close text ≡ None
 no_title prefix close from at w text c so is g k =
-    sym so ∙ ap (behind_text w) (line_is prefix close from at text c is ∙ ap (behind_text (part text from at)) (no_break prefix close from at text c is g k))
+    sym so ∙ ap (after_text w) (line_is prefix close from at text c is ∙ ap (after_text (part text from at)) (no_break prefix close from at text c is g k))
 
 -- one more line
 pub title_further : (prefix : List ℕ → Option ℕ) (close from at next : ℕ) (v w text : List ℕ) → ClosesTitle close
-    → behind_text w (title_of close (left_of prefix from (drop from text))) ≡ title_text prefix close text
+    → after_text w (title_of close (left_of prefix from (drop from text))) ≡ title_text prefix close text
     → at ≡ from + unescaped_upto (stops_title close) 0 (drop from text) → at < length text → Some next ≡ goes_on_at prefix text at
     → begins 10 (drop next text) ≡ false → v ≡ (w ++ part text from at) ++ 10 ∷ []
-    → behind_text v (title_of close (left_of prefix next (drop next text))) ≡ title_text prefix close text
+    → after_text v (title_of close (left_of prefix next (drop next text))) ≡ title_text prefix close text
 title_further prefix close from at next v w text c so is l k g e =
     let x = title_of close (left_of prefix next (drop next text)) in
-    ap (λ ys. behind_text ys x) (e ∙ append_assoc w (part text from at) (10 ∷ []))
-    ∙ sym (behind_behind w (part text from at ++ 10 ∷ []) x)
-    ∙ ap (behind_text w) (sym (behind_behind (part text from at) (10 ∷ []) x) ∙ sym (line_is prefix close from at text c is ∙ ap
-    (behind_text (part text from at)) (some_break prefix close at next text c l k g)))
+    ap (λ ys. after_text ys x) (e ∙ append_assoc w (part text from at) (10 ∷ []))
+    ∙ sym (after_following w (part text from at ++ 10 ∷ []) x)
+    ∙ ap (after_text w) (sym (after_following (part text from at) (10 ∷ []) x) ∙ sym (line_is prefix close from at text c is ∙ ap
+    (after_text (part text from at)) (some_break prefix close at next text c l k g)))
     ∙ so
 
 pub any_last : (w : List ℕ) → list_any is_line_end (w ++ 10 ∷ []) ≡ true
@@ -562,9 +562,9 @@ begin_by false true v b close h k l f = let e = eqb-true b 34 k in omega arith
 begin_by false false true b close h k l f = let e = eqb-true b 40 l in omega arith
 begin_by false false false b close h k l f = let z : title_end b ≡ None = rw h (rw k (rw l refl)) in let y : None ≡ Some close = sym z ∙ f in cc
 
-pub behind_first : (bs : List ℕ) (close : ℕ) → IsUtf8 bs → Some close ≡ option_and_then title_end (slice_get bs 0) → IsCharBoundary bs 1
-behind_first [] close u h = cc
-behind_first (b ∷ bs) close u h = IsCharBoundary-after_ascii (b ∷ bs) 0 u (omega arith) (begin_by (b == 39) (b == 34) (b == 40) b close refl refl refl (sym h))
+pub after_first : (bs : List ℕ) (close : ℕ) → IsUtf8 bs → Some close ≡ option_and_then title_end (slice_get bs 0) → IsCharBoundary bs 1
+after_first [] close u h = cc
+after_first (b ∷ bs) close u h = IsCharBoundary-after_ascii (b ∷ bs) 0 u (omega arith) (begin_by (b == 39) (b == 34) (b == 40) b close refl refl refl (sym h))
 
 -- a result for the text after a title's first byte, as one for the title
 abbrev IsAnswer : Option (ℕ × List ℕ) → Option (ℕ × CowStr) → Type 0

@@ -53,8 +53,8 @@ abbrev pub title_asks : Context → List ℕ → Bool
 title_asks around bs = option_map_or (λ close. text_asks around close (drop 1 bs)) (option_and_then title_end (slice_get bs 0)) false
 
 -- the white space after a destination needs memory, or the title after that white space does (CommonMark 4.7)
-abbrev pub behind_asks : Context → List ℕ → Bool
-behind_asks around bs =
+abbrev pub after_asks : Context → List ℕ → Bool
+after_asks around bs =
     space_asks around bs || option_map_or (λ (s : ℕ × ℕ). not (s.0 == 0) && title_asks around (drop s.0 bs)) (space_at around bs) false
 
 -- reading changes the text: it has an escape or a reference (CommonMark 2.4, 2.5)
@@ -67,22 +67,22 @@ PartsAsk in_table target =
     IsEscaped in_table target.dest ⊎ IsSomeAnd target.title (λ title. (list_any is_line_end title ≡ true) ⊎ IsEscaped in_table title)
 
 -- What follows a destination needs memory; the destination is after the white space of a target (CommonMark 4.7).
-pub record BehindAsks (around : Context) (bs : List ℕ) : Type 0 where
+pub record AfterAsks (around : Context) (bs : List ℕ) : Type 0 where
   pub space : ℕ × ℕ
   pub space_is : space_at around bs ≡ Some space
   pub dest : ℕ × List ℕ
   pub dest_is : destination_at deepest_nesting (drop space.0 bs) ≡ Some dest
-  pub asks : behind_asks around (drop (space.0 + dest.0) bs) ≡ true
+  pub asks : after_asks around (drop (space.0 + dest.0) bs) ≡ true
 
 -- a target needs memory: for its white space, for what follows its destination, or, if the target is whole, for its
 -- parts (CommonMark 4.7)
 abbrev pub TargetAsks : Bool → Context → List ℕ → Type 0
 TargetAsks in_table around bs =
-    (space_asks around bs ≡ true) ⊎ BehindAsks around bs ⊎ IsSomeAnd (target_at around bs) (λ target. PartsAsk in_table target.1)
+    (space_asks around bs ≡ true) ⊎ AfterAsks around bs ⊎ IsSomeAnd (target_at around bs) (λ target. PartsAsk in_table target.1)
 
 -- a label and a colon are here, and the target after them needs memory (CommonMark 4.7)
-abbrev pub BehindLabelAsks : Bool → Context → List ℕ → Type 0
-BehindLabelAsks in_table around bs =
+abbrev pub AfterLabelAsks : Bool → Context → List ℕ → Type 0
+AfterLabelAsks in_table around bs =
     (label : ℕ × List ℕ) × (label_at (prefix_crossed true around) in_table bs ≡ Some label) × (begins colon (drop label.0 bs) ≡ true)
     × TargetAsks in_table around (drop (label.0 + 1) bs)
 
@@ -91,4 +91,4 @@ BehindLabelAsks in_table around bs =
 abbrev pub ReferenceAsks : Bool → Context → List ℕ → Type 0
 ReferenceAsks in_table around bs =
     (begins left_bracket bs ≡ true)
-    × (LabelAsks around in_table (drop 1 bs) ⊎ BehindLabelAsks in_table around (drop 1 bs) ⊎ (is_some (reference_at in_table around bs) ≡ true))
+    × (LabelAsks around in_table (drop 1 bs) ⊎ AfterLabelAsks in_table around (drop 1 bs) ⊎ (is_some (reference_at in_table around bs) ≡ true))

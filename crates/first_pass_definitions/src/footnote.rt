@@ -49,7 +49,7 @@ pub fn scan_footnote<'a>(
     scan_footnote_head(
         source.alloc,
         &source.text[start..],
-        |behind: &[u8]| scan_footnote_prefix(source, tree, behind),
+        |following: &[u8]| scan_footnote_prefix(source, tree, following),
         in_table,
     )
 }

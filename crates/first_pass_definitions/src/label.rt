@@ -51,7 +51,7 @@ pub fn parse_refdef_label<'a>(
     scan_link_label_rest(
         source.alloc,
         &source.text[start..],
-        |behind: &[u8]| scan_label_prefix(source, tree, behind),
+        |following: &[u8]| scan_label_prefix(source, tree, following),
         in_table,
     )
 }

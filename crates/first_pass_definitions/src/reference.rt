@@ -50,11 +50,11 @@ pub fn parse_refdef_total<'a>(
     if !begins(b'[', rest_of(source.text.as_bytes(), start)) {
         return Ok(None);
     }
-    parse_behind_bracket(source, tree, start)
+    parse_after_bracket(source, tree, start)
 }
 
 // The definition whose `[` stands at an offset.
-fn parse_behind_bracket<'a>(
+fn parse_after_bracket<'a>(
     source: &Source<'a>,
     tree: &Tree<Item>,
     start: usize,

@@ -44,8 +44,8 @@ pub fn scan_refdef_space(
     let Some(rest) = scan_line_crossed(source, tree, next, false)? else {
         return Ok(None);
     };
-    let behind = next + rest.bytes_scanned();
-    let at = behind + scan_whitespace_no_nl(rest_of(bytes, behind));
+    let following = next + rest.bytes_scanned();
+    let at = following + scan_whitespace_no_nl(rest_of(bytes, following));
     if scan_eol(rest_of(bytes, at)).is_some() {
         return Ok(None);
     }

@@ -4,13 +4,13 @@ ghost use Rattle.std.specs.Prelude.{◌≡◌, ℕ, ◌+◌, ◌≤◌, List, Op
 ghost use Rattle.std.specs.Box.{boxed_str_bytes};
 ghost use Rattle.first_pass_items.specs.CowText.{text_of};
 ghost use Rattle.first_pass_tree.specs.Forest.{in_table};
-ghost use Rattle.first_pass_grammar.specs.Definitions.{target_at, behind_destination, title_behind};
+ghost use Rattle.first_pass_grammar.specs.Definitions.{target_at, after_destination, title_after};
 ghost use Rattle.first_pass_links.specs.Escapes.{unescaped};
 ghost use Rattle.first_pass_open.specs.Path.{context_of};
 ghost use Rattle.first_pass_definitions.specs.Found.{HasTitle, IsTarget};
 ghost use Rattle.std.specs.List.{list_any};
 ghost use Rattle.first_pass_lines.specs.Lines.{is_line_end};
-ghost use Rattle.first_pass_definitions.specs.Memory.{IsEscaped, TargetAsks, behind_asks};
+ghost use Rattle.first_pass_definitions.specs.Memory.{IsEscaped, TargetAsks, after_asks};
 ghost use Rattle.first_pass_definitions.specs.Reading.{IsReadText, IsReadTitle};
 
 use crate::space::scan_refdef_space;
@@ -63,7 +63,7 @@ pub fn scan_refdef<'a>(
         return Ok(None);
     };
     let dest_end = dest_start + dest_len;
-    let Some((end, title)) = scan_behind_destination(source, tree, dest_end)? else {
+    let Some((end, title)) = scan_after_destination(source, tree, dest_end)? else {
         return Ok(None);
     };
     let in_table = tree.is_in_table();
@@ -76,22 +76,22 @@ pub fn scan_refdef<'a>(
 }
 
 // What ends a definition after its destination, at the offset `at`: the offset at which it ends, and its title.
-fn scan_behind_destination<'a>(
+fn scan_after_destination<'a>(
     source: &Source<'a>,
     tree: &Tree<Item>,
     at: usize,
 ) -> Result<Option<(usize, Option<CowStr<'a>>)>, AllocError>
     requires { IsCharBoundary source.now.text.now at }
     ensures value { IfOk result (λ answer. MatchOption
-        (behind_destination (context_of source.now.options tree.now) (drop at source.now.text.now))
+        (after_destination (context_of source.now.options tree.now) (drop at source.now.text.now))
         (answer ≡ None)
         (λ further. IsSomeAnd answer (λ found. (found.0 ≡ at + further.0) × IsReadTitle further.1 found.1))) }
     ensures fits { IfOk result (λ answer. IfSome answer (λ found.
         (at ≤ found.0) × IsCharBoundary source.now.text.now found.0)) }
-    ensures err { OnErr result (behind_asks (context_of source.now.options tree.now)
+    ensures err { OnErr result (after_asks (context_of source.now.options tree.now)
         (drop at source.now.text.now) ≡ true) }
 {
-    if let Some((end, title)) = scan_title_behind(source, tree, at)? {
+    if let Some((end, title)) = scan_title_after(source, tree, at)? {
         return Ok(Some((end, Some(title))));
     }
     if scan_blank_line(rest_of(source.text.as_bytes(), at)).is_some() {
@@ -102,19 +102,19 @@ fn scan_behind_destination<'a>(
 
 // The title after a destination that ends at the offset `at`, which white space parts from it and after which the
 // rest of its line is blank: the offset after it, and its text.
-fn scan_title_behind<'a>(
+fn scan_title_after<'a>(
     source: &Source<'a>,
     tree: &Tree<Item>,
     at: usize,
 ) -> Result<Option<(usize, CowStr<'a>)>, AllocError>
     requires { IsCharBoundary source.now.text.now at }
     ensures value { IfOk result (λ answer. MatchOption
-        (title_behind (context_of source.now.options tree.now) (drop at source.now.text.now))
+        (title_after (context_of source.now.options tree.now) (drop at source.now.text.now))
         (answer ≡ None)
         (λ title. IsSomeAnd answer (λ found. (found.0 ≡ at + title.0) × IsReadText title.1 found.1))) }
     ensures fits { IfOk result (λ answer. IfSome answer (λ found.
         (at ≤ found.0) × IsCharBoundary source.now.text.now found.0)) }
-    ensures err { OnErr result (behind_asks (context_of source.now.options tree.now)
+    ensures err { OnErr result (after_asks (context_of source.now.options tree.now)
         (drop at source.now.text.now) ≡ true) }
 {
     source.is_short();

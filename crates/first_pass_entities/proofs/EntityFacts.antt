@@ -13,7 +13,7 @@ use Rattle.std.proofs.lemmas.Option.{some_pair_parts}
 use Rattle.std.proofs.lemmas.List.{get_or-drop}
 use Rattle.std.proofs.lemmas.List.Folds.{length-prefix_len}
 use Rattle.first_pass_lines.specs.Lines.{begins}
-use Rattle.first_pass_entities.specs.Entities.{referred, behind, number_at, numeric_at, named_in_xml, named_sign, named_punctuation, named, name_at}
+use Rattle.first_pass_entities.specs.Entities.{referred, following, number_at, numeric_at, named_in_xml, named_sign, named_punctuation, named, name_at}
 use Rattle.first_pass_entities.specs.Entities.{entity_at}
 
 -- a byte other than a backslash
@@ -193,9 +193,9 @@ unfolding name_at
 name_facts bs n c e = name_by _ bs n c _ (named_facts _ c) refl e
 
 -- a reference after k bytes: its own length is k less
-pub behind_some : (k n c : ℕ) (o : Option (ℕ × ℕ)) → behind k o ≡ Some (n, c) → (m : ℕ) × (o ≡ Some (m, c)) × (n ≡ k + m)
-behind_some k n c None e = cc
-behind_some k n c (Some r) e = let parts = some_pair_parts (k + r.0) n r.1 c e in (r.0, ap (λ x. Some (both r.0 x)) parts.1, sym parts.0)
+pub after_some : (k n c : ℕ) (o : Option (ℕ × ℕ)) → following k o ≡ Some (n, c) → (m : ℕ) × (o ≡ Some (m, c)) × (n ≡ k + m)
+after_some k n c None e = cc
+after_some k n c (Some r) e = let parts = some_pair_parts (k + r.0) n r.1 c e in (r.0, ap (λ x. Some (both r.0 x)) parts.1, sym parts.0)
 
 above : (n l : ℕ) → 2 ≤ n → l ≤ 4 → (n ≡ 2 → l ≤ 3) → (2 < n) ⊎ (n ≤ 2) → l < 2 + n
 above n l some four short (inl more) = omega arith
@@ -205,14 +205,14 @@ numeric_by : (t u : Bool) (bs : List ℕ) (n c : ℕ)
     → begins 120 bs ≡ t → begins 88 bs ≡ u → numeric_at bs ≡ Some (n, c) → EndsReference bs n × (len_utf8 c < 2 + n)
 unfolding numeric_at
 numeric_by true u bs n c h h' e =
-    let b = behind_some 1 n c _ (rw h at e) in
+    let b = after_some 1 n c _ (rw h at e) in
     let f = number_facts is_ascii_hexdigit refl 16 6 (drop 1 bs) b.0 c b.1 in
     let some = f.some in
     let four = at_most_four c in
     let m = b.2 in
     (subst (EndsReference bs) (sym m) (one_more 0 120 b.0 bs h refl f.ends), omega arith)
 numeric_by false true bs n c h h' e =
-    let b = behind_some 1 n c _ (rw (h, h') at e) in
+    let b = after_some 1 n c _ (rw (h, h') at e) in
     let f = number_facts is_ascii_hexdigit refl 16 6 (drop 1 bs) b.0 c b.1 in
     let some = f.some in
     let four = at_most_four c in
@@ -225,8 +225,8 @@ numeric_by false false bs n c h h' e =
 entity_by : (t u : Bool) (bs : List ℕ) (n c : ℕ) → begins 38 bs ≡ t → begins 35 (drop 1 bs) ≡ u → entity_at bs ≡ Some (n, c) → IsReference bs n c
 unfolding entity_at
 entity_by true true bs n c h h' e =
-    let a = behind_some 1 n c _ (rw (h, h') at e) in
-    let b = behind_some 1 a.0 c _ a.1 in
+    let a = after_some 1 n c _ (rw (h, h') at e) in
+    let b = after_some 1 a.0 c _ a.1 in
     let f = numeric_by _ _ (drop 1 (drop 1 bs)) b.0 c refl refl b.1 in
     let l = f.1 in
     let k = a.2 in
@@ -237,7 +237,7 @@ entity_by true true bs n c h h' e =
       shorter = omega arith;
     }
 entity_by true false bs n c h h' e =
-    let a = behind_some 1 n c _ (rw (h, h') at e) in
+    let a = after_some 1 n c _ (rw (h, h') at e) in
     let f = name_facts (drop 1 bs) a.0 c a.1 in
     let l = f.1 in
     let k = a.2 in

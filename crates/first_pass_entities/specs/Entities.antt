@@ -19,8 +19,8 @@ abbrev pub referred : ℕ → ℕ
 referred n = if is_character n then n else 0xFFFD
 
 -- the length and character of a reference, with this many more bytes before it (this project)
-abbrev pub behind : ℕ → Option (ℕ × ℕ) → Option (ℕ × ℕ)
-behind n found = option_map (λ e. (n + e.0, e.1)) found
+abbrev pub following : ℕ → Option (ℕ × ℕ) → Option (ℕ × ℕ)
+following n found = option_map (λ e. (n + e.0, e.1)) found
 
 -- a number of at most `most` digits and then `;`: its length in bytes, and the character that it refers to
 -- (CommonMark 2.5)
@@ -33,7 +33,7 @@ number_at is_digit radix most bs =
 -- (CommonMark 2.5)
 unfoldable pub numeric_at : List ℕ → Option (ℕ × ℕ)
 numeric_at bs =
-    if begins small_x bs || begins capital_x bs then behind 1 (number_at is_ascii_hexdigit 16 6 (drop 1 bs)) else number_at is_ascii_digit 10 7 bs
+    if begins small_x bs || begins capital_x bs then following 1 (number_at is_ascii_hexdigit 16 6 (drop 1 bs)) else number_at is_ascii_digit 10 7 bs
 
 -- the character of an entity name of XML (CommonMark 2.5 has the names of HTML, of which this project keeps twelve)
 unfoldable pub named_in_xml : List ℕ → Option ℕ
@@ -76,5 +76,5 @@ name_at bs =
 unfoldable pub entity_at : List ℕ → Option (ℕ × ℕ)
 entity_at bs =
     if begins ampersand bs
-    then behind 1 (if begins number_sign (drop 1 bs) then behind 1 (numeric_at (drop 1 (drop 1 bs))) else name_at (drop 1 bs))
+    then following 1 (if begins number_sign (drop 1 bs) then following 1 (numeric_at (drop 1 (drop 1 bs))) else name_at (drop 1 bs))
     else None

@@ -141,7 +141,7 @@ IsShorter most lines there left = (length left ≤ length lines) × ((reach ther
 -- After a leaf, and inside a container, less of the text is left. After a leaf, more than blank lines may follow.
 abbrev pub Shrinks : ℕ → List Place → Opening → Type 0
 Shrinks most lines (OpensLeaf leaf there left) = IsShorter most lines there left × (blanks_alone there ≡ None)
-Shrinks most lines (OpensNode head inside behind) = IsShorter most lines inside behind
+Shrinks most lines (OpensNode head inside following) = IsShorter most lines inside following
 
 at_next_line : (most : ℕ) (lines : List Place) (leaf : Leaf) (left : List Place) → length left ≤ length lines → Shrinks most lines (OpensLeaf leaf Line left)
 at_next_line most lines leaf left less = ((less, inl (omega arith)), refl)

@@ -12,9 +12,9 @@ use Rattle.first_pass_items.specs.declared.item.Item.{Item}
 use Rattle.first_pass_items.specs.declared.option_set.Options.{Options}
 use Rattle.first_pass_items.specs.OptionWords.{has, tasklists, footnotes, gfm_footnotes}
 use Rattle.first_pass_items.specs.Bytes.{colon, left_bracket, circumflex}
-use Rattle.first_pass_links.specs.Footnotes.{begins_footnote, head_behind, footnote_head}
+use Rattle.first_pass_links.specs.Footnotes.{begins_footnote, head_after, footnote_head}
 use Rattle.first_pass_links.specs.Labels.{label_at}
-use Rattle.first_pass_grammar.specs.Footnotes.{footnote_prefix, footnote_at, footnote_head_at, label_bytes, place_behind, behind_head}
+use Rattle.first_pass_grammar.specs.Footnotes.{footnote_prefix, footnote_at, footnote_head_at, label_bytes, place_past, past_head}
 use Rattle.first_pass_grammar.specs.LinkRuns.{lines_beyond}
 use Rattle.first_pass_exists.proofs.Found.{named_label}
 use Rattle.first_pass_lines.specs.Lines.{is_content, begins, is_white}
@@ -30,10 +30,10 @@ use Rattle.first_pass_grammar.specs.Containers.{Context, context, at_rest, prefi
 use Rattle.first_pass_grammar.specs.Kinds.{Paragraph, all_taken, unindented, is_blank_rest, item_at, ends_tag, definition_marker_at}
 use Rattle.first_pass_grammar.specs.Leaves.{Document, document}
 use Rattle.first_pass_grammar.specs.Blocks.{leaf_block, FootnoteMarker, Head}
-use Rattle.first_pass_grammar.specs.Skeleton.{From, Line, At, May, Anything, ALeafAlone, TextOf, MarkAlone, Inside, behind_marker, Opening, OpensNode}
+use Rattle.first_pass_grammar.specs.Skeleton.{From, Line, At, May, Anything, ALeafAlone, TextOf, MarkAlone, Inside, after_marker, Opening, OpensNode}
 use Rattle.first_pass_grammar.specs.Skeleton.{next_is_blank, task_alone}
-use Rattle.first_pass_grammar.specs.Openers.{task_by, task_behind}
-use Rattle.first_pass_grammar.specs.Skeleton.{behind_tag, Opens, OpensIf, Level, may_define}
+use Rattle.first_pass_grammar.specs.Openers.{task_by, task_after}
+use Rattle.first_pass_grammar.specs.Skeleton.{after_tag, Opens, OpensIf, Level, may_define}
 use Rattle.first_pass_exists.proofs.KindsFound.{IsShorter, leads_alone, leads_leaf, reach, Shrinks, Leads, leads_text, leads_block}
 use Rattle.first_pass_grammar.specs.Openers.{Start, start_at}
 use Rattle.first_pass_grammar.specs.declared.kind.AfterMarker.{AfterMarker}
@@ -96,7 +96,7 @@ task_if true r task h =
     omega arith
 task_if false r task h = absurd (none-some task h)
 
-task_shorter : (options : Options) (line : ℕ) (r : Rest) → length (task_behind options line r).1.left ≤ length r.left
+task_shorter : (options : Options) (line : ℕ) (r : Rest) → length (task_after options line r).1.left ≤ length r.left
 task_shorter options line r = task_shorter_by line r (if has options tasklists then task_of r else None) (task_if (has options tasklists) r)
 
 quote_shorter_by : (r inside : Rest) → prefix (BlockQuote None) r ≡ Some inside → length inside.left < length r.left
@@ -118,7 +118,7 @@ start_shorter options may p =
     (λ r none is. quote_shorter_by p.rest r is)
 
 -- after a container's marker
-marker_reach : (blanks : Option ℕ) → reach (behind_marker blanks) ≤ 0
+marker_reach : (blanks : Option ℕ) → reach (after_marker blanks) ≤ 0
 marker_reach None = omega arith
 marker_reach (Some e) = omega arith
 
@@ -135,15 +135,15 @@ node_shrinks : (most : ℕ) (lines : List Place) (head : Head) (inside : From) �
 node_shrinks most lines head inside h = (omega arith, inl h)
 
 -- after a block quote's tag
-abbrev IsBehind : ℕ → List Place → From × List Place → Type 0
-IsBehind most lines (inside, behind) = IsShorter most lines inside behind
+abbrev IsPast : ℕ → List Place → From × List Place → Type 0
+IsPast most lines (inside, following) = IsShorter most lines inside following
 
 tag_shrinks_by : (most : ℕ) (line p : Place) (lines : List Place) (t : Bool)
-    → IsBehind most (line ∷ lines) (if◌then◌else◌ {A = From × List Place} t (Line, line ∷ lines) (At p ALeafAlone, lines))
+    → IsPast most (line ∷ lines) (if◌then◌else◌ {A = From × List Place} t (Line, line ∷ lines) (At p ALeafAlone, lines))
 tag_shrinks_by most line p lines true = (omega arith, inl (omega arith))
 tag_shrinks_by most line p lines false = (omega arith, inr (omega arith))
 
-tag_shrinks : (most : ℕ) (c : Context) (lines : List Place) → IsBehind most lines (behind_tag c lines)
+tag_shrinks : (most : ℕ) (c : Context) (lines : List Place) → IsPast most lines (after_tag c lines)
 tag_shrinks most c [] = (omega arith, inl (omega arith))
 tag_shrinks most c (line ∷ lines) = tag_shrinks_by most line (unindented (at_rest line (front c.path line.rest))) lines (ends_tag c line.rest)
 
@@ -182,7 +182,7 @@ head_size_if : (t : Bool) (label head : ℕ × List ℕ) → (if t then Some (la
 head_size_if true label head h = let size = ap (λ (z : ℕ × List ℕ). z.0) (same_Some (label.0 + 3, label.1) head h) in omega arith
 head_size_if false label head h = absurd (none-some head h)
 
-head_size : (bs : List ℕ) (o : Option (ℕ × List ℕ)) (head : ℕ × List ℕ) → option_and_then (head_behind bs) o ≡ Some head → 0 < head.0
+head_size : (bs : List ℕ) (o : Option (ℕ × List ℕ)) (head : ℕ × List ℕ) → option_and_then (head_after bs) o ≡ Some head → 0 < head.0
 head_size bs None head h = absurd (none-some head h)
 head_size bs (Some label) head h = head_size_if (begins colon (drop label.0 bs)) label head h
 
@@ -194,7 +194,7 @@ head_shorter_by : (prefix : List ℕ → Option ℕ) (bs : List ℕ) (head : ℕ
     → length (drop head.0 bs) < length bs
 unfolding footnote_head
 head_shorter_by prefix bs head h =
-    let begun = begun_head bs (begins_footnote bs) (option_and_then (head_behind (drop 2 bs)) (label_at prefix false (drop 2 bs))) head h in
+    let begun = begun_head bs (begins_footnote bs) (option_and_then (head_after (drop 2 bs)) (label_at prefix false (drop 2 bs))) head h in
     let size = head_size (drop 2 bs) (label_at prefix false (drop 2 bs)) head begun.1 in
     let some = some_bytes left_bracket bs (and_parts (begins left_bracket bs) (begins circumflex (drop 1 bs)) begun.0).0 in
     let left = length-drop head.0 bs in
@@ -210,18 +210,18 @@ head_shorter c p head h =
     let all = columns_shorter (indent p.rest) p.rest in
     omega arith
 
-behind_if : (most : ℕ) (t : Bool) (q line : Place) (behind lines : List Place) → suc (length q.rest.left) ≤ most → length (line ∷ behind) ≤ length lines
-    → (let there : Place × List Place = if◌then◌else◌ {A = Place × List Place} t (line, behind) (q, line ∷ behind) in
+after_if : (most : ℕ) (t : Bool) (q line : Place) (following lines : List Place) → suc (length q.rest.left) ≤ most → length (line ∷ following) ≤ length lines
+    → (let there : Place × List Place = if◌then◌else◌ {A = Place × List Place} t (line, following) (q, line ∷ following) in
     IsShorter most lines (Inside there.0) there.1)
-behind_if most true q line behind lines less few = (omega arith, inr (omega arith))
-behind_if most false q line behind lines less few = (few, inl less)
+after_if most true q line following lines less few = (omega arith, inr (omega arith))
+after_if most false q line following lines less few = (few, inl less)
 
-behind_shorter : (most : ℕ) (gfm : Bool) (q : Place) (behind lines : List Place) → suc (length q.rest.left) ≤ most → length behind ≤ length lines
-    → IsShorter most lines (Inside (behind_head gfm q behind).0) (behind_head gfm q behind).1
-behind_shorter most true q behind lines less few =
+after_shorter : (most : ℕ) (gfm : Bool) (q : Place) (following lines : List Place) → suc (length q.rest.left) ≤ most → length following ≤ length lines
+    → IsShorter most lines (Inside (past_head gfm q following).0) (past_head gfm q following).1
+after_shorter most true q following lines less few =
     let n = length-drop (prefix_len is_white q.rest.left) q.rest.left in (few, inl (omega arith))
-behind_shorter most false q [] lines less few = (few, inl less)
-behind_shorter most false q (line ∷ behind) lines less few = behind_if most (is_blank_rest q.rest) q line behind lines less few
+after_shorter most false q [] lines less few = (few, inl less)
+after_shorter most false q (line ∷ following) lines less few = after_if most (is_blank_rest q.rest) q line following lines less few
 
 leads_footnote : (text : List ℕ) (options : Options) (names : Names) (most : ℕ) (p : Place) (lines : List Place) (head : ℕ × List ℕ)
     → length (drop head.0 (unindented p).rest.left) < most
@@ -230,13 +230,13 @@ unfolding OpensFootnote
 leads_footnote text options names most p lines (size, label) less =
     let ix = named_label names (label_bytes size (unindented p).rest.left) label in
     let d : Document = document text options names in
-    let q : Place = place_behind size (unindented p) in
+    let q : Place = place_past size (unindented p) in
     record {
       opening = footnote_opening d p lines size (FootnoteMarker (footnote_columns options) ix.value label);
       more = ix.more;
       extends = ix.extends;
       opens = λ later x. (ix.value, ix.holds later x, refl);
-      shrinks = behind_shorter most (gfm_footnotes options) q (lines_beyond (offset q) lines) lines (omega arith) (beyond_shorter (offset q) lines);
+      shrinks = after_shorter most (gfm_footnotes options) q (lines_beyond (offset q) lines) lines (omega arith) (beyond_shorter (offset q) lines);
     }
 
 leads_head : (text : List ℕ) (options : Options) (names : Names) (l : Level) (p : Place) (lines : List Place) (o : Option (ℕ × List ℕ))

@@ -8,7 +8,7 @@ use Rattle.first_pass_grammar.specs.Leaves.{document}
 use Rattle.first_pass_grammar.specs.Blocks.{Leaf, Head, opened, Skeleton, Nil, Then, Node}
 use Rattle.first_pass_grammar.specs.Skeleton.{From, Line, Blanks, At, Anything, ALeafAlone, TextOf, MarkAlone, Opening, OpensLeaf, OpensNode, OpensAt}
 use Rattle.first_pass_grammar.specs.Skeleton.{Level, level, level_in, level_after_leaf, level_after, Left, Lines, InLine, Going, Begins, Ends, going, onward}
-use Rattle.first_pass_grammar.specs.Skeleton.{behind_first, blanks_alone, end_before, IsFirst, IsSequence}
+use Rattle.first_pass_grammar.specs.Skeleton.{after_first, blanks_alone, end_before, IsFirst, IsSequence}
 use Rattle.first_pass_grammar.proofs.Goings.{BeginsAt, LeavesAt, begins_at, leaves_at, all_taken_at}
 use Rattle.first_pass_grammar.proofs.MoreNames.{extends_none, extends_both}
 use Rattle.first_pass_exists.proofs.KindsFound.{reach, IsShorter, Shrinks, Leads, leads_also}
@@ -30,32 +30,32 @@ pub record SequenceFrom (text : List ℕ) (options : Options) (names : Names) (l
   pub ends : l.path ≡ [] → blanks_alone from ≡ None → left ≡ Lines []
 
 -- where blocks continue after a first block
-reach_behind : (from there : From) → reach (behind_first from there) ≤ reach there
-reach_behind Line there = omega arith
-reach_behind (Blanks e) there = omega arith
-reach_behind (At p Anything) there = omega arith
-reach_behind (At p ALeafAlone) there = omega arith
-reach_behind (At p (TextOf marker)) there = omega arith
-reach_behind (At p (MarkAlone marker None)) there = omega arith
-reach_behind (At p (MarkAlone marker (Some e))) there = omega arith
+reach_after : (from there : From) → reach (after_first from there) ≤ reach there
+reach_after Line there = omega arith
+reach_after (Blanks e) there = omega arith
+reach_after (At p Anything) there = omega arith
+reach_after (At p ALeafAlone) there = omega arith
+reach_after (At p (TextOf marker)) there = omega arith
+reach_after (At p (MarkAlone marker None)) there = omega arith
+reach_after (At p (MarkAlone marker (Some e))) there = omega arith
 
-alone_behind : (from there : From) → blanks_alone from ≡ None → blanks_alone there ≡ None → blanks_alone (behind_first from there) ≡ None
-alone_behind Line there h k = k
-alone_behind (Blanks e) there h k = h
-alone_behind (At p Anything) there h k = k
-alone_behind (At p ALeafAlone) there h k = k
-alone_behind (At p (TextOf marker)) there h k = k
-alone_behind (At p (MarkAlone marker None)) there h k = refl
-alone_behind (At p (MarkAlone marker (Some e))) there h k = h
+alone_after : (from there : From) → blanks_alone from ≡ None → blanks_alone there ≡ None → blanks_alone (after_first from there) ≡ None
+alone_after Line there h k = k
+alone_after (Blanks e) there h k = h
+alone_after (At p Anything) there h k = k
+alone_after (At p ALeafAlone) there h k = k
+alone_after (At p (TextOf marker)) there h k = k
+alone_after (At p (MarkAlone marker None)) there h k = refl
+alone_after (At p (MarkAlone marker (Some e))) there h k = h
 
 alone_onward : (left : Left) → blanks_alone (onward left).0 ≡ None
 alone_onward (Lines lines) = refl
 alone_onward (InLine p lines) = refl
 
-shorter_behind : (most : ℕ) (lines left : List Place) (from there : From) → IsShorter most lines there left
-    → IsShorter most lines (behind_first from there) left
-shorter_behind most lines left from there (less, inl near) = let reaches = reach_behind from there in (less, inl (omega arith))
-shorter_behind most lines left from there (less, inr fewer) = (less, inr fewer)
+shorter_after : (most : ℕ) (lines left : List Place) (from there : From) → IsShorter most lines there left
+    → IsShorter most lines (after_first from there) left
+shorter_after most lines left from there (less, inl near) = let reaches = reach_after from there in (less, inl (omega arith))
+shorter_after most lines left from there (less, inr fewer) = (less, inr fewer)
 
 shorter_both : (most : ℕ) (lines left further : List Place) (there then : From) → IsShorter most lines there left → IsShorter (reach there) left then further
     → IsShorter most lines then further
@@ -64,29 +64,29 @@ shorter_both most lines left further there then (less, inl near) (less', inr few
 shorter_both most lines left further there then (less, inr fewer) (less', near) = (omega arith, inr (omega arith))
 
 -- if less is left than where a block begins, then less is left than where the block was looked for
-shorter_from : (path : List Container) (from there : From) (lines behind left : List Place) (p : Place) → BeginsAt path from lines p behind
-    → IsShorter (length p.rest.left) behind there left → IsShorter (reach from) lines there left
-shorter_from path Line there [] behind left p begins s = absurd begins
-shorter_from path Line there (line ∷ lines) behind left p (is, same) (less, near) = let n = ap length same in (omega arith, inr (omega arith))
-shorter_from path (Blanks e) there [] behind left p begins s = absurd begins
-shorter_from path (Blanks e) there (line ∷ lines) behind left p (is, same) (less, near) = let n = ap length same in (omega arith, inr (omega arith))
-shorter_from path (At q may) there lines behind left p (is, same) (less, inl near) =
+shorter_from : (path : List Container) (from there : From) (lines following left : List Place) (p : Place) → BeginsAt path from lines p following
+    → IsShorter (length p.rest.left) following there left → IsShorter (reach from) lines there left
+shorter_from path Line there [] following left p begins s = absurd begins
+shorter_from path Line there (line ∷ lines) following left p (is, same) (less, near) = let n = ap length same in (omega arith, inr (omega arith))
+shorter_from path (Blanks e) there [] following left p begins s = absurd begins
+shorter_from path (Blanks e) there (line ∷ lines) following left p (is, same) (less, near) = let n = ap length same in (omega arith, inr (omega arith))
+shorter_from path (At q may) there lines following left p (is, same) (less, inl near) =
     let n = ap length same in let m = ap (λ (z : Place). length z.rest.left) is in (omega arith, inl (omega arith))
-shorter_from path (At q may) there lines behind left p (is, same) (less, inr fewer) = let n = ap length same in (omega arith, inr (omega arith))
+shorter_from path (At q may) there lines following left p (is, same) (less, inr fewer) = let n = ap length same in (omega arith, inr (omega arith))
 
 -- a sequence without blocks
-no_more_at : (path : List Container) (from : From) (lines behind : List Place) (p : Place) → BeginsAt path from lines p behind
-    → IsNoMore from lines (InLine p behind)
-no_more_at path Line [] behind p begins = absurd begins
-no_more_at path Line (line ∷ lines) behind p (is, same) = let n = ap length same in (omega arith, inr (omega arith))
-no_more_at path (Blanks e) [] behind p begins = absurd begins
-no_more_at path (Blanks e) (line ∷ lines) behind p (is, same) = let n = ap length same in (omega arith, inr (omega arith))
-no_more_at path (At q may) lines behind p (is, same) =
+no_more_at : (path : List Container) (from : From) (lines following : List Place) (p : Place) → BeginsAt path from lines p following
+    → IsNoMore from lines (InLine p following)
+no_more_at path Line [] following p begins = absurd begins
+no_more_at path Line (line ∷ lines) following p (is, same) = let n = ap length same in (omega arith, inr (omega arith))
+no_more_at path (Blanks e) [] following p begins = absurd begins
+no_more_at path (Blanks e) (line ∷ lines) following p (is, same) = let n = ap length same in (omega arith, inr (omega arith))
+no_more_at path (At q may) lines following p (is, same) =
     let n = ap length same in let m = ap (λ (z : Place). length z.rest.left) is in (omega arith, inl (omega arith))
 
 no_more : (path : List Container) (from : From) (lines : List Place) (left : Left) → LeavesAt path from lines left → IsNoMore from lines left
 no_more path from lines (Lines left) same = let n = ap length same in (omega arith, inl (omega arith))
-no_more path from lines (InLine p behind) at = no_more_at path from lines behind p at.0
+no_more path from lines (InLine p following) at = no_more_at path from lines following p at.0
 
 -- a first block, with the blocks in it and after it
 module _ (text : List ℕ) (options : Options) where
@@ -108,14 +108,15 @@ module _ (text : List ℕ) (options : Options) where
   abbrev AreFirst : Names → Level → From → List Place → Opening → Type 0
   AreFirst names l from lines o = (later : Names) → Extends later names → IsFirst (document text options later) l from lines o
 
-  leaf_first : (names more : Names) (l : Level) (from there : From) (lines behind left : List Place) (p : Place) (leaf : Leaf)
-      → Extends more names → BeginsAt l.path from lines p behind → AreFirst more l from lines (OpensLeaf leaf there left)
-      → Shrinks (length p.rest.left) behind (OpensLeaf leaf there left) → Others (length p.rest.left) behind → SequenceFrom text options names l from lines
+  leaf_first : (names more : Names) (l : Level) (from there : From) (lines following left : List Place) (p : Place) (leaf : Leaf)
+      → Extends more names → BeginsAt l.path from lines p following → AreFirst more l from lines (OpensLeaf leaf there left)
+      → Shrinks (length p.rest.left) following (OpensLeaf leaf there left) → Others (length p.rest.left) following
+      → SequenceFrom text options names l from lines
   unfolding IsSequence
-  leaf_first names more l from there lines behind left p leaf extends begins first (less, alone) others =
+  leaf_first names more l from there lines following left p leaf extends begins first (less, alone) others =
       let most : ℕ = length p.rest.left in
-      let next : From = behind_first from there in
-      let now = shorter_behind most behind left from there less in
+      let next : From = after_first from there in
+      let now = shorter_after most following left from there less in
       let rest = others more (level_after_leaf l leaf) next left now in
       record {
         blocks = Then leaf rest.blocks;
@@ -123,22 +124,23 @@ module _ (text : List ℕ) (options : Options) where
         more = rest.more;
         extends = extends_both _ _ _ rest.extends extends;
         is = λ later x. (there, left, first later (extends_both _ _ _ x rest.extends), rest.is later x);
-        shorter = shorter_from l.path from (onward rest.left).0 lines behind (onward rest.left).1 p begins
-            (shorter_both most behind left (onward rest.left).1 next (onward rest.left).0 now rest.shorter);
-        ends = λ top h. rest.ends top (alone_behind from there h alone);
+        shorter = shorter_from l.path from (onward rest.left).0 lines following (onward rest.left).1 p begins
+            (shorter_both most following left (onward rest.left).1 next (onward rest.left).0 now rest.shorter);
+        ends = λ top h. rest.ends top (alone_after from there h alone);
       }
 
-  node_first : (names more : Names) (l : Level) (from inside : From) (lines behind kids : List Place) (p : Place) (head : Head)
-      → Extends more names → BeginsAt l.path from lines p behind → AreFirst more l from lines (OpensNode head inside kids)
-      → Shrinks (length p.rest.left) behind (OpensNode head inside kids) → Others (length p.rest.left) behind → SequenceFrom text options names l from lines
+  node_first : (names more : Names) (l : Level) (from inside : From) (lines following kids : List Place) (p : Place) (head : Head)
+      → Extends more names → BeginsAt l.path from lines p following → AreFirst more l from lines (OpensNode head inside kids)
+      → Shrinks (length p.rest.left) following (OpensNode head inside kids) → Others (length p.rest.left) following
+      → SequenceFrom text options names l from lines
   unfolding IsSequence
-  node_first names more l from inside lines behind kids p head extends begins first shrinks others =
+  node_first names more l from inside lines following kids p head extends begins first shrinks others =
       let most : ℕ = length p.rest.left in
       let inner = others more (level_in (opened head.opener) l) inside kids shrinks in
       let there : From = (onward inner.left).0 in
       let left : List Place = (onward inner.left).1 in
-      let next : From = behind_first from there in
-      let now = shorter_behind most behind left from there (shorter_both most behind kids left inside there shrinks inner.shorter) in
+      let next : From = after_first from there in
+      let now = shorter_after most following left from there (shorter_both most following kids left inside there shrinks inner.shorter) in
       let rest = others inner.more (level_after l head inner.blocks) next left now in
       let extends_more = extends_both _ _ _ rest.extends inner.extends in
       record {
@@ -149,18 +151,18 @@ module _ (text : List ℕ) (options : Options) where
         is = λ later x.
             let opens = first later (extends_both _ _ _ x extends_more) in
             (inside, kids, inner.left, opens, inner.is later (extends_both _ _ _ x rest.extends), refl, rest.is later x);
-        shorter = shorter_from l.path from (onward rest.left).0 lines behind (onward rest.left).1 p begins
-            (shorter_both most behind left (onward rest.left).1 next (onward rest.left).0 now rest.shorter);
-        ends = λ top h. rest.ends top (alone_behind from there h (alone_onward inner.left));
+        shorter = shorter_from l.path from (onward rest.left).0 lines following (onward rest.left).1 p begins
+            (shorter_both most following left (onward rest.left).1 next (onward rest.left).0 now rest.shorter);
+        ends = λ top h. rest.ends top (alone_after from there h (alone_onward inner.left));
       }
 
-  opening_first : (names more : Names) (l : Level) (from : From) (lines behind : List Place) (p : Place) (o : Opening)
-      → Extends more names → BeginsAt l.path from lines p behind → AreFirst more l from lines o → Shrinks (length p.rest.left) behind o
-      → Others (length p.rest.left) behind → SequenceFrom text options names l from lines
-  opening_first names more l from lines behind p (OpensLeaf leaf there left) extends begins first shrinks others =
-      leaf_first names more l from there lines behind left p leaf extends begins first shrinks others
-  opening_first names more l from lines behind p (OpensNode head inside kids) extends begins first shrinks others =
-      node_first names more l from inside lines behind kids p head extends begins first shrinks others
+  opening_first : (names more : Names) (l : Level) (from : From) (lines following : List Place) (p : Place) (o : Opening)
+      → Extends more names → BeginsAt l.path from lines p following → AreFirst more l from lines o → Shrinks (length p.rest.left) following o
+      → Others (length p.rest.left) following → SequenceFrom text options names l from lines
+  opening_first names more l from lines following p (OpensLeaf leaf there left) extends begins first shrinks others =
+      leaf_first names more l from there lines following left p leaf extends begins first shrinks others
+  opening_first names more l from lines following p (OpensNode head inside kids) extends begins first shrinks others =
+      node_first names more l from inside lines following kids p head extends begins first shrinks others
 
   leads_at : (names : Names) (l : Level) (from : From) (p : Place) (lines : List Place)
       → Leads names (length p.rest.left) lines (λ later o. OpensAt (document text options later) l from p lines o)
@@ -168,13 +170,13 @@ module _ (text : List ℕ) (options : Options) where
   leads_at names l (Blanks e) p lines = leads_any text options names l p lines
   leads_at names l (At q may) p lines = leads_if text options names l may p lines
 
-  first_block : (names : Names) (l : Level) (from : From) (lines behind : List Place) (p : Place) → going options l from lines ≡ Begins p behind
-      → Others (length p.rest.left) behind → SequenceFrom text options names l from lines
-  first_block names l from lines behind p is others =
-      let leads : Leads names (length p.rest.left) behind (λ later o. IsFirst (document text options later) l from lines o) =
-      leads_also (leads_at names l from p behind) (λ later o opens. record { place = p; behind = behind; begins = is; opens = opens }) in
-      opening_first names leads.more l from lines behind p leads.opening leads.extends (begins_at options l from lines p behind is) leads.opens leads.shrinks
-      others
+  first_block : (names : Names) (l : Level) (from : From) (lines following : List Place) (p : Place) → going options l from lines ≡ Begins p following
+      → Others (length p.rest.left) following → SequenceFrom text options names l from lines
+  first_block names l from lines following p is others =
+      let leads : Leads names (length p.rest.left) following (λ later o. IsFirst (document text options later) l from lines o) =
+      leads_also (leads_at names l from p following) (λ later o opens. record { place = p; following = following; begins = is; opens = opens }) in
+      opening_first names leads.more l from lines following p leads.opening leads.extends (begins_at options l from lines p following is)
+      leads.opens leads.shrinks others
 
   -- a sequence without blocks
   no_block : (names : Names) (l : Level) (from : From) (lines : List Place) (left : Left) → going options l from lines ≡ Ends left
@@ -191,27 +193,27 @@ module _ (text : List ℕ) (options : Options) where
   }
 
   -- blocks, by how much of the text is left
-  others_at : (n k : ℕ) (path : List Container) (from : From) (lines behind : List Place) (p : Place) → BeginsAt path from lines p behind
-      → length lines ≤ n → reach from ≤ k → Fewer n → Nearer n k → Others (length p.rest.left) behind
-  others_at n k path Line [] behind p begins within near fewer nearer names l there left less = absurd begins
-  others_at n k path Line (line ∷ lines) behind p (is, same) within near fewer nearer names l there left (few, less) =
+  others_at : (n k : ℕ) (path : List Container) (from : From) (lines following : List Place) (p : Place) → BeginsAt path from lines p following
+      → length lines ≤ n → reach from ≤ k → Fewer n → Nearer n k → Others (length p.rest.left) following
+  others_at n k path Line [] following p begins within near fewer nearer names l there left less = absurd begins
+  others_at n k path Line (line ∷ lines) following p (is, same) within near fewer nearer names l there left (few, less) =
       let m = ap length same in fewer names l there left (omega arith)
-  others_at n k path (Blanks e) [] behind p begins within near fewer nearer names l there left less = absurd begins
-  others_at n k path (Blanks e) (line ∷ lines) behind p (is, same) within near fewer nearer names l there left (few, less) =
+  others_at n k path (Blanks e) [] following p begins within near fewer nearer names l there left less = absurd begins
+  others_at n k path (Blanks e) (line ∷ lines) following p (is, same) within near fewer nearer names l there left (few, less) =
       let m = ap length same in fewer names l there left (omega arith)
-  others_at n k path (At q may) lines behind p (is, same) within near fewer nearer names l there left (few, inl less) =
+  others_at n k path (At q may) lines following p (is, same) within near fewer nearer names l there left (few, inl less) =
       let m = ap length same in
       let r = ap (λ (z : Place). length z.rest.left) is in
       nearer names l there left (omega arith) (omega arith)
-  others_at n k path (At q may) lines behind p (is, same) within near fewer nearer names l there left (few, inr fewest) =
+  others_at n k path (At q may) lines following p (is, same) within near fewer nearer names l there left (few, inr fewest) =
       let m = ap length same in fewer names l there left (omega arith)
 
   goes : (n k : ℕ) (names : Names) (l : Level) (from : From) (lines : List Place) (g : Going) → going options l from lines ≡ g
       → length lines ≤ n → reach from ≤ k → Fewer n → Nearer n k → SequenceFrom text options names l from lines
   goes n k names l from lines (Ends left) is within near fewer nearer = no_block names l from lines left is
-  goes n k names l from lines (Begins p behind) is within near fewer nearer =
-      first_block names l from lines behind p is
-      (others_at n k l.path from lines behind p (begins_at options l from lines p behind is) within near fewer nearer)
+  goes n k names l from lines (Begins p following) is within near fewer nearer =
+      first_block names l from lines following p is
+      (others_at n k l.path from lines following p (begins_at options l from lines p following is) within near fewer nearer)
 
   nearer_by : (n k : ℕ) → Fewer n → Nearer n k → Nearer n (suc k)
   nearer_by n k fewer nearer names l from lines within near =

@@ -34,7 +34,7 @@ use Rattle.first_pass_grammar.proofs.MoreNames.{extends_none, extends_both, with
 use Rattle.first_pass_grammar.proofs.TextsMore.{cell_later, text_lines_more, cells_more, row_more, rows_more}
 use Rattle.first_pass_exists.proofs.LinesFound.{lines_found}
 use Rattle.first_pass_items.specs.declared.item.HeadingLevel.{HeadingLevel}
-use Rattle.first_pass_grammar.proofs.RowEnds.{text_behind}
+use Rattle.first_pass_grammar.proofs.RowEnds.{text_after}
 
 -- a byte at which no line ends
 no_end_byte : (t u : Bool) (n : ℕ) → (if t then Some 1 else (if u then Some n else None)) ≡ None → (t || u) ≡ false
@@ -90,7 +90,7 @@ later_by texts text options at braces tokens stop after false here h cell =
     let from : cell_text text at ≤ stop = ends.from in
     let begins : cell_start text at ≡ at = ap (λ (t : Bool). if t then at + 1 else at) here in
     elim (cases_lt at (cell_text text at)) [
-      | inl behind ↦ omega arith
+      | inl following ↦ omega arith
       | inr same ↦
           let place : cell_text text at ≡ at = omega arith in
           let later : cell_text text at < stop =
@@ -130,7 +130,7 @@ cells_by names text options p most None h e f =
 cells_at : (names : Names) (text : List ℕ) (options : Options) (most : ℕ) (p : Spot) → length text ≤ p.at + most → CellsFrom names text options p
 unfolding AreCells
 cells_at names text options zero p h =
-    let behind = text_behind text p.at (slice_index text p.at == pipe) refl in
+    let following = text_after text p.at (slice_index text p.at == pipe) refl in
     record {
       cells = [];
       to = spot (cell_text text p.at + 0) p.braces;
@@ -217,7 +217,7 @@ table_found names text options path p alignments lines =
       more = ix.more;
       extends = extends_both ix.more body.more names ix.extends (extends_both body.more head.more names body.extends head.extends);
       holds = λ later e.
-          let behind : Extends later body.more = extends_both later ix.more body.more e ix.extends in
+          let following : Extends later body.more = extends_both later ix.more body.more e ix.extends in
           record {
             index = ix.value;
             named = ix.holds later e;
@@ -225,12 +225,12 @@ table_found names text options path p alignments lines =
             head_end = head.to.at;
             after = head.to.braces;
             are_cells = cells_more text options head.more later (spot (offset p) no_braces) head.cells head.to
-                (extends_both later body.more head.more behind body.extends) head.are;
+                (extends_both later body.more head.more following body.extends) head.are;
             body = body.rows.items;
-            are_rows = rows_more text options body.more later path table (drop 1 lines) body.rows behind rows;
+            are_rows = rows_more text options body.more later path table (drop 1 lines) body.rows following rows;
             items_are = refl;
           };
-      shorter = let less = body.shorter in let behind = length-drop 1 lines in omega arith;
+      shorter = let less = body.shorter in let following = length-drop 1 lines in omega arith;
     }
 
 -- a setext heading or a paragraph
@@ -256,7 +256,7 @@ ended_found names text options start marker l lines (Some underline) less =
       more = index.more;
       extends = index.extends;
       holds = λ later e. (index.value, index.holds later e, refl);
-      shorter = let behind = length-drop 1 l.left in omega arith;
+      shorter = let following = length-drop 1 l.left in omega arith;
     }
 
 plain_found : (names : Names) (text : List ℕ) (options : Options) (path : List Container) (p : Place) (marker : Option Item) (lines : List Place)

@@ -42,7 +42,7 @@ run_beside content text size at mode = record {
   delimiter = slice_index (take size text) 0;
   size = size;
   in_row = is_row mode;
-  behind_pipe = ends_with_pipe (take at content);
+  after_pipe = ends_with_pipe (take at content);
   before = last_char (take at content);
   after = first_char (drop size text);
 }
@@ -65,7 +65,7 @@ follows_bracket r before = r.delimiter == apostrophe && (before == right_bracket
 unfoldable pub opens_between : DelimiterRun → ℕ → ℕ → Bool
 opens_between r before after =
     if is_whitespace after then false
-    else (if r.in_row && r.behind_pipe then true
+    else (if r.in_row && r.after_pipe then true
     else (if r.in_row && after == pipe then false
     else (if r.delimiter == asterisk && not (is_punctuation after) then true
     else (if r.delimiter == tilde && nat_lt 1 r.size then true
@@ -78,7 +78,7 @@ opens_between r before after =
 unfoldable pub closes_between : DelimiterRun → ℕ → ℕ → Bool
 closes_between r before after =
     if is_whitespace before then false
-    else (if r.in_row && r.behind_pipe then false
+    else (if r.in_row && r.after_pipe then false
     else (if r.in_row && after == pipe then true
     else (if is_intraword r && not (is_punctuation before) then true
     else (if follows_tilde r before then true

@@ -26,7 +26,7 @@ pub struct DelimiterRun {
     /// Whether the run is in a row of a table.
     pub in_row: bool,
     /// Whether a pipe that no backslash escapes is directly before the run.
-    pub behind_pipe: bool,
+    pub after_pipe: bool,
     /// The character of the content before the run, or `None` at the start of the content.
     pub before: Option<char>,
     /// The character of the text after the run, or `None` at the end of the text.
@@ -144,7 +144,7 @@ fn run_beside(
     DelimiterRun {
         delimiter: first_byte(suffix[..run_len].as_bytes()),
         in_row: is_row(mode),
-        behind_pipe: ends_with_pipe(s[..ix].as_bytes()),
+        after_pipe: ends_with_pipe(s[..ix].as_bytes()),
         before: last_char(&s[..ix]),
         after: first_char(&suffix[run_len..]),
         size: run_len,
@@ -204,7 +204,7 @@ fn opens_between(run: &DelimiterRun, before: char, after: char) -> bool
     if after.is_whitespace() {
         return false;
     }
-    if run.in_row && run.behind_pipe {
+    if run.in_row && run.after_pipe {
         return true;
     }
     if run.in_row && after == '|' {
@@ -234,7 +234,7 @@ fn closes_between(run: &DelimiterRun, before: char, after: char) -> bool
     if before.is_whitespace() {
         return false;
     }
-    if run.in_row && run.behind_pipe {
+    if run.in_row && run.after_pipe {
         return false;
     }
     if run.in_row && after == '|' {

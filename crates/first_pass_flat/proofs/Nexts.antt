@@ -39,7 +39,7 @@ stricter d e h n t = let less = ltb-true e n.0 t in lt-ltb d n.0 (omega arith)
 
 -- The run of nodes deeper than `depth` that begins at `from` ends where the one that begins at a later place ends.
 pub record GoesOn (nodes : List (ℕ × Item)) (depth from at : ℕ) : Type 0 where
-  pub behind : from ≤ at
+  pub following : from ≤ at
   pub within : at ≤ length nodes
   pub same : from + deeper_before depth (drop from nodes) ≡ at + deeper_before depth (drop at nodes)
 
@@ -61,8 +61,8 @@ one_passed nodes depth from at next n here deeper next_is g =
     let most = prefix_len-le-length (λ (m : ℕ × Item). nat_lt n.0 m.0) (drop (at + 1) nodes) in
     let left = length-drop (at + 1) nodes in
     let front = g.same in
-    let low = g.behind in
-    (omega arith, record { behind = omega arith; within = omega arith; same = omega arith })
+    let low = g.following in
+    (omega arith, record { following = omega arith; within = omega arith; same = omega arith })
 
 -- The node at a place is deeper, and its record has its next node: it and its descendants are passed.
 pub next_passed : (nodes : List (ℕ × Item)) (flat : List FlatNode) (depth from at : ℕ) (n : ℕ × Item) (r : FlatNode) → at < length nodes
@@ -72,7 +72,7 @@ next_passed nodes flat depth from at n r within same deeper linked g =
     let here = slice_get-get_or nodes at n within in
     let there = slice_get-get_or flat at r (omega arith) in
     one_passed nodes depth from at (get_or flat at r).next (get_or nodes at n) here deeper
-    (linked at (get_or nodes at n) (get_or flat at r) g.behind here there) g
+    (linked at (get_or nodes at n) (get_or flat at r) g.following here there) g
 
 pub fewer_left : (nodes : List (ℕ × Item)) (flat : List FlatNode) (depth from at : ℕ) (n : ℕ × Item) (r : FlatNode) → at < length nodes
     → length flat ≡ length nodes → depth < (get_or nodes at n).0 → AreLinked nodes flat from → GoesOn nodes depth from at

@@ -81,7 +81,7 @@ impl NamedDefinitions {
         ensures { OnOk result (AppendsDefinitions self.old self.new (label_entry (text_of label.now) ∷ [])) }
     {
         let label = append_text(&mut self.names, label.label())?;
-        let behind = self.names.len();
+        let following = self.names.len();
         append_record(
             &mut self.definitions,
             FlatDefinition {
@@ -89,9 +89,9 @@ impl NamedDefinitions {
                 end: 0,
                 label: label.start,
                 label_length: label.length,
-                destination: behind,
+                destination: following,
                 destination_length: 0,
-                title: behind,
+                title: following,
                 title_length: 0,
                 has_title: 0,
             },

@@ -103,10 +103,10 @@ label_alike head head' is = sym (label_alone head.opener) ∙ ap (λ (h : Head).
 
 abbrev pub AlikeOpening : Names → Names → Opening → Opening → Type 0
 AlikeOpening m n (OpensLeaf leaf there left) (OpensLeaf leaf' there' left') = AlikeLeaf m n leaf leaf' × (there ≡ there') × HoldsNoIndex there × (left ≡ left')
-AlikeOpening m n (OpensLeaf leaf there left) (OpensNode head' inside' behind') = ⊥
-AlikeOpening m n (OpensNode head inside behind) (OpensLeaf leaf' there' left') = ⊥
-AlikeOpening m n (OpensNode head inside behind) (OpensNode head' inside' behind') =
-    AlikeHead m n head head' × (inside ≡ inside') × HoldsNoIndex inside × (behind ≡ behind')
+AlikeOpening m n (OpensLeaf leaf there left) (OpensNode head' inside' following') = ⊥
+AlikeOpening m n (OpensNode head inside following) (OpensLeaf leaf' there' left') = ⊥
+AlikeOpening m n (OpensNode head inside following) (OpensNode head' inside' following') =
+    AlikeHead m n head head' × (inside ≡ inside') × HoldsNoIndex inside × (following ≡ following')
 
 abbrev pub Alike : Names → Names → Skeleton → Skeleton → Type 0
 Alike m n Nil Nil = Unit {0}

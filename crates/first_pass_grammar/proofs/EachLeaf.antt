@@ -36,13 +36,13 @@ use Rattle.first_pass_grammar.specs.Kinds.{LinkDefinitions}
 use Rattle.first_pass_grammar.specs.Kinds.{Paragraph, unindented, is_blank_rest, ends_tag}
 use Rattle.first_pass_grammar.specs.Leaves.{Document, around, block_with, heading_text_at, TextLines}
 use Rattle.first_pass_grammar.specs.LinkRuns.{kind_in, Ended, FlowsOn}
-use Rattle.first_pass_grammar.specs.Openers.{Start, start_at, after_task, after_quote, task_by, task_behind, tag_behind}
+use Rattle.first_pass_grammar.specs.Openers.{Start, start_at, after_task, after_quote, task_by, task_after, tag_after}
 use Rattle.first_pass_grammar.specs.Order.{is_task_marker}
 use Rattle.first_pass_grammar.specs.RawLines.{range_text, range_html}
-use Rattle.first_pass_grammar.specs.Skeleton.{From, Line, Blanks, At, Anything, ALeafAlone, TextOf, MarkAlone, behind_marker, Opening, OpensLeaf, OpensNode}
-use Rattle.first_pass_grammar.specs.Skeleton.{OpensText, OpensRun, OpensAs, OpensBlockAt, next_is_blank, task_alone, without_indent, behind_tag, opening_by}
+use Rattle.first_pass_grammar.specs.Skeleton.{From, Line, Blanks, At, Anything, ALeafAlone, TextOf, MarkAlone, after_marker, Opening, OpensLeaf, OpensNode}
+use Rattle.first_pass_grammar.specs.Skeleton.{OpensText, OpensRun, OpensAs, OpensBlockAt, next_is_blank, task_alone, without_indent, after_tag, opening_by}
 use Rattle.first_pass_grammar.specs.Skeleton.{OpensBy, OpensFootnote, Opens, OpensAt, may_define, Level, level_in, level_after_leaf, level_after, Left, Lines}
-use Rattle.first_pass_grammar.specs.Skeleton.{InLine, onward, behind_first, IsFirst, IsSequence}
+use Rattle.first_pass_grammar.specs.Skeleton.{InLine, onward, after_first, IsFirst, IsSequence}
 use Rattle.first_pass_grammar.specs.TableHeads.{headed_table}
 use Rattle.first_pass_grammar.specs.Tables.{filled, most_filled, row_block, table_so_far, Taken, taking, IsTable}
 use Rattle.first_pass_grammar.specs.Texts.{IsPlainText, IsText, IsUnderlined, text_children, heading_children, plain_text, underline_first}
@@ -126,7 +126,7 @@ after_quote_mark : (kind : Option BlockQuoteKind) → TaskAfter (after_quote kin
 after_quote_mark None = tt
 after_quote_mark (Some kind) = tt
 
-marker_before : (blanks : Option ℕ) → TaskBefore (behind_marker blanks)
+marker_before : (blanks : Option ℕ) → TaskBefore (after_marker blanks)
 marker_before None = tt
 marker_before (Some e) = tt
 
@@ -138,12 +138,12 @@ tag_by : (t : Bool) (a b : From × List Place) → TaskBefore a.0 → TaskBefore
 tag_by true a b h k = h
 tag_by false a b h k = k
 
-tag_before : (c : Context) (lines : List Place) → TaskBefore (behind_tag c lines).0
+tag_before : (c : Context) (lines : List Place) → TaskBefore (after_tag c lines).0
 tag_before c [] = tt
 tag_before c (line ∷ lines) =
     tag_by (ends_tag c line.rest) (Line, line ∷ lines) (At (unindented (at_rest line (front c.path line.rest))) ALeafAlone, lines) tt tt
 
-first_before : (from there : From) → TaskBefore there → TaskBefore (behind_first from there)
+first_before : (from there : From) → TaskBefore there → TaskBefore (after_first from there)
 first_before (Blanks e) there k = tt
 first_before Line there k = k
 first_before (At p Anything) there k = k
@@ -166,7 +166,7 @@ module _ (Own Inner : ItemBody → Type 0) (d : Document) (own : HoldsOfBlocks O
 
   abbrev OpensBlocks : Opening → Type 0
   OpensBlocks (OpensLeaf leaf there left) = HoldsOfLeaf IsBlock leaf × TaskBefore there
-  OpensBlocks (OpensNode head inside behind) = TaskBefore inside
+  OpensBlocks (OpensNode head inside following) = TaskBefore inside
 
   abbrev HoldsOfMark : Option Item → Type 0
   HoldsOfMark marker = IfSome marker (λ x. Inner x.body)
@@ -259,10 +259,10 @@ module _ (Own Inner : ItemBody → Type 0) (d : Document) (own : HoldsOfBlocks O
   start_mark : (may : Bool) (p : Place) (s : Start) → start_at d.options may p ≡ Some s → TaskAfter s.after
   start_mark may p =
       start_cases d.options may p (λ (s : Start). TaskAfter s.after)
-      (λ item is. after_task_mark (is_blank_rest (task_behind d.options p.line item.1).1) (task_behind d.options p.line item.1).0
+      (λ item is. after_task_mark (is_blank_rest (task_after d.options p.line item.1).1) (task_after d.options p.line item.1).0
       (task_mark p.line item.1 (if has d.options tasklists then task_of item.1 else None)))
       (λ marker none is. after_task_mark (is_blank_rest marker.1) None tt)
-      (λ r none is. after_quote_mark (tag_behind d.options r))
+      (λ r none is. after_quote_mark (tag_after d.options r))
 
   unless_opens : (t : Bool) (o o' : Opening) → OpensBlocks o → OpensBlocks o' → OpensBlocks (if t then o else o')
   unless_opens true o o' h k = h
@@ -307,7 +307,7 @@ module _ (Own Inner : ItemBody → Type 0) (d : Document) (own : HoldsOfBlocks O
       subst OpensBlocks (sym e) ((refl, task_holds Own marker.body own.task mark, tt), tt)
 
   opens_first : (l : Level) (from : From) (lines : List Place) (o : Opening) → TaskBefore from → IsFirst d l from lines o → OpensBlocks o
-  opens_first l from lines o mark first = opens_at l from first.place first.behind o mark first.opens
+  opens_first l from lines o mark first = opens_at l from first.place first.following o mark first.opens
 
   -- each leaf block in a sequence has the property
   pub each_leaf : (s : Skeleton) (l : Level) (from : From) (lines : List Place) (left : Left) → TaskBefore from → IsSequence d s l from lines left
@@ -316,9 +316,9 @@ module _ (Own Inner : ItemBody → Type 0) (d : Document) (own : HoldsOfBlocks O
   each_leaf Nil l from lines left mark ends = tt
   each_leaf (Then leaf next) l from lines left mark (there, mid, first, more) =
       let one = opens_first l from lines (OpensLeaf leaf there mid) mark first in
-      (one.0, each_leaf next (level_after_leaf l leaf) (behind_first from there) mid left (first_before from there one.1) more)
-  each_leaf (Node head e kids next) l from lines left mark (inside, behind, mid, first, inner, is, more) = (
-    each_leaf kids (level_in (opened head.opener) l) inside behind mid (opens_first l from lines (OpensNode head inside behind) mark first) inner,
-    each_leaf next (level_after l head kids) (behind_first from (onward mid).0) (onward mid).1 left
+      (one.0, each_leaf next (level_after_leaf l leaf) (after_first from there) mid left (first_before from there one.1) more)
+  each_leaf (Node head e kids next) l from lines left mark (inside, following, mid, first, inner, is, more) = (
+    each_leaf kids (level_in (opened head.opener) l) inside following mid (opens_first l from lines (OpensNode head inside following) mark first) inner,
+    each_leaf next (level_after l head kids) (after_first from (onward mid).0) (onward mid).1 left
         (first_before from (onward mid).0 (onward_before mid)) more,
   )

@@ -12,7 +12,7 @@ use Rattle.first_pass_grammar.specs.Containers.{is_quote}
 use Rattle.first_pass_grammar.specs.Derivation.{Tables, Derives}
 use Rattle.first_pass_grammar.specs.Leaves.{Document}
 use Rattle.first_pass_grammar.specs.Rows.{What, ALeaf, AQuote, AList, AnItem, AFootnote, ADefinitionList, ATitle, ADefinition, Row, Rows, End, OneOf, gapped}
-use Rattle.first_pass_grammar.specs.Rows.{Joins, ItemsOf, DefinitionsTo, end_of, is_list_of, items_behind, list_behind, what_of, row_of, container_row}
+use Rattle.first_pass_grammar.specs.Rows.{Joins, ItemsOf, DefinitionsTo, end_of, is_list_of, items_after, list_after, what_of, row_of, container_row}
 use Rattle.first_pass_grammar.specs.Rows.{row_of_leaf, Definitions, definitions_of_row, apart_after, is_untitled, is_run_row, definitions_first, titled}
 use Rattle.first_pass_grammar.specs.Rows.{gap_before, rows_of}
 use Rattle.first_pass_grammar.specs.Skeleton.{Line, level, Lines}
@@ -56,13 +56,13 @@ module _ (P : List (ℕ × Item) → Type 0) where
   unless_rows false a b h k = k
 
   -- the further items of a list, and the rows after it
-  pub items_rows : (joins : Joins) (rows : Rows) → HoldsOfEachRow P rows → HoldsOfEachRow P (items_behind joins rows)
+  pub items_rows : (joins : Joins) (rows : Rows) → HoldsOfEachRow P rows → HoldsOfEachRow P (items_after joins rows)
   unfolding HoldsOfEachRow
   items_rows joins End h = tt
   items_rows joins (OneOf row inner next) h =
       unless_rows (is_list_of joins row.what) (gapped row.gap inner) End (gapped_rows row.gap inner h.1) tt
 
-  pub list_rows : (joins : Joins) (rows : Rows) → HoldsOfEachRow P rows → HoldsOfEachRow P (list_behind joins rows)
+  pub list_rows : (joins : Joins) (rows : Rows) → HoldsOfEachRow P rows → HoldsOfEachRow P (list_after joins rows)
   unfolding HoldsOfEachRow
   list_rows joins End h = tt
   list_rows joins (OneOf row inner next) h = unless_rows (is_list_of joins row.what) next (OneOf row inner next) h.2 h

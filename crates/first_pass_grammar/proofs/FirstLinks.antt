@@ -113,11 +113,11 @@ module _ (f : List ℕ) (x : LinkEntry) where
   none_cons a false y o not is rest = rest
 
   -- no definition after this one has its folding
-  none_behind : (links : List LinkEntry) → IsBelow x.label links → has f x ≡ true → link_under f links ≡ None
+  none_after : (links : List LinkEntry) → IsBelow x.label links → has f x ≡ true → link_under f links ≡ None
   unfolding link_under
-  none_behind [] below is = refl
-  none_behind (y ∷ links) below is =
-      none_cons (has f x) (has f y) y (link_under f links) (not_both f x y below.0) is (none_behind links below.1 is)
+  none_after [] below is = refl
+  none_after (y ∷ links) below is =
+      none_cons (has f x) (has f y) y (link_under f links) (not_both f x y below.0) is (none_after links below.1 is)
 
   before_all : (a : Bool) (o : Option LinkEntry) → (a ≡ true → o ≡ None) → cond a (Some x) o ≡ first_of o (cond a (Some x) None)
   before_all true o none = ap (λ p. first_of p (Some x)) (sym (none refl))
@@ -128,9 +128,9 @@ module _ (f : List ℕ) (x : LinkEntry) where
   beside_tied true false y o same = absurd (true≢false same)
   beside_tied false false y o same = sym (first_of_none o)
 
-  behind_one : (b : Bool) (y : LinkEntry) (o p q : Option LinkEntry) → q ≡ first_of o p → cond b (Some y) q ≡ first_of (cond b (Some y) o) p
-  behind_one true y o p q rest = refl
-  behind_one false y o p q rest = rest
+  after_one : (b : Bool) (y : LinkEntry) (o p q : Option LinkEntry) → q ≡ first_of o p → cond b (Some y) q ≡ first_of (cond b (Some y) o) p
+  after_one true y o p q rest = refl
+  after_one false y o p q rest = rest
 
   under_cons : (y : LinkEntry) (links : List LinkEntry) (o : Ordering) → folded_cmp x.label y.label ≡ o → IsInFoldedOrder (y ∷ links)
       → link_under f (with_link x links) ≡ first_of (link_under f links) (cond (has f x) (Some x) None)
@@ -138,10 +138,10 @@ module _ (f : List ℕ) (x : LinkEntry) where
       ≡ first_of (link_under f (y ∷ links)) (cond (has f x) (Some x) None)
   unfolding IsStrictlySortedBy link_under
   under_cons y links Less is order rest =
-      before_all (has f x) (link_under f (y ∷ links)) (none_behind (y ∷ links) (is, below_all x.label y.label links is order.0))
+      before_all (has f x) (link_under f (y ∷ links)) (none_after (y ∷ links) (is, below_all x.label y.label links is order.0))
   under_cons y links Equal is order rest = beside_tied (has f x) (has f y) y (link_under f links) (has_tied f x y is)
   under_cons y links Greater is order rest =
-      behind_one (has f y) y (link_under f links) (cond (has f x) (Some x) None) (link_under f (with_link x links)) rest
+      after_one (has f y) y (link_under f links) (cond (has f x) (Some x) None) (link_under f (with_link x links)) rest
 
   under_with_link : (links : List LinkEntry) → IsInFoldedOrder links
       → link_under f (with_link x links) ≡ first_of (link_under f links) (cond (has f x) (Some x) None)

@@ -13,7 +13,7 @@ use Rattle.first_pass_tokens.specs.Braces.{no_braces}
 use Rattle.first_pass_tokens.specs.LineTokens.{Spot, spot}
 use Rattle.first_pass_grammar.specs.declared.kind.Container.{Container}
 use Rattle.first_pass_grammar.specs.Leaves.{Document, around}
-use Rattle.first_pass_grammar.specs.TableHeads.{alignments_behind, if_as_many, table_at, ends_in_backslash, headed_table}
+use Rattle.first_pass_grammar.specs.TableHeads.{alignments_after, if_as_many, table_at, ends_in_backslash, headed_table}
 use Rattle.first_pass_grammar.specs.Tables.{AreCells, filled}
 use Rattle.first_pass_grammar.proofs.PlacesKept.{IsAt}
 use Rattle.first_pass_grammar.proofs.WholeBlocks.{HeadsAreFull}
@@ -42,7 +42,7 @@ pub head_is_full : (d : Document) (path : List Container) (p : Place) (alignment
 unfolding headed_table table_at
 head_is_full d path p alignments cells to i e are =
     let headed = headed_by (has d.options tables) (not (ends_in_backslash p.rest.left)) _ alignments e in
-    let columns = table_columns (head_columns p.rest.left) (alignments_behind path p.rest.left) alignments headed.1 in
+    let columns = table_columns (head_columns p.rest.left) (alignments_after path p.rest.left) alignments headed.1 in
     let least = head_has_cells d (spot (offset p) no_braces) cells to headed.0 are in
     let here = ap (λ (bs : List ℕ). head_columns bs) i in
     omega arith

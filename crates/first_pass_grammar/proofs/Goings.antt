@@ -11,33 +11,33 @@ use Rattle.first_pass_grammar.specs.Before.{Before}
 use Rattle.first_pass_grammar.specs.Containers.{context, at_rest, after, taken, next_goes_on, in_footnote}
 use Rattle.first_pass_grammar.specs.Footnotes.{footnote_head_at, ends_footnote}
 use Rattle.first_pass_grammar.specs.Kinds.{is_blank_rest}
-use Rattle.first_pass_grammar.specs.Skeleton.{From, Line, Blanks, At, Anything, ALeafAlone, TextOf, MarkAlone, Inside, is_blank_behind, next_is_blank}
+use Rattle.first_pass_grammar.specs.Skeleton.{From, Line, Blanks, At, Anything, ALeafAlone, TextOf, MarkAlone, Inside, is_blank_after, next_is_blank}
 use Rattle.first_pass_grammar.specs.Skeleton.{Level, level, Left, Lines, InLine, Going, Begins, Ends, ends_old_footnote, going_at, going_in}
 use Rattle.first_pass_grammar.specs.Skeleton.{blanks_alone, going_blank, going}
 
 -- the place of a block and the lines after it: a place inside a line, or the place after the path's prefixes in the
 -- next line
 abbrev pub BeginsAt : List Container → From → List Place → Place → List Place → Type 0
-BeginsAt path (At p may) lines q behind = (q ≡ p) × (behind ≡ lines)
-BeginsAt path Line [] q behind = ⊥
-BeginsAt path Line (line ∷ lines) q behind = (taken path line ≡ Some q) × (behind ≡ lines)
-BeginsAt path (Blanks e) [] q behind = ⊥
-BeginsAt path (Blanks e) (line ∷ lines) q behind = (taken path line ≡ Some q) × (behind ≡ lines)
+BeginsAt path (At p may) lines q following = (q ≡ p) × (following ≡ lines)
+BeginsAt path Line [] q following = ⊥
+BeginsAt path Line (line ∷ lines) q following = (taken path line ≡ Some q) × (following ≡ lines)
+BeginsAt path (Blanks e) [] q following = ⊥
+BeginsAt path (Blanks e) (line ∷ lines) q following = (taken path line ≡ Some q) × (following ≡ lines)
 
 -- what a sequence without blocks leaves: all lines, or a place where a block might begin
 abbrev pub LeavesAt : List Container → From → List Place → Left → Type 0
 LeavesAt path from lines (Lines left) = left ≡ lines
-LeavesAt path from lines (InLine p behind) = BeginsAt path from lines p behind × (in_footnote path ≡ true)
+LeavesAt path from lines (InLine p following) = BeginsAt path from lines p following × (in_footnote path ≡ true)
 
 abbrev GoesAt : List Container → From → List Place → Going → Type 0
-GoesAt path from lines (Begins p behind) = BeginsAt path from lines p behind
+GoesAt path from lines (Begins p following) = BeginsAt path from lines p following
 GoesAt path from lines (Ends left) = LeavesAt path from lines left
 
-in_line : (path : List Container) (from : From) (lines : List Place) (p : Place) (behind : List Place) (t u : Bool) → in_footnote path ≡ t
-    → BeginsAt path from lines p behind → GoesAt path from lines (if◌then◌else◌ {A = Going} (t && u) (Ends (InLine p behind)) (Begins p behind))
-in_line path from lines p behind false u is at = at
-in_line path from lines p behind true true is at = (at, is)
-in_line path from lines p behind true false is at = at
+in_line : (path : List Container) (from : From) (lines : List Place) (p : Place) (following : List Place) (t u : Bool) → in_footnote path ≡ t
+    → BeginsAt path from lines p following → GoesAt path from lines (if◌then◌else◌ {A = Going} (t && u) (Ends (InLine p following)) (Begins p following))
+in_line path from lines p following false u is at = at
+in_line path from lines p following true true is at = (at, is)
+in_line path from lines p following true false is at = at
 
 unless_old : (path : List Container) (from : From) (lines : List Place) (t : Bool) (g : Going) → GoesAt path from lines g
     → GoesAt path from lines (if◌then◌else◌ {A = Going} t (Ends (Lines lines)) g)
@@ -74,16 +74,16 @@ goes_at options l (Blanks e) [] = refl
 goes_at options l (Blanks e) (line ∷ lines) = at_blank l.path e line lines (taken l.path line) refl
 
 -- the place of the next block of a sequence; the next lemma: what a sequence without blocks leaves
-pub begins_at : (options : Options) (l : Level) (from : From) (lines : List Place) (p : Place) (behind : List Place)
-    → going options l from lines ≡ Begins p behind → BeginsAt l.path from lines p behind
-begins_at options l from lines p behind is = subst (GoesAt l.path from lines) is (goes_at options l from lines)
+pub begins_at : (options : Options) (l : Level) (from : From) (lines : List Place) (p : Place) (following : List Place)
+    → going options l from lines ≡ Begins p following → BeginsAt l.path from lines p following
+begins_at options l from lines p following is = subst (GoesAt l.path from lines) is (goes_at options l from lines)
 
 pub leaves_at : (options : Options) (l : Level) (from : From) (lines : List Place) (left : Left)
     → going options l from lines ≡ Ends left → LeavesAt l.path from lines left
 leaves_at options l from lines left is = subst (GoesAt l.path from lines) is (goes_at options l from lines)
 
-begun_not_ended : (p : Place) (behind : List Place) (left : Left) → Begins p behind ≡ Ends left → ⊥
-begun_not_ended p behind left e = cc
+begun_not_ended : (p : Place) (following : List Place) (left : Left) → Begins p following ≡ Ends left → ⊥
+begun_not_ended p following left e = cc
 
 pub same_left : (a b : Left) → Ends a ≡ Ends b → a ≡ b
 same_left a b e = cc
@@ -144,7 +144,7 @@ stops options l [] h = refl
 stops options l (line ∷ lines) h = stops_by options l line lines (after l.path line.rest) h
 
 -- an item that takes only blank lines
-stops_blank_by : (line : Place) (lines : List Place) (o : Option Rest) → is_blank_behind o ≡ false
+stops_blank_by : (line : Place) (lines : List Place) (o : Option Rest) → is_blank_after o ≡ false
     → going_blank (option_map (at_rest line) o) (line ∷ lines) ≡ Ends (Lines (line ∷ lines))
 stops_blank_by line lines None h = refl
 stops_blank_by line lines (Some r) h = ap (λ (t : Bool). if◌then◌else◌ {A = Going} t (Begins (at_rest line r) lines) (Ends (Lines (line ∷ lines)))) h

@@ -11,7 +11,7 @@ use Rattle.first_pass_items.specs.Bytes.{backslash, pipe}
 use Rattle.first_pass_items.specs.OptionWords.{has, tables}
 use Rattle.first_pass_items.specs.declared.item.Item.{Item}
 use Rattle.first_pass_lines.specs.Lines.{is_content, is_white, begins, eol_len, at_line_end, is_blank_line}
-use Rattle.first_pass_table_scan.specs.TableHead.{is_pipe, pipes_behind, pipes_of, header_columns, last_pipe_behind, head_columns}
+use Rattle.first_pass_table_scan.specs.TableHead.{is_pipe, pipes_after, pipes_of, header_columns, last_pipe_after, head_columns}
 use Rattle.first_pass_tokens.specs.Braces.{MathBraces}
 use Rattle.first_pass_tokens.specs.LineTokens.{Spot, spot, IsCell}
 use Rattle.first_pass_tokens.specs.MarkupBytes.{PipesAreEscaped}
@@ -84,11 +84,11 @@ cells_white_by true b c cs h more =
     let low = step_white (is_content c) (cells_of c cs) in
     let n : prefix_len is_white (c ∷ cs) ≡ prefix_len is_white cs + 1 = rw h (omega arith) in
     let rest = drop_next (prefix_len is_white cs) c cs in
-    let behind = ap (λ (k : ℕ). cells_of 0 (drop k (c ∷ cs))) n ∙ ap (λ (xs : List ℕ). cells_of 0 xs) rest in
+    let following = ap (λ (k : ℕ). cells_of 0 (drop k (c ∷ cs))) n ∙ ap (λ (xs : List ℕ). cells_of 0 xs) rest in
     omega arith
 cells_white_by false b c cs h more =
     let n : prefix_len is_white (c ∷ cs) ≡ 0 = rw h in
-    let behind = ap (λ (k : ℕ). cells_of 0 (drop k (c ∷ cs))) n in
+    let following = ap (λ (k : ℕ). cells_of 0 (drop k (c ∷ cs))) n in
     let low = cells_unescaped b (c ∷ cs) in
     omega arith
 
@@ -117,7 +117,7 @@ first_by : (text : List ℕ) (at : ℕ) (t : Bool) → (slice_index text at == p
 unfolding cells_of
 first_by text at true here =
     let begins : cell_start text at ≡ at + 1 = ap (λ (t : Bool). if t then at + 1 else at) here in
-    let behind = ap (λ (k : ℕ). cells_of 0 (drop k text)) begins in
+    let following = ap (λ (k : ℕ). cells_of 0 (drop k text)) begins in
     elim (cases_lt at (length text)) [
       | inl inside ↦
           let c = slice_index text at in
@@ -130,7 +130,7 @@ first_by text at true here =
     ]
 first_by text at false here =
     let begins : cell_start text at ≡ at = ap (λ (t : Bool). if t then at + 1 else at) here in
-    let behind = ap (λ (k : ℕ). cells_of 0 (drop k text)) begins in
+    let following = ap (λ (k : ℕ). cells_of 0 (drop k text)) begins in
     omega arith
 
 -- up to the content of the cell there
@@ -145,8 +145,8 @@ to_text text at =
 -- the content of a cell adds one
 escaped_by : (t : Bool) (b c : ℕ) → is_pipe c ≡ t → (c ≡ pipe → b ≡ backslash) → (is_pipe c && not (b == backslash)) ≡ false
 escaped_by true b c p h =
-    let behind = eq-eqb b 92 (h (eqb-true c 124 p)) in
-    ap (λ (x : Bool). x && not (b == backslash)) p ∙ ap not behind
+    let following = eq-eqb b 92 (h (eqb-true c 124 p)) in
+    ap (λ (x : Bool). x && not (b == backslash)) p ∙ ap not following
 escaped_by false b c p h = ap (λ (x : Bool). x && not (b == backslash)) p
 
 through : (text : List ℕ) (n at b stop : ℕ) → at + n ≡ stop → (at < stop → slice_index text at ≡ pipe → b ≡ backslash)
@@ -250,7 +250,7 @@ tail_by false bs b h = (let some = some_left b bs h in rw h some)
 
 -- up to the last pipe there is one cell for each pipe, and one more if anything follows the last pipe
 abbrev UpTo : ℕ → List ℕ → ℕ → Type 0
-UpTo b bs last = pipes_behind b (take (last + 1) bs) + (if is_blank_line (drop (last + 1) bs) then 0 else 1) ≤ cells_of b bs
+UpTo b bs last = pipes_after b (take (last + 1) bs) + (if is_blank_line (drop (last + 1) bs) then 0 else 1) ≤ cells_of b bs
 
 abbrev one_if : Bool → ℕ
 one_if t = if t then 1 else 0
@@ -268,11 +268,11 @@ unfolding cells_of
 further_up b c cs k h more =
     let u : Bool = is_pipe c && not (b == backslash) in
     let front = take_next (k + 1) c cs in
-    let behind = drop_next (k + 1) c cs in
-    let pipes = ap (λ (xs : List ℕ). pipes_behind b xs) front in
+    let following = drop_next (k + 1) c cs in
+    let pipes = ap (λ (xs : List ℕ). pipes_after b xs) front in
     let tail : none_if (is_blank_line (drop (k + 1 + 1) (c ∷ cs))) ≡ none_if (is_blank_line (drop (k + 1) cs)) =
-    ap (λ (xs : List ℕ). none_if (is_blank_line xs)) behind in
-    let low : pipes_behind c (take (k + 1) cs) + none_if (is_blank_line (drop (k + 1) cs)) ≤ cells_of c cs = more in
+    ap (λ (xs : List ℕ). none_if (is_blank_line xs)) following in
+    let low : pipes_after c (take (k + 1) cs) + none_if (is_blank_line (drop (k + 1) cs)) ≤ cells_of c cs = more in
     let here = ap (λ (t : Bool). step t u (is_white c) (cells_of c cs)) h in
     let counted = step_counted u (is_white c) (cells_of c cs) in
     omega arith
@@ -291,10 +291,10 @@ up_by u (Some k) b c cs last h p more e = subst (UpTo b (c ∷ cs)) (same_Some (
 up_by true None b c cs last h p more e = subst (UpTo b (c ∷ cs)) (same_Some 0 last e) (last_up b c cs h p)
 up_by false None b c cs last h p more e = absurd (none-some last e)
 
-up_if : (t : Bool) (b c : ℕ) (cs : List ℕ) (last : ℕ) → is_content c ≡ t → ((k : ℕ) → last_pipe_behind c (take_while is_content cs) ≡ Some k → UpTo c cs k)
-    → last_pipe_behind b (if t then c ∷ take_while is_content cs else []) ≡ Some last → UpTo b (c ∷ cs) last
+up_if : (t : Bool) (b c : ℕ) (cs : List ℕ) (last : ℕ) → is_content c ≡ t → ((k : ℕ) → last_pipe_after c (take_while is_content cs) ≡ Some k → UpTo c cs k)
+    → last_pipe_after b (if t then c ∷ take_while is_content cs else []) ≡ Some last → UpTo b (c ∷ cs) last
 up_if true b c cs last h more e =
-    up_by (is_pipe c && not (b == backslash)) (last_pipe_behind c (take_while is_content cs)) b c cs last h refl more e
+    up_by (is_pipe c && not (b == backslash)) (last_pipe_after c (take_while is_content cs)) b c cs last h refl more e
 up_if false b c cs last h more e = absurd (none-some last e)
 
 content_front : (t : Bool) (c : ℕ) (cs : List ℕ) → is_content c ≡ t → take_while is_content (c ∷ cs) ≡ (if t then c ∷ take_while is_content cs else [])
@@ -306,10 +306,10 @@ content_front false c cs h =
     let n : prefix_len is_content (c ∷ cs) ≡ 0 = rw h in
     ap (λ (k : ℕ). take k (c ∷ cs)) n
 
-up_to_last : (b : ℕ) (bs : List ℕ) (last : ℕ) → last_pipe_behind b (take_while is_content bs) ≡ Some last → UpTo b bs last
+up_to_last : (b : ℕ) (bs : List ℕ) (last : ℕ) → last_pipe_after b (take_while is_content bs) ≡ Some last → UpTo b bs last
 up_to_last b [] last e = absurd (none-some last e)
 up_to_last b (c ∷ cs) last e =
-    up_if (is_content c) b c cs last refl (up_to_last c cs) (ap (last_pipe_behind b) (sym (content_front (is_content c) c cs refl)) ∙ e)
+    up_if (is_content c) b c cs last refl (up_to_last c cs) (ap (last_pipe_after b) (sym (content_front (is_content c) c cs refl)) ∙ e)
 
 -- so a header row has no more columns than that, without the pipe at its start
 less_first : (pipes tail most : ℕ) (t : Bool) → pipes + tail ≤ most → pipes - (if t then 1 else 0) + tail ≤ most
@@ -320,7 +320,7 @@ leads_by : (t : Bool) (c : ℕ) (cs : List ℕ) (last n : ℕ) → is_pipe c ≡
     → header_columns (c ∷ cs) last ≤ n
 leads_by true c cs last n p up most =
     let front = take_next last c cs in
-    let pipes = ap (λ (xs : List ℕ). pipes_behind 0 xs) front in
+    let pipes = ap (λ (xs : List ℕ). pipes_after 0 xs) front in
     let one : one_if (is_pipe c && not (0 == backslash)) ≡ 1 = ap (λ (x : Bool). one_if (x && true)) p in
     let none = ap is_white (eqb-true c 124 p) in
     let white : prefix_len is_white (c ∷ cs) ≡ 0 = rw none in
@@ -332,7 +332,7 @@ leads_by false c cs last n p up most =
     less_first (pipes_of (take (last + 1) (c ∷ cs))) (if is_blank_line (drop (last + 1) (c ∷ cs)) then 0 else 1) n
     (begins pipe (drop (prefix_len is_white (c ∷ cs)) (c ∷ cs))) (omega arith)
 
-columns_by : (bs : List ℕ) (o : Option ℕ) (n : ℕ) → last_pipe_behind 0 (take_while is_content bs) ≡ o → cells_of 0 bs ≤ (if begins pipe bs then 1 else 0) + n
+columns_by : (bs : List ℕ) (o : Option ℕ) (n : ℕ) → last_pipe_after 0 (take_while is_content bs) ≡ o → cells_of 0 bs ≤ (if begins pipe bs then 1 else 0) + n
     → option_map_or (header_columns bs) o 0 ≤ n
 columns_by bs None n e most = omega arith
 columns_by [] (Some last) n e most = absurd (none-some last e)
@@ -340,7 +340,7 @@ columns_by (c ∷ cs) (Some last) n e most = leads_by (is_pipe c) c cs last n re
 
 columns_most : (bs : List ℕ) (n : ℕ) → cells_of 0 bs ≤ (if begins pipe bs then 1 else 0) + n → head_columns bs ≤ n
 unfolding head_columns
-columns_most bs n most = columns_by bs (last_pipe_behind 0 (take_while is_content bs)) n refl most
+columns_most bs n most = columns_by bs (last_pipe_after 0 (take_while is_content bs)) n refl most
 
 begins_there : (text : List ℕ) (at : ℕ) → begins pipe (drop at text) ≡ (slice_index text at == pipe)
 begins_there text at =

@@ -5,7 +5,7 @@ use Rattle.std.proofs.Common.{ap}
 use Rattle.std.proofs.Common.{◌∙◌, subst, arith, if◌then◌else◌}
 use Rattle.first_pass_items.specs.declared.item.Item.{Item}
 use Rattle.first_pass_items.specs.declared.item.Alignment.{Alignment}
-use Rattle.first_pass_lines.specs.Places.{Place, line_place, lines_behind, lines_at, offset}
+use Rattle.first_pass_lines.specs.Places.{Place, line_place, lines_after, lines_at, offset}
 use Rattle.first_pass_lines.specs.Lines.{ends_line, is_white}
 use Rattle.first_pass_grammar.specs.declared.kind.Container.{Container}
 use Rattle.first_pass_grammar.specs.Containers.{Context, at_rest, front}
@@ -23,7 +23,7 @@ use Rattle.first_pass_grammar.specs.Texts.{IsPlainText, IsText, IsUnderlined, un
 use Rattle.first_pass_grammar.proofs.CountedRows.{with_row, CountedRows, counted}
 use Rattle.first_pass_grammar.proofs.PlacesKept.{IsAt, AreAt, at_front}
 use Rattle.first_pass_items.specs.declared.item.HeadingLevel.{HeadingLevel}
-use Rattle.first_pass_grammar.specs.Footnotes.{behind_head, place_behind}
+use Rattle.first_pass_grammar.specs.Footnotes.{past_head, place_past}
 use Rattle.std.specs.List.{prefix_len}
 
 -- the lines of a text from an offset on
@@ -34,13 +34,13 @@ unless_at text false further all h k = k
 place_is_at : (text : List ℕ) (start : ℕ) (bs : List ℕ) → drop start text ≡ bs → IsAt text (line_place start bs)
 place_is_at text start bs h = (let same : start ≡ start + 0 = omega arith in sym h ∙ ap (λ (k : ℕ). drop k text) same)
 
-behind_at : (text : List ℕ) (b start : ℕ) (bs : List ℕ) → drop start text ≡ bs → AreAt text (lines_behind b start bs)
-unfolding lines_behind
-behind_at text b start [] h = tt
-behind_at text b start (c ∷ cs) h =
+past_at : (text : List ℕ) (b start : ℕ) (bs : List ℕ) → drop start text ≡ bs → AreAt text (lines_after b start bs)
+unfolding lines_after
+past_at text b start [] h = tt
+past_at text b start (c ∷ cs) h =
     let next : drop (start + 1) text ≡ cs = sym (drop-drop 1 start text) ∙ ap (drop 1) h in
-    let further = behind_at text c (start + 1) cs next in
-    unless_at text (ends_line b (c ∷ cs)) (line_place start (c ∷ cs) ∷ lines_behind c (start + 1) cs) (lines_behind c (start + 1) cs)
+    let further = past_at text c (start + 1) cs next in
+    unless_at text (ends_line b (c ∷ cs)) (line_place start (c ∷ cs) ∷ lines_after c (start + 1) cs) (lines_after c (start + 1) cs)
     (place_is_at text start (c ∷ cs) h, further) further
 
 lines_by : (text : List ℕ) (start : ℕ) (bs : List ℕ) → drop start text ≡ bs → AreAt text (lines_at start bs)
@@ -48,7 +48,7 @@ unfolding lines_at
 lines_by text start [] h = tt
 lines_by text start (b ∷ bs) h =
     let next : drop (start + 1) text ≡ bs = sym (drop-drop 1 start text) ∙ ap (drop 1) h in
-    (place_is_at text start (b ∷ bs) h, behind_at text b (start + 1) bs next)
+    (place_is_at text start (b ∷ bs) h, past_at text b (start + 1) bs next)
 
 pub lines_from_at : (text : List ℕ) (start : ℕ) → AreAt text (lines_from text start)
 lines_from_at text start = lines_by text start (drop start text) refl
@@ -63,8 +63,8 @@ beyond_at text e [] h = tt
 beyond_at text e (line ∷ lines) h = unless_at text (nat_lt line.line e) (lines_beyond e lines) (line ∷ lines) (beyond_at text e lines h.1) h
 
 -- the place after the head of a footnote definition, and where blocks continue there
-pub place_behind_at : (text : List ℕ) (n : ℕ) (p : Place) → IsAt text p → IsAt text (place_behind n p)
-place_behind_at text n p i =
+pub place_after_at : (text : List ℕ) (n : ℕ) (p : Place) → IsAt text p → IsAt text (place_past n p)
+place_after_at text n p i =
     let same : offset p + n ≡ offset p + n + 0 = omega arith in
     ap (drop n) i ∙ drop-drop n (offset p) text ∙ ap (λ (k : ℕ). drop k text) same
 
@@ -74,8 +74,8 @@ head_if text true q line lines i h = h
 head_if text false q line lines i h = (i, h)
 
 pub head_at : (text : List ℕ) (gfm : Bool) (q : Place) (lines : List Place) → IsAt text q → AreAt text lines
-    → IsAt text (behind_head gfm q lines).0 × AreAt text (behind_head gfm q lines).1
-head_at text true q lines i h = (place_behind_at text (prefix_len is_white q.rest.left) q i, h)
+    → IsAt text (past_head gfm q lines).0 × AreAt text (past_head gfm q lines).1
+head_at text true q lines i h = (place_after_at text (prefix_len is_white q.rest.left) q i, h)
 head_at text false q [] i h = (i, h)
 head_at text false q (line ∷ lines) i h = head_if text (is_blank_rest q.rest) q line lines i h
 
@@ -90,8 +90,8 @@ unfolding IsRun
 run_at text around p lines [] b i h (none, e) = subst (BeyondAt text) (sym e) (i, h)
 run_at text around p lines (x ∷ xs) b i h (at, inl (stops, last, e)) = subst (BeyondAt text) (sym e) (beyond_at text x.«end» lines h)
 run_at text around p lines (x ∷ xs) b i h (at, inr (line, left, is, on, more)) =
-    let behind : AreAt text (line ∷ left) = subst (AreAt text) is (beyond_at text x.«end» lines h) in
-    run_at text around (unindented (at_rest line (front around.path line.rest))) left xs b (at_front text around.path line behind.0) behind.1 more
+    let following : AreAt text (line ∷ left) = subst (AreAt text) is (beyond_at text x.«end» lines h) in
+    run_at text around (unindented (at_rest line (front around.path line.rest))) left xs b (at_front text around.path line following.0) following.1 more
 
 -- the lines after the lines of a text
 pub lines_left : (d : Document) (path : List Container) (p : Spot) (chain : List Item) (lines : List Place) (t : TextLines)

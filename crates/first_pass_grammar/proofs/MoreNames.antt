@@ -25,17 +25,17 @@ extends_none names = record {
 }
 
 -- names that extend names that extend names
-behind_both : {A : Type 0} (new mid old more others : List A) → new ≡ mid ++ more → mid ≡ old ++ others → new ≡ old ++ (others ++ more)
-behind_both new mid old more others e f = e ∙ ap (λ xs. xs ++ more) f ∙ append_assoc old others more
+after_both : {A : Type 0} (new mid old more others : List A) → new ≡ mid ++ more → mid ≡ old ++ others → new ≡ old ++ (others ++ more)
+after_both new mid old more others e f = e ∙ ap (λ xs. xs ++ more) f ∙ append_assoc old others more
 
 pub extends_both : (new mid old : Names) → Extends new mid → Extends mid old → Extends new old
 extends_both new mid old e f = record {
   more_texts = f.more_texts ++ e.more_texts;
-  texts = behind_both new.texts mid.texts old.texts e.more_texts f.more_texts e.texts f.texts;
+  texts = after_both new.texts mid.texts old.texts e.more_texts f.more_texts e.texts f.texts;
   more_alignments = f.more_alignments ++ e.more_alignments;
-  alignments = behind_both new.alignments mid.alignments old.alignments e.more_alignments f.more_alignments e.alignments f.alignments;
+  alignments = after_both new.alignments mid.alignments old.alignments e.more_alignments f.more_alignments e.alignments f.alignments;
   more_headings = f.more_headings ++ e.more_headings;
-  headings = behind_both new.headings mid.headings old.headings e.more_headings f.more_headings e.headings f.headings;
+  headings = after_both new.headings mid.headings old.headings e.more_headings f.more_headings e.headings f.headings;
 }
 
 -- one more text, the alignments of one more table, and the attributes of one more heading

@@ -7,13 +7,13 @@ use Rattle.first_pass_lines.specs.Places.{Place}
 use Rattle.first_pass_grammar.specs.declared.kind.Container.TheVariants.{BlockQuote}
 use Rattle.first_pass_grammar.specs.Containers.{prefix}
 use Rattle.first_pass_grammar.specs.Kinds.{item_at, definition_marker_at}
-use Rattle.first_pass_grammar.specs.Openers.{Start, item_start, task_behind, quote_begun, tag_behind, definition_start, start_at}
+use Rattle.first_pass_grammar.specs.Openers.{Start, item_start, task_after, quote_begun, tag_after, definition_start, start_at}
 
 abbrev pub item_as : Options → Place → (ℕ × ℕ × ℕ) × Rest → Start
-item_as options p item = item_start p item.0 (task_behind options p.line item.1)
+item_as options p item = item_start p item.0 (task_after options p.line item.1)
 
 abbrev pub quote_as : Options → Place → Rest → Start
-quote_as options p r = quote_begun p (tag_behind options r) r
+quote_as options p r = quote_begun p (tag_after options r) r
 
 some_same : {T : Type 0} (x y : T) → Some x ≡ Some y → x ≡ y
 some_same x y h = cc
@@ -42,9 +42,9 @@ start_by options p P None None None f d g s h = cc
 
 -- a property of the marker of an item, a definition or a block quote holds for the start of every container
 pub start_cases : (options : Options) (may : Bool) (p : Place) (P : Start → Type 0)
-    → ((item : (ℕ × ℕ × ℕ) × Rest) → item_at p.rest ≡ Some item → P (item_start p item.0 (task_behind options p.line item.1)))
+    → ((item : (ℕ × ℕ × ℕ) × Rest) → item_at p.rest ≡ Some item → P (item_start p item.0 (task_after options p.line item.1)))
     → ((marker : ℕ × Rest) → item_at p.rest ≡ None → definition_marker_at p.rest ≡ Some marker → P (definition_start p marker))
-    → ((r : Rest) → item_at p.rest ≡ None → prefix (BlockQuote None) p.rest ≡ Some r → P (quote_begun p (tag_behind options r) r))
+    → ((r : Rest) → item_at p.rest ≡ None → prefix (BlockQuote None) p.rest ≡ Some r → P (quote_begun p (tag_after options r) r))
     → (s : Start) → start_at options may p ≡ Some s → P s
 unfolding start_at
 start_cases options may p P f d g s h =
@@ -52,7 +52,7 @@ start_cases options may p P f d g s h =
     (λ marker none is. d marker none (marker_by may p marker is)) g s h
 
 pub start_item : (options : Options) (may : Bool) (p : Place) (item : (ℕ × ℕ × ℕ) × Rest) → item_at p.rest ≡ Some item
-    → start_at options may p ≡ Some (item_start p item.0 (task_behind options p.line item.1))
+    → start_at options may p ≡ Some (item_start p item.0 (task_after options p.line item.1))
 unfolding start_at
 start_item options may p item is = ap (λ i. start_of_three options p i (marker_where may p) (prefix (BlockQuote None) p.rest)) is
 
@@ -64,7 +64,7 @@ start_definition options may p marker none is =
     ∙ ap (λ m. start_of_three options p None m (prefix (BlockQuote None) p.rest)) is
 
 pub start_quote : (options : Options) (may : Bool) (p : Place) (r : Rest) → item_at p.rest ≡ None → marker_where may p ≡ None
-    → prefix (BlockQuote None) p.rest ≡ Some r → start_at options may p ≡ Some (quote_begun p (tag_behind options r) r)
+    → prefix (BlockQuote None) p.rest ≡ Some r → start_at options may p ≡ Some (quote_begun p (tag_after options r) r)
 unfolding start_at
 start_quote options may p r none no_marker is =
     ap (λ i. start_of_three options p i (marker_where may p) (prefix (BlockQuote None) p.rest)) none

@@ -108,16 +108,16 @@ pub fits-order : (text : List ℕ) (w : Within) (from to : ℕ) (row : Siblings)
 unfolding Fits
 fits-order text w from to Empty h = h
 fits-order text w from to (Node x kids next) (inl (b, k, n)) =
-    let r = fits-order text (beyond w) x.«end» to next n in let s : from ≤ x.start = b.behind in let t : x.start ≤ x.«end» = b.order in omega arith
+    let r = fits-order text (beyond w) x.«end» to next n in let s : from ≤ x.start = b.following in let t : x.start ≤ x.«end» = b.order in omega arith
 fits-order text w from to (Node x kids next) (inr (l, k, n)) = fits-order text Elsewhere from to next n
 
 between-later : (text : List ℕ) (from a b : ℕ) (x : Extent) → a ≤ b → IsBetween text from a x → IsBetween text from b x
 between-later text from a b x more h =
-    let t : x.«end» ≤ a = h.before in record { behind = h.behind; order = h.order; before = omega arith; starts = h.starts; ends = h.ends }
+    let t : x.«end» ≤ a = h.before in record { following = h.following; order = h.order; before = omega arith; starts = h.starts; ends = h.ends }
 
 between-earlier : (text : List ℕ) (a b to : ℕ) (x : Extent) → a ≤ b → IsBetween text b to x → IsBetween text a to x
 between-earlier text a b to x more h =
-    let t : b ≤ x.start = h.behind in record { behind = omega arith; order = h.order; before = h.before; starts = h.starts; ends = h.ends }
+    let t : b ≤ x.start = h.following in record { following = omega arith; order = h.order; before = h.before; starts = h.starts; ends = h.ends }
 
 -- siblings fit up to a later offset
 pub fits-later : (text : List ℕ) (w : Within) (from a b : ℕ) (row : Siblings) → a ≤ b → Fits text w from a row → Fits text w from b row
@@ -165,12 +165,12 @@ beyond-again text InItem from to row h = h
 beyond-again text (InText before) from to row h = h
 beyond-again text (InFirst before) from to row h = h
 
-behind-lead : (text : List ℕ) (w : Within) (at from to : ℕ) (x : Extent) (row : Siblings)
+following-lead : (text : List ℕ) (w : Within) (at from to : ℕ) (x : Extent) (row : Siblings)
     → IsLead text w at x → Fits text (beyond w) from to row → Fits text Elsewhere from to row
-behind-lead text Elsewhere at from to x row l h = absurd l
-behind-lead text InItem at from to x row l h = absurd l
-behind-lead text (InText before) at from to x row l h = h
-behind-lead text (InFirst before) at from to x row l h = absurd l
+following-lead text Elsewhere at from to x row l h = absurd l
+following-lead text InItem at from to x row l h = absurd l
+following-lead text (InText before) at from to x row l h = h
+following-lead text (InFirst before) at from to x row l h = absurd l
 
 -- a task list item marker may start from an earlier offset on
 fits-earlier_lead : (text : List ℕ) (a b from to : ℕ) (row : Siblings) → a ≤ b → Fits text (InText b) from to row → Fits text (InText a) from to row
@@ -228,15 +228,16 @@ fits-earlier text (InFirst before) a b to row more h = earlier_by text Elsewhere
 pub fits-beside : (text : List ℕ) (w : Within) (from mid to : ℕ) (row more : Siblings)
     → Fits text w from mid row → Fits text (beyond w) mid to more → Fits text w from to (beside row more)
 unfolding Fits
-fits-beside text w from mid to Empty more h behind = let t : from ≤ mid = h in fits-beyond text w from to more (fits-earlier text w from mid to more t behind)
-fits-beside text w from mid to (Node x kids next) more (inl (h, k, n)) behind =
+fits-beside text w from mid to Empty more h following =
+    let t : from ≤ mid = h in fits-beyond text w from to more (fits-earlier text w from mid to more t following)
+fits-beside text w from mid to (Node x kids next) more (inl (h, k, n)) following =
     inl (
-      between-later text from mid to x (fits-order text (beyond w) mid to more behind) h,
+      between-later text from mid to x (fits-order text (beyond w) mid to more following) h,
       k,
-      fits-beside text (beyond w) x.«end» mid to next more n (beyond-again text w mid to more behind),
+      fits-beside text (beyond w) x.«end» mid to next more n (beyond-again text w mid to more following),
     )
-fits-beside text w from mid to (Node x kids next) more (inr (l, k, n)) behind =
-    inr (l, k, fits-beside text Elsewhere from mid to next more n (behind-lead text w from mid to x more l behind))
+fits-beside text w from mid to (Node x kids next) more (inr (l, k, n)) following =
+    inr (l, k, fits-beside text Elsewhere from mid to next more n (following-lead text w from mid to x more l following))
 
 -- a single sibling fits
 pub fits-one : (text : List ℕ) (w : Within) (from to : ℕ) (x : Extent) → IsBetween text from to x → Fits text w from to (Node x Empty Empty)
@@ -284,12 +285,12 @@ pub fits_open-beside : (text : List ℕ) (mid to : ℕ) (levels : List (Siblings
     → FitsOpen text mid levels row → Fits text (open_within levels) mid to more
     → FitsOpen text to levels (beside row more)
 unfolding FitsOpen
-fits_open-beside text mid to [] row more h behind = fits-beside text Elsewhere 0 mid to row more h behind
-fits_open-beside text mid to (level ∷ levels) row more (before, m, h, starts, rest) behind = (
+fits_open-beside text mid to [] row more h following = fits-beside text Elsewhere 0 mid to row more h following
+fits_open-beside text mid to (level ∷ levels) row more (before, m, h, starts, rest) following = (
   before,
   m,
   fits-beside text (below (open_within levels) before level.1) level.1.start mid to row more h
-      (beyond_below text (open_within levels) before level.1 mid to more behind),
+      (beyond_below text (open_within levels) before level.1 mid to more following),
   starts,
   rest,
 )
@@ -320,7 +321,7 @@ fits_open-popped text at e level levels row more ends (before, m, h, starts, res
     let last : e ≤ e = omega arith in
     fits_open-beside text before e levels level.0 (Node (ended_at x e) row Empty) rest
     (inl (
-      record { behind = m; order = order; before = last; starts = starts; ends = ends },
+      record { following = m; order = order; before = last; starts = starts; ends = ends },
       subst (λ v. Fits text v x.start e row) (sym (below_ended w before x e)) inside,
       last,
     ))
@@ -380,7 +381,7 @@ unfolding Fits row_of
 row_of-fits text w from to [] h = h
 row_of-fits text w from to (x ∷ xs) h =
     let later = order_bound text x.«end» to xs h.4 in
-    inl (record { behind = h.0; order = h.1; before = later; starts = h.2; ends = h.3 }, h.1, row_of-fits text (beyond w) x.«end» to xs h.4)
+    inl (record { following = h.0; order = h.1; before = later; starts = h.2; ends = h.3 }, h.1, row_of-fits text (beyond w) x.«end» to xs h.4)
 
 -- a block that fits elsewhere fits anywhere
 pub between-any : (text : List ℕ) (w : Within) (from to : ℕ) (items : List (ℕ × Item))

@@ -19,7 +19,7 @@ use Rattle.first_pass_grammar.specs.Containers.{at_rest, has_columns, prefix, af
 use Rattle.first_pass_grammar.specs.Kinds.{all_taken, unindented, item_at, definition_marker_at}
 use Rattle.first_pass_grammar.specs.CodeBlocks.{code_place, code_by, code_lines}
 use Rattle.first_pass_grammar.specs.Extents.{Extent, Verdict, GoesOn, IsLast, Closes, Stops, extent_by, extent}
-use Rattle.first_pass_grammar.specs.Openers.{task_by, task_behind}
+use Rattle.first_pass_grammar.specs.Openers.{task_by, task_after}
 
 -- the rest at a place is the text from its offset on; the next definition: at each of these places
 abbrev pub IsAt : List ℕ → Place → Type 0
@@ -39,8 +39,8 @@ follows_none r = (0, refl, omega arith)
 follows_both : (r s q : Rest) → Follows r s → Follows s q → Follows r q
 follows_both r s q (n, e, f) (m, g, h) = (n + m, g ∙ ap (drop m) e ∙ drop-drop m n r.left, omega arith)
 
-pub at_behind : (text : List ℕ) (line : ℕ) (r s : Rest) → Follows r s → IsAt text (place_at line r) → IsAt text (place_at line s)
-at_behind text line r s (n, e, f) i =
+pub at_after : (text : List ℕ) (line : ℕ) (r s : Rest) → Follows r s → IsAt text (place_at line r) → IsAt text (place_at line s)
+at_after text line r s (n, e, f) i =
     let same : line + r.taken + n ≡ line + s.taken = omega arith in
     e ∙ ap (drop n) i ∙ drop-drop n (line + r.taken) text ∙ ap (λ (k : ℕ). drop k text) same
 
@@ -126,23 +126,23 @@ front_follows (c ∷ path) r = front_by (after (c ∷ path) r) r (front path r) 
 
 -- after the indentation of a place, and at that place of a line
 pub at_unindented : (text : List ℕ) (p : Place) → IsAt text p → IsAt text (unindented p)
-at_unindented text p i = at_behind text p.line p.rest (all_taken p.rest) (columns_follow (indent p.rest) p.rest) i
+at_unindented text p i = at_after text p.line p.rest (all_taken p.rest) (columns_follow (indent p.rest) p.rest) i
 
 pub at_front : (text : List ℕ) (path : List Container) (line : Place) → IsAt text line → IsAt text (unindented (at_rest line (front path line.rest)))
 at_front text path line i =
-    at_unindented text (at_rest line (front path line.rest)) (at_behind text line.line line.rest (front path line.rest) (front_follows path line.rest) i)
+    at_unindented text (at_rest line (front path line.rest)) (at_after text line.line line.rest (front path line.rest) (front_follows path line.rest) i)
 
 taken_by : (text : List ℕ) (line q : Place) (o : Option Rest) → ((s : Rest) → o ≡ Some s → Follows line.rest s) → option_map (at_rest line) o ≡ Some q
     → IsAt text line → IsAt text q
 taken_by text line q None f h i = absurd (none-some q h)
-taken_by text line q (Some s) f h i = subst (IsAt text) (same_Some (at_rest line s) q h) (at_behind text line.line line.rest s (f s refl) i)
+taken_by text line q (Some s) f h i = subst (IsAt text) (same_Some (at_rest line s) q h) (at_after text line.line line.rest s (f s refl) i)
 
 pub at_taken : (text : List ℕ) (path : List Container) (line q : Place) → taken path line ≡ Some q → IsAt text line → IsAt text q
 at_taken text path line q h i = taken_by text line q (after path line.rest) (after_follows path line.rest) h i
 
 -- inside a block quote
 pub at_quote : (text : List ℕ) (p : Place) (inside : Rest) → prefix (BlockQuote None) p.rest ≡ Some inside → IsAt text p → IsAt text (at_rest p inside)
-at_quote text p inside h i = at_behind text p.line p.rest inside (prefix_follows (BlockQuote None) p.rest inside h) i
+at_quote text p inside h i = at_after text p.line p.rest inside (prefix_follows (BlockQuote None) p.rest inside h) i
 
 -- after the marker of an item, and of a task
 marked_follows : (r s : Rest) → IsMarked r s → Follows r s
@@ -174,7 +174,7 @@ marker_follows r marker h = marker_if (nat_lt (indent r) 4) r marker h
 
 -- after the marker of a definition
 pub at_marker : (text : List ℕ) (p : Place) (marker : ℕ × Rest) → definition_marker_at p.rest ≡ Some marker → IsAt text p → IsAt text (at_rest p marker.1)
-at_marker text p marker h i = at_behind text p.line p.rest marker.1 (marker_follows p.rest marker h) i
+at_marker text p marker h i = at_after text p.line p.rest marker.1 (marker_follows p.rest marker h) i
 
 task_follows_by : (line : ℕ) (r : Rest) (o : Option (Bool × Rest)) → ((task : Bool × Rest) → o ≡ Some task → Follows r task.1) → Follows r (task_by line r o).1
 task_follows_by line r None f = follows_none r
@@ -185,14 +185,14 @@ task_if true r task h =
     follows_both r (after_columns 3 r) task.1 (columns_follow 3 r) (marked_follows (after_columns 3 r) task.1 (task-marked r task h))
 task_if false r task h = absurd (none-some task h)
 
-pub task_follows : (options : Options) (line : ℕ) (r : Rest) → Follows r (task_behind options line r).1
+pub task_follows : (options : Options) (line : ℕ) (r : Rest) → Follows r (task_after options line r).1
 task_follows options line r = task_follows_by line r (if has options tasklists then task_of r else None) (task_if (has options tasklists) r)
 
 pub at_item : (text : List ℕ) (options : Options) (p : Place) (item : (ℕ × ℕ × ℕ) × Rest) → item_at p.rest ≡ Some item → IsAt text p
-    → IsAt text (at_rest p (task_behind options p.line item.1).1)
+    → IsAt text (at_rest p (task_after options p.line item.1).1)
 at_item text options p item h i =
-    let task : Rest = (task_behind options p.line item.1).1 in
-    at_behind text p.line p.rest task (follows_both p.rest item.1 task (item_follows p.rest item h) (task_follows options p.line item.1)) i
+    let task : Rest = (task_after options p.line item.1).1 in
+    at_after text p.line p.rest task (follows_both p.rest item.1 task (item_follows p.rest item h) (task_follows options p.line item.1)) i
 
 -- the lines after a block
 extent_by_at : (text : List ℕ) (v : Verdict) (line : Place) (lines : List Place) (e : Extent) → AreAt text (line ∷ lines) → AreAt text e.left

@@ -73,9 +73,9 @@ text_along text at =
     ∙ start_along text at (slice_index text at == pipe) refl
 
 -- It begins in the text, and not before that place.
-pub text_behind : (text : List ℕ) (at : ℕ) (t : Bool) → (slice_index text at == pipe) ≡ t → at ≤ cell_text text at
-text_behind text at true here = let begins : cell_start text at ≡ at + 1 = ap (λ (t : Bool). if t then at + 1 else at) here in omega arith
-text_behind text at false here = let begins : cell_start text at ≡ at = ap (λ (t : Bool). if t then at + 1 else at) here in omega arith
+pub text_after : (text : List ℕ) (at : ℕ) (t : Bool) → (slice_index text at == pipe) ≡ t → at ≤ cell_text text at
+text_after text at true here = let begins : cell_start text at ≡ at + 1 = ap (λ (t : Bool). if t then at + 1 else at) here in omega arith
+text_after text at false here = let begins : cell_start text at ≡ at = ap (λ (t : Bool). if t then at + 1 else at) here in omega arith
 
 -- The row whose cells begin at a place ends after the line ending there: its line has the same end.
 pub row_ends_its_line : (d : Document) (p : Spot) (cells : List (List (ℕ × Item))) (to : Spot) → p.at ≤ length d.text → AreCells d p cells to
@@ -92,7 +92,7 @@ row_ends_its_line d p (cell ∷ cells) to within (on, tokens, next, is, same, mo
     let from : cell_text d.text p.at ≤ next.at = ends.from in
     let reach : next.at ≤ cell_text d.text p.at + prefix_len is_content (drop (cell_text d.text p.at) d.text) = ends.in_line in
     let first = text_along d.text p.at in
-    let behind = along d.text (cell_text d.text p.at) (next.at - cell_text d.text p.at) (omega arith) in
+    let following = along d.text (cell_text d.text p.at) (next.at - cell_text d.text p.at) (omega arith) in
     let place : cell_text d.text p.at + (next.at - cell_text d.text p.at) ≡ next.at = omega arith in
     let read = ap (λ (k : ℕ). k + line_len (drop k d.text)) place in
     let rest = row_ends_its_line d next cells to ends.within more in

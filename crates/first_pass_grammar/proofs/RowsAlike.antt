@@ -26,7 +26,7 @@ use Rattle.std.specs.Option.{option_map, option_map_or}
 use Rattle.first_pass_items.specs.declared.item.ItemBody.{ItemBody}
 use Rattle.first_pass_items.specs.declared.item.ItemBody.TheVariants.{DefinitionList as DefinitionListBody, DefinitionListDefinition as DefinitionBody}
 use Rattle.first_pass_items.specs.declared.item.ItemBody.TheVariants.{DefinitionListTitle, SynthesizeText, FencedCodeBlock, Table, Heading}
-use Rattle.first_pass_grammar.specs.Rows.{end_of, list_until, items_behind, list_behind, row_of, row_of_leaf, container_row, rows_of}
+use Rattle.first_pass_grammar.specs.Rows.{end_of, list_until, items_after, list_after, row_of, row_of_leaf, container_row, rows_of}
 use Rattle.first_pass_grammar.specs.Derivation.{Tables, definitions_of, footnotes_of, told_by, node_of, list_flags, row_items, tight_in, items_of}
 use Rattle.first_pass_grammar.proofs.Alike.{AlikeNodes, stands, head_alone, label_node, opened_alike, label_alike, Alike, nodes_append, tight_read}
 use Rattle.first_pass_grammar.proofs.Alike.{read_tight}
@@ -130,7 +130,7 @@ chosen : (m n : Names) (t t' : Bool) (x x' y y' : Rows) → t ≡ t' → AlikeRo
 chosen m n t true x x' y y' is a b = rw is a
 chosen m n t false x x' y y' is a b = rw is b
 
-items_alike : (m n : Names) (joins : Joins) (r r' : Rows) → AlikeRows m n r r' → AlikeRows m n (items_behind joins r) (items_behind joins r')
+items_alike : (m n : Names) (joins : Joins) (r r' : Rows) → AlikeRows m n r r' → AlikeRows m n (items_after joins r) (items_after joins r')
 items_alike m n joins End End a = tt
 items_alike m n joins End (OneOf row' inner' next') a = absurd a
 items_alike m n joins (OneOf row inner next) End a = absurd a
@@ -138,7 +138,7 @@ items_alike m n joins (OneOf row inner next) (OneOf row' inner' next') a =
     chosen m n _ _ (gapped row.gap inner) (gapped row'.gap inner') End End (same_list m n joins row row' a.0)
     (gapped_alike m n row.gap row'.gap inner inner' (ap (λ (z : Row). z.gap) a.0.0) a.1) tt
 
-past_alike : (m n : Names) (joins : Joins) (r r' : Rows) → AlikeRows m n r r' → AlikeRows m n (list_behind joins r) (list_behind joins r')
+past_alike : (m n : Names) (joins : Joins) (r r' : Rows) → AlikeRows m n r r' → AlikeRows m n (list_after joins r) (list_after joins r')
 past_alike m n joins End End a = a
 past_alike m n joins End (OneOf row' inner' next') a = absurd a
 past_alike m n joins (OneOf row inner next) End a = absurd a

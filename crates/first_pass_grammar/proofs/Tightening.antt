@@ -14,7 +14,7 @@ use Rattle.first_pass_tree.specs.Tight.{tightened}
 use Rattle.first_pass_grammar.specs.Before.{Before, nothing, after_blank, after_block}
 use Rattle.first_pass_grammar.specs.Blocks.{LeafBlock, BlankLine, Block, Opener, QuoteMarker, ItemMarker, Skeleton, Nil, Then, Node, FootnoteMarker}
 use Rattle.first_pass_grammar.specs.Blocks.{DefinitionMarker}
-use Rattle.first_pass_grammar.specs.Rows.{What, ALeaf, AQuote, AList, AnItem, Row, Rows, End, OneOf, is_loose, list_behind, row_of, container_row, rows_of}
+use Rattle.first_pass_grammar.specs.Rows.{What, ALeaf, AQuote, AList, AnItem, Row, Rows, End, OneOf, is_loose, list_after, row_of, container_row, rows_of}
 use Rattle.first_pass_grammar.specs.Derivation.{node_of, list_flags, row_items, tight_in, items_of}
 use Rattle.first_pass_grammar.specs.Completion.{flagged, list_closed}
 use Rattle.first_pass_grammar.specs.Rows.{AFootnote, ADefinitionList, ATitle, ADefinition, Joins, ItemsOf, DefinitionsTo, row_of_leaf}
@@ -84,7 +84,7 @@ blocks_by : (t : Bool) (row : Row) (inner next : Rows) → AreBlocks (OneOf row 
 blocks_by true row inner next h = h.1
 blocks_by false row inner next h = h
 
-blocks_past : (joins : Joins) (r : Rows) → AreBlocks r → AreBlocks (list_behind joins r)
+blocks_past : (joins : Joins) (r : Rows) → AreBlocks r → AreBlocks (list_after joins r)
 blocks_past joins End h = tt
 blocks_past joins (OneOf row inner next) h = blocks_by _ row inner next h
 

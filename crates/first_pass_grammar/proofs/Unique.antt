@@ -33,13 +33,13 @@ use Rattle.std.proofs.lemmas.Option.{none-some, same_Some}
 use Rattle.first_pass_grammar.specs.Blocks.{leaf_block, Leaf, BlankLine, Block, Opener, QuoteMarker, ItemMarker, FootnoteMarker, DefinitionMarker, Head}
 use Rattle.first_pass_grammar.specs.Blocks.{opened, Skeleton, Nil}
 use Rattle.first_pass_grammar.specs.Blocks.{Then, Node}
-use Rattle.first_pass_grammar.specs.Skeleton.{OpensBeyond, OpensRun, From, Line, Blanks, At, Anything, ALeafAlone, TextOf, MarkAlone, behind_marker, Opening}
+use Rattle.first_pass_grammar.specs.Skeleton.{OpensBeyond, OpensRun, From, Line, Blanks, At, Anything, ALeafAlone, TextOf, MarkAlone, after_marker, Opening}
 use Rattle.first_pass_grammar.specs.Skeleton.{OpensLeaf, OpensNode, OpensText, OpensExtent, OpensAs, OpensBlockAt, next_is_blank}
-use Rattle.first_pass_grammar.specs.Skeleton.{task_alone, behind_tag}
-use Rattle.first_pass_grammar.specs.Openers.{task_by, task_behind, tag_behind}
+use Rattle.first_pass_grammar.specs.Skeleton.{task_alone, after_tag}
+use Rattle.first_pass_grammar.specs.Openers.{task_by, task_after, tag_after}
 use Rattle.first_pass_grammar.specs.Skeleton.{Opens, OpensAt, may_define, Level, level, level_in, level_after_leaf, level_after, Left, Lines, InLine, Going}
 use Rattle.first_pass_grammar.specs.Skeleton.{Begins, Ends}
-use Rattle.first_pass_grammar.specs.Skeleton.{going, onward, behind_first, end_before, IsFirst, IsSequence}
+use Rattle.first_pass_grammar.specs.Skeleton.{going, onward, after_first, end_before, IsFirst, IsSequence}
 use Rattle.first_pass_grammar.specs.Derivation.{Tables, no_tables, node_of, Derives, IsOnlyDerived}
 use Rattle.first_pass_grammar.proofs.NoIndex.{HasNoIndex, read_alone}
 use Rattle.first_pass_grammar.specs.RawLines.{range_text, range_html}
@@ -223,17 +223,17 @@ opens_block d n path p lines o o' (k, is, e) (k', is', f) =
 -- a container that opens without a label; the marker where its blocks continue, if there is one, has no index
 abbrev OpensFree : Opening → Type 0
 OpensFree (OpensLeaf leaf there left) = ⊥
-OpensFree (OpensNode head inside behind) = HoldsNoIndex inside × (label_node head.opener ≡ [])
+OpensFree (OpensNode head inside following) = HoldsNoIndex inside × (label_node head.opener ≡ [])
 
 node_alike : (m n : Names) (o : Opening) → OpensFree o → AlikeOpening m n o o
 node_alike m n (OpensLeaf leaf there left) h = absurd h
-node_alike m n (OpensNode head inside behind) h = ((refl, rw h.1 refl), refl, h.0, refl)
+node_alike m n (OpensNode head inside following) h = ((refl, rw h.1 refl), refl, h.0, refl)
 
 task_free : (line : ℕ) (r : Rest) (o : Option (Bool × Rest)) → IfSome (task_by line r o).0 HasNoIndex
 task_free line r None = tt
 task_free line r (Some task) = refl
 
-marker_free : (blanks : Option ℕ) → HoldsNoIndex (behind_marker blanks)
+marker_free : (blanks : Option ℕ) → HoldsNoIndex (after_marker blanks)
 marker_free None = tt
 marker_free (Some e) = tt
 
@@ -249,7 +249,7 @@ first_free : (t : Bool) (x y : From × List Place) → HoldsNoIndex x.0 → Hold
 first_free true x y h k = h
 first_free false x y h k = k
 
-tag_free : (c : Context) (lines : List Place) → HoldsNoIndex (behind_tag c lines).0
+tag_free : (c : Context) (lines : List Place) → HoldsNoIndex (after_tag c lines).0
 tag_free c [] = tt
 tag_free c (line ∷ lines) =
     first_free (ends_tag c line.rest) (Line, line ∷ lines) (At (unindented (at_rest line (front c.path line.rest))) ALeafAlone, lines) tt tt
@@ -278,12 +278,12 @@ start_free : (options : Options) (may : Bool) (p : Place) (s : Start) → start_
 start_free options may p =
     start_cases options may p StartFree
     (λ item is. (
-      task_after_free (is_blank_rest (task_behind options p.line item.1).1) (task_behind options p.line item.1).0
+      task_after_free (is_blank_rest (task_after options p.line item.1).1) (task_after options p.line item.1).0
           (task_free p.line item.1 (if has options tasklists then task_of item.1 else None)),
       refl,
     ))
     (λ marker none is. (task_after_free (is_blank_rest marker.1) None tt, refl))
-    (λ r none is. (quote_after_free (tag_behind options r), refl))
+    (λ r none is. (quote_after_free (tag_after options r), refl))
 
 label_without : (o : Opener) → label_node o ≡ [] → label_node (without_indent o) ≡ []
 label_without (QuoteMarker kind) h = h
@@ -353,13 +353,13 @@ ends_not_begins left p a g e f = let s : Ends left ≡ Begins p a = sym e ∙ f 
 first_once : (d : Document) (n : Names) (l : Level) (from : From) (lines : List Place) (o o' : Opening) → HoldsNoIndex from
     → IsFirst d l from lines o → IsFirst (with_names d n) l from lines o' → AlikeOpening d.names n o o'
 first_once d n l from lines o o' h f g =
-    let w = begins_once f.place g.place f.behind g.behind (going d.options l from lines) f.begins g.begins in
-    opens_at d n l from g.place g.behind o o' h
-    (subst (λ z. OpensAt d l from g.place z o) w.1 (subst (λ z. OpensAt d l from z f.behind o) w.0 f.opens)) g.opens
+    let w = begins_once f.place g.place f.following g.following (going d.options l from lines) f.begins g.begins in
+    opens_at d n l from g.place g.following o o' h
+    (subst (λ z. OpensAt d l from g.place z o) w.1 (subst (λ z. OpensAt d l from z f.following o) w.0 f.opens)) g.opens
 
 first_ends : (d : Document) (l : Level) (from : From) (lines : List Place) (left : Left) (o : Opening) → going d.options l from lines ≡ Ends left
     → IsFirst d l from lines o → ⊥
-first_ends d l from lines left o e f = ends_not_begins left f.place f.behind (going d.options l from lines) e f.begins
+first_ends d l from lines left o e f = ends_not_begins left f.place f.following (going d.options l from lines) e f.begins
 
 -- a sequence has no block where it ends
 pub ends_at_once : (d : Document) (s : Skeleton) (l : Level) (from : From) (lines : List Place) (stop left : Left)
@@ -367,16 +367,16 @@ pub ends_at_once : (d : Document) (s : Skeleton) (l : Level) (from : From) (line
 unfolding IsSequence
 ends_at_once d Nil l from lines stop left e f = (refl, same_left left stop (sym f ∙ e))
 ends_at_once d (Then leaf next) l from lines stop left e (there, mid, first, seq) = absurd (first_ends d l from lines stop (OpensLeaf leaf there mid) e first)
-ends_at_once d (Node head e' kids next) l from lines stop left e (inside, behind, mid, first, inner, is, seq) =
-    absurd (first_ends d l from lines stop (OpensNode head inside behind) e first)
+ends_at_once d (Node head e' kids next) l from lines stop left e (inside, following, mid, first, inner, is, seq) =
+    absurd (first_ends d l from lines stop (OpensNode head inside following) e first)
 
-behind_first_free : (from there : From) → HoldsNoIndex from → HoldsNoIndex there → HoldsNoIndex (behind_first from there)
-behind_first_free (Blanks e) there h k = tt
-behind_first_free Line there h k = k
-behind_first_free (At p Anything) there h k = k
-behind_first_free (At p ALeafAlone) there h k = k
-behind_first_free (At p (TextOf marker)) there h k = k
-behind_first_free (At p (MarkAlone marker blanks)) there h k = marker_free blanks
+after_first_free : (from there : From) → HoldsNoIndex from → HoldsNoIndex there → HoldsNoIndex (after_first from there)
+after_first_free (Blanks e) there h k = tt
+after_first_free Line there h k = k
+after_first_free (At p Anything) there h k = k
+after_first_free (At p ALeafAlone) there h k = k
+after_first_free (At p (TextOf marker)) there h k = k
+after_first_free (At p (MarkAlone marker blanks)) there h k = marker_free blanks
 
 onward_free : (left : Left) → HoldsNoIndex (onward left).0
 onward_free (Lines lines) = tt
@@ -404,38 +404,38 @@ unfolding IsSequence
 one_sequence d n Nil Nil l from lines a b free e f = (tt, same_left a b (sym e ∙ f))
 one_sequence d n Nil (Then leaf next) l from lines a b free e (there, mid, first, seq) =
     absurd (first_ends (with_names d n) l from lines a (OpensLeaf leaf there mid) e first)
-one_sequence d n Nil (Node head x kids next) l from lines a b free e (inside, behind, mid, first, inner, is, seq) =
-    absurd (first_ends (with_names d n) l from lines a (OpensNode head inside behind) e first)
+one_sequence d n Nil (Node head x kids next) l from lines a b free e (inside, following, mid, first, inner, is, seq) =
+    absurd (first_ends (with_names d n) l from lines a (OpensNode head inside following) e first)
 one_sequence d n (Then leaf next) Nil l from lines a b free (there, mid, first, seq) e =
     absurd (first_ends d l from lines b (OpensLeaf leaf there mid) e first)
-one_sequence d n (Node head x kids next) Nil l from lines a b free (inside, behind, mid, first, inner, is, seq) e =
-    absurd (first_ends d l from lines b (OpensNode head inside behind) e first)
+one_sequence d n (Node head x kids next) Nil l from lines a b free (inside, following, mid, first, inner, is, seq) e =
+    absurd (first_ends d l from lines b (OpensNode head inside following) e first)
 one_sequence d n (Then leaf next) (Then leaf' next') l from lines a b free (there, mid, first, seq) (there', mid', first', seq') =
     let o = first_once d n l from lines (OpensLeaf leaf there mid) (OpensLeaf leaf' there' mid') free first first' in
     let now : Level = level_after_leaf l leaf in
-    let r = one_sequence d n next next' now (behind_first from there) mid a b (behind_first_free from there free o.2) seq
-    (subst (λ z. IsSequence (with_names d n) next' now (behind_first from there) z b) (sym o.3)
-    (subst (λ z. IsSequence (with_names d n) next' now (behind_first from z) mid' b) (sym o.1)
-    (at_level (with_names d n) next' (level_after_leaf l leaf') now (behind_first from there') mid' b (sym (leaf_after d.names n l leaf leaf' o.0)) seq'))) in
+    let r = one_sequence d n next next' now (after_first from there) mid a b (after_first_free from there free o.2) seq
+    (subst (λ z. IsSequence (with_names d n) next' now (after_first from there) z b) (sym o.3)
+    (subst (λ z. IsSequence (with_names d n) next' now (after_first from z) mid' b) (sym o.1)
+    (at_level (with_names d n) next' (level_after_leaf l leaf') now (after_first from there') mid' b (sym (leaf_after d.names n l leaf leaf' o.0)) seq'))) in
     ((o.0, r.0), r.1)
-one_sequence d n (Then leaf next) (Node head x kids next') l from lines a b free (there, mid, first, seq) (inside, behind, mid', first', inner, is, seq') =
-    absurd (first_once d n l from lines (OpensLeaf leaf there mid) (OpensNode head inside behind) free first first')
-one_sequence d n (Node head x kids next) (Then leaf next') l from lines a b free (inside, behind, mid', first', inner, is, seq') (there, mid, first, seq) =
-    absurd (first_once d n l from lines (OpensNode head inside behind) (OpensLeaf leaf there mid) free first' first)
-one_sequence d n (Node head x kids next) (Node head' x' kids' next') l from lines a b free (inside, behind, mid, first, inner, is, seq)
-    (inside', behind', mid', first', inner', is', seq') =
-    let o = first_once d n l from lines (OpensNode head inside behind) (OpensNode head' inside' behind') free first first' in
-    let h = one_sequence d n kids kids' (level_in (opened head.opener) l) inside behind mid mid' o.2 inner
-    (subst (λ (z : Container). IsSequence (with_names d n) kids' (level_in z l) inside behind mid') (sym (opened_alike head head' o.0.0))
-    (subst (λ z. IsSequence (with_names d n) kids' (level_in (opened head'.opener) l) z behind mid') (sym o.1)
+one_sequence d n (Then leaf next) (Node head x kids next') l from lines a b free (there, mid, first, seq) (inside, following, mid', first', inner, is, seq') =
+    absurd (first_once d n l from lines (OpensLeaf leaf there mid) (OpensNode head inside following) free first first')
+one_sequence d n (Node head x kids next) (Then leaf next') l from lines a b free (inside, following, mid', first', inner, is, seq') (there, mid, first, seq) =
+    absurd (first_once d n l from lines (OpensNode head inside following) (OpensLeaf leaf there mid) free first' first)
+one_sequence d n (Node head x kids next) (Node head' x' kids' next') l from lines a b free (inside, following, mid, first, inner, is, seq)
+    (inside', following', mid', first', inner', is', seq') =
+    let o = first_once d n l from lines (OpensNode head inside following) (OpensNode head' inside' following') free first first' in
+    let h = one_sequence d n kids kids' (level_in (opened head.opener) l) inside following mid mid' o.2 inner
+    (subst (λ (z : Container). IsSequence (with_names d n) kids' (level_in z l) inside following mid') (sym (opened_alike head head' o.0.0))
+    (subst (λ z. IsSequence (with_names d n) kids' (level_in (opened head'.opener) l) z following mid') (sym o.1)
     (subst (λ z. IsSequence (with_names d n) kids' (level_in (opened head'.opener) l) inside' z mid') (sym o.3) inner'))) in
     let m : mid ≡ mid' = h.1 in
-    let there : Left → From = λ z. behind_first from (onward z).0 in
+    let there : Left → From = λ z. after_first from (onward z).0 in
     let now : Level = level_after l head kids in
     let same : level_after l head' kids' ≡ now =
     sym (container_after d.names n l head kids kids' h.0
     ∙ ap (λ (c : Container). level l.path (after_container c (before_end (is_quote c) nothing kids'))) (opened_alike head head' o.0.0)) in
-    let r = one_sequence d n next next' now (there mid) (onward mid).1 a b (behind_first_free from (onward mid).0 free (onward_free mid)) seq
+    let r = one_sequence d n next next' now (there mid) (onward mid).1 a b (after_first_free from (onward mid).0 free (onward_free mid)) seq
     (subst (λ (z : Left). IsSequence (with_names d n) next' now (there z) (onward z).1 b) (sym m)
     (at_level (with_names d n) next' (level_after l head' kids') now (there mid') (onward mid').1 b same seq')) in
     let e : x ≡ x' = is ∙ ap (λ z. end_before (length d.text) l.path z mid) o.1 ∙ ap (end_before (length d.text) l.path inside') m ∙ sym is' in

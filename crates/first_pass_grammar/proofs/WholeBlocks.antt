@@ -31,13 +31,13 @@ use Rattle.first_pass_grammar.specs.TableHeads.{headed_table}
 use Rattle.first_pass_grammar.specs.Tables.{filled, Taken, most_filled, IsTable}
 use Rattle.first_pass_grammar.specs.Texts.{IsPlainText, IsText, IsUnderlined, text_children, heading_children, plain_text, underline_first}
 use Rattle.first_pass_grammar.specs.Blocks.{opened, Skeleton, Nil, Then, Node}
-use Rattle.first_pass_grammar.specs.Skeleton.{OpensBeyond, OpensRun, From, Line, Blanks, At, May, Anything, ALeafAlone, TextOf, MarkAlone, behind_marker}
+use Rattle.first_pass_grammar.specs.Skeleton.{OpensBeyond, OpensRun, From, Line, Blanks, At, May, Anything, ALeafAlone, TextOf, MarkAlone, after_marker}
 use Rattle.first_pass_grammar.specs.Skeleton.{Opening, OpensLeaf, OpensNode, OpensText, OpensAs, OpensBlockAt, next_is_blank}
-use Rattle.first_pass_grammar.specs.Openers.{task_by, task_behind}
-use Rattle.first_pass_grammar.specs.Skeleton.{task_alone, behind_tag, OpensIf}
-use Rattle.first_pass_grammar.specs.Openers.{tag_behind}
+use Rattle.first_pass_grammar.specs.Openers.{task_by, task_after}
+use Rattle.first_pass_grammar.specs.Skeleton.{task_alone, after_tag, OpensIf}
+use Rattle.first_pass_grammar.specs.Openers.{tag_after}
 use Rattle.first_pass_grammar.specs.Skeleton.{may_define, OpensAt, Level, Left, Lines, InLine, onward, level_in, level_after_leaf, level_after}
-use Rattle.first_pass_grammar.specs.Skeleton.{behind_first, IsFirst}
+use Rattle.first_pass_grammar.specs.Skeleton.{after_first, IsFirst}
 use Rattle.first_pass_grammar.specs.Skeleton.{IsSequence}
 use Rattle.first_pass_grammar.specs.WholeTables.{Mark, marks, table_marks, AreFull, AreWholeTables}
 use Rattle.first_pass_grammar.proofs.EachLeaf.{HoldsOfLeaf, HoldsOfEachLeaf}
@@ -45,9 +45,9 @@ use Rattle.first_pass_grammar.proofs.EachToken.{AreEach, heading_each, range_tex
 use Rattle.first_pass_grammar.proofs.EachToken.{heading_children_each}
 use Rattle.first_pass_grammar.proofs.PlacesKept.{IsAt, AreAt, at_unindented, at_front, at_taken, at_quote, at_item, at_marker, extent_at, tag_left_at}
 use Rattle.first_pass_grammar.proofs.PlacesKept.{code_at}
-use Rattle.first_pass_grammar.proofs.LinesLeft.{BeyondAt, run_at, text_left, beyond_at, place_behind_at, head_at}
+use Rattle.first_pass_grammar.proofs.LinesLeft.{BeyondAt, run_at, text_left, beyond_at, place_after_at, head_at}
 use Rattle.first_pass_items.specs.OptionWords.{gfm_footnotes}
-use Rattle.first_pass_grammar.specs.Footnotes.{footnote_head_at, place_behind}
+use Rattle.first_pass_grammar.specs.Footnotes.{footnote_head_at, place_past}
 use Rattle.first_pass_grammar.specs.LinkRuns.{lines_beyond}
 use Rattle.first_pass_grammar.proofs.TableMarks.{text_shows, tokens_show, raw_shows, block_shows, table_shows}
 use Rattle.first_pass_items.specs.declared.item.HeadingLevel.{HeadingLevel}
@@ -87,7 +87,7 @@ LeftAt text left = PlainFrom text (onward left).0 × AreAt text (onward left).1
 
 abbrev pub WholeOpening : Document → Opening → Type 0
 WholeOpening d (OpensLeaf leaf there left) = HoldsOfLeaf (AreWholeTables d.names) leaf × PlainFrom d.text there × AreAt d.text left
-WholeOpening d (OpensNode head inside behind) = PlainFrom d.text inside × AreAt d.text behind
+WholeOpening d (OpensNode head inside following) = PlainFrom d.text inside × AreAt d.text following
 
 abbrev pub ShownBy : Option Item → Type 0
 ShownBy marker = IfSome marker (λ x. ShowsNothing x.body)
@@ -206,7 +206,7 @@ module _ (d : Document) (full : HeadsAreFull d) where
   task_plain line r None = tt
   task_plain line r (Some task) = λ names depth start end. refl
 
-  marker_plain : (blanks : Option ℕ) → PlainFrom d.text (behind_marker blanks)
+  marker_plain : (blanks : Option ℕ) → PlainFrom d.text (after_marker blanks)
   marker_plain None = tt
   marker_plain (Some e) = tt
 
@@ -224,7 +224,7 @@ module _ (d : Document) (full : HeadsAreFull d) where
   tag_by true a b h k = h
   tag_by false a b h k = k
 
-  tag_opens : (c : Context) (lines : List Place) → AreAt d.text lines → PlainFrom d.text (behind_tag c lines).0 × AreAt d.text (behind_tag c lines).1
+  tag_opens : (c : Context) (lines : List Place) → AreAt d.text lines → PlainFrom d.text (after_tag c lines).0 × AreAt d.text (after_tag c lines).1
   tag_opens c [] h = (tt, tt)
   tag_opens c (line ∷ lines) h =
       tag_by (ends_tag c line.rest) (Line, line ∷ lines) (At (unindented (at_rest line (front c.path line.rest))) ALeafAlone, lines) (tt, h)
@@ -253,12 +253,12 @@ module _ (d : Document) (full : HeadsAreFull d) where
   start_plain may p i =
       start_cases d.options may p (IsPlainStart p)
       (λ item is. (
-        task_after_plain (is_blank_rest (task_behind d.options p.line item.1).1) (task_behind d.options p.line item.1).0
+        task_after_plain (is_blank_rest (task_after d.options p.line item.1).1) (task_after d.options p.line item.1).0
             (task_plain p.line item.1 (if has d.options tasklists then task_of item.1 else None)),
         at_item d.text d.options p item is i,
       ))
       (λ marker none is. (task_after_plain (is_blank_rest marker.1) None tt, at_marker d.text p marker is i))
-      (λ r none is. (quote_after_plain (tag_behind d.options r), at_quote d.text p r is i))
+      (λ r none is. (quote_after_plain (tag_after d.options r), at_quote d.text p r is i))
 
   opening_whole : (path : List Container) (head : Head) (inside : Place) (lines : List Place) (after : AfterMarker) → AfterPlain after
       → IsAt d.text inside → AreAt d.text lines → WholeOpening d (opening_by d path head inside lines after)
@@ -285,9 +285,9 @@ module _ (d : Document) (full : HeadsAreFull d) where
   unfolding OpensFootnote
   opens_head l p lines None o i h e = opens_by l.path p lines (start_at d.options (may_define d l) p) o (start_plain (may_define d l) p i) i h e
   opens_head l p lines (Some (size, label)) o i h (index, named, e) =
-      let q : Place = place_behind size (unindented p) in
+      let q : Place = place_past size (unindented p) in
       let at = head_at d.text (gfm_footnotes d.options) q (lines_beyond (offset q) lines)
-      (place_behind_at d.text size (unindented p) (at_unindented d.text p i)) (beyond_at d.text (offset q) lines h) in
+      (place_after_at d.text size (unindented p) (at_unindented d.text p i)) (beyond_at d.text (offset q) lines h) in
       subst (WholeOpening d) (sym e) ((at.0, tt), at.1)
 
   opens_any : (l : Level) (p : Place) (lines : List Place) (o : Opening) → IsAt d.text p → AreAt d.text lines
@@ -305,42 +305,42 @@ module _ (d : Document) (full : HeadsAreFull d) where
       (whole_none d.names ((0, marker) ∷ []) (ap (λ (z : List Mark). z ++ []) (plain d.names 0 marker.start marker.«end»)), tt, h)
 
   -- what opens where blocks continue
-  opens_at : (l : Level) (from : From) (lines : List Place) (p : Place) (behind : List Place) (o : Opening) → PlainFrom d.text from
-      → AreAt d.text lines → BeginsAt l.path from lines p behind → OpensAt d l from p behind o → WholeOpening d o
-  opens_at l Line [] p behind o plain h begins opens = absurd begins
-  opens_at l Line (line ∷ lines) p behind o plain h (is, same) opens =
-      opens_any l p behind o (at_taken d.text l.path line p is h.0) (subst (AreAt d.text) (sym same) h.1) opens
-  opens_at l (Blanks e) [] p behind o plain h begins opens = absurd begins
-  opens_at l (Blanks e) (line ∷ lines) p behind o plain h (is, same) opens =
-      opens_any l p behind o (at_taken d.text l.path line p is h.0) (subst (AreAt d.text) (sym same) h.1) opens
-  opens_at l (At q may) lines p behind o plain h (is, same) opens =
-      opens_if l may p behind o plain.1 (subst (IsAt d.text) (sym is) plain.0) (subst (AreAt d.text) (sym same) h) opens
+  opens_at : (l : Level) (from : From) (lines : List Place) (p : Place) (following : List Place) (o : Opening) → PlainFrom d.text from
+      → AreAt d.text lines → BeginsAt l.path from lines p following → OpensAt d l from p following o → WholeOpening d o
+  opens_at l Line [] p following o plain h begins opens = absurd begins
+  opens_at l Line (line ∷ lines) p following o plain h (is, same) opens =
+      opens_any l p following o (at_taken d.text l.path line p is h.0) (subst (AreAt d.text) (sym same) h.1) opens
+  opens_at l (Blanks e) [] p following o plain h begins opens = absurd begins
+  opens_at l (Blanks e) (line ∷ lines) p following o plain h (is, same) opens =
+      opens_any l p following o (at_taken d.text l.path line p is h.0) (subst (AreAt d.text) (sym same) h.1) opens
+  opens_at l (At q may) lines p following o plain h (is, same) opens =
+      opens_if l may p following o plain.1 (subst (IsAt d.text) (sym is) plain.0) (subst (AreAt d.text) (sym same) h) opens
 
   first_whole : (l : Level) (from : From) (lines : List Place) (o : Opening) → PlainFrom d.text from → AreAt d.text lines
       → IsFirst d l from lines o → WholeOpening d o
   first_whole l from lines o plain h f =
-      opens_at l from lines f.place f.behind o plain h (begins_at d.options l from lines f.place f.behind f.begins) f.opens
+      opens_at l from lines f.place f.following o plain h (begins_at d.options l from lines f.place f.following f.begins) f.opens
 
-  begun_at : (path : List Container) (from : From) (lines : List Place) (p : Place) (behind : List Place) → PlainFrom d.text from
-      → AreAt d.text lines → BeginsAt path from lines p behind → LeftAt d.text (InLine p behind)
-  begun_at path Line [] p behind plain h begins = absurd begins
-  begun_at path Line (line ∷ lines) p behind plain h (is, same) = ((at_taken d.text path line p is h.0, tt), subst (AreAt d.text) (sym same) h.1)
-  begun_at path (Blanks e) [] p behind plain h begins = absurd begins
-  begun_at path (Blanks e) (line ∷ lines) p behind plain h (is, same) = ((at_taken d.text path line p is h.0, tt), subst (AreAt d.text) (sym same) h.1)
-  begun_at path (At q may) lines p behind plain h (is, same) = ((subst (IsAt d.text) (sym is) plain.0, tt), subst (AreAt d.text) (sym same) h)
+  begun_at : (path : List Container) (from : From) (lines : List Place) (p : Place) (following : List Place) → PlainFrom d.text from
+      → AreAt d.text lines → BeginsAt path from lines p following → LeftAt d.text (InLine p following)
+  begun_at path Line [] p following plain h begins = absurd begins
+  begun_at path Line (line ∷ lines) p following plain h (is, same) = ((at_taken d.text path line p is h.0, tt), subst (AreAt d.text) (sym same) h.1)
+  begun_at path (Blanks e) [] p following plain h begins = absurd begins
+  begun_at path (Blanks e) (line ∷ lines) p following plain h (is, same) = ((at_taken d.text path line p is h.0, tt), subst (AreAt d.text) (sym same) h.1)
+  begun_at path (At q may) lines p following plain h (is, same) = ((subst (IsAt d.text) (sym is) plain.0, tt), subst (AreAt d.text) (sym same) h)
 
   left_at : (l : Level) (from : From) (lines : List Place) (left : Left) → PlainFrom d.text from → AreAt d.text lines
       → LeavesAt l.path from lines left → LeftAt d.text left
   left_at l from lines (Lines left) plain h is = (tt, subst (AreAt d.text) (sym is) h)
-  left_at l from lines (InLine p behind) plain h at = begun_at l.path from lines p behind plain h at.0
+  left_at l from lines (InLine p following) plain h at = begun_at l.path from lines p following plain h at.0
 
-  behind_first_plain : (from there : From) → PlainFrom d.text there → PlainFrom d.text (behind_first from there)
-  behind_first_plain (Blanks e) there k = tt
-  behind_first_plain Line there k = k
-  behind_first_plain (At p Anything) there k = k
-  behind_first_plain (At p ALeafAlone) there k = k
-  behind_first_plain (At p (TextOf marker)) there k = k
-  behind_first_plain (At p (MarkAlone marker blanks)) there k = marker_plain blanks
+  after_first_plain : (from there : From) → PlainFrom d.text there → PlainFrom d.text (after_first from there)
+  after_first_plain (Blanks e) there k = tt
+  after_first_plain Line there k = k
+  after_first_plain (At p Anything) there k = k
+  after_first_plain (At p ALeafAlone) there k = k
+  after_first_plain (At p (TextOf marker)) there k = k
+  after_first_plain (At p (MarkAlone marker blanks)) there k = marker_plain blanks
 
 -- each block of a sequence has whole tables, or no part of a table
 pub sequence_whole : (d : Document) (full : HeadsAreFull d) (s : Skeleton) (l : Level) (from : From) (lines : List Place) (left : Left)
@@ -349,12 +349,12 @@ unfolding IsSequence HoldsOfEachLeaf
 sequence_whole d full Nil l from lines left plain h ends = (tt, left_at d full l from lines left plain h (leaves_at d.options l from lines left ends))
 sequence_whole d full (Then leaf next) l from lines left plain h (there, mid, first, more) =
     let one = first_whole d full l from lines (OpensLeaf leaf there mid) plain h first in
-    let rest = sequence_whole d full next (level_after_leaf l leaf) (behind_first from there) mid left (behind_first_plain d full from there one.1) one.2
+    let rest = sequence_whole d full next (level_after_leaf l leaf) (after_first from there) mid left (after_first_plain d full from there one.1) one.2
     more in
     ((one.0, rest.0), rest.1)
-sequence_whole d full (Node head e kids next) l from lines left plain h (inside, behind, mid, first, inner, is, more) =
-    let one = first_whole d full l from lines (OpensNode head inside behind) plain h first in
-    let below = sequence_whole d full kids (level_in (opened head.opener) l) inside behind mid one.0 one.1 inner in
-    let rest = sequence_whole d full next (level_after l head kids) (behind_first from (onward mid).0) (onward mid).1 left
-    (behind_first_plain d full from (onward mid).0 below.1.0) below.1.1 more in
+sequence_whole d full (Node head e kids next) l from lines left plain h (inside, following, mid, first, inner, is, more) =
+    let one = first_whole d full l from lines (OpensNode head inside following) plain h first in
+    let below = sequence_whole d full kids (level_in (opened head.opener) l) inside following mid one.0 one.1 inner in
+    let rest = sequence_whole d full next (level_after l head kids) (after_first from (onward mid).0) (onward mid).1 left
+    (after_first_plain d full from (onward mid).0 below.1.0) below.1.1 more in
     ((below.0, rest.0), rest.1)

@@ -15,8 +15,8 @@ use Rattle.first_pass_grammar.specs.Blocks.{Skeleton}
 use Rattle.first_pass_grammar.specs.Skeleton.{From, level, Left, Lines, onward, blanks_alone, end_before, IsSequence}
 use Rattle.first_pass_grammar.specs.Before.{Before, Last, LastOther, LastItem, LastDefinition, LastParagraph, after_container, before_end}
 use Rattle.first_pass_grammar.specs.Containers.{is_quote}
-use Rattle.first_pass_grammar.specs.Rows.{Joins, ItemsOf, DefinitionsTo, Definitions, definitions_first, Rows, any_gap, is_loose, list_until, items_behind}
-use Rattle.first_pass_grammar.specs.Rows.{list_behind, rows_of}
+use Rattle.first_pass_grammar.specs.Rows.{Joins, ItemsOf, DefinitionsTo, Definitions, definitions_first, Rows, any_gap, is_loose, list_until, items_after}
+use Rattle.first_pass_grammar.specs.Rows.{list_after, rows_of}
 use Rattle.first_pass_grammar.specs.Derivation.{Tables, Derives, told_by, list_flags, items_of}
 
 -- the lines of a text from an offset that is the start of a line
@@ -122,7 +122,7 @@ beside_or (Some ds) rows = ds.beside
 -- the rows that do not belong to the list that may continue
 abbrev pub rows_beyond : Pending → Rows → Rows
 rows_beyond (NoList closed) rows = beside_or (taken_in closed rows) rows
-rows_beyond (OneList place joins loose) rows = list_behind joins rows
+rows_beyond (OneList place joins loose) rows = list_after joins rows
 rows_beyond (OneTitle place title e loose) rows = beside_or (definitions_first rows) rows
 
 -- the nodes after the list at a place is closed with these definitions as its further children; the rows beside them
@@ -157,9 +157,9 @@ after_title depth nodes (place, title, e) loose None rows =
 unfoldable pub rendered : ℕ → ℕ → List (ℕ × Item) → Pending → Rows → List (ℕ × Item)
 rendered depth last nodes (NoList closed) rows = after_closed depth nodes closed rows
 rendered depth last nodes (OneList place joins loose) rows =
-    let now : Bool = loose || is_loose (items_behind joins rows) in
+    let now : Bool = loose || is_loose (items_after joins rows) in
     list_closed nodes place (suc (suc depth)) now (list_until joins last rows)
-    ++ (items_of (suc depth) (not now) (items_behind joins rows) ++ items_of depth false (list_behind joins rows))
+    ++ (items_of (suc depth) (not now) (items_after joins rows) ++ items_of depth false (list_after joins rows))
 rendered depth last nodes (OneTitle place title e loose) rows =
     after_title depth nodes (place, title, e) loose (not_apart (definitions_first rows)) rows
 

@@ -22,15 +22,15 @@ last_cell cell x = if is_row x.body then None else (if is_cell x.body then Some 
 -- A filled cell after another cell. A row with too few cells is filled with empty ones, which all start at the row's
 -- end, and no two written cells start at the same offset. So a filled cell starts where the cell before it in its row
 -- does (GFM 4.10, and this project).
-abbrev pub is_filled_behind : Option ℕ → Item → Bool
-is_filled_behind None x = false
-is_filled_behind (Some start) x = is_cell x.body && (x.start == start)
+abbrev pub is_filled_after : Option ℕ → Item → Bool
+is_filled_after None x = false
+is_filled_after (Some start) x = is_cell x.body && (x.start == start)
 
 -- the number of these nodes that are not filled cells after other cells; `cell` is the start of the row's last cell so
 -- far, if it has one (this project)
 unfoldable pub own : Option ℕ → List (ℕ × Item) → ℕ
 own cell [] = 0
-own cell (n ∷ nodes) = (if is_filled_behind cell n.1 then 0 else 1) + own (last_cell cell n.1) nodes
+own cell (n ∷ nodes) = (if is_filled_after cell n.1 then 0 else 1) + own (last_cell cell n.1) nodes
 
 -- the number of nodes that a tree or a block has of its own: of the cells that a row is filled with, only the first
 -- counts (this project)

@@ -38,12 +38,12 @@ prefix_crossed in_label around bs = option_map (λ (r : Rest). r.taken) (crossed
 abbrev pub space_beyond : ℕ → List ℕ → ℕ → Option (ℕ × ℕ)
 space_beyond n bs k = let m = k + prefix_len is_white (drop k bs) in if at_line_end (drop m bs) then None else Some (n + m, 1)
 
-abbrev pub space_behind : Context → List ℕ → ℕ → Option ℕ → Option (ℕ × ℕ)
-space_behind around bs n None = Some (n, 0)
-space_behind around bs n (Some e) = option_and_then (space_beyond (n + e) (drop (n + e) bs)) (prefix_crossed false around (drop (n + e) bs))
+abbrev pub space_after : Context → List ℕ → ℕ → Option ℕ → Option (ℕ × ℕ)
+space_after around bs n None = Some (n, 0)
+space_after around bs n (Some e) = option_and_then (space_beyond (n + e) (drop (n + e) bs)) (prefix_crossed false around (drop (n + e) bs))
 
 unfoldable pub space_at : Context → List ℕ → Option (ℕ × ℕ)
-space_at around bs = let n = prefix_len is_white bs in space_behind around bs n (eol_len (drop n bs))
+space_at around bs = let n = prefix_len is_white bs in space_after around bs n (eol_len (drop n bs))
 
 -- the end of a title that begins with this byte: `'`, `"`, or `)` for `(` (CommonMark 6.3, link title)
 abbrev pub title_end : ℕ → Option ℕ
@@ -84,20 +84,20 @@ title_at around [] = None
 title_at around (b ∷ bs) = option_and_then (λ close. option_map (λ (t : ℕ × List ℕ). (t.0 + 1, t.1)) (title_text (title_prefix around) close bs)) (title_end b)
 
 -- The title after a destination: white space separates them, and the line is blank after the title (CommonMark 4.7).
-abbrev pub alone_behind : ℕ → List ℕ → ℕ × List ℕ → Option (ℕ × List ℕ)
-alone_behind n bs t = if is_some (blank_len (drop (n + t.0) bs)) then Some (n + t.0, t.1) else None
+abbrev pub alone_after : ℕ → List ℕ → ℕ × List ℕ → Option (ℕ × List ℕ)
+alone_after n bs t = if is_some (blank_len (drop (n + t.0) bs)) then Some (n + t.0, t.1) else None
 
 abbrev pub title_beyond : Context → List ℕ → ℕ × ℕ → Option (ℕ × List ℕ)
-title_beyond around bs space = if space.0 == 0 then None else option_and_then (alone_behind space.0 bs) (title_at around (drop space.0 bs))
+title_beyond around bs space = if space.0 == 0 then None else option_and_then (alone_after space.0 bs) (title_at around (drop space.0 bs))
 
-abbrev pub title_behind : Context → List ℕ → Option (ℕ × List ℕ)
-title_behind around bs = option_and_then (title_beyond around bs) (space_at around bs)
+abbrev pub title_after : Context → List ℕ → Option (ℕ × List ℕ)
+title_after around bs = option_and_then (title_beyond around bs) (space_at around bs)
 
 -- What ends a definition after its destination: a title, or nothing if the rest of the destination's line is blank
 -- (CommonMark 4.7).
-unfoldable pub behind_destination : Context → List ℕ → Option (ℕ × Option (List ℕ))
-behind_destination around bs =
-    option_map_or (λ (t : ℕ × List ℕ). Some (t.0, Some t.1)) (title_behind around bs) (if is_some (blank_len bs) then Some (0, None) else None)
+unfoldable pub after_destination : Context → List ℕ → Option (ℕ × Option (List ℕ))
+after_destination around bs =
+    option_map_or (λ (t : ℕ × List ℕ). Some (t.0, Some t.1)) (title_after around bs) (if is_some (blank_len bs) then Some (0, None) else None)
 
 -- how deep parentheses may be nested in a destination (CommonMark 6.3 asks for three levels at least)
 abbrev pub deepest_nesting : ℕ
@@ -113,7 +113,7 @@ abbrev pub target_of : ℕ → ℕ × List ℕ → ℕ × Option (List ℕ) → 
 target_of n dest further = (n + dest.0 + further.0, record { dest = dest.1; title = further.1 })
 
 abbrev pub target_from : Context → ℕ → List ℕ → ℕ × List ℕ → Option (ℕ × Target)
-target_from around n bs dest = option_map (target_of n dest) (behind_destination around (drop dest.0 bs))
+target_from around n bs dest = option_map (target_of n dest) (after_destination around (drop dest.0 bs))
 
 abbrev pub target_beyond : Context → List ℕ → ℕ × ℕ → Option (ℕ × Target)
 target_beyond around bs space = option_and_then (target_from around space.0 (drop space.0 bs)) (destination_at deepest_nesting (drop space.0 bs))
@@ -131,8 +131,8 @@ abbrev pub reference_of : ℕ → List ℕ → ℕ × Target → LinkReference
 reference_of n label target = record { size = n + target.0; label = label; target = target.1 }
 
 -- The definition of which the label after the `[` is read: a colon is directly after the label.
-abbrev pub reference_behind : Context → List ℕ → ℕ × List ℕ → Option LinkReference
-reference_behind around bs label =
+abbrev pub reference_after : Context → List ℕ → ℕ × List ℕ → Option LinkReference
+reference_after around bs label =
     if begins colon (drop label.0 bs)
     then option_map (reference_of (label.0 + 2) label.1) (target_at around (drop (label.0 + 1) bs))
     else None
@@ -142,5 +142,5 @@ reference_behind around bs label =
 unfoldable pub reference_at : Bool → Context → List ℕ → Option LinkReference
 reference_at in_table around bs =
     if begins left_bracket bs
-    then option_and_then (reference_behind around (drop 1 bs)) (label_at (prefix_crossed true around) in_table (drop 1 bs))
+    then option_and_then (reference_after around (drop 1 bs)) (label_at (prefix_crossed true around) in_table (drop 1 bs))
     else None

@@ -46,17 +46,17 @@ pub record NamesLabel (names : Names) (ix : CowIndex) (written label : List ℕ)
 
 -- The place n bytes after another, as at the start of a line: tab stops count anew there, and no column is owed (this
 -- project).
-abbrev pub place_behind : ℕ → Place → Place
-place_behind n p = line_place (offset p + n) (drop n p.rest.left)
+abbrev pub place_past : ℕ → Place → Place
+place_past n p = line_place (offset p + n) (drop n p.rest.left)
 
 -- Where blocks continue after the colon of a footnote definition's head, and the lines after that. In GitHub's form:
 -- after the white space there. In the old form: after the colon; but if the rest of the line is blank and another line
 -- follows, at the start of that line. It is then read as if it followed the colon, whichever containers it continues
 -- (this project).
-abbrev pub behind_head : Bool → Place → List Place → Place × List Place
-behind_head true q lines = (place_behind (prefix_len is_white q.rest.left) q, lines)
-behind_head false q [] = (q, [])
-behind_head false q (line ∷ lines) = if is_blank_rest q.rest then (line, lines) else (q, line ∷ lines)
+abbrev pub past_head : Bool → Place → List Place → Place × List Place
+past_head true q lines = (place_past (prefix_len is_white q.rest.left) q, lines)
+past_head false q [] = (q, [])
+past_head false q (line ∷ lines) = if is_blank_rest q.rest then (line, lines) else (q, line ∷ lines)
 
 -- An innermost footnote definition ends where another one begins (this project).
 abbrev pub ends_footnote : Context → Place → Bool

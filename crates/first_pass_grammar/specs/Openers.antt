@@ -34,8 +34,8 @@ task_by line r (Some task) = (Some (record { start = offset (place_at line r); �
 
 -- the task list item marker after an item's own marker, if there is one and the option is on, and the rest of the
 -- line, which begins at `line` (GFM 5.3)
-abbrev pub task_behind : Options → ℕ → Rest → Option Item × Rest
-task_behind options line r = task_by line r (if has options tasklists then task_of r else None)
+abbrev pub task_after : Options → ℕ → Rest → Option Item × Rest
+task_after options line r = task_by line r (if has options tasklists then task_of r else None)
 
 -- what follows an item's marker, with or without a task list item marker
 abbrev pub after_task : Option Item → AfterMarker
@@ -54,8 +54,8 @@ abbrev pub quote_head : Place → Option BlockQuoteKind → Head
 quote_head p kind = record { opener = QuoteMarker kind; line = p.line; start = quote_start p }
 
 -- the kind that the tag here gives a block quote, if there is a tag and the option is on (GitHub's alerts)
-abbrev pub tag_behind : Options → Rest → Option BlockQuoteKind
-tag_behind options r = option_map (λ tag. tag.0) (if has options gfm then past_tag r else None)
+abbrev pub tag_after : Options → Rest → Option BlockQuoteKind
+tag_after options r = option_map (λ tag. tag.0) (if has options gfm then past_tag r else None)
 
 -- what follows a block quote's marker, with or without a tag
 abbrev pub after_quote : Option BlockQuoteKind → AfterMarker
@@ -82,5 +82,5 @@ definition_at may p = option_map (definition_start p) (if may then definition_ma
 -- definition if one may (this project), a block quote (CommonMark 5.1)
 unfoldable pub start_at : Options → Bool → Place → Option Start
 start_at options may_define p =
-    option_or (option_map (λ item. item_start p item.0 (task_behind options p.line item.1)) (item_at p.rest))
-    (option_or (definition_at may_define p) (option_map (λ r. quote_begun p (tag_behind options r) r) (prefix (BlockQuote None) p.rest)))
+    option_or (option_map (λ item. item_start p item.0 (task_after options p.line item.1)) (item_at p.rest))
+    (option_or (definition_at may_define p) (option_map (λ r. quote_begun p (tag_after options r) r) (prefix (BlockQuote None) p.rest)))

@@ -64,7 +64,7 @@ laid depth (Node x kids next) = (depth, x) ∷ (laid (suc depth) kids ++ laid de
 
 -- a range between two offsets that begins and ends at character boundaries
 pub record IsBetween (text : List ℕ) (from to : ℕ) (x : Extent) : Type 0 where
-  pub behind : from ≤ x.start
+  pub following : from ≤ x.start
   pub order : x.start ≤ x.«end»
   pub before : x.«end» ≤ to
   pub starts : IsCharBoundary text x.start

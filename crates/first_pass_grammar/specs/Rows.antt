@@ -142,13 +142,13 @@ abbrev pub list_until : Joins → ℕ → Rows → ℕ
 list_until joins last End = last
 list_until joins last (OneOf row inner next) = if is_list_of joins row.what then end_of row.what last else ends_at joins row
 
-abbrev pub items_behind : Joins → Rows → Rows
-items_behind joins End = End
-items_behind joins (OneOf row inner next) = if is_list_of joins row.what then gapped row.gap inner else End
+abbrev pub items_after : Joins → Rows → Rows
+items_after joins End = End
+items_after joins (OneOf row inner next) = if is_list_of joins row.what then gapped row.gap inner else End
 
-abbrev pub list_behind : Joins → Rows → Rows
-list_behind joins End = End
-list_behind joins (OneOf row inner next) = if is_list_of joins row.what then next else OneOf row inner next
+abbrev pub list_after : Joins → Rows → Rows
+list_after joins End = End
+list_after joins (OneOf row inner next) = if is_list_of joins row.what then next else OneOf row inner next
 
 -- A container with these blocks, before rows: the first item of its list. The other items are those of the first row
 -- if that is a list that continues this one; otherwise there are none. What precedes the first item precedes the list
@@ -156,7 +156,7 @@ list_behind joins (OneOf row inner next) = if is_list_of joins row.what then nex
 abbrev pub in_list : ℕ → (ℕ → What) → Row → Rows → Rows → Joins → Rows
 in_list last listed row blocks next joins =
     OneOf (record { what = listed (list_until joins last next); line = row.line; start = row.start; gap = row.gap })
-    (OneOf (record row { gap = false }) blocks (items_behind joins next)) (list_behind joins next)
+    (OneOf (record row { gap = false }) blocks (items_after joins next)) (list_after joins next)
 
 -- what a container that ends at an offset is as a row
 abbrev pub what_of : Opener → ℕ → What

@@ -17,7 +17,7 @@ use Rattle.first_pass_grammar.specs.Openers.{AfterMarker, OnLine, TaskText, Line
 use Rattle.first_pass_grammar.specs.Before.{Before, nothing, list_is_open, takes_definition, after_leaf, after_container, before_end}
 use Rattle.first_pass_grammar.specs.Containers.{Context, context, at_rest, after, front, taken, next_goes_on, is_quote, in_quote, in_old_footnote}
 use Rattle.first_pass_grammar.specs.Containers.{footnote_columns}
-use Rattle.first_pass_grammar.specs.Footnotes.{footnote_head_at, label_bytes, NamesLabel, place_behind, behind_head, ends_footnote}
+use Rattle.first_pass_grammar.specs.Footnotes.{footnote_head_at, label_bytes, NamesLabel, place_past, past_head, ends_footnote}
 use Rattle.first_pass_grammar.specs.Kinds.{Kind, Blank, IndentedCode, Metadata, HtmlToEnd, HtmlToBlank, ThematicBreak, AtxHeading, FencedCode}
 use Rattle.first_pass_grammar.specs.Kinds.{LinkDefinitions}
 use Rattle.first_pass_grammar.specs.Kinds.{Paragraph, all_taken, unindented, is_blank_rest, IsKind, ends_tag}
@@ -58,9 +58,9 @@ abbrev pub Inside : Place → From
 Inside p = At p Anything
 
 -- at the line after an item's marker; with an offset, in an item that takes only blank lines
-abbrev pub behind_marker : Option ℕ → From
-behind_marker None = Line
-behind_marker (Some e) = Blanks e
+abbrev pub after_marker : Option ℕ → From
+after_marker None = Line
+after_marker (Some e) = Blanks e
 
 -- What begins at a place.
 -- A leaf: where the blocks after it continue, and the lines after that.
@@ -126,18 +126,18 @@ abbrev pub OpensBlockAt : Document → List Container → Place → List Place �
 OpensBlockAt d path p lines opening = (kind : Kind) × IsKind d.options p.rest kind × OpensAs d path p lines (kind_in (around d path) p kind) opening
 
 -- the next line continues the path, and is blank after the prefixes of the path
-abbrev pub is_blank_behind : Option Rest → Bool
-is_blank_behind None = false
-is_blank_behind (Some r) = is_blank_rest r
+abbrev pub is_blank_after : Option Rest → Bool
+is_blank_after None = false
+is_blank_after (Some r) = is_blank_rest r
 
 abbrev pub next_is_blank : List Container → List Place → Bool
 next_is_blank path [] = false
-next_is_blank path (line ∷ lines) = is_blank_behind (after path line.rest)
+next_is_blank path (line ∷ lines) = is_blank_after (after path line.rest)
 
 -- where blocks continue if a container's marker is the last of its line, except perhaps for a task list item marker:
 -- at the next line; with an offset, in an item that takes only blank lines
 abbrev pub task_alone : Option Item → Place → Option ℕ → From
-task_alone None p blanks = behind_marker blanks
+task_alone None p blanks = after_marker blanks
 task_alone (Some marker) p blanks = At p (MarkAlone marker blanks)
 
 -- the opener of a container that takes only blank lines: the indent of an item or a definition is 0
@@ -158,9 +158,9 @@ empty_opening d path head inside lines marker =
 -- Where blocks continue in a block quote after the line of its tag, and the lines after that; `c.path` begins with the
 -- quote. The next line is read like any other, or it belongs to the quote and a leaf begins after its indentation
 -- (this project).
-abbrev pub behind_tag : Context → List Place → From × List Place
-behind_tag c [] = (Line, [])
-behind_tag c (line ∷ lines) = if ends_tag c line.rest then (Line, line ∷ lines) else (At (unindented (at_rest line (front c.path line.rest))) ALeafAlone, lines)
+abbrev pub after_tag : Context → List Place → From × List Place
+after_tag c [] = (Line, [])
+after_tag c (line ∷ lines) = if ends_tag c line.rest then (Line, line ∷ lines) else (At (unindented (at_rest line (front c.path line.rest))) ALeafAlone, lines)
 
 -- the container with this head, by what follows its marker; `inside` is the place after the marker
 abbrev pub opening_by : Document → List Container → Head → Place → List Place → AfterMarker → Opening
@@ -168,7 +168,7 @@ opening_by d path head inside lines OnLine = OpensNode head (Inside inside) line
 opening_by d path head inside lines (TaskText marker) = OpensNode head (At inside (TextOf marker)) lines
 opening_by d path head inside lines (LineEnds marker) = empty_opening d path head inside lines marker
 opening_by d path head inside lines TagAlone =
-    let from : From × List Place = behind_tag (around d (opened head.opener ∷ path)) lines in OpensNode head from.0 from.1
+    let from : From × List Place = after_tag (around d (opened head.opener ∷ path)) lines in OpensNode head from.0 from.1
 
 -- the container that begins at a place
 abbrev pub opening_of : Document → List Container → Place → List Place → Start → Opening
@@ -178,8 +178,8 @@ opening_of d path p lines s = opening_by d path s.head (at_rest p s.rest) lines 
 -- further lines (this project).
 abbrev pub footnote_opening : Document → Place → List Place → ℕ → Opener → Opening
 footnote_opening d p lines size opener =
-    let q : Place = place_behind size (unindented p) in
-    let there : Place × List Place = behind_head (gfm_footnotes d.options) q (lines_beyond (offset q) lines) in
+    let q : Place = place_past size (unindented p) in
+    let there : Place × List Place = past_head (gfm_footnotes d.options) q (lines_beyond (offset q) lines) in
     OpensNode (record { opener = opener; line = p.line; start = offset (unindented p) }) (Inside there.0) there.1
 
 -- The footnote definition whose head has this length and this label, which its index names. The label is borrowed from
@@ -290,13 +290,13 @@ onward (Lines lines) = (Line, lines)
 onward (InLine p lines) = (Inside p, lines)
 
 -- where blocks continue after the first block of a sequence
-abbrev pub behind_first : From → From → From
-behind_first (Blanks e) there = Blanks e
-behind_first Line there = there
-behind_first (At p Anything) there = there
-behind_first (At p ALeafAlone) there = there
-behind_first (At p (TextOf marker)) there = there
-behind_first (At p (MarkAlone marker blanks)) there = behind_marker blanks
+abbrev pub after_first : From → From → From
+after_first (Blanks e) there = Blanks e
+after_first Line there = there
+after_first (At p Anything) there = there
+after_first (At p ALeafAlone) there = there
+after_first (At p (TextOf marker)) there = there
+after_first (At p (MarkAlone marker blanks)) there = after_marker blanks
 
 -- the offset after the line of an item's marker, if the item takes only blank lines
 abbrev pub blanks_alone : From → Option ℕ
@@ -325,17 +325,17 @@ end_before n path from left = end_of_left n path (blanks_alone from) left
 -- the first block of a sequence: its place, the lines after that, and what it opens
 pub record IsFirst (d : Document) (l : Level) (from : From) (lines : List Place) (opening : Opening) : Type 0 where
   pub place : Place
-  pub behind : List Place
-  pub begins : going d.options l from lines ≡ Begins place behind
-  pub opens : OpensAt d l from place behind opening
+  pub following : List Place
+  pub begins : going d.options l from lines ≡ Begins place following
+  pub opens : OpensAt d l from place following opening
 
 -- These blocks are a sequence at this level, from here up to what they leave.
 unfoldable pub IsSequence : Document → Skeleton → Level → From → List Place → Left → Type 0
 IsSequence d Nil l from lines left = going d.options l from lines ≡ Ends left
 IsSequence d (Then leaf next) l from lines left =
     (there : From) × (mid : List Place) × IsFirst d l from lines (OpensLeaf leaf there mid)
-    × IsSequence d next (level_after_leaf l leaf) (behind_first from there) mid left
+    × IsSequence d next (level_after_leaf l leaf) (after_first from there) mid left
 IsSequence d (Node head e kids next) l from lines left =
-    (inside : From) × (behind : List Place) × (mid : Left) × IsFirst d l from lines (OpensNode head inside behind)
-    × IsSequence d kids (level_in (opened head.opener) l) inside behind mid × (e ≡ end_before (length d.text) l.path inside mid)
-    × IsSequence d next (level_after l head kids) (behind_first from (onward mid).0) (onward mid).1 left
+    (inside : From) × (following : List Place) × (mid : Left) × IsFirst d l from lines (OpensNode head inside following)
+    × IsSequence d kids (level_in (opened head.opener) l) inside following mid × (e ≡ end_before (length d.text) l.path inside mid)
+    × IsSequence d next (level_after l head kids) (after_first from (onward mid).0) (onward mid).1 left

@@ -13,8 +13,8 @@ use Rattle.first_pass_grammar.specs.Containers.{Context, after}
 
 -- the alignments in the line after the one that begins here, if it continues the whole path and is a delimiter row
 -- (GFM 4.10)
-abbrev pub alignments_behind : List Container → List ℕ → Option (List Alignment)
-alignments_behind path bs = option_and_then delimiter_row_of (after path (line_rest (drop (line_len bs) bs)))
+abbrev pub alignments_after : List Container → List ℕ → Option (List Alignment)
+alignments_after path bs = option_and_then delimiter_row_of (after path (line_rest (drop (line_len bs) bs)))
 
 abbrev pub if_as_many : ℕ → List Alignment → Option (List Alignment)
 if_as_many columns alignments = if length alignments == columns then Some alignments else None
@@ -22,7 +22,7 @@ if_as_many columns alignments = if length alignments == columns then Some alignm
 -- The alignments of the table whose header row begins here: those of the delimiter row after it, if the header row has
 -- as many columns (GFM 4.10).
 unfoldable pub table_at : List Container → List ℕ → Option (List Alignment)
-table_at path bs = option_and_then (if_as_many (head_columns bs)) (alignments_behind path bs)
+table_at path bs = option_and_then (if_as_many (head_columns bs)) (alignments_after path bs)
 
 -- A header row that begins with a pipe interrupts a paragraph (this project).
 abbrev pub table_interrupts : Context → List ℕ → Bool

@@ -111,11 +111,11 @@ equals_front bs n h e =
     take-add (k + 1) n bs ∙ ap (λ xs. xs ++ take n (drop (k + 1) bs)) front ∙ append_assoc (take k bs) (61 ∷ []) (take n (drop (k + 1) bs)) in
     record {
       before = take k bs;
-      behind = v.blanks;
+      following = v.blanks;
       value = v.value;
       parts = whole ∙ ap (λ xs. take k bs ++ 61 ∷ xs) v.parts;
       before_blank = prefix_passes is_blank bs;
-      behind_blank = v.is_blanks;
+      past_blank = v.is_blanks;
       is_value = v.is_value;
     }
 

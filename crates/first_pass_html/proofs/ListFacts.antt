@@ -29,8 +29,8 @@ front_size p bs front rest parts all stops = let more = prefix_all p front rest 
 pub front_of : (n : ℕ) (bs xs ys : List ℕ) → bs ≡ xs ++ ys → n ≡ length xs → take n bs ≡ xs
 front_of n bs xs ys parts size = ap (λ k. take k bs) size ∙ ap (take (length xs)) parts ∙ take-append_seam xs ys
 
-pub rest_behind : (n : ℕ) (bs xs ys : List ℕ) → bs ≡ xs ++ ys → n ≡ length xs → drop n bs ≡ ys
-rest_behind n bs xs ys parts size = ap (λ k. drop k bs) size ∙ ap (drop (length xs)) parts ∙ drop-append_seam xs ys
+pub rest_after : (n : ℕ) (bs xs ys : List ℕ) → bs ≡ xs ++ ys → n ≡ length xs → drop n bs ≡ ys
+rest_after n bs xs ys parts size = ap (λ k. drop k bs) size ∙ ap (drop (length xs)) parts ∙ drop-append_seam xs ys
 
 -- the first element does not pass
 pub prefix_none : (p : ℕ → Bool) (b : ℕ) (bs : List ℕ) → p b ≡ false → prefix_len p (b ∷ bs) ≡ 0

@@ -10,7 +10,7 @@ use Rattle.std.proofs.lemmas.List.Sums.{AllPass-from_list_all}
 use Rattle.first_pass_lines.specs.Lines.{is_ascii_white, begins}
 use Rattle.first_pass_html.specs.Names.{in_lower_case, block_names, IsBlockName, IsLongestName}
 use Rattle.first_pass_html.specs.Starts.{ends_block_name, HasBlockName}
-use Rattle.first_pass_html.proofs.ListFacts.{prefix_all, front_size, front_of, rest_behind}
+use Rattle.first_pass_html.proofs.ListFacts.{prefix_all, front_size, front_of, rest_after}
 
 -- a property of every text of a list
 pub contained_passes : (p : List ℕ → Bool) (texts : List (List ℕ)) (bytes : List ℕ) → list_all p texts ≡ true → Contains texts bytes → p bytes ≡ true
@@ -53,7 +53,7 @@ pub name_found : (bs : List ℕ) (n : ℕ)
     → n ≡ prefix_len is_ascii_alphanumeric bs → HasBlockName bs → IsBlockName (take n bs) × (ends_block_name (drop n bs) ≡ true)
 name_found bs n e h =
     let size : n ≡ length h.name = e ∙ name_size bs h in
-    (subst IsBlockName (sym (front_of n bs h.name h.rest h.parts size)) h.is_name, ap ends_block_name (rest_behind n bs h.name h.rest h.parts size) ∙ h.ends)
+    (subst IsBlockName (sym (front_of n bs h.name h.rest h.parts size)) h.is_name, ap ends_block_name (rest_after n bs h.name h.rest h.parts size) ∙ h.ends)
 
 -- if the bytes begin with the name of a block that ends there, it is the longest one at the start
 longest_size : (bs : List ℕ) (n : ℕ) → IsLongestName bs n → 0 < n → (h : HasBlockName bs) → n ≡ length h.name
@@ -69,7 +69,7 @@ longest_size bs n found some h =
 pub has_name_then : (bs : List ℕ) (n : ℕ) (ends : Bool) → IsLongestName bs n → 0 < n → ends ≡ ends_block_name (drop n bs) → IsTrue ends ↔ HasBlockName bs
 has_name_then bs n ends found some end = (
   λ t. record { name = take n bs; rest = drop n bs; parts = sym (take-append-drop n bs); is_name = found.is_name some; ends = sym end ∙ t },
-  λ h. end ∙ ap ends_block_name (rest_behind n bs h.name h.rest h.parts (longest_size bs n found some h)) ∙ h.ends,
+  λ h. end ∙ ap ends_block_name (rest_after n bs h.name h.rest h.parts (longest_size bs n found some h)) ∙ h.ends,
 )
 
 pub has_name_else : (bs : List ℕ) (n : ℕ) → IsLongestName bs n → n ≤ 0 → IsTrue (nat_lt 0 n) ↔ HasBlockName bs

@@ -11,7 +11,7 @@ use Rattle.std.proofs.Math.ListN.{drop_of_length-le}
 use Rattle.std.proofs.Math.Seq.{take-add}
 use Rattle.first_pass_lines.specs.Lines.{begins, blank_len, is_blank}
 use Rattle.first_pass_html.specs.Starts.{is_raw_name}
-use Rattle.first_pass_html.specs.Tags.{is_tag_byte, IsBehindOpening, IsBehindClosing, IsBlockTag, BeginsTagLine}
+use Rattle.first_pass_html.specs.Tags.{is_tag_byte, IsAfterOpening, IsAfterClosing, IsBlockTag, BeginsTagLine}
 use Rattle.std.specs.Char.{is_ascii_alphabetic}
 use Rattle.first_pass_html.specs.TagLengths.{word_len, tag_name_len, named_len, attribute_len, close_len, open_end_len, closing_end_len}
 use Rattle.first_pass_html.specs.Fronts.{IsOnlyFront, HasNoFront, IsEndBefore, IsPastAttributes}
@@ -81,13 +81,13 @@ past_more bs n e (a, past) = (
     attributes = take n bs ∷ past.attributes;
     parts = take-add n a bs ∙ ap (λ xs. take n bs ++ xs) past.parts;
     are_attributes = (attribute_front bs n e, past.are_attributes);
-    all = λ behind r. subst (λ (xs : List ℕ). IsEndBefore xs behind) (drop-drop a n bs) (past.all behind (step bs behind n r e));
+    all = λ following r. subst (λ (xs : List ℕ). IsEndBefore xs following) (drop-drop a n bs) (past.all following (step bs following n r e));
   },
 )
 
 past_by : (bs : List ℕ) (o : Option ℕ) → attribute_len bs ≡ o
     → ((n : ℕ) → attribute_len bs ≡ Some n → (a : ℕ) × IsPastAttributes (drop n bs) a) → (a : ℕ) × IsPastAttributes bs a
-past_by bs None e f = (0, record { attributes = []; parts = refl; are_attributes = tt; all = λ behind r. last bs behind r e })
+past_by bs None e f = (0, record { attributes = []; parts = refl; are_attributes = tt; all = λ following r. last bs following r e })
 past_by bs (Some n) e f = past_more bs n e (f n e)
 
 past_up_to : (most : ℕ) (bs : List ℕ) → length bs ≤ most → (a : ℕ) × IsPastAttributes bs a
@@ -109,7 +109,7 @@ past_within bs (a, past) =
               attributes = past.attributes;
               parts = same ∙ past.parts;
               are_attributes = past.are_attributes;
-              all = λ behind r. subst (λ (xs : List ℕ). IsEndBefore xs behind) (sym none) (past.all behind r);
+              all = λ following r. subst (λ (xs : List ℕ). IsEndBefore xs following) (sym none) (past.all following r);
             },
           )
     ]
@@ -120,57 +120,57 @@ StandsFirst Accepts bs = ((n : ℕ) × IsOnlyFront Accepts bs n) ⊎ HasNoFront 
 
 -- open tags
 opening_end : (bs : List ℕ) (n a : ℕ) (o : Option ℕ) → tag_name_len bs ≡ Some n → is_raw_name (take n bs) ≡ false → a ≤ length (drop n bs)
-    → IsPastAttributes (drop n bs) a → open_end_len (drop a (drop n bs)) ≡ o → StandsFirst IsBehindOpening bs
+    → IsPastAttributes (drop n bs) a → open_end_len (drop a (drop n bs)) ≡ o → StandsFirst IsAfterOpening bs
 opening_end bs n a None h raw within past e = inr (opening_needs_end bs n a h past e)
 opening_end bs n a (Some k) h raw within past e =
     inl (n + a + k, opening_found bs n a k h (name_within is_ascii_alphabetic is_tag_byte bs n h) raw past within e (end_within (drop a (drop n bs)) k e))
 
-opening_raw : (bs : List ℕ) (n : ℕ) (t : Bool) → tag_name_len bs ≡ Some n → is_raw_name (take n bs) ≡ t → StandsFirst IsBehindOpening bs
+opening_raw : (bs : List ℕ) (n : ℕ) (t : Bool) → tag_name_len bs ≡ Some n → is_raw_name (take n bs) ≡ t → StandsFirst IsAfterOpening bs
 opening_raw bs n true h raw = inr (opening_not_raw bs n h raw)
 opening_raw bs n false h raw =
     let past = past_within (drop n bs) (past_up_to (length (drop n bs)) (drop n bs) (omega arith)) in
     opening_end bs n past.0 (open_end_len (drop past.0 (drop n bs))) h raw past.1 past.2 refl
 
-opening_name : (bs : List ℕ) (o : Option ℕ) → tag_name_len bs ≡ o → StandsFirst IsBehindOpening bs
+opening_name : (bs : List ℕ) (o : Option ℕ) → tag_name_len bs ≡ o → StandsFirst IsAfterOpening bs
 opening_name bs None h = inr (opening_needs_name bs h)
 opening_name bs (Some n) h = opening_raw bs n (is_raw_name (take n bs)) h refl
 
 -- closing tags
-closing_end : (bs : List ℕ) (n : ℕ) (o : Option ℕ) → tag_name_len bs ≡ Some n → closing_end_len (drop n bs) ≡ o → StandsFirst IsBehindClosing bs
+closing_end : (bs : List ℕ) (n : ℕ) (o : Option ℕ) → tag_name_len bs ≡ Some n → closing_end_len (drop n bs) ≡ o → StandsFirst IsAfterClosing bs
 closing_end bs n None h e = inr (closing_needs_end bs n h e)
 closing_end bs n (Some k) h e = inl (n + k, closing_found bs n k h (name_within is_ascii_alphabetic is_tag_byte bs n h) e (closing_end_within (drop n bs) k e))
 
-closing_name : (bs : List ℕ) (o : Option ℕ) → tag_name_len bs ≡ o → StandsFirst IsBehindClosing bs
+closing_name : (bs : List ℕ) (o : Option ℕ) → tag_name_len bs ≡ o → StandsFirst IsAfterClosing bs
 closing_name bs None h = inr (closing_needs_name bs h)
 closing_name bs (Some n) h = closing_end bs n (closing_end_len (drop n bs)) h refl
 
 -- tags with the bytes before the name
-open_tag : (bs rest : List ℕ) → bs ≡ 60 ∷ rest → begins 47 rest ≡ false → StandsFirst IsBehindOpening rest → StandsFirst IsBlockTag bs
+open_tag : (bs rest : List ℕ) → bs ≡ 60 ∷ rest → begins 47 rest ≡ false → StandsFirst IsAfterOpening rest → StandsFirst IsBlockTag bs
 open_tag bs rest whole plain (inl (n, o)) = inl (n + 1, open_found bs rest n whole plain o)
 open_tag bs rest whole plain (inr none) = inr (open_none bs rest whole plain none)
 
-closing_tag : (bs rest : List ℕ) → bs ≡ 60 ∷ 47 ∷ rest → StandsFirst IsBehindClosing rest → StandsFirst IsBlockTag bs
+closing_tag : (bs rest : List ℕ) → bs ≡ 60 ∷ 47 ∷ rest → StandsFirst IsAfterClosing rest → StandsFirst IsBlockTag bs
 closing_tag bs rest whole (inl (n, o)) = inl (n + 2, close_found bs rest n whole o)
 closing_tag bs rest whole (inr none) = inr (close_none bs rest whole none)
 
-tag_behind : (bs rest : List ℕ) (t : Bool) → bs ≡ 60 ∷ rest → begins 47 rest ≡ t → StandsFirst IsBlockTag bs
-tag_behind bs rest true whole slash =
+tag_after : (bs rest : List ℕ) (t : Bool) → bs ≡ 60 ∷ rest → begins 47 rest ≡ t → StandsFirst IsBlockTag bs
+tag_after bs rest true whole slash =
     closing_tag bs (drop 1 rest) (whole ∙ ap (λ xs. 60 ∷ xs) (first_byte 47 rest slash))
     (closing_name (drop 1 rest) (tag_name_len (drop 1 rest)) refl)
-tag_behind bs rest false whole plain = open_tag bs rest whole plain (opening_name rest (tag_name_len rest) refl)
+tag_after bs rest false whole plain = open_tag bs rest whole plain (opening_name rest (tag_name_len rest) refl)
 
 tag_at : (bs : List ℕ) (t : Bool) → begins 60 bs ≡ t → StandsFirst IsBlockTag bs
-tag_at bs true h = tag_behind bs (drop 1 bs) (begins 47 (drop 1 bs)) (first_byte 60 bs h) refl
+tag_at bs true h = tag_after bs (drop 1 bs) (begins 47 (drop 1 bs)) (first_byte 60 bs h) refl
 tag_at bs false h = inr (needs_bracket bs h)
 
 -- tags after which the rest of the line is blank
-blank_behind : (bs : List ℕ) (n : ℕ) (o : Option ℕ) → IsOnlyFront IsBlockTag bs n → blank_len (drop n bs) ≡ o
+blank_after : (bs : List ℕ) (n : ℕ) (o : Option ℕ) → IsOnlyFront IsBlockTag bs n → blank_len (drop n bs) ≡ o
     → ((n : ℕ) × BeginsTagLine bs n) ⊎ ((n : ℕ) → BeginsTagLine bs n → ⊥)
-blank_behind bs n None front e = inr (λ m t. tag_line_not_blank bs n m front e t)
-blank_behind bs n (Some k) front e = inl (n, record { within = front.within; tag = front.is_text; blank = ap is_some e })
+blank_after bs n None front e = inr (λ m t. tag_line_not_blank bs n m front e t)
+blank_after bs n (Some k) front e = inl (n, record { within = front.within; tag = front.is_text; blank = ap is_some e })
 
 line_by : (bs : List ℕ) → StandsFirst IsBlockTag bs → ((n : ℕ) × BeginsTagLine bs n) ⊎ ((n : ℕ) → BeginsTagLine bs n → ⊥)
-line_by bs (inl (n, front)) = blank_behind bs n (blank_len (drop n bs)) front refl
+line_by bs (inl (n, front)) = blank_after bs n (blank_len (drop n bs)) front refl
 line_by bs (inr none) = inr (λ m t. tag_line_none bs m none t)
 
 pub tag_line_decided : (bs : List ℕ) → ((n : ℕ) × BeginsTagLine bs n) ⊎ ((n : ℕ) → BeginsTagLine bs n → ⊥)

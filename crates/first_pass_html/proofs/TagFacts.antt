@@ -63,10 +63,11 @@ value_unquoted (b ∷ v) bs h =
     let size : prefix_len is_unquoted (b ∷ (v ++ bs)) ≡ length (b ∷ v) + prefix_len is_unquoted bs = more in
     rw (plain, size, some)
 
-pub value_is : (v bs behind : List ℕ) → IsValue v → IsTagRest bs behind → (e : ℕ) × (value_len (v ++ bs) ≡ Some (length v + e)) × IsTagRest (drop e bs) behind
-value_is v bs behind (inl h) r = (prefix_len is_unquoted bs, value_unquoted v bs h, rest_unquoted bs behind r)
-value_is v bs behind (inr (inl h)) r = (0, value_quoted 39 v bs refl h, r)
-value_is v bs behind (inr (inr h)) r = (0, value_quoted 34 v bs refl h, r)
+pub value_is : (v bs following : List ℕ) → IsValue v → IsTagRest bs following
+    → (e : ℕ) × (value_len (v ++ bs) ≡ Some (length v + e)) × IsTagRest (drop e bs) following
+value_is v bs following (inl h) r = (prefix_len is_unquoted bs, value_unquoted v bs h, rest_unquoted bs following r)
+value_is v bs following (inr (inl h)) r = (0, value_quoted 39 v bs refl h, r)
+value_is v bs following (inr (inr h)) r = (0, value_quoted 34 v bs refl h, r)
 
 value_no_blank_by : (v bs : List ℕ) → is_word is_unquoted is_unquoted v ≡ true → prefix_len is_blank (v ++ bs) ≡ 0
 value_no_blank_by [] bs h = absurd (true≢false (sym h))
@@ -94,27 +95,27 @@ equals_is blanks bs k h e =
     let more = prefix_all is_blank blanks (61 ∷ bs) h in
     let none : prefix_len is_blank (61 ∷ bs) ≡ 0 = prefix_none is_blank 61 bs refl in
     let size : prefix_len is_blank (blanks ++ 61 ∷ bs) ≡ length blanks = omega arith in
-    let behind : drop (length blanks + 1) (blanks ++ 61 ∷ bs) ≡ bs = drop-append-add blanks (61 ∷ bs) 1 in
-    rw (size, drop-append_seam, behind, e)
+    let following : drop (length blanks + 1) (blanks ++ 61 ∷ bs) ≡ bs = drop-append-add blanks (61 ∷ bs) 1 in
+    rw (size, drop-append_seam, following, e)
 
-no_specification : (bs behind : List ℕ) → IsTagRest bs behind → specification_len bs ≡ 0
+no_specification : (bs following : List ℕ) → IsTagRest bs following → specification_len bs ≡ 0
 unfolding specification_len
-no_specification bs behind r = rw (rest_no_equals bs behind r)
+no_specification bs following r = rw (rest_no_equals bs following r)
 
-specification_whole : (s bs : List ℕ) (i : IsValueSpecification s) → s ++ bs ≡ i.before ++ 61 ∷ (i.behind ++ (i.value ++ bs))
+specification_whole : (s bs : List ℕ) (i : IsValueSpecification s) → s ++ bs ≡ i.before ++ 61 ∷ (i.following ++ (i.value ++ bs))
 specification_whole s bs i =
-    rw i.parts (append_assoc i.before (61 ∷ (i.behind ++ i.value)) bs ∙ ap (λ xs. i.before ++ 61 ∷ xs) (append_assoc i.behind i.value bs))
+    rw i.parts (append_assoc i.before (61 ∷ (i.following ++ i.value)) bs ∙ ap (λ xs. i.before ++ 61 ∷ xs) (append_assoc i.following i.value bs))
 
-specification_is : (s bs behind : List ℕ)
-    → (s ≡ []) ⊎ IsValueSpecification s → IsTagRest bs behind → (e : ℕ) × (specification_len (s ++ bs) ≡ length s + e) × IsTagRest (drop e bs) behind
-specification_is s bs behind (inl none) r = (0, rw none (no_specification bs behind r), r)
-specification_is s bs behind (inr i) r =
-    let v = value_is i.value bs behind i.is_value r in
+specification_is : (s bs following : List ℕ)
+    → (s ≡ []) ⊎ IsValueSpecification s → IsTagRest bs following → (e : ℕ) × (specification_len (s ++ bs) ≡ length s + e) × IsTagRest (drop e bs) following
+specification_is s bs following (inl none) r = (0, rw none (no_specification bs following r), r)
+specification_is s bs following (inr i) r =
+    let v = value_is i.value bs following i.is_value r in
     let k : ℕ = length i.value + v.0 in
-    let len = equals_is i.before (i.behind ++ (i.value ++ bs)) (length i.behind + k) i.before_blank
-    (blanks_value_is i.behind i.value bs k i.behind_blank i.is_value v.1) in
-    let size : length s ≡ length i.before + 1 + (length i.behind + length i.value) =
-    ap length i.parts ∙ omega (arith, length-append i.before (61 ∷ (i.behind ++ i.value)), length-append i.behind i.value) in
+    let len = equals_is i.before (i.following ++ (i.value ++ bs)) (length i.following + k) i.before_blank
+    (blanks_value_is i.following i.value bs k i.past_blank i.is_value v.1) in
+    let size : length s ≡ length i.before + 1 + (length i.following + length i.value) =
+    ap length i.parts ∙ omega (arith, length-append i.before (61 ∷ (i.following ++ i.value)), length-append i.following i.value) in
     (v.0, rw (specification_whole s bs i) (len ∙ omega arith), v.2)
 
 -- names of attributes
@@ -122,9 +123,10 @@ specification_no_name_by : (blanks bs : List ℕ) → list_all is_blank blanks �
 specification_no_name_by [] bs h = prefix_none is_attribute_byte 61 bs refl
 specification_no_name_by (b ∷ blanks) bs h = prefix_none is_attribute_byte b (blanks ++ 61 ∷ bs) (blank_no_attribute b (and_parts _ _ h).0)
 
-specification_no_name : (s bs behind : List ℕ) → (s ≡ []) ⊎ IsValueSpecification s → IsTagRest bs behind → prefix_len is_attribute_byte (s ++ bs) ≡ 0
-specification_no_name s bs behind (inl none) r = rw none (rest_no_attribute bs behind r)
-specification_no_name s bs behind (inr i) r = rw (specification_whole s bs i) (specification_no_name_by i.before (i.behind ++ (i.value ++ bs)) i.before_blank)
+specification_no_name : (s bs following : List ℕ) → (s ≡ []) ⊎ IsValueSpecification s → IsTagRest bs following → prefix_len is_attribute_byte (s ++ bs) ≡ 0
+specification_no_name s bs following (inl none) r = rw none (rest_no_attribute bs following r)
+specification_no_name s bs following (inr i) r =
+    rw (specification_whole s bs i) (specification_no_name_by i.before (i.following ++ (i.value ++ bs)) i.before_blank)
 
 pub name_is : (first other : ℕ → Bool) (name bs : List ℕ)
     → is_word first other name ≡ true → prefix_len other bs ≡ 0 → word_len first other (name ++ bs) ≡ Some (length name)
@@ -135,10 +137,10 @@ name_is first other (b ∷ name) bs h none =
     let size : 1 + prefix_len other (name ++ bs) ≡ length (b ∷ name) = omega arith in
     rw both.0 (ap Some size)
 
-named_is : (name s bs behind : List ℕ) (k : ℕ) → is_attribute_name name ≡ true → prefix_len is_attribute_byte (s ++ bs) ≡ 0 → specification_len (s ++ bs) ≡ k
+named_is : (name s bs following : List ℕ) (k : ℕ) → is_attribute_name name ≡ true → prefix_len is_attribute_byte (s ++ bs) ≡ 0 → specification_len (s ++ bs) ≡ k
     → named_len (name ++ (s ++ bs)) ≡ Some (length name + k)
 unfolding named_len
-named_is name s bs behind k h none e =
+named_is name s bs following k h none e =
     let first : attribute_name_len (name ++ (s ++ bs)) ≡ Some (length name) = name_is starts_attribute is_attribute_byte name (s ++ bs) h none in
     rw (first, drop-append_seam, e)
 
@@ -160,12 +162,13 @@ blanks_named_is blanks name bs k h named e =
     let size : prefix_len is_blank (blanks ++ (name ++ bs)) ≡ length blanks = omega arith in
     rw (size, some_blank blanks h, drop-append_seam, e)
 
-attribute_is : (a bs behind : List ℕ)
-    → IsAttribute a → IsTagRest bs behind → (e : ℕ) × (attribute_len (a ++ bs) ≡ Some (length a + e)) × IsTagRest (drop e bs) behind
-attribute_is a bs behind i r =
-    let s = specification_is i.specification bs behind i.specified r in
+attribute_is : (a bs following : List ℕ)
+    → IsAttribute a → IsTagRest bs following → (e : ℕ) × (attribute_len (a ++ bs) ≡ Some (length a + e)) × IsTagRest (drop e bs) following
+attribute_is a bs following i r =
+    let s = specification_is i.specification bs following i.specified r in
     let named =
-    named_is i.name i.specification bs behind (length i.specification + s.0) i.is_name (specification_no_name i.specification bs behind i.specified r) s.1 in
+    named_is i.name i.specification bs following (length i.specification + s.0) i.is_name
+    (specification_no_name i.specification bs following i.specified r) s.1 in
     let len = blanks_named_is i.blanks i.name (i.specification ++ bs) (length i.name + (length i.specification + s.0)) i.is_blanks i.is_name named in
     let whole : a ++ bs ≡ i.blanks ++ (i.name ++ (i.specification ++ bs)) =
     rw i.parts (append_assoc i.blanks (i.name ++ i.specification) bs ∙ ap (λ xs. i.blanks ++ xs) (append_assoc i.name i.specification bs)) in
@@ -183,13 +186,14 @@ no_attribute_at blanks c others h solid none =
     let size : prefix_len is_blank (blanks ++ c ∷ others) ≡ length blanks = omega arith in
     rw (size, drop-append_seam, none) (elim (length blanks == 0) as (λ t. cond {A = Option ℕ} t None None ≡ None) [ true ↦ refl | false ↦ refl ])
 
-end_no_attribute_by : (blanks slash behind : List ℕ)
-    → list_all is_blank blanks ≡ true → (slash ≡ []) ⊎ (slash ≡ 47 ∷ []) → attribute_len ((blanks ++ (slash ++ 62 ∷ [])) ++ behind) ≡ None
-end_no_attribute_by blanks slash behind h (inl none) = rw (none, append_assoc blanks (62 ∷ []) behind) (no_attribute_at blanks 62 behind h refl refl)
-end_no_attribute_by blanks slash behind h (inr one) = rw (one, append_assoc blanks (47 ∷ 62 ∷ []) behind) (no_attribute_at blanks 47 (62 ∷ behind) h refl refl)
+end_no_attribute_by : (blanks slash following : List ℕ)
+    → list_all is_blank blanks ≡ true → (slash ≡ []) ⊎ (slash ≡ 47 ∷ []) → attribute_len ((blanks ++ (slash ++ 62 ∷ [])) ++ following) ≡ None
+end_no_attribute_by blanks slash following h (inl none) = rw (none, append_assoc blanks (62 ∷ []) following) (no_attribute_at blanks 62 following h refl refl)
+end_no_attribute_by blanks slash following h (inr one) =
+    rw (one, append_assoc blanks (47 ∷ 62 ∷ []) following) (no_attribute_at blanks 47 (62 ∷ following) h refl refl)
 
-end_no_attribute : (ending behind : List ℕ) → IsOpenTagEnd ending → attribute_len (ending ++ behind) ≡ None
-end_no_attribute ending behind e = rw e.parts (end_no_attribute_by e.blanks e.slash behind e.is_blanks e.is_slash)
+end_no_attribute : (ending following : List ℕ) → IsOpenTagEnd ending → attribute_len (ending ++ following) ≡ None
+end_no_attribute ending following e = rw e.parts (end_no_attribute_by e.blanks e.slash following e.is_blanks e.is_slash)
 
 -- the end of an open tag has the counted length
 end_len_at : (blanks others : List ℕ) (c k : ℕ)
@@ -201,52 +205,52 @@ end_len_at blanks others c k h solid e =
     let size : prefix_len is_blank (blanks ++ c ∷ others) ≡ length blanks = omega arith in
     rw (size, drop-append_seam, e)
 
-end_is_by : (blanks slash behind : List ℕ) → list_all is_blank blanks ≡ true → (slash ≡ []) ⊎ (slash ≡ 47 ∷ [])
-    → open_end_len ((blanks ++ (slash ++ 62 ∷ [])) ++ behind) ≡ Some (length (blanks ++ (slash ++ 62 ∷ [])))
-end_is_by blanks slash behind h (inl none) =
-    rw (none, append_assoc blanks (62 ∷ []) behind) (end_len_at blanks behind 62 1 h refl refl ∙ ap Some (omega (arith, length-append blanks (62 ∷ []))))
-end_is_by blanks slash behind h (inr one) =
-    rw (one, append_assoc blanks (47 ∷ 62 ∷ []) behind)
-    (end_len_at blanks (62 ∷ behind) 47 2 h refl refl ∙ ap Some (omega (arith, length-append blanks (47 ∷ 62 ∷ []))))
+end_is_by : (blanks slash following : List ℕ) → list_all is_blank blanks ≡ true → (slash ≡ []) ⊎ (slash ≡ 47 ∷ [])
+    → open_end_len ((blanks ++ (slash ++ 62 ∷ [])) ++ following) ≡ Some (length (blanks ++ (slash ++ 62 ∷ [])))
+end_is_by blanks slash following h (inl none) =
+    rw (none, append_assoc blanks (62 ∷ []) following) (end_len_at blanks following 62 1 h refl refl ∙ ap Some (omega (arith, length-append blanks (62 ∷ []))))
+end_is_by blanks slash following h (inr one) =
+    rw (one, append_assoc blanks (47 ∷ 62 ∷ []) following)
+    (end_len_at blanks (62 ∷ following) 47 2 h refl refl ∙ ap Some (omega (arith, length-append blanks (47 ∷ 62 ∷ []))))
 
-pub end_is : (ending behind : List ℕ) → IsOpenTagEnd ending → open_end_len (ending ++ behind) ≡ Some (length ending)
-end_is ending behind e = rw e.parts (end_is_by e.blanks e.slash behind e.is_blanks e.is_slash)
+pub end_is : (ending following : List ℕ) → IsOpenTagEnd ending → open_end_len (ending ++ following) ≡ Some (length ending)
+end_is ending following e = rw e.parts (end_is_by e.blanks e.slash following e.is_blanks e.is_slash)
 
 -- the rest of a tag after an attribute, and without attributes
-pub rest_of_others : (others : List (List ℕ)) (ending behind : List ℕ)
-    → AreAttributes others → IsOpenTagEnd ending → IsTagRest (concat others ++ (ending ++ behind)) behind
-rest_of_others others ending behind are e = record { attributes = others; ending = ending; parts = refl; are_attributes = are; ends = e }
+pub rest_of_others : (others : List (List ℕ)) (ending following : List ℕ)
+    → AreAttributes others → IsOpenTagEnd ending → IsTagRest (concat others ++ (ending ++ following)) following
+rest_of_others others ending following are e = record { attributes = others; ending = ending; parts = refl; are_attributes = are; ends = e }
 
-step_by : (attributes : List (List ℕ)) (ending behind : List ℕ) (n : ℕ)
-    → AreAttributes attributes → IsOpenTagEnd ending → attribute_len (concat attributes ++ (ending ++ behind)) ≡ Some n
-    → IsTagRest (drop n (concat attributes ++ (ending ++ behind))) behind
-step_by [] ending behind n are e h = let none = end_no_attribute ending behind e in cc
-step_by (a ∷ others) ending behind n are e h =
-    let rest : List ℕ = concat others ++ (ending ++ behind) in
-    let i = attribute_is a rest behind are.0 (rest_of_others others ending behind are.1 e) in
-    let whole : (a ++ concat others) ++ (ending ++ behind) ≡ a ++ rest = append_assoc a (concat others) (ending ++ behind) in
+step_by : (attributes : List (List ℕ)) (ending following : List ℕ) (n : ℕ)
+    → AreAttributes attributes → IsOpenTagEnd ending → attribute_len (concat attributes ++ (ending ++ following)) ≡ Some n
+    → IsTagRest (drop n (concat attributes ++ (ending ++ following))) following
+step_by [] ending following n are e h = let none = end_no_attribute ending following e in cc
+step_by (a ∷ others) ending following n are e h =
+    let rest : List ℕ = concat others ++ (ending ++ following) in
+    let i = attribute_is a rest following are.0 (rest_of_others others ending following are.1 e) in
+    let whole : (a ++ concat others) ++ (ending ++ following) ≡ a ++ rest = append_assoc a (concat others) (ending ++ following) in
     let some : attribute_len (a ++ rest) ≡ Some n = ap attribute_len (sym whole) ∙ h in
     let size : n ≡ length a + i.0 = let both = i.1 in cc in
     rw (whole, size, drop-append-add) i.2
 
-pub step : (bs behind : List ℕ) (n : ℕ) → IsTagRest bs behind → attribute_len bs ≡ Some n → IsTagRest (drop n bs) behind
-step bs behind n r h =
-    let some : attribute_len (concat r.attributes ++ (r.ending ++ behind)) ≡ Some n = ap attribute_len (sym r.parts) ∙ h in
-    rw r.parts (step_by r.attributes r.ending behind n r.are_attributes r.ends some)
+pub step : (bs following : List ℕ) (n : ℕ) → IsTagRest bs following → attribute_len bs ≡ Some n → IsTagRest (drop n bs) following
+step bs following n r h =
+    let some : attribute_len (concat r.attributes ++ (r.ending ++ following)) ≡ Some n = ap attribute_len (sym r.parts) ∙ h in
+    rw r.parts (step_by r.attributes r.ending following n r.are_attributes r.ends some)
 
-last_by : (attributes : List (List ℕ)) (ending behind : List ℕ)
-    → AreAttributes attributes → IsOpenTagEnd ending → attribute_len (concat attributes ++ (ending ++ behind)) ≡ None
-    → IsEndBefore (concat attributes ++ (ending ++ behind)) behind
-last_by [] ending behind are e h = record { ending = ending; parts = refl; ends = e }
-last_by (a ∷ others) ending behind are e h =
-    let rest : List ℕ = concat others ++ (ending ++ behind) in
-    let i = attribute_is a rest behind are.0 (rest_of_others others ending behind are.1 e) in
-    let whole : (a ++ concat others) ++ (ending ++ behind) ≡ a ++ rest = append_assoc a (concat others) (ending ++ behind) in
+last_by : (attributes : List (List ℕ)) (ending following : List ℕ)
+    → AreAttributes attributes → IsOpenTagEnd ending → attribute_len (concat attributes ++ (ending ++ following)) ≡ None
+    → IsEndBefore (concat attributes ++ (ending ++ following)) following
+last_by [] ending following are e h = record { ending = ending; parts = refl; ends = e }
+last_by (a ∷ others) ending following are e h =
+    let rest : List ℕ = concat others ++ (ending ++ following) in
+    let i = attribute_is a rest following are.0 (rest_of_others others ending following are.1 e) in
+    let whole : (a ++ concat others) ++ (ending ++ following) ≡ a ++ rest = append_assoc a (concat others) (ending ++ following) in
     let some = i.1 in
     let none : attribute_len (a ++ rest) ≡ None = ap attribute_len (sym whole) ∙ h in
     cc
 
-pub last : (bs behind : List ℕ) → IsTagRest bs behind → attribute_len bs ≡ None → IsEndBefore bs behind
-last bs behind r h =
-    let none : attribute_len (concat r.attributes ++ (r.ending ++ behind)) ≡ None = ap attribute_len (sym r.parts) ∙ h in
-    rw r.parts (last_by r.attributes r.ending behind r.are_attributes r.ends none)
+pub last : (bs following : List ℕ) → IsTagRest bs following → attribute_len bs ≡ None → IsEndBefore bs following
+last bs following r h =
+    let none : attribute_len (concat r.attributes ++ (r.ending ++ following)) ≡ None = ap attribute_len (sym r.parts) ∙ h in
+    rw r.parts (last_by r.attributes r.ending following r.are_attributes r.ends none)

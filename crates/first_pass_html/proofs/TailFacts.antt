@@ -8,7 +8,7 @@ use Rattle.first_pass_lines.specs.Lines.{begins, is_blank}
 use Rattle.first_pass_html.specs.Tags.{is_tag_byte, starts_attribute, is_attribute_byte, is_unquoted, is_word, is_attribute_name, IsAttribute, AreAttributes}
 use Rattle.first_pass_html.specs.Tags.{IsOpenTagEnd}
 use Rattle.first_pass_html.specs.Fronts.{IsTagRest}
-use Rattle.first_pass_html.proofs.ListFacts.{prefix_all, prefix_none, rest_behind}
+use Rattle.first_pass_html.proofs.ListFacts.{prefix_all, prefix_none, rest_after}
 
 -- a byte that can follow the blanks of a tag
 abbrev pub is_stop : ℕ → Bool
@@ -64,35 +64,35 @@ none_first : (p q : ℕ → Bool) (bs : List ℕ) → ((b : ℕ) → q b ≡ tru
 none_first p q bs apart s = rw s.parts (prefix_none p s.first s.others (apart s.first s.passes))
 
 -- the end of an open tag
-end_stops_by : (blanks slash behind : List ℕ)
-    → list_all is_blank blanks ≡ true → (slash ≡ []) ⊎ (slash ≡ 47 ∷ []) → StopsAt ((blanks ++ (slash ++ 62 ∷ [])) ++ behind)
-end_stops_by blanks slash behind h (inl none) = record {
+end_stops_by : (blanks slash following : List ℕ)
+    → list_all is_blank blanks ≡ true → (slash ≡ []) ⊎ (slash ≡ 47 ∷ []) → StopsAt ((blanks ++ (slash ++ 62 ∷ [])) ++ following)
+end_stops_by blanks slash following h (inl none) = record {
   blanks = blanks;
   stop = 62;
-  others = behind;
-  parts = rw none (append_assoc blanks (62 ∷ []) behind);
+  others = following;
+  parts = rw none (append_assoc blanks (62 ∷ []) following);
   is_blanks = h;
   stops = refl;
 }
-end_stops_by blanks slash behind h (inr one) = record {
+end_stops_by blanks slash following h (inr one) = record {
   blanks = blanks;
   stop = 47;
-  others = 62 ∷ behind;
-  parts = rw one (append_assoc blanks (47 ∷ 62 ∷ []) behind);
+  others = 62 ∷ following;
+  parts = rw one (append_assoc blanks (47 ∷ 62 ∷ []) following);
   is_blanks = h;
   stops = refl;
 }
 
-pub end_stops : (ending behind : List ℕ) → IsOpenTagEnd ending → StopsAt (ending ++ behind)
-end_stops ending behind e = rw e.parts (end_stops_by e.blanks e.slash behind e.is_blanks e.is_slash)
+pub end_stops : (ending following : List ℕ) → IsOpenTagEnd ending → StopsAt (ending ++ following)
+end_stops ending following e = rw e.parts (end_stops_by e.blanks e.slash following e.is_blanks e.is_slash)
 
-end_starts_by : (blanks slash behind : List ℕ)
-    → list_all is_blank blanks ≡ true → (slash ≡ []) ⊎ (slash ≡ 47 ∷ []) → StartsBy is_tail ((blanks ++ (slash ++ 62 ∷ [])) ++ behind)
-end_starts_by [] slash behind h (inl none) = record { first = 62; others = behind; parts = rw none; passes = refl }
-end_starts_by [] slash behind h (inr one) = record { first = 47; others = 62 ∷ behind; parts = rw one; passes = refl }
-end_starts_by (b ∷ bs) slash behind h some = record {
+end_starts_by : (blanks slash following : List ℕ)
+    → list_all is_blank blanks ≡ true → (slash ≡ []) ⊎ (slash ≡ 47 ∷ []) → StartsBy is_tail ((blanks ++ (slash ++ 62 ∷ [])) ++ following)
+end_starts_by [] slash following h (inl none) = record { first = 62; others = following; parts = rw none; passes = refl }
+end_starts_by [] slash following h (inr one) = record { first = 47; others = 62 ∷ following; parts = rw one; passes = refl }
+end_starts_by (b ∷ bs) slash following h some = record {
   first = b;
-  others = (bs ++ (slash ++ 62 ∷ [])) ++ behind;
+  others = (bs ++ (slash ++ 62 ∷ [])) ++ following;
   parts = refl;
   passes = blank_tail b (and_parts _ _ h).0;
 }
@@ -122,33 +122,33 @@ attribute_starts bs others a =
     rw (a.parts, append_assoc a.blanks (a.name ++ a.specification) others) (attribute_starts_by a.blanks ((a.name ++ a.specification) ++ others) a.is_blanks)
 
 -- the rest of an open tag
-rest_stops_by : (attributes : List (List ℕ)) (ending behind : List ℕ)
-    → AreAttributes attributes → IsOpenTagEnd ending → StopsAt (concat attributes ++ (ending ++ behind))
-rest_stops_by [] ending behind are e = end_stops ending behind e
-rest_stops_by (a ∷ others) ending behind are e =
-    rw (append_assoc a (concat others) (ending ++ behind)) (attribute_stops a (concat others ++ (ending ++ behind)) are.0)
+rest_stops_by : (attributes : List (List ℕ)) (ending following : List ℕ)
+    → AreAttributes attributes → IsOpenTagEnd ending → StopsAt (concat attributes ++ (ending ++ following))
+rest_stops_by [] ending following are e = end_stops ending following e
+rest_stops_by (a ∷ others) ending following are e =
+    rw (append_assoc a (concat others) (ending ++ following)) (attribute_stops a (concat others ++ (ending ++ following)) are.0)
 
-pub rest_stops : (bs behind : List ℕ) → IsTagRest bs behind → StopsAt bs
-rest_stops bs behind r = rw r.parts (rest_stops_by r.attributes r.ending behind r.are_attributes r.ends)
+pub rest_stops : (bs following : List ℕ) → IsTagRest bs following → StopsAt bs
+rest_stops bs following r = rw r.parts (rest_stops_by r.attributes r.ending following r.are_attributes r.ends)
 
 starts_tail : (bs : List ℕ) → StartsBy is_blank bs → StartsBy is_tail bs
 starts_tail bs s = record { first = s.first; others = s.others; parts = s.parts; passes = blank_tail s.first s.passes }
 
-rest_starts_by : (attributes : List (List ℕ)) (ending behind : List ℕ)
-    → AreAttributes attributes → IsOpenTagEnd ending → StartsBy is_tail (concat attributes ++ (ending ++ behind))
-rest_starts_by [] ending behind are e = rw e.parts (end_starts_by e.blanks e.slash behind e.is_blanks e.is_slash)
-rest_starts_by (a ∷ others) ending behind are e =
-    rw (append_assoc a (concat others) (ending ++ behind)) (starts_tail _ (attribute_starts a (concat others ++ (ending ++ behind)) are.0))
+rest_starts_by : (attributes : List (List ℕ)) (ending following : List ℕ)
+    → AreAttributes attributes → IsOpenTagEnd ending → StartsBy is_tail (concat attributes ++ (ending ++ following))
+rest_starts_by [] ending following are e = rw e.parts (end_starts_by e.blanks e.slash following e.is_blanks e.is_slash)
+rest_starts_by (a ∷ others) ending following are e =
+    rw (append_assoc a (concat others) (ending ++ following)) (starts_tail _ (attribute_starts a (concat others ++ (ending ++ following)) are.0))
 
-pub rest_starts : (bs behind : List ℕ) → IsTagRest bs behind → StartsBy is_tail bs
-rest_starts bs behind r = rw r.parts (rest_starts_by r.attributes r.ending behind r.are_attributes r.ends)
+pub rest_starts : (bs following : List ℕ) → IsTagRest bs following → StartsBy is_tail bs
+rest_starts bs following r = rw r.parts (rest_starts_by r.attributes r.ending following r.are_attributes r.ends)
 
 -- the rest of a tag continues no name, and no value specification begins there
-pub rest_no_tag : (bs behind : List ℕ) → IsTagRest bs behind → prefix_len is_tag_byte bs ≡ 0
-rest_no_tag bs behind r = none_first is_tag_byte is_tail bs tail_tag (rest_starts bs behind r)
+pub rest_no_tag : (bs following : List ℕ) → IsTagRest bs following → prefix_len is_tag_byte bs ≡ 0
+rest_no_tag bs following r = none_first is_tag_byte is_tail bs tail_tag (rest_starts bs following r)
 
-pub rest_no_attribute : (bs behind : List ℕ) → IsTagRest bs behind → prefix_len is_attribute_byte bs ≡ 0
-rest_no_attribute bs behind r = none_first is_attribute_byte is_tail bs tail_attribute (rest_starts bs behind r)
+pub rest_no_attribute : (bs following : List ℕ) → IsTagRest bs following → prefix_len is_attribute_byte bs ≡ 0
+rest_no_attribute bs following r = none_first is_attribute_byte is_tail bs tail_attribute (rest_starts bs following r)
 
 pub stop_size : (bs : List ℕ) (s : StopsAt bs) → prefix_len is_blank bs ≡ length s.blanks
 stop_size bs s =
@@ -156,24 +156,24 @@ stop_size bs s =
     let none = prefix_none is_blank s.stop s.others (stop_solid s.stop s.stops) in
     rw s.parts (omega arith)
 
-pub stop_behind : (bs : List ℕ) (s : StopsAt bs) → drop (prefix_len is_blank bs) bs ≡ s.stop ∷ s.others
-stop_behind bs s = rest_behind (prefix_len is_blank bs) bs s.blanks (s.stop ∷ s.others) s.parts (stop_size bs s)
+pub stop_after : (bs : List ℕ) (s : StopsAt bs) → drop (prefix_len is_blank bs) bs ≡ s.stop ∷ s.others
+stop_after bs s = rest_after (prefix_len is_blank bs) bs s.blanks (s.stop ∷ s.others) s.parts (stop_size bs s)
 
-pub rest_no_equals : (bs behind : List ℕ) → IsTagRest bs behind → begins 61 (drop (prefix_len is_blank bs) bs) ≡ false
-rest_no_equals bs behind r =
-    let s = rest_stops bs behind r in
-    ap (begins 61) (stop_behind bs s) ∙ stop_equals s.stop s.stops
+pub rest_no_equals : (bs following : List ℕ) → IsTagRest bs following → begins 61 (drop (prefix_len is_blank bs) bs) ≡ false
+rest_no_equals bs following r =
+    let s = rest_stops bs following r in
+    ap (begins 61) (stop_after bs s) ∙ stop_equals s.stop s.stops
 
 -- If the rest of a tag begins with bytes of an unquoted value, the rest of a tag also follows them. There are none,
 -- or only the slash of its end.
-kept : (bs behind : List ℕ) → prefix_len is_unquoted bs ≡ 0 → IsTagRest bs behind → IsTagRest (drop (prefix_len is_unquoted bs) bs) behind
-kept bs behind e r = rw e r
+kept : (bs following : List ℕ) → prefix_len is_unquoted bs ≡ 0 → IsTagRest bs following → IsTagRest (drop (prefix_len is_unquoted bs) bs) following
+kept bs following e r = rw e r
 
-blank_kept : (bs behind : List ℕ) → StartsBy is_blank bs → IsTagRest bs behind → IsTagRest (drop (prefix_len is_unquoted bs) bs) behind
-blank_kept bs behind s r = kept bs behind (none_first is_unquoted is_blank bs blank_unquoted s) r
+blank_kept : (bs following : List ℕ) → StartsBy is_blank bs → IsTagRest bs following → IsTagRest (drop (prefix_len is_unquoted bs) bs) following
+blank_kept bs following s r = kept bs following (none_first is_unquoted is_blank bs blank_unquoted s) r
 
-end_alone : (behind : List ℕ) → IsTagRest (62 ∷ behind) behind
-end_alone behind = record {
+end_alone : (following : List ℕ) → IsTagRest (62 ∷ following) following
+end_alone following = record {
   attributes = [];
   ending = 62 ∷ [];
   parts = refl;
@@ -181,26 +181,26 @@ end_alone behind = record {
   ends = record { blanks = []; slash = []; parts = refl; is_blanks = refl; is_slash = inl refl };
 }
 
-end_unquoted_by : (blanks slash bs behind : List ℕ)
-    → bs ≡ (blanks ++ (slash ++ 62 ∷ [])) ++ behind → list_all is_blank blanks ≡ true → (slash ≡ []) ⊎ (slash ≡ 47 ∷ []) → IsTagRest bs behind
-    → IsTagRest (drop (prefix_len is_unquoted bs) bs) behind
-end_unquoted_by [] slash bs behind parts h (inl none) r =
-    let whole : bs ≡ 62 ∷ behind = parts ∙ rw none refl in
-    rw whole (end_alone behind)
-end_unquoted_by [] slash bs behind parts h (inr one) r =
-    let whole : bs ≡ 47 ∷ 62 ∷ behind = parts ∙ rw one refl in
-    rw whole (end_alone behind)
-end_unquoted_by (b ∷ blanks) slash bs behind parts h some r =
-    blank_kept bs behind (record { first = b; others = (blanks ++ (slash ++ 62 ∷ [])) ++ behind; parts = parts; passes = (and_parts _ _ h).0 }) r
+end_unquoted_by : (blanks slash bs following : List ℕ)
+    → bs ≡ (blanks ++ (slash ++ 62 ∷ [])) ++ following → list_all is_blank blanks ≡ true → (slash ≡ []) ⊎ (slash ≡ 47 ∷ []) → IsTagRest bs following
+    → IsTagRest (drop (prefix_len is_unquoted bs) bs) following
+end_unquoted_by [] slash bs following parts h (inl none) r =
+    let whole : bs ≡ 62 ∷ following = parts ∙ rw none refl in
+    rw whole (end_alone following)
+end_unquoted_by [] slash bs following parts h (inr one) r =
+    let whole : bs ≡ 47 ∷ 62 ∷ following = parts ∙ rw one refl in
+    rw whole (end_alone following)
+end_unquoted_by (b ∷ blanks) slash bs following parts h some r =
+    blank_kept bs following (record { first = b; others = (blanks ++ (slash ++ 62 ∷ [])) ++ following; parts = parts; passes = (and_parts _ _ h).0 }) r
 
-rest_unquoted_by : (attributes : List (List ℕ)) (ending bs behind : List ℕ)
-    → bs ≡ concat attributes ++ (ending ++ behind) → AreAttributes attributes → IsOpenTagEnd ending → IsTagRest bs behind
-    → IsTagRest (drop (prefix_len is_unquoted bs) bs) behind
-rest_unquoted_by [] ending bs behind parts are e r =
-    end_unquoted_by e.blanks e.slash bs behind (parts ∙ ap (λ xs. xs ++ behind) e.parts) e.is_blanks e.is_slash r
-rest_unquoted_by (a ∷ others) ending bs behind parts are e r =
-    let whole : bs ≡ a ++ (concat others ++ (ending ++ behind)) = parts ∙ append_assoc a (concat others) (ending ++ behind) in
-    blank_kept bs behind (rw whole (attribute_starts a (concat others ++ (ending ++ behind)) are.0)) r
+rest_unquoted_by : (attributes : List (List ℕ)) (ending bs following : List ℕ)
+    → bs ≡ concat attributes ++ (ending ++ following) → AreAttributes attributes → IsOpenTagEnd ending → IsTagRest bs following
+    → IsTagRest (drop (prefix_len is_unquoted bs) bs) following
+rest_unquoted_by [] ending bs following parts are e r =
+    end_unquoted_by e.blanks e.slash bs following (parts ∙ ap (λ xs. xs ++ following) e.parts) e.is_blanks e.is_slash r
+rest_unquoted_by (a ∷ others) ending bs following parts are e r =
+    let whole : bs ≡ a ++ (concat others ++ (ending ++ following)) = parts ∙ append_assoc a (concat others) (ending ++ following) in
+    blank_kept bs following (rw whole (attribute_starts a (concat others ++ (ending ++ following)) are.0)) r
 
-pub rest_unquoted : (bs behind : List ℕ) → IsTagRest bs behind → IsTagRest (drop (prefix_len is_unquoted bs) bs) behind
-rest_unquoted bs behind r = rest_unquoted_by r.attributes r.ending bs behind r.parts r.are_attributes r.ends r
+pub rest_unquoted : (bs following : List ℕ) → IsTagRest bs following → IsTagRest (drop (prefix_len is_unquoted bs) bs) following
+rest_unquoted bs following r = rest_unquoted_by r.attributes r.ending bs following r.parts r.are_attributes r.ends r

@@ -10,95 +10,95 @@ use Rattle.std.proofs.Math.Seq.{take-add, drop-append_seam}
 use Rattle.std.specs.Char.{is_ascii_alphabetic}
 use Rattle.first_pass_lines.specs.Lines.{begins, blank_len, is_blank}
 use Rattle.first_pass_html.specs.Starts.{is_raw_name}
-use Rattle.first_pass_html.specs.Tags.{is_tag_byte, is_tag_name, IsClosingTag, IsBlockOpenTag, IsBehindOpening, IsBehindClosing, IsBlockTag, BeginsTagLine}
+use Rattle.first_pass_html.specs.Tags.{is_tag_byte, is_tag_name, IsClosingTag, IsBlockOpenTag, IsAfterOpening, IsAfterClosing, IsBlockTag, BeginsTagLine}
 use Rattle.first_pass_html.specs.TagLengths.{tag_name_len, open_end_len, closing_end_len}
 use Rattle.first_pass_html.specs.Fronts.{IsOnlyFront, HasNoFront, IsTagRest, IsEndBefore, IsPastAttributes}
-use Rattle.first_pass_html.proofs.ListFacts.{prefix_all, prefix_none, prefix_passes, rest_behind, front_of}
+use Rattle.first_pass_html.proofs.ListFacts.{prefix_all, prefix_none, prefix_passes, rest_after, front_of}
 use Rattle.first_pass_html.proofs.TailFacts.{rest_no_tag}
 use Rattle.first_pass_html.proofs.TagFacts.{name_is, rest_of_others, end_is}
 use Rattle.first_pass_html.proofs.FrontFacts.{name_front, end_front, some_if, begins_front}
 
 -- a tag after its opening bytes: a tag name, and the rest of a tag
-record NameThenRest (bs : List ℕ) (behind : List ℕ) : Type 0 where
+record NameThenRest (bs : List ℕ) (following : List ℕ) : Type 0 where
   name : List ℕ
   others : List ℕ
   parts : bs ≡ name ++ others
   is_name : is_tag_name name ≡ true
-  rest : IsTagRest others behind
+  rest : IsTagRest others following
 
-name_counted : (bs behind : List ℕ) (r : NameThenRest bs behind) → tag_name_len bs ≡ Some (length r.name)
-name_counted bs behind r = rw r.parts (name_is is_ascii_alphabetic is_tag_byte r.name r.others r.is_name (rest_no_tag r.others behind r.rest))
+name_counted : (bs following : List ℕ) (r : NameThenRest bs following) → tag_name_len bs ≡ Some (length r.name)
+name_counted bs following r = rw r.parts (name_is is_ascii_alphabetic is_tag_byte r.name r.others r.is_name (rest_no_tag r.others following r.rest))
 
 -- the counted name is the name of the tag
-name_same : (bs behind : List ℕ) (n : ℕ) (r : NameThenRest bs behind) → tag_name_len bs ≡ Some n → n ≡ length r.name
-name_same bs behind n r h = let e = name_counted bs behind r in cc
+name_same : (bs following : List ℕ) (n : ℕ) (r : NameThenRest bs following) → tag_name_len bs ≡ Some n → n ≡ length r.name
+name_same bs following n r h = let e = name_counted bs following r in cc
 
 -- open tags
-opening_parts : (bs front behind : List ℕ)
-    → bs ≡ front ++ behind → (tag : IsBehindOpening front) → bs ≡ tag.0.name ++ (concat tag.0.attributes ++ (tag.0.ending ++ behind))
-opening_parts bs front behind parts tag =
+opening_parts : (bs front following : List ℕ)
+    → bs ≡ front ++ following → (tag : IsAfterOpening front) → bs ≡ tag.0.name ++ (concat tag.0.attributes ++ (tag.0.ending ++ following))
+opening_parts bs front following parts tag =
     let t = tag.0 in
     let inside : front ≡ t.name ++ (concat t.attributes ++ t.ending) = let e = t.parts in cc in
-    parts ∙ ap (λ xs. xs ++ behind) inside ∙ append_assoc t.name (concat t.attributes ++ t.ending) behind
-    ∙ ap (λ xs. t.name ++ xs) (append_assoc (concat t.attributes) t.ending behind)
+    parts ∙ ap (λ xs. xs ++ following) inside ∙ append_assoc t.name (concat t.attributes ++ t.ending) following
+    ∙ ap (λ xs. t.name ++ xs) (append_assoc (concat t.attributes) t.ending following)
 
-opening_rest : (bs front behind : List ℕ) → bs ≡ front ++ behind → (tag : IsBehindOpening front) → NameThenRest bs behind
-opening_rest bs front behind parts tag = record {
+opening_rest : (bs front following : List ℕ) → bs ≡ front ++ following → (tag : IsAfterOpening front) → NameThenRest bs following
+opening_rest bs front following parts tag = record {
   name = tag.0.name;
-  others = concat tag.0.attributes ++ (tag.0.ending ++ behind);
-  parts = opening_parts bs front behind parts tag;
+  others = concat tag.0.attributes ++ (tag.0.ending ++ following);
+  parts = opening_parts bs front following parts tag;
   is_name = tag.0.is_name;
-  rest = rest_of_others tag.0.attributes tag.0.ending behind tag.0.are_attributes tag.0.ends;
+  rest = rest_of_others tag.0.attributes tag.0.ending following tag.0.are_attributes tag.0.ends;
 }
 
-pub opening_needs_name : (bs : List ℕ) → tag_name_len bs ≡ None → HasNoFront IsBehindOpening bs
-opening_needs_name bs none front behind parts tag = let some = name_counted bs behind (opening_rest bs front behind parts tag) in cc
+pub opening_needs_name : (bs : List ℕ) → tag_name_len bs ≡ None → HasNoFront IsAfterOpening bs
+opening_needs_name bs none front following parts tag = let some = name_counted bs following (opening_rest bs front following parts tag) in cc
 
-pub opening_not_raw : (bs : List ℕ) (n : ℕ) → tag_name_len bs ≡ Some n → is_raw_name (take n bs) ≡ true → HasNoFront IsBehindOpening bs
+pub opening_not_raw : (bs : List ℕ) (n : ℕ) → tag_name_len bs ≡ Some n → is_raw_name (take n bs) ≡ true → HasNoFront IsAfterOpening bs
 unfolding opening_rest
-opening_not_raw bs n h raw front behind parts tag =
-    let r = opening_rest bs front behind parts tag in
-    let same : take n bs ≡ tag.0.name = front_of n bs r.name r.others r.parts (name_same bs behind n r h) in
+opening_not_raw bs n h raw front following parts tag =
+    let r = opening_rest bs front following parts tag in
+    let same : take n bs ≡ tag.0.name = front_of n bs r.name r.others r.parts (name_same bs following n r h) in
     true≢false (sym raw ∙ ap is_raw_name same ∙ tag.1)
 
 -- the end of the tag follows the counted name and attributes
-opening_end : (bs front behind : List ℕ) (n a : ℕ)
-    → bs ≡ front ++ behind → IsBehindOpening front → tag_name_len bs ≡ Some n → IsPastAttributes (drop n bs) a → IsEndBefore (drop a (drop n bs)) behind
-opening_end bs front behind n a parts tag h past =
-    let r = opening_rest bs front behind parts tag in
-    let same : drop n bs ≡ r.others = rest_behind n bs r.name r.others r.parts (name_same bs behind n r h) in
-    past.all behind (rw same r.rest)
+opening_end : (bs front following : List ℕ) (n a : ℕ)
+    → bs ≡ front ++ following → IsAfterOpening front → tag_name_len bs ≡ Some n → IsPastAttributes (drop n bs) a → IsEndBefore (drop a (drop n bs)) following
+opening_end bs front following n a parts tag h past =
+    let r = opening_rest bs front following parts tag in
+    let same : drop n bs ≡ r.others = rest_after n bs r.name r.others r.parts (name_same bs following n r h) in
+    past.all following (rw same r.rest)
 
-end_counted : (bs behind : List ℕ) → (e : IsEndBefore bs behind) → open_end_len bs ≡ Some (length e.ending)
-end_counted bs behind e = rw e.parts (end_is e.ending behind e.ends)
+end_counted : (bs following : List ℕ) → (e : IsEndBefore bs following) → open_end_len bs ≡ Some (length e.ending)
+end_counted bs following e = rw e.parts (end_is e.ending following e.ends)
 
 pub opening_needs_end : (bs : List ℕ) (n a : ℕ)
-    → tag_name_len bs ≡ Some n → IsPastAttributes (drop n bs) a → open_end_len (drop a (drop n bs)) ≡ None → HasNoFront IsBehindOpening bs
-opening_needs_end bs n a h past none front behind parts tag =
-    let e = opening_end bs front behind n a parts tag h past in
-    let some = end_counted (drop a (drop n bs)) behind e in
+    → tag_name_len bs ≡ Some n → IsPastAttributes (drop n bs) a → open_end_len (drop a (drop n bs)) ≡ None → HasNoFront IsAfterOpening bs
+opening_needs_end bs n a h past none front following parts tag =
+    let e = opening_end bs front following n a parts tag h past in
+    let some = end_counted (drop a (drop n bs)) following e in
     cc
 
-opening_only : (bs front behind : List ℕ) (n a k : ℕ)
-    → bs ≡ front ++ behind → IsBehindOpening front → tag_name_len bs ≡ Some n → n ≤ length bs → IsPastAttributes (drop n bs) a → a ≤ length (drop n bs)
+opening_only : (bs front following : List ℕ) (n a k : ℕ)
+    → bs ≡ front ++ following → IsAfterOpening front → tag_name_len bs ≡ Some n → n ≤ length bs → IsPastAttributes (drop n bs) a → a ≤ length (drop n bs)
     → open_end_len (drop a (drop n bs)) ≡ Some k → length front ≡ n + a + k
-opening_only bs front behind n a k parts tag h fits past within some =
-    let e = opening_end bs front behind n a parts tag h past in
-    let counted = end_counted (drop a (drop n bs)) behind e in
+opening_only bs front following n a k parts tag h fits past within some =
+    let e = opening_end bs front following n a parts tag h past in
+    let counted = end_counted (drop a (drop n bs)) following e in
     let same : k ≡ length e.ending = cc in
-    let size : length bs ≡ length front + length behind = ap length parts ∙ length-append front behind in
-    let left : length (drop a (drop n bs)) ≡ length e.ending + length behind = ap length e.parts ∙ length-append e.ending behind in
+    let size : length bs ≡ length front + length following = ap length parts ∙ length-append front following in
+    let left : length (drop a (drop n bs)) ≡ length e.ending + length following = ap length e.parts ∙ length-append e.ending following in
     omega (arith, length-drop a (drop n bs), length-drop n bs)
 
 opening_is : (bs : List ℕ) (n a k : ℕ) → tag_name_len bs ≡ Some n → is_raw_name (take n bs) ≡ false → IsPastAttributes (drop n bs) a
-    → open_end_len (drop a (drop n bs)) ≡ Some k → IsBehindOpening (take (n + a + k) bs)
+    → open_end_len (drop a (drop n bs)) ≡ Some k → IsAfterOpening (take (n + a + k) bs)
 opening_is bs n a k h raw past some =
-    let behind : drop (n + a) bs ≡ drop a (drop n bs) = sym (drop-drop a n bs) in
+    let following : drop (n + a) bs ≡ drop a (drop n bs) = sym (drop-drop a n bs) in
     let whole : take (n + a + k) bs ≡ take n bs ++ (concat past.attributes ++ take k (drop a (drop n bs))) =
     take-add (n + a) k bs
     ∙ ap (λ xs. xs ++ take k (drop (n + a) bs)) (take-add n a bs ∙ ap (λ xs. take n bs ++ xs) past.parts)
     ∙ append_assoc (take n bs) (concat past.attributes) (take k (drop (n + a) bs))
-    ∙ ap (λ xs. take n bs ++ (concat past.attributes ++ take k xs)) behind in (
+    ∙ ap (λ xs. take n bs ++ (concat past.attributes ++ take k xs)) following in (
       record {
         name = take n bs;
         attributes = past.attributes;
@@ -113,60 +113,61 @@ opening_is bs n a k h raw past some =
 
 pub opening_found : (bs : List ℕ) (n a k : ℕ)
     → tag_name_len bs ≡ Some n → n ≤ length bs → is_raw_name (take n bs) ≡ false → IsPastAttributes (drop n bs) a → a ≤ length (drop n bs)
-    → open_end_len (drop a (drop n bs)) ≡ Some k → k ≤ length (drop a (drop n bs)) → IsOnlyFront IsBehindOpening bs (n + a + k)
+    → open_end_len (drop a (drop n bs)) ≡ Some k → k ≤ length (drop a (drop n bs)) → IsOnlyFront IsAfterOpening bs (n + a + k)
 opening_found bs n a k h fits raw past within some ends = record {
   within = omega (arith, length-drop a (drop n bs), length-drop n bs);
   is_text = opening_is bs n a k h raw past some;
-  only = λ front behind parts tag. opening_only bs front behind n a k parts tag h fits past within some;
+  only = λ front following parts tag. opening_only bs front following n a k parts tag h fits past within some;
 }
 
 -- closing tags
-closing_rest : (bs front behind : List ℕ) → bs ≡ front ++ behind → (tag : IsBehindClosing front) → bs ≡ tag.name ++ ((tag.blanks ++ 62 ∷ []) ++ behind)
-closing_rest bs front behind parts tag =
+closing_rest : (bs front following : List ℕ) → bs ≡ front ++ following → (tag : IsAfterClosing front) → bs ≡ tag.name ++ ((tag.blanks ++ 62 ∷ []) ++ following)
+closing_rest bs front following parts tag =
     let inside : front ≡ tag.name ++ (tag.blanks ++ 62 ∷ []) = let e = tag.parts in cc in
-    parts ∙ ap (λ xs. xs ++ behind) inside ∙ append_assoc tag.name (tag.blanks ++ 62 ∷ []) behind
+    parts ∙ ap (λ xs. xs ++ following) inside ∙ append_assoc tag.name (tag.blanks ++ 62 ∷ []) following
 
-closing_name : (bs front behind : List ℕ) → bs ≡ front ++ behind → (tag : IsBehindClosing front) → NameThenRest bs behind
-closing_name bs front behind parts tag = record {
+closing_name : (bs front following : List ℕ) → bs ≡ front ++ following → (tag : IsAfterClosing front) → NameThenRest bs following
+closing_name bs front following parts tag = record {
   name = tag.name;
-  others = (tag.blanks ++ 62 ∷ []) ++ behind;
-  parts = closing_rest bs front behind parts tag;
+  others = (tag.blanks ++ 62 ∷ []) ++ following;
+  parts = closing_rest bs front following parts tag;
   is_name = tag.is_name;
-  rest = rest_of_others [] (tag.blanks ++ 62 ∷ []) behind tt
+  rest = rest_of_others [] (tag.blanks ++ 62 ∷ []) following tt
       (record { blanks = tag.blanks; slash = []; parts = refl; is_blanks = tag.is_blanks; is_slash = inl refl });
 }
 
-pub closing_needs_name : (bs : List ℕ) → tag_name_len bs ≡ None → HasNoFront IsBehindClosing bs
-closing_needs_name bs none front behind parts tag = let some = name_counted bs behind (closing_name bs front behind parts tag) in cc
+pub closing_needs_name : (bs : List ℕ) → tag_name_len bs ≡ None → HasNoFront IsAfterClosing bs
+closing_needs_name bs none front following parts tag = let some = name_counted bs following (closing_name bs front following parts tag) in cc
 
-closing_end_is : (blanks behind : List ℕ) → list_all is_blank blanks ≡ true → closing_end_len ((blanks ++ 62 ∷ []) ++ behind) ≡ Some (length blanks + 1)
+closing_end_is : (blanks following : List ℕ) → list_all is_blank blanks ≡ true → closing_end_len ((blanks ++ 62 ∷ []) ++ following) ≡ Some (length blanks + 1)
 unfolding closing_end_len
-closing_end_is blanks behind h =
-    let more = prefix_all is_blank blanks (62 ∷ behind) h in
-    let none : prefix_len is_blank (62 ∷ behind) ≡ 0 = prefix_none is_blank 62 behind refl in
-    let size : prefix_len is_blank (blanks ++ 62 ∷ behind) ≡ length blanks = omega arith in
-    rw (append_assoc blanks (62 ∷ []) behind, size, drop-append_seam)
+closing_end_is blanks following h =
+    let more = prefix_all is_blank blanks (62 ∷ following) h in
+    let none : prefix_len is_blank (62 ∷ following) ≡ 0 = prefix_none is_blank 62 following refl in
+    let size : prefix_len is_blank (blanks ++ 62 ∷ following) ≡ length blanks = omega arith in
+    rw (append_assoc blanks (62 ∷ []) following, size, drop-append_seam)
 
-closing_end : (bs front behind : List ℕ) (n : ℕ) → bs ≡ front ++ behind → (tag : IsBehindClosing front) → tag_name_len bs ≡ Some n
+closing_end : (bs front following : List ℕ) (n : ℕ) → bs ≡ front ++ following → (tag : IsAfterClosing front) → tag_name_len bs ≡ Some n
     → (n ≡ length tag.name) × (closing_end_len (drop n bs) ≡ Some (length tag.blanks + 1))
 unfolding closing_name
-closing_end bs front behind n parts tag h =
-    let r = closing_name bs front behind parts tag in
-    let same : n ≡ length tag.name = name_same bs behind n r h in
-    (same, ap closing_end_len (rest_behind n bs tag.name ((tag.blanks ++ 62 ∷ []) ++ behind) r.parts same) ∙ closing_end_is tag.blanks behind tag.is_blanks)
+closing_end bs front following n parts tag h =
+    let r = closing_name bs front following parts tag in
+    let same : n ≡ length tag.name = name_same bs following n r h in
+    (same, ap closing_end_len (rest_after n bs tag.name ((tag.blanks ++ 62 ∷ []) ++ following) r.parts same)
+    ∙ closing_end_is tag.blanks following tag.is_blanks)
 
-pub closing_needs_end : (bs : List ℕ) (n : ℕ) → tag_name_len bs ≡ Some n → closing_end_len (drop n bs) ≡ None → HasNoFront IsBehindClosing bs
-closing_needs_end bs n h none front behind parts tag = let some = (closing_end bs front behind n parts tag h).1 in cc
+pub closing_needs_end : (bs : List ℕ) (n : ℕ) → tag_name_len bs ≡ Some n → closing_end_len (drop n bs) ≡ None → HasNoFront IsAfterClosing bs
+closing_needs_end bs n h none front following parts tag = let some = (closing_end bs front following n parts tag h).1 in cc
 
-closing_only : (bs front behind : List ℕ) (n k : ℕ)
-    → bs ≡ front ++ behind → IsBehindClosing front → tag_name_len bs ≡ Some n → closing_end_len (drop n bs) ≡ Some k → length front ≡ n + k
-closing_only bs front behind n k parts tag h some =
-    let both = closing_end bs front behind n parts tag h in
+closing_only : (bs front following : List ℕ) (n k : ℕ)
+    → bs ≡ front ++ following → IsAfterClosing front → tag_name_len bs ≡ Some n → closing_end_len (drop n bs) ≡ Some k → length front ≡ n + k
+closing_only bs front following n k parts tag h some =
+    let both = closing_end bs front following n parts tag h in
     let size : k ≡ length tag.blanks + 1 = let counted = both.1 in cc in
     let inside : front ≡ tag.name ++ (tag.blanks ++ 62 ∷ []) = let e = tag.parts in cc in
     ap length inside ∙ omega (arith, both.0, length-append tag.name (tag.blanks ++ 62 ∷ []), length-append tag.blanks (62 ∷ []))
 
-closing_is : (bs : List ℕ) (n k : ℕ) → tag_name_len bs ≡ Some n → closing_end_len (drop n bs) ≡ Some k → IsBehindClosing (take (n + k) bs)
+closing_is : (bs : List ℕ) (n k : ℕ) → tag_name_len bs ≡ Some n → closing_end_len (drop n bs) ≡ Some k → IsAfterClosing (take (n + k) bs)
 unfolding closing_end_len
 closing_is bs n k h some =
     let left : List ℕ = drop n bs in
@@ -183,11 +184,11 @@ closing_is bs n k h some =
     }
 
 pub closing_found : (bs : List ℕ) (n k : ℕ)
-    → tag_name_len bs ≡ Some n → n ≤ length bs → closing_end_len (drop n bs) ≡ Some k → k ≤ length (drop n bs) → IsOnlyFront IsBehindClosing bs (n + k)
+    → tag_name_len bs ≡ Some n → n ≤ length bs → closing_end_len (drop n bs) ≡ Some k → k ≤ length (drop n bs) → IsOnlyFront IsAfterClosing bs (n + k)
 closing_found bs n k h fits some within = record {
   within = omega (arith, length-drop n bs);
   is_text = closing_is bs n k h some;
-  only = λ front behind parts tag. closing_only bs front behind n k parts tag h some;
+  only = λ front following parts tag. closing_only bs front following n k parts tag h some;
 }
 
 -- tags with the bytes before the name
@@ -195,9 +196,9 @@ pub first_byte : (c : ℕ) (bs : List ℕ) → begins c bs ≡ true → bs ≡ c
 first_byte c [] h = absurd (true≢false (sym h))
 first_byte c (b ∷ bs) h = rw (eqb-true b c h)
 
-behind_first : (c : ℕ) (bs rest front others behind : List ℕ) → bs ≡ c ∷ rest → bs ≡ front ++ behind → front ≡ c ∷ others → rest ≡ others ++ behind
-behind_first c bs rest front others behind whole parts first =
-    let e : c ∷ rest ≡ c ∷ (others ++ behind) = sym whole ∙ parts ∙ ap (λ xs. xs ++ behind) first in cc
+after_first : (c : ℕ) (bs rest front others following : List ℕ) → bs ≡ c ∷ rest → bs ≡ front ++ following → front ≡ c ∷ others → rest ≡ others ++ following
+after_first c bs rest front others following whole parts first =
+    let e : c ∷ rest ≡ c ∷ (others ++ following) = sym whole ∙ parts ∙ ap (λ xs. xs ++ following) first in cc
 
 name_no_slash : (name others rest : List ℕ) → is_tag_name name ≡ true → name ++ others ≡ 47 ∷ rest → ⊥
 name_no_slash [] others rest h e = true≢false (sym h)
@@ -205,71 +206,71 @@ name_no_slash (b ∷ name) others rest h e =
     let same : b ≡ 47 = cc in
     true≢false (sym (and_parts _ _ h).0 ∙ ap is_ascii_alphabetic same)
 
-open_tag : (bs rest front behind : List ℕ) → bs ≡ 60 ∷ rest → bs ≡ front ++ behind → IsBlockOpenTag front
-    → (others : List ℕ) × (front ≡ 60 ∷ others) × (rest ≡ others ++ behind) × IsBehindOpening others
-open_tag bs rest front behind whole parts tag =
+open_tag : (bs rest front following : List ℕ) → bs ≡ 60 ∷ rest → bs ≡ front ++ following → IsBlockOpenTag front
+    → (others : List ℕ) × (front ≡ 60 ∷ others) × (rest ≡ others ++ following) × IsAfterOpening others
+open_tag bs rest front following whole parts tag =
     let others : List ℕ = tag.0.name ++ (concat tag.0.attributes ++ tag.0.ending) in
-    (others, tag.0.parts, behind_first 60 bs rest front others behind whole parts tag.0.parts, subst IsBlockOpenTag tag.0.parts tag)
+    (others, tag.0.parts, after_first 60 bs rest front others following whole parts tag.0.parts, subst IsBlockOpenTag tag.0.parts tag)
 
-closing_tag : (bs rest front behind : List ℕ) → bs ≡ 60 ∷ rest → bs ≡ front ++ behind → IsClosingTag front
-    → (others : List ℕ) × (front ≡ 60 ∷ 47 ∷ others) × (rest ≡ 47 ∷ (others ++ behind)) × IsBehindClosing others
-closing_tag bs rest front behind whole parts tag =
+closing_tag : (bs rest front following : List ℕ) → bs ≡ 60 ∷ rest → bs ≡ front ++ following → IsClosingTag front
+    → (others : List ℕ) × (front ≡ 60 ∷ 47 ∷ others) × (rest ≡ 47 ∷ (others ++ following)) × IsAfterClosing others
+closing_tag bs rest front following whole parts tag =
     let others : List ℕ = tag.name ++ (tag.blanks ++ 62 ∷ []) in
-    (others, tag.parts, behind_first 60 bs rest front (47 ∷ others) behind whole parts tag.parts, subst IsClosingTag tag.parts tag)
+    (others, tag.parts, after_first 60 bs rest front (47 ∷ others) following whole parts tag.parts, subst IsClosingTag tag.parts tag)
 
 -- an open tag, if no slash follows the first byte
-no_closing : (bs rest front behind : List ℕ) → bs ≡ 60 ∷ rest → begins 47 rest ≡ false → bs ≡ front ++ behind → IsClosingTag front → ⊥
-no_closing bs rest front behind whole plain parts tag =
-    let t = closing_tag bs rest front behind whole parts tag in
+no_closing : (bs rest front following : List ℕ) → bs ≡ 60 ∷ rest → begins 47 rest ≡ false → bs ≡ front ++ following → IsClosingTag front → ⊥
+no_closing bs rest front following whole plain parts tag =
+    let t = closing_tag bs rest front following whole parts tag in
     true≢false (ap (begins 47) (sym t.2) ∙ plain)
 
-pub open_found : (bs rest : List ℕ) (n : ℕ) → bs ≡ 60 ∷ rest → begins 47 rest ≡ false → IsOnlyFront IsBehindOpening rest n → IsOnlyFront IsBlockTag bs (n + 1)
+pub open_found : (bs rest : List ℕ) (n : ℕ) → bs ≡ 60 ∷ rest → begins 47 rest ≡ false → IsOnlyFront IsAfterOpening rest n → IsOnlyFront IsBlockTag bs (n + 1)
 open_found bs rest n whole plain o = record {
   within = let fits = o.within in omega (arith, ap length whole);
   is_text = inl (rw (whole, add-one) o.is_text);
-  only = λ front behind parts tag. elim tag [
-    | inl tag ↦ let t = open_tag bs rest front behind whole parts tag in ap length t.1 ∙ omega (arith, o.only t.0 behind t.2 t.3)
-    | inr tag ↦ absurd (no_closing bs rest front behind whole plain parts tag)
+  only = λ front following parts tag. elim tag [
+    | inl tag ↦ let t = open_tag bs rest front following whole parts tag in ap length t.1 ∙ omega (arith, o.only t.0 following t.2 t.3)
+    | inr tag ↦ absurd (no_closing bs rest front following whole plain parts tag)
   ];
 }
 
-pub open_none : (bs rest : List ℕ) → bs ≡ 60 ∷ rest → begins 47 rest ≡ false → HasNoFront IsBehindOpening rest → HasNoFront IsBlockTag bs
-open_none bs rest whole plain none front behind parts (inl tag) = let t = open_tag bs rest front behind whole parts tag in none t.0 behind t.2 t.3
-open_none bs rest whole plain none front behind parts (inr tag) = no_closing bs rest front behind whole plain parts tag
+pub open_none : (bs rest : List ℕ) → bs ≡ 60 ∷ rest → begins 47 rest ≡ false → HasNoFront IsAfterOpening rest → HasNoFront IsBlockTag bs
+open_none bs rest whole plain none front following parts (inl tag) = let t = open_tag bs rest front following whole parts tag in none t.0 following t.2 t.3
+open_none bs rest whole plain none front following parts (inr tag) = no_closing bs rest front following whole plain parts tag
 
 -- a closing tag, if a slash follows the first byte
-no_open : (bs rest front behind : List ℕ) → bs ≡ 60 ∷ 47 ∷ rest → bs ≡ front ++ behind → IsBlockOpenTag front → ⊥
-no_open bs rest front behind whole parts tag =
-    let t = open_tag bs (47 ∷ rest) front behind whole parts tag in
-    let r = opening_rest (47 ∷ rest) t.0 behind t.2 t.3 in
+no_open : (bs rest front following : List ℕ) → bs ≡ 60 ∷ 47 ∷ rest → bs ≡ front ++ following → IsBlockOpenTag front → ⊥
+no_open bs rest front following whole parts tag =
+    let t = open_tag bs (47 ∷ rest) front following whole parts tag in
+    let r = opening_rest (47 ∷ rest) t.0 following t.2 t.3 in
     name_no_slash r.name r.others rest r.is_name (sym r.parts)
 
-closing_behind : (bs rest front behind : List ℕ) → bs ≡ 60 ∷ 47 ∷ rest → bs ≡ front ++ behind → IsClosingTag front
-    → (others : List ℕ) × (front ≡ 60 ∷ 47 ∷ others) × (rest ≡ others ++ behind) × IsBehindClosing others
-closing_behind bs rest front behind whole parts tag =
-    let t = closing_tag bs (47 ∷ rest) front behind whole parts tag in
+closing_after : (bs rest front following : List ℕ) → bs ≡ 60 ∷ 47 ∷ rest → bs ≡ front ++ following → IsClosingTag front
+    → (others : List ℕ) × (front ≡ 60 ∷ 47 ∷ others) × (rest ≡ others ++ following) × IsAfterClosing others
+closing_after bs rest front following whole parts tag =
+    let t = closing_tag bs (47 ∷ rest) front following whole parts tag in
     (t.0, t.1, let e = t.2 in cc, t.3)
 
-pub close_found : (bs rest : List ℕ) (n : ℕ) → bs ≡ 60 ∷ 47 ∷ rest → IsOnlyFront IsBehindClosing rest n → IsOnlyFront IsBlockTag bs (n + 2)
+pub close_found : (bs rest : List ℕ) (n : ℕ) → bs ≡ 60 ∷ 47 ∷ rest → IsOnlyFront IsAfterClosing rest n → IsOnlyFront IsBlockTag bs (n + 2)
 close_found bs rest n whole o =
     let two : n + 2 ≡ suc (suc n) = omega arith in
     record {
       within = let fits = o.within in omega (arith, ap length whole);
       is_text = inr (rw (whole, two) o.is_text);
-      only = λ front behind parts tag. elim tag [
-        | inl tag ↦ absurd (no_open bs rest front behind whole parts tag)
-        | inr tag ↦ let t = closing_behind bs rest front behind whole parts tag in ap length t.1 ∙ omega (arith, o.only t.0 behind t.2 t.3)
+      only = λ front following parts tag. elim tag [
+        | inl tag ↦ absurd (no_open bs rest front following whole parts tag)
+        | inr tag ↦ let t = closing_after bs rest front following whole parts tag in ap length t.1 ∙ omega (arith, o.only t.0 following t.2 t.3)
       ];
     }
 
-pub close_none : (bs rest : List ℕ) → bs ≡ 60 ∷ 47 ∷ rest → HasNoFront IsBehindClosing rest → HasNoFront IsBlockTag bs
-close_none bs rest whole none front behind parts (inl tag) = no_open bs rest front behind whole parts tag
-close_none bs rest whole none front behind parts (inr tag) = let t = closing_behind bs rest front behind whole parts tag in none t.0 behind t.2 t.3
+pub close_none : (bs rest : List ℕ) → bs ≡ 60 ∷ 47 ∷ rest → HasNoFront IsAfterClosing rest → HasNoFront IsBlockTag bs
+close_none bs rest whole none front following parts (inl tag) = no_open bs rest front following whole parts tag
+close_none bs rest whole none front following parts (inr tag) = let t = closing_after bs rest front following whole parts tag in none t.0 following t.2 t.3
 
 -- no tag begins with another byte
 pub needs_bracket : (bs : List ℕ) → begins 60 bs ≡ false → HasNoFront IsBlockTag bs
-needs_bracket bs plain front behind parts (inl tag) = true≢false (ap (begins 60) (sym (parts ∙ ap (λ xs. xs ++ behind) tag.0.parts)) ∙ plain)
-needs_bracket bs plain front behind parts (inr tag) = true≢false (ap (begins 60) (sym (parts ∙ ap (λ xs. xs ++ behind) tag.parts)) ∙ plain)
+needs_bracket bs plain front following parts (inl tag) = true≢false (ap (begins 60) (sym (parts ∙ ap (λ xs. xs ++ following) tag.0.parts)) ∙ plain)
+needs_bracket bs plain front following parts (inr tag) = true≢false (ap (begins 60) (sym (parts ∙ ap (λ xs. xs ++ following) tag.parts)) ∙ plain)
 
 -- tags after which the rest of the line is blank
 pub tag_line_only : (bs : List ℕ) (n m : ℕ) → IsOnlyFront IsBlockTag bs n → BeginsTagLine bs m → m ≡ n

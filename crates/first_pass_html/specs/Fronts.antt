@@ -14,17 +14,17 @@ abbrev pub HasNoFront : (List ℕ → Type 0) → List ℕ → Type 0
 HasNoFront Accepts bs = (front rest : List ℕ) → bs ≡ front ++ rest → Accepts front → ⊥
 
 -- attributes and the end of an open tag, followed by the given bytes (CommonMark 6.6, open tag)
-pub record IsTagRest (bs : List ℕ) (behind : List ℕ) : Type 0 where
+pub record IsTagRest (bs : List ℕ) (following : List ℕ) : Type 0 where
   pub attributes : List (List ℕ)
   pub ending : List ℕ
-  pub parts : bs ≡ concat attributes ++ (ending ++ behind)
+  pub parts : bs ≡ concat attributes ++ (ending ++ following)
   pub are_attributes : AreAttributes attributes
   pub ends : IsOpenTagEnd ending
 
 -- the end of an open tag, followed by the given bytes (CommonMark 6.6, open tag)
-pub record IsEndBefore (bs : List ℕ) (behind : List ℕ) : Type 0 where
+pub record IsEndBefore (bs : List ℕ) (following : List ℕ) : Type 0 where
   pub ending : List ℕ
-  pub parts : bs ≡ ending ++ behind
+  pub parts : bs ≡ ending ++ following
   pub ends : IsOpenTagEnd ending
 
 -- the first n bytes are attributes; if the bytes begin with the rest of an open tag, only the end of that tag follows
@@ -33,4 +33,4 @@ pub record IsPastAttributes (bs : List ℕ) (n : ℕ) : Type 0 where
   pub attributes : List (List ℕ)
   pub parts : take n bs ≡ concat attributes
   pub are_attributes : AreAttributes attributes
-  pub all : (behind : List ℕ) → IsTagRest bs behind → IsEndBefore (drop n bs) behind
+  pub all : (following : List ℕ) → IsTagRest bs following → IsEndBefore (drop n bs) following

@@ -55,11 +55,11 @@ IsValue bs = (is_word is_unquoted is_unquoted bs ≡ true) ⊎ IsQuotedValue apo
 -- an attribute value specification: optional blanks, `=`, optional blanks, and a value (CommonMark 6.6)
 pub record IsValueSpecification (bs : List ℕ) : Type 0 where
   pub before : List ℕ
-  pub behind : List ℕ
+  pub following : List ℕ
   pub value : List ℕ
-  pub parts : bs ≡ before ++ equals_sign ∷ (behind ++ value)
+  pub parts : bs ≡ before ++ equals_sign ∷ (following ++ value)
   pub before_blank : list_all is_blank before ≡ true
-  pub behind_blank : list_all is_blank behind ≡ true
+  pub past_blank : list_all is_blank following ≡ true
   pub is_value : IsValue value
 
 -- an attribute: one or more blanks, a name, and an optional value specification (CommonMark 6.6)
@@ -109,12 +109,12 @@ abbrev pub IsBlockOpenTag : List ℕ → Type 0
 IsBlockOpenTag bs = (tag : IsOpenTag bs) × (is_raw_name tag.name ≡ false)
 
 -- an open tag of start condition 7, without its `<` (this project)
-abbrev pub IsBehindOpening : List ℕ → Type 0
-IsBehindOpening bs = IsBlockOpenTag (less_than ∷ bs)
+abbrev pub IsAfterOpening : List ℕ → Type 0
+IsAfterOpening bs = IsBlockOpenTag (less_than ∷ bs)
 
 -- a closing tag without its `</` (this project)
-abbrev pub IsBehindClosing : List ℕ → Type 0
-IsBehindClosing bs = IsClosingTag (less_than ∷ (solidus ∷ bs))
+abbrev pub IsAfterClosing : List ℕ → Type 0
+IsAfterClosing bs = IsClosingTag (less_than ∷ (solidus ∷ bs))
 
 -- a tag that can begin an HTML block of the seventh kind: an open tag as above, or a closing tag (CommonMark 4.6,
 -- start condition 7)

@@ -209,16 +209,16 @@ fn scan_attributes(bytes: &[u8]) -> usize
 
 // The length of an open tag after its `<`, if its name is not one of raw text.
 fn scan_open_tag(bytes: &[u8]) -> Option<usize>
-    ensures found { IfSome result (IsOnlyFront tags.IsBehindOpening bytes.now) }
-    ensures none { IfNone result (HasNoFront tags.IsBehindOpening bytes.now) }
+    ensures found { IfSome result (IsOnlyFront tags.IsAfterOpening bytes.now) }
+    ensures none { IfNone result (HasNoFront tags.IsAfterOpening bytes.now) }
 {
     let name = scan_tag_name(bytes)?;
     if is_raw_name(&bytes[..name]) {
         return None;
     }
-    let behind = rest_of(bytes, name);
-    let attributes = scan_attributes(behind);
-    let end = scan_open_end(rest_of(behind, attributes))?;
+    let following = rest_of(bytes, name);
+    let attributes = scan_attributes(following);
+    let end = scan_open_end(rest_of(following, attributes))?;
     Some(name + attributes + end)
 }
 
@@ -237,8 +237,8 @@ fn scan_closing_end(bytes: &[u8]) -> Option<usize>
 
 // The length of a closing tag after its `</`.
 fn scan_closing_tag(bytes: &[u8]) -> Option<usize>
-    ensures found { IfSome result (IsOnlyFront tags.IsBehindClosing bytes.now) }
-    ensures none { IfNone result (HasNoFront tags.IsBehindClosing bytes.now) }
+    ensures found { IfSome result (IsOnlyFront tags.IsAfterClosing bytes.now) }
+    ensures none { IfNone result (HasNoFront tags.IsAfterClosing bytes.now) }
 {
     let name = scan_tag_name(bytes)?;
     let end = scan_closing_end(rest_of(bytes, name))?;

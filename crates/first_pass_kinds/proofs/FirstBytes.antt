@@ -13,7 +13,7 @@ use Rattle.first_pass_lines.specs.Rest.{Rest, column_of_byte, next_column, after
 use Rattle.first_pass_lines.specs.Places.{line_rest}
 use Rattle.first_pass_lines.proofs.Columns.{after-none}
 use Rattle.first_pass_scan.specs.LeafLines.{setext_underline, hrule_len, code_fence}
-use Rattle.first_pass_scan.specs.Markers.{is_bullet, bullet_marker, list_marker, listitem, behind_marker, content_indent}
+use Rattle.first_pass_scan.specs.Markers.{is_bullet, bullet_marker, list_marker, listitem, after_marker, content_indent}
 use Rattle.first_pass_scan.proofs.PlainFacts.{plain_begins, plain_blank}
 use Rattle.first_pass_grammar.specs.declared.kind.Container.{Container}
 use Rattle.first_pass_grammar.specs.declared.kind.Container.TheVariants.{BlockQuote, ListItem, FootnoteDefinition, Definition}
@@ -146,33 +146,33 @@ blank_more : (n m : ℕ) (bs : List ℕ) → n ≡ suc m → option_map (λ k. m
     → option_map (λ k. n + k) (eol_len (drop n (32 ∷ bs))) ≡ None
 blank_more n m bs e h = rw e (blank_by (λ k. m + k) (λ k. suc m + k) (eol_len (drop m bs)) h)
 
-blank_behind : (bs : List ℕ) → begins_plain bs ≡ true → blank_len (32 ∷ bs) ≡ None
-blank_behind bs h = blank_more (1 + prefix_len is_white bs) (prefix_len is_white bs) bs (omega arith) (plain_blank bs h)
+blank_after : (bs : List ℕ) → begins_plain bs ≡ true → blank_len (32 ∷ bs) ≡ None
+blank_after bs h = blank_more (1 + prefix_len is_white bs) (prefix_len is_white bs) bs (omega arith) (plain_blank bs h)
 
 -- an item begins with a bullet and a space,
-behind_some : (n : ℕ) (r : Rest) → nat_le 1 (indent r) ≡ true → behind_marker n r ≡ Some (content_indent (n + 1) (after_columns 1 r))
-unfolding behind_marker
-behind_some n r h = rw h refl
+after_some : (n : ℕ) (r : Rest) → nat_le 1 (indent r) ≡ true → after_marker n r ≡ Some (content_indent (n + 1) (after_columns 1 r))
+unfolding after_marker
+after_some n r h = rw h refl
 
 abbrev bullet_by : Bool → ℕ → Option (ℕ × ℕ × ℕ)
 bullet_by t b = if t then Some (1, b, 0) else None
 
-abbrev behind_bullet : ℕ → List ℕ → Rest
-behind_bullet b bs = past_bytes 1 (line_rest (b ∷ 32 ∷ bs))
+abbrev after_bullet : ℕ → List ℕ → Rest
+after_bullet b bs = past_bytes 1 (line_rest (b ∷ 32 ∷ bs))
 
 has_space : (n : ℕ) → nat_le 1 (0 + (1 + n)) ≡ true
 has_space n = grind (arith, nat_tests)
 
 bullet_item : (b : ℕ) (bs : List ℕ) → is_bullet b ≡ true
-    → listitem (b ∷ 32 ∷ bs) ≡ Some (1, b, 0, (content_indent 2 (after_columns 1 (behind_bullet b bs))).0)
+    → listitem (b ∷ 32 ∷ bs) ≡ Some (1, b, 0, (content_indent 2 (after_columns 1 (after_bullet b bs))).0)
 unfolding listitem list_marker
 bullet_item b bs t =
-    rw t (ap (option_map (λ (content : ℕ × Rest). (1, b, 0, content.0))) (behind_some 1 (behind_bullet b bs) (has_space (columns_of bs 2))))
+    rw t (ap (option_map (λ (content : ℕ × Rest). (1, b, 0, content.0))) (after_some 1 (after_bullet b bs) (has_space (columns_of bs 2))))
 
 -- and with a plain byte after these it interrupts a paragraph
 item_by : (whole : Bool) (b : ℕ) (bs : List ℕ) → is_bullet b ≡ true → begins_plain bs ≡ true
     → item_interrupts whole (b ∷ 32 ∷ bs) (listitem (b ∷ 32 ∷ bs)) ≡ true
-item_by whole b bs t h = rw (bullet_item b bs t) (rw t (rw (blank_behind bs h) (or-true (not whole))))
+item_by whole b bs t h = rw (bullet_item b bs t) (rw t (rw (blank_after bs h) (or-true (not whole))))
 
 or_one : (a b c d : Bool) → b ≡ true → (a || b || c || d) ≡ true
 or_one true b c d h = refl

@@ -103,9 +103,9 @@ pub record FoundEarly (options : Options) (r : Rest) (m : Option ℕ) : Type 0 w
   pub metadata : metadata_at (indent r) options (all_taken r).left ≡ m
 
 -- the offset after the columns of a place
-pub behind_columns : (text : List ℕ) (start taken : ℕ) (r new : Rest) → IsUtf8 text → IsPlaceOf text (place_at start r) → new ≡ all_taken r → taken ≡ new.taken
+pub past_columns : (text : List ℕ) (start taken : ℕ) (r new : Rest) → IsUtf8 text → IsPlaceOf text (place_at start r) → new ≡ all_taken r → taken ≡ new.taken
     → (start + taken ≤ length text) × ((all_taken r).left ≡ drop (start + taken) text)
-behind_columns text start taken r new u i rest is =
+past_columns text start taken r new u i rest is =
     let j = all_keep text start r u i in
     let e : start + taken ≡ offset (place_at start (all_taken r)) = ap (λ n. start + n) (is ∙ ap (λ (q : Rest). q.taken) rest) in
     let w = j.within in
@@ -119,7 +119,7 @@ found_early text bytes start taken columns options r new m u i some is rest at f
     record {
       some = some;
       few = f.0;
-      metadata = ap (metadata_at (indent r) options) ((behind_columns text start taken r new u i rest at).1 ∙ ap (drop (start + taken)) (sym same))
+      metadata = ap (metadata_at (indent r) options) ((past_columns text start taken r new u i rest at).1 ∙ ap (drop (start + taken)) (sym same))
           ∙ ap (λ n. metadata_at n options (drop (start + taken) bytes)) (sym f.1) ∙ sym m_is;
     }
 

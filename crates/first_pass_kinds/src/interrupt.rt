@@ -289,7 +289,7 @@ pub fn scan_next_line(
 /// if the line would end a paragraph, and is read as any other. Fails only if an allocation fails, which can happen
 /// only if the line may head a table.
 #[tactic(auto, unfolding(first_pass_grammar::specs::Kinds::interrupts))]
-pub fn scan_line_behind_tag<'b>(
+pub fn scan_line_after_tag<'b>(
     source: &Source<'_>,
     bytes: &'b [u8],
     tree: &Tree<Item>,
@@ -395,7 +395,7 @@ pub fn scan_line_crossed<'a>(
     if scan_definition_end(source, tree, &front, in_label)? {
         return Ok(None);
     }
-    let mut behind = front.rest;
-    behind.scan_space_upto(4);
-    Ok(Some(behind))
+    let mut following = front.rest;
+    following.scan_space_upto(4);
+    Ok(Some(following))
 }

@@ -87,7 +87,7 @@ fn last_kind(bytes: &[u8]) -> Found
 }
 
 // The byte of the metadata block at the offset `at` into the text. A metadata block has no columns before it.
-fn metadata_behind(
+fn metadata_after(
     text: &[u8],
     at: usize,
     columns: usize,
@@ -139,7 +139,7 @@ pub fn kind_at<'a>(
     }
     let bytes = source.text.as_bytes();
     let at = place.line + place.rest.bytes_scanned();
-    if let Some(byte) = metadata_behind(bytes, at, columns, source.options, ends) {
+    if let Some(byte) = metadata_after(bytes, at, columns, source.options, ends) {
         return (Found::Marked(MarkedLeaf::Metadata(byte)), columns);
     }
     let left = place.rest.left();

@@ -10,7 +10,7 @@ use Rattle.std.proofs.lemmas.Bool.{eqb-true}
 use Rattle.std.proofs.lemmas.List.Elements.{All-nil, All-cons}
 use Rattle.std.proofs.lemmas.Bool.Decides.{nat_tests}
 use Rattle.first_pass_lines.specs.Lines.{begins, ends_line, is_white, is_content, eol_len, blank_len, line_len, IsLineEnd, IsLine}
-use Rattle.first_pass_lines.specs.Places.{Place, line_place, IsLinePlace, lines_behind, lines_at, line_of, IsDivision}
+use Rattle.first_pass_lines.specs.Places.{Place, line_place, IsLinePlace, lines_after, lines_at, line_of, IsDivision}
 
 -- the length of a line, by its first byte
 pub line_len-none : line_len [] ≡ 0
@@ -62,7 +62,7 @@ line_len-fits (b ∷ bs) =
 
 -- the first line, and the lines after it
 pub lines_at-none : (s : ℕ) → lines_at s [] ≡ []
-unfolding lines_at lines_behind
+unfolding lines_at lines_after
 lines_at-none s = refl
 
 shift : (s k b : ℕ) (bs : List ℕ) → lines_at ((s + 1) + k) (drop k bs) ≡ lines_at (s + (k + 1)) (drop (k + 1) (b ∷ bs))
@@ -71,23 +71,23 @@ shift s k b bs =
     let d : drop (k + 1) (b ∷ bs) ≡ drop k bs = rw add-one in
     cc
 
-behind_first : (b s n : ℕ) (bs : List ℕ) → n ≡ line_len (b ∷ bs) → lines_behind b (s + 1) bs ≡ lines_at (s + n) (drop n (b ∷ bs))
-unfolding lines_at lines_behind
-behind_first b s n [] h =
+after_first : (b s n : ℕ) (bs : List ℕ) → n ≡ line_len (b ∷ bs) → lines_after b (s + 1) bs ≡ lines_at (s + n) (drop n (b ∷ bs))
+unfolding lines_at lines_after
+after_first b s n [] h =
     let e : n ≡ 1 =
     h ∙ line_len-step b [] ∙ elim (ends_line b []) as (λ t. cond t 1 (line_len [] + 1) ≡ 1) [ true ↦ refl | false ↦ omega (arith, line_len-none) ] in
     rw e
-behind_first b s n (c ∷ cs) h =
+after_first b s n (c ∷ cs) h =
     (elim (ends_line b (c ∷ cs)) as (λ t. n ≡ cond t 1 (line_len (c ∷ cs) + 1)
-    → (let further = lines_behind c ((s + 1) + 1) cs in cond t (line_place (s + 1) (c ∷ cs) ∷ further) further) ≡ lines_at (s + n) (drop n (b ∷ c ∷ cs))) [
+    → (let further = lines_after c ((s + 1) + 1) cs in cond t (line_place (s + 1) (c ∷ cs) ∷ further) further) ≡ lines_at (s + n) (drop n (b ∷ c ∷ cs))) [
       | true ↦ λ e. rw e
       | false ↦ λ e.
-          behind_first c (s + 1) (line_len (c ∷ cs)) cs refl ∙ shift s (line_len (c ∷ cs)) b (c ∷ cs) ∙ ap (λ k. lines_at (s + k) (drop k (b ∷ c ∷ cs))) (sym e)
+          after_first c (s + 1) (line_len (c ∷ cs)) cs refl ∙ shift s (line_len (c ∷ cs)) b (c ∷ cs) ∙ ap (λ k. lines_at (s + k) (drop k (b ∷ c ∷ cs))) (sym e)
     ]) (h ∙ line_len-step b (c ∷ cs))
 
 pub lines_at-first : (s b : ℕ) (bs : List ℕ) → let n : ℕ = line_len (b ∷ bs) in lines_at s (b ∷ bs) ≡ line_place s (b ∷ bs) ∷ lines_at (s + n) (drop n (b ∷ bs))
-unfolding lines_at lines_behind
-lines_at-first s b bs = ap (λ lines. line_place s (b ∷ bs) ∷ lines) (behind_first b s (line_len (b ∷ bs)) bs refl)
+unfolding lines_at lines_after
+lines_at-first s b bs = ap (λ lines. line_place s (b ∷ bs) ∷ lines) (after_first b s (line_len (b ∷ bs)) bs refl)
 
 lines_at-some : (s : ℕ) (bs : List ℕ) → 0 < length bs → let n : ℕ = line_len bs in lines_at s bs ≡ line_place s bs ∷ lines_at (s + n) (drop n bs)
 lines_at-some s [] h = absurd (omega arith)
@@ -111,11 +111,11 @@ line_len-within text s h =
     (some, omega arith)
 
 -- a line, before further bytes, has the length of their first line
-line_len-end : (bs behind : List ℕ) → IsLineEnd bs behind → line_len (bs ++ behind) ≡ length bs
-line_len-end bs behind (inl h) = rw h (line_len-step 10 behind)
-line_len-end bs behind (inr (inl h)) = rw h (line_len-step 13 (10 ∷ behind) ∙ ap (λ k. k + 1) (line_len-step 10 behind))
-line_len-end bs behind (inr (inr (inl h))) = rw h.0 (line_len-step 13 behind ∙ rw h.1)
-line_len-end bs behind (inr (inr (inr h))) = rw (h.0, h.1) line_len-none
+line_len-end : (bs following : List ℕ) → IsLineEnd bs following → line_len (bs ++ following) ≡ length bs
+line_len-end bs following (inl h) = rw h (line_len-step 10 following)
+line_len-end bs following (inr (inl h)) = rw h (line_len-step 13 (10 ∷ following) ∙ ap (λ k. k + 1) (line_len-step 10 following))
+line_len-end bs following (inr (inr (inl h))) = rw h.0 (line_len-step 13 following ∙ rw h.1)
+line_len-end bs following (inr (inr (inr h))) = rw (h.0, h.1) line_len-none
 
 line_len-content : (content rest : List ℕ) → list_all is_content content ≡ true → line_len (content ++ rest) ≡ length content + line_len rest
 line_len-content [] rest h = omega arith
@@ -124,10 +124,10 @@ line_len-content (b ∷ bs) rest h =
     let e = line_len-content_first b (bs ++ rest) (grind (arith, h)) in
     omega arith
 
-line_len-line : (line behind : List ℕ) → IsLine line behind → line_len (line ++ behind) ≡ length line
-line_len-line line behind i =
-    let e = line_len-content i.content (i.ending ++ behind) i.plain in
-    let f = line_len-end i.ending behind i.ends in
+line_len-line : (line following : List ℕ) → IsLine line following → line_len (line ++ following) ≡ length line
+line_len-line line following i =
+    let e = line_len-content i.content (i.ending ++ following) i.plain in
+    let f = line_len-end i.ending following i.ends in
     rw i.parts (grind (arith, common_steps, e, f))
 
 -- the first line is a line before the bytes after it
@@ -169,8 +169,8 @@ front_of : (bs : List ℕ) → Front bs (line_len bs)
 front_of [] = rw line_len-none (record { content = []; ending = []; parts = refl; plain = refl; ends = inr (inr (inr (refl, refl))) })
 front_of (b ∷ bs) = rw (line_len-step b bs) (front_by (b == 10) (b == 13) (begins 10 bs) b bs refl refl refl (front_of bs))
 
-first_is_line : (bs behind : List ℕ) → 0 < length bs → behind ≡ drop (line_len bs) bs → IsLine (take (line_len bs) bs) behind
-first_is_line bs behind h e =
+first_is_line : (bs following : List ℕ) → 0 < length bs → following ≡ drop (line_len bs) bs → IsLine (take (line_len bs) bs) following
+first_is_line bs following h e =
     let f = front_of bs in
     let l : length (take (line_len bs) bs) ≡ line_len bs = length-take-le (line_len bs) bs (line_len-fits bs) in
     let n = line_len-some bs h in
@@ -219,15 +219,15 @@ one_division text (p ∷ ps) (q ∷ qs) c d =
     cc
 
 -- each place is a place of the text
-places_by : (text : List ℕ) (b s : ℕ) (bs : List ℕ) → drop s text ≡ bs → All (IsLinePlace text) (lines_behind b s bs)
-unfolding lines_behind
+places_by : (text : List ℕ) (b s : ℕ) (bs : List ℕ) → drop s text ≡ bs → All (IsLinePlace text) (lines_after b s bs)
+unfolding lines_after
 places_by text b s [] h = All-nil _
 places_by text b s (c ∷ cs) h =
     let next : drop (s + 1) text ≡ cs = sym (drop-drop 1 s text) ∙ ap (drop 1) h in
     let further = places_by text c (s + 1) cs next in
     let here : IsLinePlace text (line_place s (c ∷ cs)) = ap (line_place s) (sym h) in
     elim (ends_line b (c ∷ cs))
-    as (λ t. let further : List Place = lines_behind c (s + 1) cs in All (IsLinePlace text) (cond t (line_place s (c ∷ cs) ∷ further) further)) [
+    as (λ t. let further : List Place = lines_after c (s + 1) cs in All (IsLinePlace text) (cond t (line_place s (c ∷ cs) ∷ further) further)) [
       | true ↦ All-cons (IsLinePlace text) _ _ here further
       | false ↦ further
     ]

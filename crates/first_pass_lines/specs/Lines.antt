@@ -61,17 +61,17 @@ at_line_end bs = is_some (eol_len bs)
 -- a line ending before the bytes that follow it: `\n`, `\r\n`, a `\r` that no `\n` follows, or nothing at the end of
 -- the text (CommonMark 2.1)
 abbrev pub IsLineEnd : List ℕ → List ℕ → Type 0
-IsLineEnd bs behind =
+IsLineEnd bs following =
     (bs ≡ line_feed ∷ []) ⊎ (bs ≡ carriage_return ∷ line_feed ∷ [])
-    ⊎ ((bs ≡ carriage_return ∷ []) × (begins line_feed behind ≡ false)) ⊎ ((bs ≡ []) × (behind ≡ []))
+    ⊎ ((bs ≡ carriage_return ∷ []) × (begins line_feed following ≡ false)) ⊎ ((bs ≡ []) × (following ≡ []))
 
 -- a line before the bytes that follow it: bytes other than `\n` and `\r`, then a line ending (CommonMark 2.1, line)
-pub record IsLine (line : List ℕ) (behind : List ℕ) : Type 0 where
+pub record IsLine (line : List ℕ) (following : List ℕ) : Type 0 where
   pub content : List ℕ
   pub ending : List ℕ
   pub parts : line ≡ content ++ ending
   pub plain : list_all is_content content ≡ true
-  pub ends : IsLineEnd ending behind
+  pub ends : IsLineEnd ending following
   pub some : ¬ (line ≡ [])
 
 -- a number sign (CommonMark 4.2)

@@ -31,16 +31,16 @@ abbrev pub IsLinePlace : List ℕ → Place → Type 0
 IsLinePlace text p = p ≡ line_place p.line (drop p.line text)
 
 -- the lines that begin in these bytes, given their offset and the byte b before them (CommonMark 2.1, line)
-unfoldable pub lines_behind : ℕ → ℕ → List ℕ → List Place
-lines_behind b start [] = []
-lines_behind b start (c ∷ cs) =
-    let further = lines_behind c (start + 1) cs in
+unfoldable pub lines_after : ℕ → ℕ → List ℕ → List Place
+lines_after b start [] = []
+lines_after b start (c ∷ cs) =
+    let further = lines_after c (start + 1) cs in
     if ends_line b (c ∷ cs) then line_place start (c ∷ cs) ∷ further else further
 
 -- the lines of these bytes, given their offset (CommonMark 2.1, line)
 unfoldable pub lines_at : ℕ → List ℕ → List Place
 lines_at start [] = []
-lines_at start (b ∷ bs) = line_place start (b ∷ bs) ∷ lines_behind b (start + 1) bs
+lines_at start (b ∷ bs) = line_place start (b ∷ bs) ∷ lines_after b (start + 1) bs
 
 -- the start of the first of these lines in a text of n bytes; without lines, the end of the text (this project)
 abbrev pub start_of : ℕ → List Place → ℕ

@@ -14,11 +14,11 @@ use Rattle.std.proofs.lemmas.Option.{some_pair_parts, none-some}
 use Rattle.std.proofs.lemmas.Str.{encode_ascii, length-encode, IsCharBoundary-after_ascii}
 use Rattle.first_pass_lines.specs.Lines.{begins}
 use Rattle.first_pass_entities.specs.Entities.{entity_at}
-use Rattle.first_pass_links.specs.Escapes.{unescaped, unescaped_behind, replaced_at, begins_escape, without_pipe_escapes}
+use Rattle.first_pass_links.specs.Escapes.{unescaped, unescaped_after, replaced_at, begins_escape, without_pipe_escapes}
 use Rattle.first_pass_links.specs.Changes.{change_at, begins_pipe_escape, IsChange}
 use Rattle.first_pass_links.specs.Plain.{is_unmarked}
 use Rattle.first_pass_entities.proofs.EntityFacts.{is_plain, entity_is_reference}
-use Rattle.first_pass_links.proofs.PipeEscapes.{cell-nil, cell-other, cell-kept, cell-dropped, pipe_behind, drop-without_pipe_escapes, entity_at-cell}
+use Rattle.first_pass_links.proofs.PipeEscapes.{cell-nil, cell-other, cell-kept, cell-dropped, pipe_after, drop-without_pipe_escapes, entity_at-cell}
 
 -- the bytes of a text from one offset up to another are kept
 pub record IsKept (in_table : Bool) (text : List ℕ) (from at : ℕ) : Type 0 where
@@ -38,28 +38,28 @@ begins_is k [] h = cc
 begins_is k (b ∷ bs) h = ap (λ x. x ∷ bs) (eqb-true b k h)
 
 -- the rule, step by step
-skipped : (n : ℕ) (bs : List ℕ) → unescaped_behind n bs ≡ unescaped_behind 0 (drop n bs)
-unfolding unescaped_behind
+skipped : (n : ℕ) (bs : List ℕ) → unescaped_after n bs ≡ unescaped_after 0 (drop n bs)
+unfolding unescaped_after
 skipped zero bs = refl
 skipped (suc n) [] = refl
 skipped (suc n) (b ∷ bs) = skipped n bs
 
-behind_plain : (b : ℕ) (bs : List ℕ) → replaced_at (b ∷ bs) ≡ None → unescaped_behind 0 (b ∷ bs) ≡ b ∷ unescaped_behind 0 bs
-unfolding unescaped_behind
-behind_plain b bs h = rw h
+after_plain : (b : ℕ) (bs : List ℕ) → replaced_at (b ∷ bs) ≡ None → unescaped_after 0 (b ∷ bs) ≡ b ∷ unescaped_after 0 bs
+unfolding unescaped_after
+after_plain b bs h = rw h
 
-behind_changed : (b n c : ℕ) (bs : List ℕ)
-    → replaced_at (b ∷ bs) ≡ Some (suc n, c) → unescaped_behind 0 (b ∷ bs) ≡ encode_utf8 c ++ unescaped_behind 0 (drop n bs)
-unfolding unescaped_behind
-behind_changed b n c bs h =
+after_changed : (b n c : ℕ) (bs : List ℕ)
+    → replaced_at (b ∷ bs) ≡ Some (suc n, c) → unescaped_after 0 (b ∷ bs) ≡ encode_utf8 c ++ unescaped_after 0 (drop n bs)
+unfolding unescaped_after
+after_changed b n c bs h =
     let e : suc n - 1 ≡ n = omega arith in
-    rw h (ap (λ k. encode_utf8 c ++ unescaped_behind k bs) e ∙ ap (λ xs. encode_utf8 c ++ xs) (skipped n bs))
+    rw h (ap (λ k. encode_utf8 c ++ unescaped_after k bs) e ∙ ap (λ xs. encode_utf8 c ++ xs) (skipped n bs))
 
 changed_at : (n c : ℕ) (bs : List ℕ)
-    → 0 < length bs → 0 < n → replaced_at bs ≡ Some (n, c) → unescaped_behind 0 bs ≡ encode_utf8 c ++ unescaped_behind 0 (drop n bs)
+    → 0 < length bs → 0 < n → replaced_at bs ≡ Some (n, c) → unescaped_after 0 bs ≡ encode_utf8 c ++ unescaped_after 0 (drop n bs)
 changed_at n c [] l s h = absurd (omega arith)
 changed_at zero c (b ∷ bs) l s h = absurd (omega arith)
-changed_at (suc n) c (b ∷ bs) l s h = behind_changed b n c bs h
+changed_at (suc n) c (b ∷ bs) l s h = after_changed b n c bs h
 
 -- a byte that is neither a backslash nor `&`, and a pipe
 no_entity : (b : ℕ) (bs : List ℕ) → (b == 38) ≡ false → entity_at (b ∷ bs) ≡ None
@@ -87,20 +87,20 @@ entity_replaced bs h = rw h
 cell_pipe_escape : (bs : List ℕ) → unescaped true (92 ∷ 92 ∷ 124 ∷ bs) ≡ 124 ∷ unescaped true bs
 cell_pipe_escape bs =
     let e : without_pipe_escapes (92 ∷ 92 ∷ 124 ∷ bs) ≡ 92 ∷ 124 ∷ without_pipe_escapes bs =
-    cell-kept 92 (92 ∷ 124 ∷ bs) refl ∙ ap (λ xs. 92 ∷ xs) (cell-dropped 92 (124 ∷ bs) refl refl ∙ pipe_behind (124 ∷ bs) refl)
+    cell-kept 92 (92 ∷ 124 ∷ bs) refl ∙ ap (λ xs. 92 ∷ xs) (cell-dropped 92 (124 ∷ bs) refl refl ∙ pipe_after (124 ∷ bs) refl)
     in
-    ap (unescaped_behind 0) e ∙ behind_changed 92 1 124 (124 ∷ without_pipe_escapes bs) (escape_at 124 (without_pipe_escapes bs) refl)
+    ap (unescaped_after 0) e ∙ after_changed 92 1 124 (124 ∷ without_pipe_escapes bs) (escape_at 124 (without_pipe_escapes bs) refl)
     ∙ ap (λ xs. xs ++ unescaped true bs) (encode_ascii 124 (omega arith))
 
 cell_pipe : (bs : List ℕ) → unescaped true (92 ∷ 124 ∷ bs) ≡ 124 ∷ unescaped true bs
 cell_pipe bs =
-    ap (unescaped_behind 0) (cell-dropped 92 (124 ∷ bs) refl refl ∙ pipe_behind (124 ∷ bs) refl)
-    ∙ behind_plain 124 (without_pipe_escapes bs) (no_replacement 124 (without_pipe_escapes bs) refl refl)
+    ap (unescaped_after 0) (cell-dropped 92 (124 ∷ bs) refl refl ∙ pipe_after (124 ∷ bs) refl)
+    ∙ after_plain 124 (without_pipe_escapes bs) (no_replacement 124 (without_pipe_escapes bs) refl refl)
 
 cell_escape_by : (p : ℕ) (bs : List ℕ) → is_ascii_punctuation p ≡ true → p < 128 → without_pipe_escapes (92 ∷ p ∷ bs) ≡ 92 ∷ p ∷ without_pipe_escapes bs
     → unescaped true (92 ∷ p ∷ bs) ≡ p ∷ unescaped true bs
 cell_escape_by p bs h l e =
-    ap (unescaped_behind 0) e ∙ behind_changed 92 1 p (p ∷ without_pipe_escapes bs) (escape_at p (without_pipe_escapes bs) h)
+    ap (unescaped_after 0) e ∙ after_changed 92 1 p (p ∷ without_pipe_escapes bs) (escape_at p (without_pipe_escapes bs) h)
     ∙ ap (λ xs. xs ++ unescaped true bs) (encode_ascii p l)
 
 cell_escape : (t u : Bool) (p : ℕ) (bs : List ℕ) → (p == 124) ≡ t → (p == 92) ≡ u → is_ascii_punctuation p ≡ true → p < 128 → (p == 92) && begins 124 bs ≡ false
@@ -144,7 +144,7 @@ escaped false p bs h k =
     let z = ap length (encode_ascii p l) in
     record {
       shorter = record { some = omega arith; within = omega arith; shorter = omega arith; first = omega arith; last = l };
-      changed = behind_changed 92 1 p (p ∷ bs) (escape_at p bs h);
+      changed = after_changed 92 1 p (p ∷ bs) (escape_at p bs h);
     }
 
 escape_parts : (bs : List ℕ) → begins_escape bs ≡ true → bs ≡ 92 ∷ slice_index bs 1 ∷ drop 2 bs
@@ -218,7 +218,7 @@ cell_entity (b ∷ bs) n c h q =
     in
     let l = ap length e in
     changed_at n c (without_pipe_escapes (b ∷ bs)) (omega arith) some z
-    ∙ ap (λ xs. encode_utf8 c ++ unescaped_behind 0 xs) (drop-without_pipe_escapes n (b ∷ bs) plain)
+    ∙ ap (λ xs. encode_utf8 c ++ unescaped_after 0 xs) (drop-without_pipe_escapes n (b ∷ bs) plain)
 
 entity_changes : (t : Bool) (bs : List ℕ) (n c : ℕ) → begins_escape bs ≡ false → entity_at bs ≡ Some (n, c) → Changes t bs n c
 entity_changes true bs n c q h = record { shorter = entity_shorter bs n c h; changed = cell_entity bs n c h q }
@@ -262,7 +262,7 @@ cell_plain false b bs h q e =
     let z : replaced_at (b ∷ without_pipe_escapes bs) ≡ None =
     entity_replaced (b ∷ without_pipe_escapes bs) k ∙ ap entity_at (sym w) ∙ entity_at-cell (b ∷ bs) ∙ e
     in
-    ap (unescaped_behind 0) w ∙ behind_plain b (without_pipe_escapes bs) z
+    ap (unescaped_after 0) w ∙ after_plain b (without_pipe_escapes bs) z
 cell_plain true b bs h q e =
     let i : is_ascii_punctuation (slice_index bs 0) ≡ false = rw h at q in
     let s = second_kept bs i in
@@ -271,7 +271,7 @@ cell_plain true b bs h q e =
     let z : replaced_at (b ∷ without_pipe_escapes bs) ≡ None =
     entity_replaced (b ∷ without_pipe_escapes bs) k ∙ no_entity b (without_pipe_escapes bs) (rw (eqb-true b 92 h))
     in
-    ap (unescaped_behind 0) w ∙ behind_plain b (without_pipe_escapes bs) z
+    ap (unescaped_after 0) w ∙ after_plain b (without_pipe_escapes bs) z
 
 plain_byte_by : (t u v : Bool) (b : ℕ) (bs : List ℕ)
     → (t && begins_pipe_escape (b ∷ bs)) ≡ u → begins_escape (b ∷ bs) ≡ v → change_at t (b ∷ bs) ≡ None → unescaped t (b ∷ bs) ≡ b ∷ unescaped t bs
@@ -279,13 +279,13 @@ unfolding change_at replaced_at
 plain_byte_by t true v b bs h h' e = let z : Some (3, 124) ≡ None = rw h at e in absurd (none-some (3, 124) (sym z))
 plain_byte_by t false true b bs h h' e = let z : Some (2, slice_index bs 0) ≡ None = rw (h, h') at e in absurd (none-some (2, slice_index bs 0) (sym z))
 plain_byte_by true false false b bs h h' e = cell_plain _ b bs refl h' (rw (h, h') at e)
-plain_byte_by false false false b bs h h' e = behind_plain b bs (entity_replaced (b ∷ bs) h' ∙ (rw h' at e))
+plain_byte_by false false false b bs h h' e = after_plain b bs (entity_replaced (b ∷ bs) h' ∙ (rw h' at e))
 
 pub plain_byte : (t : Bool) (b : ℕ) (bs : List ℕ) → change_at t (b ∷ bs) ≡ None → unescaped t (b ∷ bs) ≡ b ∷ unescaped t bs
 plain_byte t b bs e = plain_byte_by t _ _ b bs refl refl e
 
 pub unescaped-nil : (t : Bool) → unescaped t [] ≡ []
-unfolding unescaped_behind without_pipe_escapes
+unfolding unescaped_after without_pipe_escapes
 unescaped-nil true = refl
 unescaped-nil false = refl
 

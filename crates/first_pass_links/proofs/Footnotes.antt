@@ -9,25 +9,25 @@ use Rattle.first_pass_items.specs.declared.cow_str.CowStr.{CowStr}
 use Rattle.first_pass_items.specs.CowText.{text_of}
 use Rattle.first_pass_lines.specs.Lines.{begins}
 use Rattle.first_pass_links.specs.Labels.{label_at}
-use Rattle.first_pass_links.specs.Footnotes.{begins_footnote, head_behind, footnote_head}
+use Rattle.first_pass_links.specs.Footnotes.{begins_footnote, head_after, footnote_head}
 use Rattle.first_pass_links.proofs.Destinations.{first_byte}
-use Rattle.first_pass_links.proofs.Labels.{place_behind}
+use Rattle.first_pass_links.proofs.Labels.{place_past}
 
 second_by : (t u : Bool) → (t && u) ≡ true → u ≡ true
 second_by true u h = h
 second_by false u h = cc
 
 -- a character begins after `[^`
-pub behind_mark : (text : List ℕ) → IsUtf8 text → begins_footnote text ≡ true → IsCharBoundary text 2
-behind_mark text u h =
+pub after_mark : (text : List ℕ) → IsUtf8 text → begins_footnote text ≡ true → IsCharBoundary text 2
+after_mark text u h =
     let there = first_byte 94 text 1 (second_by (begins 91 text) (begins 94 (drop 1 text)) h) in
     IsCharBoundary-after_ascii text 1 u there.0 (omega (arith, there.1))
 
 -- so does one at a place further on
-pub further : (text behind xs : List ℕ) (at : ℕ) → IsCharBoundary text 2 → xs ≡ drop 2 text → IsCharBoundary xs at → behind ≡ drop at xs
-    → IsCharBoundary text (2 + at) × (behind ≡ drop (2 + at) text)
-further text behind xs at m is b e =
-    (place_behind text 2 at m.0 (subst (λ ys. IsCharBoundary ys at) is b), e ∙ ap (drop at) is ∙ drop-drop at 2 text)
+pub further : (text following xs : List ℕ) (at : ℕ) → IsCharBoundary text 2 → xs ≡ drop 2 text → IsCharBoundary xs at → following ≡ drop at xs
+    → IsCharBoundary text (2 + at) × (following ≡ drop (2 + at) text)
+further text following xs at m is b e =
+    (place_past text 2 at m.0 (subst (λ ys. IsCharBoundary ys at) is b), e ∙ ap (drop at) is ∙ drop-drop at 2 text)
 
 -- the result for a label or a head, with its length in bytes
 abbrev pub IsAnswer : Option (ℕ × List ℕ) → Option (ℕ × CowStr) → Type 0
@@ -36,25 +36,25 @@ IsAnswer o answer = MatchOption o (answer ≡ None) (λ label. IsSomeAnd answer 
 -- no head without `[^`
 pub no_mark : (prefix : List ℕ → Option ℕ) (t : Bool) (text : List ℕ) → begins_footnote text ≡ false → footnote_head prefix t text ≡ None
 unfolding footnote_head
-no_mark prefix t text h = ap (λ (b : Bool). if b then option_and_then (head_behind (drop 2 text)) (label_at prefix t (drop 2 text)) else None) h
+no_mark prefix t text h = ap (λ (b : Bool). if b then option_and_then (head_after (drop 2 text)) (label_at prefix t (drop 2 text)) else None) h
 
 label_missing : (o : Option (ℕ × List ℕ)) → IsAnswer o None → o ≡ None
 label_missing None h = refl
 label_missing (Some l) h = absurd h
 
 pub head_of : (prefix : List ℕ → Option ℕ) (t : Bool) (text : List ℕ) → begins_footnote text ≡ true
-    → footnote_head prefix t text ≡ option_and_then (head_behind (drop 2 text)) (label_at prefix t (drop 2 text))
+    → footnote_head prefix t text ≡ option_and_then (head_after (drop 2 text)) (label_at prefix t (drop 2 text))
 unfolding footnote_head
-head_of prefix t text h = ap (λ (b : Bool). if b then option_and_then (head_behind (drop 2 text)) (label_at prefix t (drop 2 text)) else None) h
+head_of prefix t text h = ap (λ (b : Bool). if b then option_and_then (head_after (drop 2 text)) (label_at prefix t (drop 2 text)) else None) h
 
 -- no head without a label
 pub no_label : (prefix : List ℕ → Option ℕ) (t : Bool) (text : List ℕ) → begins_footnote text ≡ true → IsAnswer (label_at prefix t (drop 2 text)) None
     → footnote_head prefix t text ≡ None
 no_label prefix t text h k =
-    head_of prefix t text h ∙ ap (option_and_then (head_behind (drop 2 text))) (label_missing (label_at prefix t (drop 2 text)) k)
+    head_of prefix t text h ∙ ap (option_and_then (head_after (drop 2 text))) (label_missing (label_at prefix t (drop 2 text)) k)
 
 colon_by : (t : Bool) (bs : List ℕ) (o : Option (ℕ × List ℕ)) (n : ℕ) (label : CowStr) → IsAnswer o (Some (n, label)) → begins 58 (drop n bs) ≡ t
-    → IsAnswer (option_and_then (head_behind bs) o) (if t then Some (n + 3, label) else None)
+    → IsAnswer (option_and_then (head_after bs) o) (if t then Some (n + 3, label) else None)
 colon_by t bs None n label k h = cc
 colon_by true bs (Some l) n label k h =
     let e : begins 58 (drop l.0 bs) ≡ true = ap (λ m. begins 58 (drop m bs)) (sym k.0) ∙ h in
@@ -72,8 +72,8 @@ head_by u prefix t text n label h k c =
     (colon_by u (drop 2 text) (label_at prefix t (drop 2 text)) n label k e)
 
 -- a character begins after the colon
-pub behind_colon : (text : List ℕ) (n : ℕ) → IsUtf8 text → begins 58 (drop (n + 2) text) ≡ true → IsCharBoundary text (n + 3)
-behind_colon text n u h =
+pub after_colon : (text : List ℕ) (n : ℕ) → IsUtf8 text → begins 58 (drop (n + 2) text) ≡ true → IsCharBoundary text (n + 3)
+after_colon text n u h =
     let there = first_byte 58 text (n + 2) h in
     let e : n + 2 + 1 ≡ n + 3 = omega arith in
     subst (IsCharBoundary text) e (IsCharBoundary-after_ascii text (n + 2) u there.0 (omega (arith, there.1)))

@@ -18,16 +18,16 @@ use Rattle.first_pass_links.specs.Changes.{begins_pipe_escape}
 use Rattle.first_pass_links.specs.Labels.{is_bracket, begins_character, joined, bytes_of, offsets_of, label_len, single_spaced, shown, label_at}
 use Rattle.first_pass_links.specs.Units.{part, read_of, left_at, kept_unit, space_unit, dropped_unit, backslash_unit, IsUnit, Reads, IsWhiteRun, IsBlankRest}
 use Rattle.first_pass_links.specs.Units.{EndsWhiteRun, weight}
-use Rattle.first_pass_links.proofs.PipeEscapes.{cell-nil, cell-other, cell-kept, cell-dropped, pipe_behind}
+use Rattle.first_pass_links.proofs.PipeEscapes.{cell-nil, cell-other, cell-kept, cell-dropped, pipe_after}
 use Rattle.first_pass_links.proofs.Destinations.{upto-nil, upto-stop, upto-byte, upto-escape, first_byte}
 use Rattle.first_pass_links.proofs.Parts.{part-none, part-one, part-two, weight-length, weight-nil, weight-space, weight-other}
 
 -- the joined text of a label, byte by byte
-pub joined_behind : (h : List ℕ → Option ℕ) (at n : ℕ) (bs : List ℕ) → joined h at n bs ≡ joined h (at + n) 0 (drop n bs)
+pub joined_after : (h : List ℕ → Option ℕ) (at n : ℕ) (bs : List ℕ) → joined h at n bs ≡ joined h (at + n) 0 (drop n bs)
 unfolding joined
-joined_behind h at zero bs = let e : at + zero ≡ at = omega arith in rw e
-joined_behind h at (suc n) [] = refl
-joined_behind h at (suc n) (b ∷ bs) = let e : at + suc n ≡ at + 1 + n = omega arith in rw e (joined_behind h (at + 1) n bs)
+joined_after h at zero bs = let e : at + zero ≡ at = omega arith in rw e
+joined_after h at (suc n) [] = refl
+joined_after h at (suc n) (b ∷ bs) = let e : at + suc n ≡ at + 1 + n = omega arith in rw e (joined_after h (at + 1) n bs)
 
 pub joined-byte : (h : List ℕ → Option ℕ) (at b : ℕ) (bs : List ℕ) → ends_line b bs ≡ false → joined h at 0 (b ∷ bs) ≡ (at, b) ∷ joined h (at + 1) 0 bs
 unfolding joined
@@ -57,7 +57,7 @@ pub left-end : (h : List ℕ → Option ℕ) (text : List ℕ) (at n : ℕ) → 
     → h (drop (at + 1) text) ≡ Some n → left_at h text at ≡ (at, get_or text at 0) ∷ left_at h text (at + 1 + n)
 left-end h text at n l e f =
     ap (joined h at 0) (drop_more text at 0 l) ∙ joined-end h at (get_or text at 0) n (drop (at + 1) text) e f
-    ∙ ap (λ cs. (at, get_or text at 0) ∷ cs) (joined_behind h (at + 1) n (drop (at + 1) text) ∙ ap (joined h (at + 1 + n) 0) (drop-drop n (at + 1) text))
+    ∙ ap (λ cs. (at, get_or text at 0) ∷ cs) (joined_after h (at + 1) n (drop (at + 1) text) ∙ ap (joined h (at + 1 + n) 0) (drop-drop n (at + 1) text))
 
 pub left-stop : (h : List ℕ → Option ℕ) (text : List ℕ) (at : ℕ)
     → at < length text → ends_line (get_or text at 0) (drop (at + 1) text) ≡ true → h (drop (at + 1) text) ≡ None → left_at h text at ≡ []
@@ -136,21 +136,21 @@ abbrev pub known_as : ℕ → Bool → List ℕ → Known
 known_as characters solid bytes = record { characters = characters; solid = solid; bytes = bytes }
 
 -- in this state, the label with these further bytes is a label
-abbrev is_label_behind : Known → List ℕ → Bool
-is_label_behind known bs = nat_le (known.characters + count_by begins_character bs) 999 && (known.solid || list_any is_solid bs)
+abbrev is_label_after : Known → List ℕ → Bool
+is_label_after known bs = nat_le (known.characters + count_by begins_character bs) 999 && (known.solid || list_any is_solid bs)
 
 -- the label that these bytes, each with its offset, end
-pub label_behind : Bool → Known → List (ℕ × ℕ) → Option (ℕ × List ℕ)
-label_behind in_table known cs =
+pub label_after : Bool → Known → List (ℕ × ℕ) → Option (ℕ × List ℕ)
+label_after in_table known cs =
     let bs = bytes_of cs in
     let n = label_len bs in
-    if begins 93 (drop n bs) && is_label_behind known (take n bs)
+    if begins 93 (drop n bs) && is_label_after known (take n bs)
     then Some (slice_index (offsets_of cs) n + 1, known.bytes ++ shown in_table (take n bs))
     else None
 
 -- before anything is read, it is the label of the text
-pub nothing_known : (t : Bool) (h : List ℕ → Option ℕ) (text : List ℕ) → label_behind t (known_as 0 false []) (left_at h text 0) ≡ label_at h t text
-unfolding label_behind label_at
+pub nothing_known : (t : Bool) (h : List ℕ → Option ℕ) (text : List ℕ) → label_after t (known_as 0 false []) (left_at h text 0) ≡ label_at h t text
+unfolding label_after label_at
 nothing_known t h text =
     let bs = bytes_of (joined h 0 0 text) in
     let e : 0 + count_by begins_character (take (label_len bs) bs) ≡ count_by begins_character (take (label_len bs) bs) = omega arith in
@@ -163,7 +163,7 @@ known_more known bs w = record {
   bytes = known.bytes ++ w;
 }
 
-is_label-append : (known : Known) (u s w : List ℕ) → is_label_behind known (u ++ s) ≡ is_label_behind (known_more known u w) s
+is_label-append : (known : Known) (u s w : List ℕ) → is_label_after known (u ++ s) ≡ is_label_after (known_more known u w) s
 is_label-append known u s w =
     let a : known.characters + count_by begins_character (u ++ s) ≡ known.characters + count_by begins_character u + count_by begins_character s =
     omega (arith, count_append begins_character u s) in
@@ -178,9 +178,9 @@ found n bs = (n, bs)
 label_by : (t : Bool) (known : Known) (us cs : List (ℕ × ℕ)) (w : List ℕ) (n m : ℕ)
     → n ≡ length us + m
     → shown t (bytes_of us ++ take m (bytes_of cs)) ≡ w ++ shown t (take m (bytes_of cs))
-    → (if begins 93 (drop n (bytes_of (us ++ cs))) && is_label_behind known (take n (bytes_of (us ++ cs)))
+    → (if begins 93 (drop n (bytes_of (us ++ cs))) && is_label_after known (take n (bytes_of (us ++ cs)))
     then Some (found (slice_index (offsets_of (us ++ cs)) n + 1) (known.bytes ++ shown t (take n (bytes_of (us ++ cs))))) else None)
-    ≡ (if begins 93 (drop m (bytes_of cs)) && is_label_behind (known_more known (bytes_of us) w) (take m (bytes_of cs))
+    ≡ (if begins 93 (drop m (bytes_of cs)) && is_label_after (known_more known (bytes_of us) w) (take m (bytes_of cs))
     then Some (found (slice_index (offsets_of cs) m + 1) ((known.bytes ++ w) ++ shown t (take m (bytes_of cs)))) else None)
 label_by t known us cs w n m e s =
     let bytes = map-append (λ (c : ℕ × ℕ). c.1) us cs in
@@ -191,8 +191,8 @@ label_by t known us cs w n m e s =
     let f : take n (bytes_of (us ++ cs)) ≡ bytes_of us ++ take m (bytes_of cs) = ap (take n) bytes ∙ take_past (bytes_of us) (bytes_of cs) n m (omega arith) in
     let i : slice_index (offsets_of (us ++ cs)) n ≡ slice_index (offsets_of cs) m =
     ap (λ xs. slice_index xs n) offsets ∙ index_past (offsets_of us) (offsets_of cs) n m (omega arith) in
-    let test : is_label_behind known (take n (bytes_of (us ++ cs))) ≡ is_label_behind (known_more known (bytes_of us) w) (take m (bytes_of cs)) =
-    ap (is_label_behind known) f ∙ is_label-append known (bytes_of us) (take m (bytes_of cs)) w in
+    let test : is_label_after known (take n (bytes_of (us ++ cs))) ≡ is_label_after (known_more known (bytes_of us) w) (take m (bytes_of cs)) =
+    ap (is_label_after known) f ∙ is_label-append known (bytes_of us) (take m (bytes_of cs)) w in
     let text : known.bytes ++ shown t (take n (bytes_of (us ++ cs))) ≡ (known.bytes ++ w) ++ shown t (take m (bytes_of cs)) =
     ap (λ xs. known.bytes ++ xs) (ap (shown t) f ∙ s) ∙ sym (append_assoc known.bytes w (shown t (take m (bytes_of cs))))
     in
@@ -201,8 +201,8 @@ label_by t known us cs w n m e s =
 pub label_unit : (t : Bool) (known : Known) (us cs : List (ℕ × ℕ)) (w : List ℕ)
     → label_len (bytes_of us ++ bytes_of cs) ≡ length us + label_len (bytes_of cs)
     → ((n : ℕ) → shown t (bytes_of us ++ take n (bytes_of cs)) ≡ w ++ shown t (take n (bytes_of cs)))
-    → label_behind t known (us ++ cs) ≡ label_behind t (known_more known (bytes_of us) w) cs
-unfolding label_behind
+    → label_after t known (us ++ cs) ≡ label_after t (known_more known (bytes_of us) w) cs
+unfolding label_after
 label_unit t known us cs w e s =
     label_by t known us cs w (label_len (bytes_of (us ++ cs))) (label_len (bytes_of cs)) (ap label_len (map-append (λ (c : ℕ × ℕ). c.1) us cs) ∙ e)
     (s (label_len (bytes_of cs)))
@@ -269,7 +269,7 @@ cell-run (b ∷ u) bs h =
 cell_first_by : (t : Bool) (b : ℕ) (bs : List ℕ)
     → (b == 92) ≡ t → (u : Bool) → begins 124 bs ≡ u → is_ascii_white b ≡ false → is_ascii_white (slice_index (without_pipe_escapes (b ∷ bs)) 0) ≡ false
 cell_first_by false b bs h u k e = ap (λ xs. is_ascii_white (slice_index xs 0)) (cell-other b bs h) ∙ e
-cell_first_by true b bs h true k e = ap (λ xs. is_ascii_white (slice_index xs 0)) (cell-dropped b bs h k ∙ pipe_behind bs k)
+cell_first_by true b bs h true k e = ap (λ xs. is_ascii_white (slice_index xs 0)) (cell-dropped b bs h k ∙ pipe_after bs k)
 cell_first_by true b bs h false k e = ap (λ xs. is_ascii_white (slice_index xs 0)) (cell-kept b bs k) ∙ e
 
 cell_first : (bs : List ℕ) → is_ascii_white (slice_index bs 0) ≡ false → is_ascii_white (slice_index (without_pipe_escapes bs) 0) ≡ false
@@ -315,16 +315,16 @@ unit_reads h t text at unit us joins count something passed changes reads =
     record { run = us; joins = joins; count = count; something = something; passed = passed; changes = changes; reads = reads }
 
 -- the state after a unit
-abbrev pub known_behind : List ℕ → ℕ → Unit → Known → Known
-known_behind text at unit known =
+abbrev pub known_after : List ℕ → ℕ → Unit → Known → Known
+known_after text at unit known =
     record { characters = known.characters + unit.characters; solid = known.solid || unit.solid; bytes = known.bytes ++ read_of text at unit }
 
 pub unit_known : (h : List ℕ → Option ℕ) (t : Bool) (text : List ℕ) (at : ℕ) (unit : Unit) (known : Known) → Reads h t text at unit
-    → label_behind t known (left_at h text at) ≡ label_behind t (known_behind text at unit known) (left_at h text unit.next)
+    → label_after t known (left_at h text at) ≡ label_after t (known_after text at unit known) (left_at h text unit.next)
 unit_known h t text at unit known r =
-    let k : known_more known (bytes_of r.run) (read_of text at unit) ≡ known_behind text at unit known = rw (r.count, r.something) in
-    ap (label_behind t known) r.joins ∙ label_unit t known r.run (left_at h text unit.next) (read_of text at unit) r.passed r.reads
-    ∙ ap (λ x. label_behind t x (left_at h text unit.next)) k
+    let k : known_more known (bytes_of r.run) (read_of text at unit) ≡ known_after text at unit known = rw (r.count, r.something) in
+    ap (label_after t known) r.joins ∙ label_unit t known r.run (left_at h text unit.next) (read_of text at unit) r.passed r.reads
+    ∙ ap (λ x. label_after t x (left_at h text unit.next)) k
 
 pub read-kept : (text : List ℕ) (at n c : ℕ) (s : Bool) → read_of text at (kept_unit n c s) ≡ part text at n
 read-kept text at n c s = ap (λ xs. part text at n ++ xs) (part-none text n) ∙ append-nil (part text at n)
@@ -725,10 +725,10 @@ backslash_is_unit t text at l e u = backslash_by t _ _ _ text at l e u refl refl
 
 -- places where no label continues
 abbrev Stops : (List ℕ → Option ℕ) → Bool → List ℕ → ℕ → Type 0
-Stops h t text at = (known : Known) → label_behind t known (left_at h text at) ≡ None
+Stops h t text at = (known : Known) → label_after t known (left_at h text at) ≡ None
 
 pub blank_stops : (h : List ℕ → Option ℕ) (t : Bool) (text : List ℕ) (at : ℕ) → IsBlankRest h text at → Stops h t text at
-unfolding label_behind
+unfolding label_after
 blank_stops h t text at b =
     λ known.
     let X = bytes_of (left_at h text at) in
@@ -746,21 +746,21 @@ bracket_left : (h : List ℕ → Option ℕ) (text : List ℕ) (at k : ℕ)
 bracket_left h text at k l e s =
     left-byte h text at l (solid_ends_none (get_or text at 0) (drop (at + 1) text) (ap is_ascii_white e ∙ s)) ∙ ap (λ b. (at, b) ∷ left_at h text (at + 1)) e
 
-open_by : (t : Bool) (known : Known) (at : ℕ) (cs : List (ℕ × ℕ)) → label_behind t known ((at, 91) ∷ cs) ≡ None
-unfolding label_behind
+open_by : (t : Bool) (known : Known) (at : ℕ) (cs : List (ℕ × ℕ)) → label_after t known ((at, 91) ∷ cs) ≡ None
+unfolding label_after
 open_by t known at cs = rw (upto-stop is_bracket 91 (bytes_of cs) refl refl)
 
 pub open_stops : (h : List ℕ → Option ℕ) (t : Bool) (text : List ℕ) (at : ℕ) → at < length text → get_or text at 0 ≡ 91 → Stops h t text at
-open_stops h t text at l e = λ known. ap (label_behind t known) (bracket_left h text at 91 l e refl) ∙ open_by t known at (left_at h text (at + 1))
+open_stops h t text at l e = λ known. ap (label_after t known) (bracket_left h text at 91 l e refl) ∙ open_by t known at (left_at h text (at + 1))
 
 close_by : (t : Bool) (known : Known) (at : ℕ) (cs : List (ℕ × ℕ))
-    → label_behind t known ((at, 93) ∷ cs) ≡ (if is_label_behind known [] then Some (found (at + 1) (known.bytes ++ shown t [])) else None)
-unfolding label_behind
+    → label_after t known ((at, 93) ∷ cs) ≡ (if is_label_after known [] then Some (found (at + 1) (known.bytes ++ shown t [])) else None)
+unfolding label_after
 close_by t known at cs = rw (upto-stop is_bracket 93 (bytes_of cs) refl refl)
 
 pub closes : (h : List ℕ → Option ℕ) (t : Bool) (text : List ℕ) (at : ℕ) (known : Known) → at < length text → get_or text at 0 ≡ 93
-    → label_behind t known (left_at h text at) ≡ (if is_label_behind known [] then Some (found (at + 1) (known.bytes ++ shown t [])) else None)
-closes h t text at known l e = ap (label_behind t known) (bracket_left h text at 93 l e refl) ∙ close_by t known at (left_at h text (at + 1))
+    → label_after t known (left_at h text at) ≡ (if is_label_after known [] then Some (found (at + 1) (known.bytes ++ shown t [])) else None)
+closes h t text at known l e = ap (label_after t known) (bracket_left h text at 93 l e refl) ∙ close_by t known at (left_at h text (at + 1))
 
 pub shown-nil : (t : Bool) → shown t [] ≡ []
 unfolding single_spaced without_pipe_escapes
@@ -768,24 +768,24 @@ shown-nil true = refl
 shown-nil false = refl
 
 pub closed : (h : List ℕ → Option ℕ) (t : Bool) (text : List ℕ) (at : ℕ) (known : Known) → at < length text → get_or text at 0 ≡ 93 → known.characters ≤ 999
-    → known.solid ≡ true → label_behind t known (left_at h text at) ≡ Some (at + 1, known.bytes)
+    → known.solid ≡ true → label_after t known (left_at h text at) ≡ Some (at + 1, known.bytes)
 closed h t text at known l e few solid =
     let k : known.characters + 0 ≡ known.characters = omega arith in
-    let i : is_label_behind known [] ≡ true = rw (k, le-leb known.characters 999 few, solid) in
+    let i : is_label_after known [] ≡ true = rw (k, le-leb known.characters 999 few, solid) in
     closes h t text at known l e
     ∙ rw i (ap (λ bs. Some (found (at + 1) (known.bytes ++ bs))) (shown-nil t) ∙ ap (λ bs. Some (found (at + 1) bs)) (append-nil known.bytes))
 
 pub blank_label : (h : List ℕ → Option ℕ) (t : Bool) (text : List ℕ) (at : ℕ) (known : Known)
-    → at < length text → get_or text at 0 ≡ 93 → known.solid ≡ false → label_behind t known (left_at h text at) ≡ None
+    → at < length text → get_or text at 0 ≡ 93 → known.solid ≡ false → label_after t known (left_at h text at) ≡ None
 blank_label h t text at known l e solid =
-    let i : is_label_behind known [] ≡ false = rw solid (and_false _) in
+    let i : is_label_after known [] ≡ false = rw solid (and_false _) in
     closes h t text at known l e ∙ rw i
 
-long_by : (t : Bool) (known : Known) (cs : List (ℕ × ℕ)) → ((bs : List ℕ) → is_label_behind known bs ≡ false) → label_behind t known cs ≡ None
-unfolding label_behind
+long_by : (t : Bool) (known : Known) (cs : List (ℕ × ℕ)) → ((bs : List ℕ) → is_label_after known bs ≡ false) → label_after t known cs ≡ None
+unfolding label_after
 long_by t known cs f = rw (f (take (label_len (bytes_of cs)) (bytes_of cs))) (rw (and_false (begins 93 (drop (label_len (bytes_of cs)) (bytes_of cs)))))
 
-pub too_long : (t : Bool) (known : Known) (cs : List (ℕ × ℕ)) → 999 < known.characters → label_behind t known cs ≡ None
+pub too_long : (t : Bool) (known : Known) (cs : List (ℕ × ℕ)) → 999 < known.characters → label_after t known cs ≡ None
 too_long t known cs l = long_by t known cs (λ bs. rw (gt-leb (known.characters + count_by begins_character bs) 999 (omega arith)))
 
 pub differs : (a b : ℕ) → (a ≡ b → ⊥) → (a == b) ≡ false
@@ -797,16 +797,16 @@ all_more (x ∷ xs) b h s = let p = white_parts x xs h in rw p.0 (all_more xs b 
 
 -- a run of white space, byte by byte
 
-pub run_more : (h : List ℕ → Option ℕ) (text : List ℕ) (at next behind n : ℕ)
-    → IsWhiteRun h text at next n → left_at h text next ≡ (next, get_or text next 0) ∷ left_at h text behind → is_ascii_white (get_or text next 0) ≡ true
-    → IsWhiteRun h text at behind (n + 1)
-run_more h text at next behind n r e s =
+pub run_more : (h : List ℕ → Option ℕ) (text : List ℕ) (at next following n : ℕ)
+    → IsWhiteRun h text at next n → left_at h text next ≡ (next, get_or text next 0) ∷ left_at h text following → is_ascii_white (get_or text next 0) ≡ true
+    → IsWhiteRun h text at following (n + 1)
+run_more h text at next following n r e s =
     let one : List (ℕ × ℕ) = (next, get_or text next 0) ∷ [] in
     let l = length-append r.run one in
     let c = r.count in
     record {
       run = r.run ++ one;
-      joins = r.joins ∙ ap (λ cs. r.run ++ cs) e ∙ sym (append_assoc r.run one (left_at h text behind));
+      joins = r.joins ∙ ap (λ cs. r.run ++ cs) e ∙ sym (append_assoc r.run one (left_at h text following));
       white = ap (list_all is_ascii_white) (map-append (λ (x : ℕ × ℕ). x.1) r.run one) ∙ all_more (bytes_of r.run) (get_or text next 0) r.white s;
       count = omega arith;
     }
@@ -815,8 +815,8 @@ pub run_blank : (h : List ℕ → Option ℕ) (text : List ℕ) (at next n : ℕ
 run_blank h text at next n r e = ap (λ cs. list_all is_ascii_white (bytes_of cs)) (r.joins ∙ ap (λ cs. r.run ++ cs) e ∙ append-nil r.run) ∙ r.white
 
 -- a place after a place
-pub place_behind : (text : List ℕ) (a n : ℕ) → a ≤ length text → IsCharBoundary (drop a text) n → IsCharBoundary text (a + n)
-place_behind text a n l b =
+pub place_past : (text : List ℕ) (a n : ℕ) → a ≤ length text → IsCharBoundary (drop a text) n → IsCharBoundary text (a + n)
+place_past text a n l b =
     let within = b.0 in
     let d = length-drop a text in
     let g = get_or-drop a text n 0 in

@@ -9,7 +9,7 @@ use Rattle.first_pass_lines.specs.Lines.{begins, ends_line}
 use Rattle.first_pass_links.specs.Escapes.{begins_escape}
 use Rattle.first_pass_links.specs.Destinations.{unescaped_upto}
 use Rattle.first_pass_links.specs.Labels.{is_bracket, ends_line_label, joined, bytes_of, offsets_of, label_len, is_label, shown, label_at}
-use Rattle.first_pass_links.specs.Footnotes.{begins_footnote, head_behind, footnote_head}
+use Rattle.first_pass_links.specs.Footnotes.{begins_footnote, head_after, footnote_head}
 use Rattle.first_pass_links.proofs.Destinations.{second, upto-nil, upto-stop, upto-byte, upto-escape}
 use Rattle.first_pass_links.proofs.Labels.{joined-nil, joined-byte, joined-stop, first_of}
 use Rattle.first_pass_links.proofs.Footnotes.{head_of, no_mark}
@@ -48,9 +48,9 @@ two_more cs xs at b c n k s =
     rw (e, f) (one_further ((at + 1, c) ∷ cs) (c ∷ xs) at b (suc n) (suc k) (one_further cs xs (at + 1) c n k s))
 
 -- nothing is joined if a line feed is first
-nothing_behind : (at : ℕ) (bs : List ℕ) → begins 10 bs ≡ true → joined alone at 0 bs ≡ []
-nothing_behind at [] h = joined-nil alone at
-nothing_behind at (b ∷ bs) h = let e : ends_line b bs ≡ true = rw h refl in joined-stop alone at b bs e refl
+nothing_after : (at : ℕ) (bs : List ℕ) → begins 10 bs ≡ true → joined alone at 0 bs ≡ []
+nothing_after at [] h = joined-nil alone at
+nothing_after at (b ∷ bs) h = let e : ends_line b bs ≡ true = rw h refl in joined-stop alone at b bs e refl
 
 no_line_end : (c : ℕ) (bs : List ℕ) → is_ascii_punctuation c ≡ true → ends_line c bs ≡ false
 no_line_end c bs h = grind (arith, nat_tests, h)
@@ -109,7 +109,7 @@ at_return at b bs e s l =
     let d : (b == 93) ≡ false = grind (arith, nat_tests, s) in
     let g : begins_escape (b ∷ bs) ≡ false = rw f refl in
     let i : begins 10 bs ≡ true = grind (arith, nat_tests, e, s, l) in
-    let j : joined alone at 0 (b ∷ bs) ≡ (at, b) ∷ [] = joined-byte alone at b bs e ∙ ap (λ cs. (at, b) ∷ cs) (nothing_behind (at + 1) bs i) in
+    let j : joined alone at 0 (b ∷ bs) ≡ (at, b) ∷ [] = joined-byte alone at b bs e ∙ ap (λ cs. (at, b) ∷ cs) (nothing_after (at + 1) bs i) in
     let g' : begins_escape (b ∷ []) ≡ false = rw f refl in
     let n : label_len (b ∷ []) ≡ 1 = upto-byte is_bracket b [] g' s ∙ ap (λ m. 1 + m) (upto-nil is_bracket) in
     rw (upto-stop ends_line_label b bs g l, j) (none_in ((at, b) ∷ []) (b ∷ bs) at (label_len (b ∷ [])) 0 (ap (λ m. begins 93 (drop m (b ∷ []))) n) d)
@@ -174,7 +174,7 @@ label_some t xs h =
     label_form t (bytes_of cs) (offsets_of cs) xs (label_len (bytes_of cs)) (line_len xs) (s.ends ∙ h) (s.label h) (omega arith)
 
 head_form : (u c : Bool) (xs label : List ℕ) (m : ℕ)
-    → begins 58 (drop m xs) ≡ c → is_some (option_and_then (head_behind xs) (label_if u m label)) ≡ (c && u)
+    → begins 58 (drop m xs) ≡ c → is_some (option_and_then (head_after xs) (label_if u m label)) ≡ (c && u)
 head_form true true xs label m h = rw h refl
 head_form true false xs label m h = rw h refl
 head_form false true xs label m h = refl
@@ -183,7 +183,7 @@ head_form false false xs label m h = refl
 -- no head if no `]` ends the label in its line
 pub head_none : (text : List ℕ) → begins_footnote text ≡ true → begins 93 (drop (line_len (drop 2 text)) (drop 2 text)) ≡ false → (t : Bool)
     → is_some (footnote_head alone t text) ≡ false
-head_none text h e t = ap is_some (head_of alone t text h ∙ ap (option_and_then (head_behind (drop 2 text))) (label_none t (drop 2 text) e))
+head_none text h e t = ap is_some (head_of alone t text h ∙ ap (option_and_then (head_after (drop 2 text))) (label_none t (drop 2 text) e))
 
 -- the head if one does, by the bytes before and after it
 pub head_some : (text : List ℕ) → begins_footnote text ≡ true → begins 93 (drop (line_len (drop 2 text)) (drop 2 text)) ≡ true → (t : Bool)
@@ -191,7 +191,7 @@ pub head_some : (text : List ℕ) → begins_footnote text ≡ true → begins 9
     ≡ (begins 58 (drop (line_len (drop 2 text) + 1) (drop 2 text)) && is_label (take (line_len (drop 2 text)) (drop 2 text)))
 head_some text h e t =
     let xs = drop 2 text in
-    ap is_some (head_of alone t text h ∙ ap (option_and_then (head_behind xs)) (label_some t xs e))
+    ap is_some (head_of alone t text h ∙ ap (option_and_then (head_after xs)) (label_some t xs e))
     ∙ head_form (is_label (take (line_len xs) xs)) _ xs (shown t (take (line_len xs) xs)) (line_len xs + 1) refl
 
 pub head_unmarked : (text : List ℕ) → begins_footnote text ≡ false → (t : Bool) → is_some (footnote_head alone t text) ≡ false

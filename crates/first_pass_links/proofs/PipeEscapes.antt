@@ -4,7 +4,7 @@ use Rattle.std.specs.List.{prefix_len}
 use Rattle.std.specs.Char.{is_ascii_digit, is_ascii_hexdigit, is_ascii_alphabetic}
 use Rattle.std.proofs.lemmas.Bool.{eqb-true}
 use Rattle.first_pass_lines.specs.Lines.{begins}
-use Rattle.first_pass_entities.specs.Entities.{number_at, numeric_at, name_at, entity_at, behind}
+use Rattle.first_pass_entities.specs.Entities.{number_at, numeric_at, name_at, entity_at, following}
 use Rattle.first_pass_links.specs.Escapes.{without_pipe_escapes}
 use Rattle.first_pass_entities.proofs.EntityFacts.{is_plain, plain_through}
 
@@ -25,9 +25,9 @@ unfolding without_pipe_escapes
 cell-dropped b bs h h' = rw (h, h')
 
 -- a backslash, and the bytes that are kept of it
-pub pipe_behind : (bs : List ℕ) → begins 124 bs ≡ true → without_pipe_escapes bs ≡ 124 ∷ without_pipe_escapes (drop 1 bs)
-pipe_behind [] h = cc
-pipe_behind (b ∷ bs) h =
+pub pipe_after : (bs : List ℕ) → begins 124 bs ≡ true → without_pipe_escapes bs ≡ 124 ∷ without_pipe_escapes (drop 1 bs)
+pipe_after [] h = cc
+pipe_after (b ∷ bs) h =
     let e = eqb-true b 124 h in
     cell-other b bs (rw e) ∙ ap (λ x. x ∷ without_pipe_escapes bs) e
 
@@ -61,7 +61,7 @@ take-without_pipe_escapes (suc n) (b ∷ bs) h = plain_take (b == 92) n b bs ref
 begins_by : (t u : Bool) (k b : ℕ) (bs : List ℕ)
     → (b == 92) ≡ t → begins 124 bs ≡ u → (92 == k) ≡ false → (124 == k) ≡ false → begins k (without_pipe_escapes (b ∷ bs)) ≡ (b == k)
 begins_by false u k b bs h h' q r = ap (begins k) (cell-other b bs h)
-begins_by true true k b bs h h' q r = ap (begins k) (cell-dropped b bs h h' ∙ pipe_behind bs h') ∙ r ∙ sym q ∙ ap (λ x. x == k) (sym (eqb-true b 92 h))
+begins_by true true k b bs h h' q r = ap (begins k) (cell-dropped b bs h h' ∙ pipe_after bs h') ∙ r ∙ sym q ∙ ap (λ x. x == k) (sym (eqb-true b 92 h))
 begins_by true false k b bs h h' q r = ap (begins k) (cell-kept b bs h')
 
 pub begins-cell : (k : ℕ) (bs : List ℕ) → (92 == k) ≡ false → (124 == k) ≡ false → begins k (without_pipe_escapes bs) ≡ begins k bs
@@ -77,7 +77,7 @@ prefix_by p true true b bs h h' q r e =
     let z : p b ≡ false = ap p (eqb-true b 92 h) ∙ q in
     let f : prefix_len p (124 ∷ without_pipe_escapes (drop 1 bs)) ≡ 0 = rw r in
     let g : prefix_len p (b ∷ bs) ≡ 0 = rw z in
-    ap (prefix_len p) (cell-dropped b bs h h' ∙ pipe_behind bs h') ∙ f ∙ sym g
+    ap (prefix_len p) (cell-dropped b bs h h' ∙ pipe_after bs h') ∙ f ∙ sym g
 prefix_by p true false b bs h h' q r e =
     let f : prefix_len p (b ∷ without_pipe_escapes bs) ≡ prefix_len p (b ∷ bs) = rw e in
     ap (prefix_len p) (cell-kept b bs h') ∙ f
@@ -87,9 +87,9 @@ prefix_len-cell p q r [] = ap (prefix_len p) cell-nil
 prefix_len-cell p q r (b ∷ bs) = prefix_by p (b == 92) (begins 124 bs) b bs refl refl q r (prefix_len-cell p q r bs)
 
 -- the bytes before and after such a run
-behind_run : (p : ℕ → Bool) → p 92 ≡ false → p 124 ≡ false → (bs : List ℕ)
+past_run : (p : ℕ → Bool) → p 92 ≡ false → p 124 ≡ false → (bs : List ℕ)
     → begins 59 (drop (prefix_len p (without_pipe_escapes bs)) (without_pipe_escapes bs)) ≡ begins 59 (drop (prefix_len p bs) bs)
-behind_run p q r bs =
+past_run p q r bs =
     let l = plain_through p q bs in
     ap (λ n. begins 59 (drop n (without_pipe_escapes bs))) (prefix_len-cell p q r bs)
     ∙ ap (begins 59) (drop-without_pipe_escapes (prefix_len p bs) bs (omega arith)) ∙ begins-cell 59 (drop (prefix_len p bs) bs) refl refl
@@ -103,37 +103,38 @@ run p q r bs =
 number_at-cell : (p : ℕ → Bool)
     → p 92 ≡ false → p 124 ≡ false → (radix most : ℕ) (bs : List ℕ) → number_at p radix most (without_pipe_escapes bs) ≡ number_at p radix most bs
 unfolding number_at
-number_at-cell p q r radix most bs = rw (behind_run p q r bs, run p q r bs, prefix_len-cell p q r bs)
+number_at-cell p q r radix most bs = rw (past_run p q r bs, run p q r bs, prefix_len-cell p q r bs)
 
 name_at-cell : (bs : List ℕ) → name_at (without_pipe_escapes bs) ≡ name_at bs
 unfolding name_at
-name_at-cell bs = rw (behind_run is_ascii_alphabetic refl refl bs, run is_ascii_alphabetic refl refl bs, prefix_len-cell is_ascii_alphabetic refl refl bs)
+name_at-cell bs = rw (past_run is_ascii_alphabetic refl refl bs, run is_ascii_alphabetic refl refl bs, prefix_len-cell is_ascii_alphabetic refl refl bs)
 
 -- after a first byte that is not a backslash
-behind_byte : (k : ℕ) (bs : List ℕ) → begins k bs ≡ true → (k == 92) ≡ false → drop 1 (without_pipe_escapes bs) ≡ without_pipe_escapes (drop 1 bs)
-behind_byte k [] h q = cc
-behind_byte k (b ∷ bs) h q = ap (drop 1) (cell-other b bs (rw (eqb-true b k h) q))
+after_byte : (k : ℕ) (bs : List ℕ) → begins k bs ≡ true → (k == 92) ≡ false → drop 1 (without_pipe_escapes bs) ≡ without_pipe_escapes (drop 1 bs)
+after_byte k [] h q = cc
+after_byte k (b ∷ bs) h q = ap (drop 1) (cell-other b bs (rw (eqb-true b k h) q))
 
 numeric_by : (t u : Bool) (bs : List ℕ) → begins 120 bs ≡ t → begins 88 bs ≡ u → numeric_at (without_pipe_escapes bs) ≡ numeric_at bs
 unfolding numeric_at
-numeric_by true u bs h h' = rw (begins-cell 120 bs refl refl, h) (ap (λ xs. behind 1 (number_at is_ascii_hexdigit 16 6 xs)) (behind_byte 120 bs h refl)
-    ∙ ap (behind 1) (number_at-cell is_ascii_hexdigit refl refl 16 6 (drop 1 bs)))
+numeric_by true u bs h h' = rw (begins-cell 120 bs refl refl, h) (ap (λ xs. following 1 (number_at is_ascii_hexdigit 16 6 xs)) (after_byte 120 bs h refl)
+    ∙ ap (following 1) (number_at-cell is_ascii_hexdigit refl refl 16 6 (drop 1 bs)))
 numeric_by false true bs h h' =
-    rw (begins-cell 120 bs refl refl, begins-cell 88 bs refl refl, h, h') (ap (λ xs. behind 1 (number_at is_ascii_hexdigit 16 6 xs)) (behind_byte 88 bs h' refl)
-    ∙ ap (behind 1) (number_at-cell is_ascii_hexdigit refl refl 16 6 (drop 1 bs)))
+    rw (begins-cell 120 bs refl refl, begins-cell 88 bs refl refl, h, h')
+    (ap (λ xs. following 1 (number_at is_ascii_hexdigit 16 6 xs)) (after_byte 88 bs h' refl)
+    ∙ ap (following 1) (number_at-cell is_ascii_hexdigit refl refl 16 6 (drop 1 bs)))
 numeric_by false false bs h h' = rw (begins-cell 120 bs refl refl, begins-cell 88 bs refl refl, h, h') (number_at-cell is_ascii_digit refl refl 10 7 bs)
 
 entity_by : (t u : Bool) (bs : List ℕ) → begins 38 bs ≡ t → begins 35 (drop 1 bs) ≡ u → entity_at (without_pipe_escapes bs) ≡ entity_at bs
 unfolding entity_at
 entity_by false u bs h h' = rw (begins-cell 38 bs refl refl, h)
 entity_by true true bs h h' =
-    let d = behind_byte 38 bs h refl in
-    let f = behind_byte 35 (drop 1 bs) h' refl in
+    let d = after_byte 38 bs h refl in
+    let f = after_byte 35 (drop 1 bs) h' refl in
     rw (begins-cell 38 bs refl refl, h, d, begins-cell 35 (drop 1 bs) refl refl, h', f)
-    (ap (λ x. behind 1 (behind 1 x)) (numeric_by _ _ (drop 1 (drop 1 bs)) refl refl))
+    (ap (λ x. following 1 (following 1 x)) (numeric_by _ _ (drop 1 (drop 1 bs)) refl refl))
 entity_by true false bs h h' =
-    let d = behind_byte 38 bs h refl in
-    rw (begins-cell 38 bs refl refl, h, d, begins-cell 35 (drop 1 bs) refl refl, h') (ap (behind 1) (name_at-cell (drop 1 bs)))
+    let d = after_byte 38 bs h refl in
+    rw (begins-cell 38 bs refl refl, h, d, begins-cell 35 (drop 1 bs) refl refl, h') (ap (following 1) (name_at-cell (drop 1 bs)))
 
 pub entity_at-cell : (bs : List ℕ) → entity_at (without_pipe_escapes bs) ≡ entity_at bs
 entity_at-cell bs = entity_by _ _ bs refl refl

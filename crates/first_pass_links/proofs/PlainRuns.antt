@@ -6,7 +6,7 @@ use Rattle.std.proofs.lemmas.Bool.Decides.{nat_tests}
 use Rattle.std.proofs.lemmas.List.{drop_more, map-append, length-map, get_or-drop}
 use Rattle.first_pass_lines.specs.Lines.{is_ascii_white}
 use Rattle.first_pass_links.specs.Escapes.{begins_escape}
-use Rattle.first_pass_links.specs.Destinations.{ends_run, closes_none, nesting_behind, run_len, longer}
+use Rattle.first_pass_links.specs.Destinations.{ends_run, closes_none, nesting_after, run_len, longer}
 use Rattle.first_pass_links.specs.Labels.{is_bracket, begins_character, bytes_of, label_len, shown}
 use Rattle.first_pass_links.specs.Plain.{is_plain}
 use Rattle.first_pass_links.specs.Units.{part, read_of, left_at, kept_unit, Reads}
@@ -27,7 +27,7 @@ plain_ends b h = grind (arith, nat_tests, h)
 plain_closes : (b n : ℕ) → is_plain b ≡ true → closes_none b n ≡ false
 plain_closes b n h = grind (arith, nat_tests, h)
 
-plain_nests : (b n : ℕ) → is_plain b ≡ true → nesting_behind b n ≡ n
+plain_nests : (b n : ℕ) → is_plain b ≡ true → nesting_after b n ≡ n
 plain_nests b n h = grind (arith, nat_tests, h)
 
 plain_backslash : (b : ℕ) → is_plain b ≡ true → (b == 92) ≡ false

@@ -5,7 +5,7 @@ use Rattle.std.specs.Char.{is_ascii_punctuation}
 use Rattle.std.proofs.lemmas.Bool.{cases_Bool, eqb-true, and_parts, le-ltb, lt-ltb}
 use Rattle.std.proofs.lemmas.Bool.Decides.{nat_tests}
 use Rattle.first_pass_links.specs.Escapes.{begins_escape}
-use Rattle.first_pass_links.specs.Destinations.{ends_run, closes_none, nesting_behind, run_len, longer, if_closed}
+use Rattle.first_pass_links.specs.Destinations.{ends_run, closes_none, nesting_after, run_len, longer, if_closed}
 use Rattle.first_pass_links.specs.Runs.{is_plain, IsBare, nothing, escape, plain, nested, ends_before, BeginsRun}
 use Rattle.first_pass_links.proofs.Destinations.{longer-longer, second, run-nil, run-end, run-escape, run-unopened, run-deep, run-byte}
 
@@ -14,7 +14,7 @@ longer-none : (o : Option ℕ) → longer 0 o ≡ o
 longer-none None = refl
 longer-none (Some k) = let e : 0 + k ≡ k = omega arith in ap (λ n. Some n) e
 
-plain_facts : (b nesting : ℕ) → is_plain b ≡ true → (ends_run b ≡ false) × (closes_none b nesting ≡ false) × (nesting_behind b nesting ≡ nesting)
+plain_facts : (b nesting : ℕ) → is_plain b ≡ true → (ends_run b ≡ false) × (closes_none b nesting ≡ false) × (nesting_after b nesting ≡ nesting)
 plain_facts b nesting h =
     let x : (b == 40) ≡ false = grind (arith, nat_tests, h) in
     let y : (b == 41) ≡ false = grind (arith, nat_tests, h) in
@@ -28,31 +28,31 @@ three_parts a b c (Some k) = let e : 1 + (a + (1 + (b + k))) ≡ suc (a + suc b)
 two_parts : (a : ℕ) (o : Option ℕ) → longer 1 (longer a o) ≡ longer (suc a) o
 two_parts a o = longer-longer 1 a o ∙ (let e : 1 + a ≡ suc a = omega arith in ap (λ n. longer n o) e)
 
-counts : (deepest : ℕ) (d : ℕ) (run behind : List ℕ) → IsBare d run behind → (nesting : ℕ) → d + nesting ≡ deepest
-    → run_len deepest nesting 0 (run ++ behind) ≡ longer (length run) (run_len deepest nesting 0 behind)
-counts deepest _ _ _ (nothing d behind) nesting e = sym (longer-none (run_len deepest nesting 0 behind))
-counts deepest _ _ _ (escape d b more behind p r) nesting e =
-    run-escape deepest nesting 92 b (more ++ behind) refl p ∙ ap (λ o. longer 1 (longer 1 o)) (counts deepest d more behind r nesting e)
-    ∙ ap (longer 1) (two_parts (length more) (run_len deepest nesting 0 behind)) ∙ two_parts (suc (length more)) (run_len deepest nesting 0 behind)
-counts deepest _ _ _ (plain d b more behind p alone r) nesting e =
+counts : (deepest : ℕ) (d : ℕ) (run following : List ℕ) → IsBare d run following → (nesting : ℕ) → d + nesting ≡ deepest
+    → run_len deepest nesting 0 (run ++ following) ≡ longer (length run) (run_len deepest nesting 0 following)
+counts deepest _ _ _ (nothing d following) nesting e = sym (longer-none (run_len deepest nesting 0 following))
+counts deepest _ _ _ (escape d b more following p r) nesting e =
+    run-escape deepest nesting 92 b (more ++ following) refl p ∙ ap (λ o. longer 1 (longer 1 o)) (counts deepest d more following r nesting e)
+    ∙ ap (longer 1) (two_parts (length more) (run_len deepest nesting 0 following)) ∙ two_parts (suc (length more)) (run_len deepest nesting 0 following)
+counts deepest _ _ _ (plain d b more following p alone r) nesting e =
     let f = plain_facts b nesting p in
-    let shallow : nesting_behind b nesting ≤ deepest = let z = f.2 in omega arith in
-    run-byte deepest nesting b (more ++ behind) f.0 alone f.1 (le-ltb _ _ shallow)
-    ∙ ap (λ k. longer 1 (run_len deepest k 0 (more ++ behind))) f.2
-    ∙ ap (longer 1) (counts deepest d more behind r nesting e) ∙ two_parts (length more) (run_len deepest nesting 0 behind)
-counts deepest _ _ _ (nested d inside more behind r s) nesting e =
+    let shallow : nesting_after b nesting ≤ deepest = let z = f.2 in omega arith in
+    run-byte deepest nesting b (more ++ following) f.0 alone f.1 (le-ltb _ _ shallow)
+    ∙ ap (λ k. longer 1 (run_len deepest k 0 (more ++ following))) f.2
+    ∙ ap (longer 1) (counts deepest d more following r nesting e) ∙ two_parts (length more) (run_len deepest nesting 0 following)
+counts deepest _ _ _ (nested d inside more following r s) nesting e =
     let shallow : nesting + 1 ≤ deepest = omega arith in
     let back : nesting + 1 - 1 ≡ nesting = omega arith in
     let open_none : (nesting + 1 == 0) ≡ false = grind (arith, nat_tests) in
-    let left = run_len deepest nesting 0 behind in
+    let left = run_len deepest nesting 0 following in
     let l = length-append inside (41 ∷ more) in
-    ap (run_len deepest nesting 0) (ap (λ xs. 40 ∷ xs) (append_assoc inside (41 ∷ more) behind))
-    ∙ run-byte deepest nesting 40 (inside ++ 41 ∷ (more ++ behind)) refl refl refl (le-ltb _ _ shallow)
-    ∙ ap (longer 1) (counts deepest d inside (41 ∷ (more ++ behind)) r (nesting + 1) (omega arith)
+    ap (run_len deepest nesting 0) (ap (λ xs. 40 ∷ xs) (append_assoc inside (41 ∷ more) following))
+    ∙ run-byte deepest nesting 40 (inside ++ 41 ∷ (more ++ following)) refl refl refl (le-ltb _ _ shallow)
+    ∙ ap (longer 1) (counts deepest d inside (41 ∷ (more ++ following)) r (nesting + 1) (omega arith)
     ∙ ap (longer (length inside))
-    (run-byte deepest (nesting + 1) 41 (more ++ behind) refl refl (rw open_none) (le-ltb _ _ (let z : nesting + 1 - 1 ≤ deepest = omega arith in z))
-    ∙ ap (λ k. longer 1 (run_len deepest k 0 (more ++ behind))) back
-    ∙ ap (longer 1) (counts deepest (suc d) more behind s nesting e)))
+    (run-byte deepest (nesting + 1) 41 (more ++ following) refl refl (rw open_none) (le-ltb _ _ (let z : nesting + 1 - 1 ≤ deepest = omega arith in z))
+    ∙ ap (λ k. longer 1 (run_len deepest k 0 (more ++ following))) back
+    ∙ ap (longer 1) (counts deepest (suc d) more following s nesting e)))
     ∙ three_parts (length inside) (length more) 0 left
     ∙ ap (λ n. longer n left) (let z : suc (length inside + suc (length more)) ≡ suc (length (inside ++ 41 ∷ more)) = omega arith in z)
 
@@ -79,46 +79,46 @@ run_found deepest n bs h =
 
 -- a run that closes this many parentheses opened before it: a run before each `)`, and one after the last
 abbrev Closes : ℕ → ℕ → List ℕ → List ℕ → Type 0
-Closes zero d run behind = IsBare d run behind
-Closes (suc k) d run behind =
-    (inside : List ℕ) × (more : List ℕ) × (run ≡ inside ++ 41 ∷ more) × IsBare d inside (41 ∷ (more ++ behind)) × Closes k (suc d) more behind
+Closes zero d run following = IsBare d run following
+Closes (suc k) d run following =
+    (inside : List ℕ) × (more : List ℕ) × (run ≡ inside ++ 41 ∷ more) × IsBare d inside (41 ∷ (more ++ following)) × Closes k (suc d) more following
 
-closes_escape : (k d b : ℕ) (run behind : List ℕ) → is_ascii_punctuation b ≡ true → Closes k d run behind → Closes k d (92 ∷ b ∷ run) behind
-closes_escape zero d b run behind p c = escape d b run behind p c
-closes_escape (suc k) d b run behind p c = (92 ∷ b ∷ c.0, c.1, ap (λ xs. 92 ∷ b ∷ xs) c.2, escape d b c.0 (41 ∷ (c.1 ++ behind)) p c.3, c.4)
+closes_escape : (k d b : ℕ) (run following : List ℕ) → is_ascii_punctuation b ≡ true → Closes k d run following → Closes k d (92 ∷ b ∷ run) following
+closes_escape zero d b run following p c = escape d b run following p c
+closes_escape (suc k) d b run following p c = (92 ∷ b ∷ c.0, c.1, ap (λ xs. 92 ∷ b ∷ xs) c.2, escape d b c.0 (41 ∷ (c.1 ++ following)) p c.3, c.4)
 
-closes_plain : (k d b : ℕ) (run behind : List ℕ)
-    → is_plain b ≡ true → begins_escape (b ∷ (run ++ behind)) ≡ false → Closes k d run behind → Closes k d (b ∷ run) behind
-closes_plain zero d b run behind p alone c = plain d b run behind p alone c
-closes_plain (suc k) d b run behind p alone c =
-    let e : begins_escape (b ∷ (c.0 ++ 41 ∷ (c.1 ++ behind))) ≡ false =
-    ap (λ xs. begins_escape (b ∷ xs)) (sym (ap (λ xs. xs ++ behind) c.2 ∙ append_assoc c.0 (41 ∷ c.1) behind)) ∙ alone in
-    (b ∷ c.0, c.1, ap (λ xs. b ∷ xs) c.2, plain d b c.0 (41 ∷ (c.1 ++ behind)) p e c.3, c.4)
+closes_plain : (k d b : ℕ) (run following : List ℕ)
+    → is_plain b ≡ true → begins_escape (b ∷ (run ++ following)) ≡ false → Closes k d run following → Closes k d (b ∷ run) following
+closes_plain zero d b run following p alone c = plain d b run following p alone c
+closes_plain (suc k) d b run following p alone c =
+    let e : begins_escape (b ∷ (c.0 ++ 41 ∷ (c.1 ++ following))) ≡ false =
+    ap (λ xs. begins_escape (b ∷ xs)) (sym (ap (λ xs. xs ++ following) c.2 ∙ append_assoc c.0 (41 ∷ c.1) following)) ∙ alone in
+    (b ∷ c.0, c.1, ap (λ xs. b ∷ xs) c.2, plain d b c.0 (41 ∷ (c.1 ++ following)) p e c.3, c.4)
 
-closes_close : (k d : ℕ) (run behind : List ℕ) → Closes k (suc d) run behind → Closes (suc k) d (41 ∷ run) behind
-closes_close k d run behind c = ([], run, refl, nothing d (41 ∷ (run ++ behind)), c)
+closes_close : (k d : ℕ) (run following : List ℕ) → Closes k (suc d) run following → Closes (suc k) d (41 ∷ run) following
+closes_close k d run following c = ([], run, refl, nothing d (41 ∷ (run ++ following)), c)
 
-closes_open : (k d : ℕ) (run behind : List ℕ) → Closes (suc k) d run behind → Closes k (suc d) (40 ∷ run) behind
-closes_open zero d run behind c = subst (λ xs. IsBare (suc d) (40 ∷ xs) behind) (sym c.2) (nested d c.0 c.1 behind c.3 c.4)
-closes_open (suc k) d run behind c =
+closes_open : (k d : ℕ) (run following : List ℕ) → Closes (suc k) d run following → Closes k (suc d) (40 ∷ run) following
+closes_open zero d run following c = subst (λ xs. IsBare (suc d) (40 ∷ xs) following) (sym c.2) (nested d c.0 c.1 following c.3 c.4)
+closes_open (suc k) d run following c =
     let r = c.4 in
-    let e : 41 ∷ (c.1 ++ behind) ≡ 41 ∷ (r.0 ++ 41 ∷ (r.1 ++ behind)) =
-    ap (λ xs. 41 ∷ xs) (ap (λ xs. xs ++ behind) r.2 ∙ append_assoc r.0 (41 ∷ r.1) behind) in (
+    let e : 41 ∷ (c.1 ++ following) ≡ 41 ∷ (r.0 ++ 41 ∷ (r.1 ++ following)) =
+    ap (λ xs. 41 ∷ xs) (ap (λ xs. xs ++ following) r.2 ∙ append_assoc r.0 (41 ∷ r.1) following) in (
       40 ∷ (c.0 ++ 41 ∷ r.0),
       r.1,
       ap (λ xs. 40 ∷ xs) (c.2 ∙ ap (λ xs. c.0 ++ 41 ∷ xs) r.2 ∙ sym (append_assoc c.0 (41 ∷ r.0) (41 ∷ r.1))),
-      nested d c.0 r.0 (41 ∷ (r.1 ++ behind)) (subst (IsBare d c.0) e c.3) r.3,
+      nested d c.0 r.0 (41 ∷ (r.1 ++ following)) (subst (IsBare d c.0) e c.3) r.3,
       r.4,
     )
 
 -- the first n bytes close this many parentheses, and end there
 record Ends (k d : ℕ) (bs : List ℕ) (n : ℕ) : Type 0 where
   run : List ℕ
-  behind : List ℕ
-  parts : bs ≡ run ++ behind
+  following : List ℕ
+  parts : bs ≡ run ++ following
   count : length run ≡ n
-  closes : Closes k d run behind
-  ends : ends_before behind ≡ true
+  closes : Closes k d run following
+  ends : ends_before following ≡ true
 
 longer_some : (a n : ℕ) (o : Option ℕ) → longer a o ≡ Some n → (j : ℕ) × (o ≡ Some j) × (a + j ≡ n)
 longer_some a n None h = cc
@@ -131,7 +131,7 @@ unclosed : (k : ℕ) → if_closed (suc k) ≡ None
 unclosed k = rw (some_open k)
 
 none_open : (k d n : ℕ) (bs : List ℕ) → ends_before bs ≡ true → if_closed k ≡ Some n → Ends k d bs n
-none_open zero d n bs e h = let z : 0 ≡ n = cc in record { run = []; behind = bs; parts = refl; count = z; closes = nothing d bs; ends = e }
+none_open zero d n bs e h = let z : 0 ≡ n = cc in record { run = []; following = bs; parts = refl; count = z; closes = nothing d bs; ends = e }
 none_open (suc k) d n bs e h = let f = unclosed k in cc
 
 ends_escape : (k d b n : ℕ) (bs : List ℕ) → is_ascii_punctuation b ≡ true → Ends k d bs n → Ends k d (92 ∷ b ∷ bs) (1 + (1 + n))
@@ -139,10 +139,10 @@ ends_escape k d b n bs p e =
     let l = e.count in
     record {
       run = 92 ∷ b ∷ e.run;
-      behind = e.behind;
+      following = e.following;
       parts = ap (λ xs. 92 ∷ b ∷ xs) e.parts;
       count = omega arith;
-      closes = closes_escape k d b e.run e.behind p e.closes;
+      closes = closes_escape k d b e.run e.following p e.closes;
       ends = e.ends;
     }
 
@@ -151,10 +151,10 @@ ends_plain k d b n bs p alone e =
     let l = e.count in
     record {
       run = b ∷ e.run;
-      behind = e.behind;
+      following = e.following;
       parts = ap (λ xs. b ∷ xs) e.parts;
       count = omega arith;
-      closes = closes_plain k d b e.run e.behind p (ap (λ xs. begins_escape (b ∷ xs)) (sym e.parts) ∙ alone) e.closes;
+      closes = closes_plain k d b e.run e.following p (ap (λ xs. begins_escape (b ∷ xs)) (sym e.parts) ∙ alone) e.closes;
       ends = e.ends;
     }
 
@@ -163,10 +163,10 @@ ends_close k d n bs e =
     let l = e.count in
     record {
       run = 41 ∷ e.run;
-      behind = e.behind;
+      following = e.following;
       parts = ap (λ xs. 41 ∷ xs) e.parts;
       count = omega arith;
-      closes = closes_close k d e.run e.behind e.closes;
+      closes = closes_close k d e.run e.following e.closes;
       ends = e.ends;
     }
 
@@ -175,10 +175,10 @@ ends_open k d n bs e =
     let l = e.count in
     record {
       run = 40 ∷ e.run;
-      behind = e.behind;
+      following = e.following;
       parts = ap (λ xs. 40 ∷ xs) e.parts;
       count = omega arith;
-      closes = closes_open k d e.run e.behind e.closes;
+      closes = closes_open k d e.run e.following e.closes;
       ends = e.ends;
     }
 
@@ -209,7 +209,7 @@ counted_open deepest bs i = λ k d n e h. open_by deepest bs i k d n e h
 counted_close : (deepest : ℕ) (bs : List ℕ) → Counted deepest bs → (k d n : ℕ) → d + k ≡ deepest → run_len deepest k 0 (41 ∷ bs) ≡ Some n → Ends k d (41 ∷ bs) n
 counted_close deepest bs i zero d n e h =
     let z : 0 ≡ n = let f = run-unopened deepest 0 41 bs refl in cc in
-    record { run = []; behind = 41 ∷ bs; parts = refl; count = z; closes = nothing d (41 ∷ bs); ends = refl }
+    record { run = []; following = 41 ∷ bs; parts = refl; count = z; closes = nothing d (41 ∷ bs); ends = refl }
 counted_close deepest bs i (suc k) d n e h =
     let f : suc k - 1 ≡ k = omega arith in
     let x = longer_some 1 n (run_len deepest (suc k - 1) 0 bs)
@@ -221,8 +221,8 @@ counted_plain deepest b bs p alone i =
     λ k d n e h.
     let f = plain_facts b k p in
     let z = f.2 in
-    let x = longer_some 1 n (run_len deepest (nesting_behind b k) 0 bs)
-    (sym (run-byte deepest k b bs f.0 alone f.1 (le-ltb _ _ (let l : nesting_behind b k ≤ deepest = omega arith in l))) ∙ h) in
+    let x = longer_some 1 n (run_len deepest (nesting_after b k) 0 bs)
+    (sym (run-byte deepest k b bs f.0 alone f.1 (le-ltb _ _ (let l : nesting_after b k ≤ deepest = omega arith in l))) ∙ h) in
     subst (Ends k d (b ∷ bs)) x.2 (ends_plain k d b x.0 bs p alone (i k d x.0 e (ap (λ m. run_len deepest m 0 bs) (sym f.2) ∙ x.1)))
 
 plain_from : (b : ℕ) → ends_run b ≡ false → (b == 40) ≡ false → (b == 41) ≡ false → is_plain b ≡ true
@@ -254,9 +254,9 @@ pub run_counted : (deepest n : ℕ) (bs : List ℕ) → run_len deepest 0 0 bs �
 run_counted deepest n bs h =
     let z : deepest + 0 ≡ deepest = omega arith in
     let e = counted_upto (length bs) deepest bs (omega arith) 0 deepest n z h in
-    let whole = ap length e.parts ∙ length-append e.run e.behind in
+    let whole = ap length e.parts ∙ length-append e.run e.following in
     let count = e.count in
-    let parts = take_all e.run e.behind in
+    let parts = take_all e.run e.following in
     let t : take n bs ≡ e.run = ap (λ m. take m bs) (sym count) ∙ ap (take (length e.run)) e.parts ∙ parts.0 in
-    let d : drop n bs ≡ e.behind = ap (λ m. drop m bs) (sym count) ∙ ap (drop (length e.run)) e.parts ∙ parts.1 in
+    let d : drop n bs ≡ e.following = ap (λ m. drop m bs) (sym count) ∙ ap (drop (length e.run)) e.parts ∙ parts.1 in
     record { within = omega arith; run = rw (t, d) e.closes; ends = ap ends_before d ∙ e.ends }

@@ -44,8 +44,8 @@ abbrev pub closes_none : ℕ → ℕ → Bool
 closes_none b nesting = b == right_parenthesis && nesting == 0
 
 -- the number of open parentheses after a byte (CommonMark 6.3)
-abbrev pub nesting_behind : ℕ → ℕ → ℕ
-nesting_behind b nesting = if b == left_parenthesis then nesting + 1 else (if b == right_parenthesis then nesting - 1 else nesting)
+abbrev pub nesting_after : ℕ → ℕ → ℕ
+nesting_after b nesting = if b == left_parenthesis then nesting + 1 else (if b == right_parenthesis then nesting - 1 else nesting)
 
 -- The length of a run inside `nesting` open parentheses; its first n bytes are not tested. The run ends before a
 -- control character or a space, or before an unescaped `)` that closes none. Unescaped parentheses are balanced, and
@@ -57,8 +57,8 @@ run_len deepest nesting zero (b ∷ bs) =
     if ends_run b then if_closed nesting
     else (if begins_escape (b ∷ bs) then longer 1 (run_len deepest nesting 1 bs)
     else (if closes_none b nesting then Some 0
-    else (if nat_lt deepest (nesting_behind b nesting) then None
-    else longer 1 (run_len deepest (nesting_behind b nesting) 0 bs))))
+    else (if nat_lt deepest (nesting_after b nesting) then None
+    else longer 1 (run_len deepest (nesting_after b nesting) 0 bs))))
 
 -- a destination without brackets: a run that is not empty (CommonMark 6.3)
 abbrev pub unbracketed : List ℕ → ℕ → Option (ℕ × List ℕ)

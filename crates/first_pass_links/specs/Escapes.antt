@@ -15,11 +15,11 @@ unfoldable pub replaced_at : List ℕ → Option (ℕ × ℕ)
 replaced_at bs = if begins_escape bs then Some (2, slice_index bs 1) else entity_at bs
 
 -- the bytes after the first n, with each escape and reference replaced by its character (CommonMark 2.4, 2.5)
-unfoldable pub unescaped_behind : ℕ → List ℕ → List ℕ
-unescaped_behind n [] = []
-unescaped_behind (suc n) (b ∷ bs) = unescaped_behind n bs
-unescaped_behind zero (b ∷ bs) =
-    option_map_or (λ r. encode_utf8 r.1 ++ unescaped_behind (r.0 - 1) bs) (replaced_at (b ∷ bs)) (b ∷ unescaped_behind 0 bs)
+unfoldable pub unescaped_after : ℕ → List ℕ → List ℕ
+unescaped_after n [] = []
+unescaped_after (suc n) (b ∷ bs) = unescaped_after n bs
+unescaped_after zero (b ∷ bs) =
+    option_map_or (λ r. encode_utf8 r.1 ++ unescaped_after (r.0 - 1) bs) (replaced_at (b ∷ bs)) (b ∷ unescaped_after 0 bs)
 
 -- the text of a cell: a backslash directly before a pipe is dropped (GFM 4.10)
 unfoldable pub without_pipe_escapes : List ℕ → List ℕ
@@ -33,4 +33,4 @@ read_in in_table text = if in_table then without_pipe_escapes text else text
 -- a text without its escapes and references; in a table, backslashes before pipes are dropped first (CommonMark 2.4,
 -- 2.5, GFM 4.10)
 abbrev pub unescaped : Bool → List ℕ → List ℕ
-unescaped in_table text = unescaped_behind 0 (read_in in_table text)
+unescaped in_table text = unescaped_after 0 (read_in in_table text)

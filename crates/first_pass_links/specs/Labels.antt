@@ -15,14 +15,14 @@ use Rattle.first_pass_links.specs.Destinations.{unescaped_upto}
 -- it: the length of the prefix of the next line, or none if the label may not continue there (this project)
 abbrev pub AnswersWith : List ℕ → (List ℕ → Option ℕ) → (Bor (List ℕ) → Result (Option ℕ) AllocError → Type 0) → Type 0
 AnswersWith text prefix post =
-    (behind : Bor (List ℕ)) (answer : Option ℕ) (at : ℕ) → IsCharBoundary text at → behind.now ≡ drop at text → post behind (Ok answer)
-    → prefix behind.now ≡ answer
+    (following : Bor (List ℕ)) (answer : Option ℕ) (at : ℕ) → IsCharBoundary text at → following.now ≡ drop at text → post following (Ok answer)
+    → prefix following.now ≡ answer
 
 -- a prefix that the handler returns is within the rest of the text, and ends between characters (this project)
 abbrev pub AnswersPlaces : List ℕ → (Bor (List ℕ) → Result (Option ℕ) AllocError → Type 0) → Type 0
 AnswersPlaces text post =
-    (behind : Bor (List ℕ)) (n at : ℕ) → IsCharBoundary text at → behind.now ≡ drop at text → post behind (Ok (Some n)) → IsUtf8 behind.now
-    → IsCharBoundary behind.now n
+    (following : Bor (List ℕ)) (n at : ℕ) → IsCharBoundary text at → following.now ≡ drop at text → post following (Ok (Some n)) → IsUtf8 following.now
+    → IsCharBoundary following.now n
 
 -- an opening or closing square bracket (CommonMark 6.3)
 abbrev pub is_bracket : ℕ → Bool
@@ -100,16 +100,16 @@ abbrev pub HasNoBracket : (List ℕ → Option ℕ) → List ℕ → Type 0
 HasNoBracket prefix text = let bs = bytes_of (joined prefix 0 0 text) in label_len bs ≡ length bs
 
 -- the handler fails on the bytes after the line ending whose last byte is at an offset into the text (this project)
-pub record ErrsBehind (text : List ℕ) (at : ℕ) (post : Bor (List ℕ) → Result (Option ℕ) AllocError → Type 0) : Type 0 where
+pub record ErrsAfter (text : List ℕ) (at : ℕ) (post : Bor (List ℕ) → Result (Option ℕ) AllocError → Type 0) : Type 0 where
   pub within : at < length text
   pub line_end : ends_line (slice_index text at) (drop (at + 1) text) ≡ true
   pub boundary : IsCharBoundary text (at + 1)
-  pub behind : Bor (List ℕ)
-  pub behind_is : behind.now ≡ drop (at + 1) text
+  pub following : Bor (List ℕ)
+  pub past_is : following.now ≡ drop (at + 1) text
   pub error : AllocError
-  pub errs : post behind (Err error)
+  pub errs : post following (Err error)
 
 -- reading a label may fail: its text has to be written, or no bracket ends it and the handler fails after a line
 -- ending (this project)
 abbrev pub CanErr : (List ℕ → Option ℕ) → Bool → List ℕ → (Bor (List ℕ) → Result (Option ℕ) AllocError → Type 0) → Type 0
-CanErr prefix in_table text post = IsRewritten prefix in_table text ⊎ (HasNoBracket prefix text × ((at : ℕ) × ErrsBehind text at post))
+CanErr prefix in_table text post = IsRewritten prefix in_table text ⊎ (HasNoBracket prefix text × ((at : ℕ) × ErrsAfter text at post))

@@ -13,15 +13,17 @@ is_plain b = not (ends_run b || b == left_parenthesis || b == right_parenthesis)
 -- and no space, and its parentheses are escaped or balanced (CommonMark 6.3).
 pub data IsBare : ℕ → List ℕ → List ℕ → Type 0 where
   -- the empty run
-  nothing : (deepest : ℕ) (behind : List ℕ) → IsBare deepest [] behind
+  nothing : (deepest : ℕ) (following : List ℕ) → IsBare deepest [] following
   -- a backslash with the ASCII punctuation that it escapes, then a run
-  escape : (deepest b : ℕ) (more behind : List ℕ) → is_ascii_punctuation b ≡ true → IsBare deepest more behind → IsBare deepest (backslash ∷ b ∷ more) behind
+  escape : (deepest b : ℕ) (more following : List ℕ) → is_ascii_punctuation b ≡ true → IsBare deepest more following
+      → IsBare deepest (backslash ∷ b ∷ more) following
   -- a byte by itself (also a backslash that escapes nothing), then a run
-  plain : (deepest b : ℕ) (more behind : List ℕ)
-      → is_plain b ≡ true → begins_escape (b ∷ (more ++ behind)) ≡ false → IsBare deepest more behind → IsBare deepest (b ∷ more) behind
+  plain : (deepest b : ℕ) (more following : List ℕ)
+      → is_plain b ≡ true → begins_escape (b ∷ (more ++ following)) ≡ false → IsBare deepest more following → IsBare deepest (b ∷ more) following
   -- a run in parentheses, nested one less deep, then a run
-  nested : (deepest : ℕ) (inside more behind : List ℕ) → IsBare deepest inside (right_parenthesis ∷ (more ++ behind)) → IsBare (suc deepest) more behind
-      → IsBare (suc deepest) (left_parenthesis ∷ (inside ++ right_parenthesis ∷ more)) behind
+  nested : (deepest : ℕ) (inside more following : List ℕ)
+      → IsBare deepest inside (right_parenthesis ∷ (more ++ following)) → IsBare (suc deepest) more following
+      → IsBare (suc deepest) (left_parenthesis ∷ (inside ++ right_parenthesis ∷ more)) following
 
 -- a run ends before these bytes: there are none, or the first is an ASCII control character, a space, or a `)`; since
 -- the run is balanced, that `)` closes none (CommonMark 6.3)

@@ -11,7 +11,7 @@ use Rattle.first_pass_lines.specs.Lines.{begins, is_ascii_white}
 use Rattle.first_pass_links.specs.Escapes.{begins_escape}
 use Rattle.first_pass_links.specs.Changes.{begins_pipe_escape}
 use Rattle.first_pass_links.specs.declared.label.Unit.{Unit}
-use Rattle.first_pass_links.specs.Labels.{AnswersWith, ErrsBehind, begins_character, joined, bytes_of, label_len, shown}
+use Rattle.first_pass_links.specs.Labels.{AnswersWith, ErrsAfter, begins_character, joined, bytes_of, label_len, shown}
 
 -- the bytes from one offset up to another (this project)
 abbrev pub part : List ℕ → ℕ → ℕ → List ℕ
@@ -115,4 +115,4 @@ pub record StopsByError (text : List ℕ) (at : ℕ) (post : Bor (List ℕ) → 
   pub next : ℕ
   pub characters : ℕ
   pub run : (prefix : List ℕ → Option ℕ) → AnswersWith text prefix post → IsWhiteRun prefix text at next characters
-  pub stops : ErrsBehind text next post
+  pub stops : ErrsAfter text next post

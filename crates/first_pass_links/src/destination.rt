@@ -4,7 +4,7 @@ ghost use Rattle.std.specs.Prelude.{◌≡◌, ◌+◌, ◌<◌, ◌≤◌, ◌^
 ghost use Rattle.std.specs.Str.{IsCharBoundary};
 ghost use Rattle.first_pass_items.specs.Bytes.{ascii_end};
 ghost use Rattle.first_pass_links.specs.Escapes.{begins_escape};
-ghost use Rattle.first_pass_links.specs.Destinations.{unescaped_upto, ends_brackets, ends_run, closes_none, nesting_behind, run_len, destination_at};
+ghost use Rattle.first_pass_links.specs.Destinations.{unescaped_upto, ends_brackets, ends_run, closes_none, nesting_after, run_len, destination_at};
 
 use crate::plain::plain_run;
 use first_pass_lines::lines::begins;
@@ -21,7 +21,7 @@ pub fn scan_link_dest(text: &str, start_ix: usize, max_next: usize) -> Option<(u
         (result ≡ None)
         (λ destination. IsSomeAnd result (λ answer. (answer.0 ≡ destination.0) × (answer.1.now ≡ destination.1))) }
     ensures fits { IfSome result (λ answer. start_ix + answer.0 ≤ length text.now) }
-    ensures behind { IfSome result (λ answer. IsCharBoundary text.now (start_ix + answer.0)) }
+    ensures following { IfSome result (λ answer. IsCharBoundary text.now (start_ix + answer.0)) }
 {
     let bytes = rest_of(text.as_bytes(), start_ix);
     if begins(b'<', bytes) {
@@ -62,7 +62,7 @@ fn scan_run(bytes: &[u8], deepest: usize) -> Option<usize>
         if closes_none(bytes[at], nesting) {
             return Some(at);
         }
-        nesting = nesting_behind(bytes[at], nesting);
+        nesting = nesting_after(bytes[at], nesting);
         if nesting > deepest {
             return None;
         }
@@ -80,9 +80,9 @@ fn closes_none(byte: u8, nesting: usize) -> bool
 }
 
 // The number of open parentheses after a byte.
-fn nesting_behind(byte: u8, nesting: usize) -> usize
+fn nesting_after(byte: u8, nesting: usize) -> usize
     requires { nesting < 2 ^ 63 }
-    ensures value { result ≡ nesting_behind byte nesting }
+    ensures value { result ≡ nesting_after byte nesting }
     ensures small { result ≤ nesting + 1 }
 {
     match byte {

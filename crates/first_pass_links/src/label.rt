@@ -9,7 +9,7 @@ ghost use Rattle.first_pass_items.specs.CowText.{text_of};
 ghost use Rattle.first_pass_lines.specs.Lines.{ends_line, is_ascii_white};
 ghost use Rattle.first_pass_links.specs.Destinations.{unescaped_upto};
 ghost use Rattle.first_pass_entities.specs.Texts.{Borrows};
-ghost use Rattle.first_pass_links.specs.Labels.{AnswersWith, AnswersPlaces, CanErr, ErrsBehind, is_bracket, begins_character, ends_line_label, is_label, label_at};
+ghost use Rattle.first_pass_links.specs.Labels.{AnswersWith, AnswersPlaces, CanErr, ErrsAfter, is_bracket, begins_character, ends_line_label, is_label, label_at};
 ghost use Rattle.first_pass_links.specs.Units.{part, read_of, left_at, kept_unit, space_unit, dropped_unit, backslash_unit, IsUnit, Reads, IsRead, IsWhiteRun, EndsWhiteRun, StopsByError, IsBlankRest};
 
 use crate::destination::unit_len;
@@ -50,7 +50,7 @@ where
         (answer ≡ None)
         (λ label. IsSomeAnd answer (λ found. (found.0 ≡ label.0) × (text_of found.1 ≡ label.1)))) }
     ensures within { IfOk result (λ answer. IfSome answer (λ found. (0 < found.0) × (found.0 ≤ length text.now))) }
-    ensures behind { IfOk result (λ answer. IfSome answer (λ found. IsCharBoundary text.now found.0)) }
+    ensures following { IfOk result (λ answer. IfSome answer (λ found. IsCharBoundary text.now found.0)) }
     ensures borrowed { IfOk result (λ answer. IfSome answer (λ found.
         text_of found.1 ≡ take (found.0 - 1) text.now → Borrows (take (found.0 - 1) text.now) found.1)) }
     ensures err { OnErr result ((prefix : List ℕ → Option ℕ) → AnswersWith text.now prefix (F.post linebreak_handler)
@@ -199,10 +199,10 @@ where
     let mut next = at;
     let mut characters = 0;
     while next < bytes.len() && is_ascii_white(bytes[next]) {
-        let Some(behind) = scan_space_byte(bytes, next, linebreak_handler)? else {
+        let Some(following) = scan_space_byte(bytes, next, linebreak_handler)? else {
             return Ok(None);
         };
-        next = behind;
+        next = following;
         characters += 1;
     }
     Ok(Some((next, characters)))
@@ -231,13 +231,13 @@ where
         → left_at prefix bytes.now at ≡ []) }
     ensures space { IfOk result (λ answer. IfSome answer (λ next.
         slice_index bytes.now at ≡ space → next ≡ at + 1)) }
-    ensures err { OnErr result (ErrsBehind bytes.now at (F.post linebreak_handler.now)) }
+    ensures err { OnErr result (ErrsAfter bytes.now at (F.post linebreak_handler.now)) }
 {
-    let behind = rest_of(bytes, at + 1);
-    if !ends_line(bytes[at], behind) {
+    let following = rest_of(bytes, at + 1);
+    if !ends_line(bytes[at], following) {
         return Ok(Some(at + 1));
     }
-    match linebreak_handler(behind)? {
+    match linebreak_handler(following)? {
         Some(prefix) => Ok(Some(at + 1 + prefix)),
         None => Ok(None),
     }
@@ -377,8 +377,8 @@ fn begun_characters(byte: u8) -> usize
 }
 
 // Whether a byte ends a line, before these bytes.
-fn ends_line(byte: u8, behind: &[u8]) -> bool
-    ensures { result ≡ ends_line byte behind.now }
+fn ends_line(byte: u8, following: &[u8]) -> bool
+    ensures { result ≡ ends_line byte following.now }
 {
-    byte == b'\n' || byte == b'\r' && !begins(b'\n', behind)
+    byte == b'\n' || byte == b'\r' && !begins(b'\n', following)
 }

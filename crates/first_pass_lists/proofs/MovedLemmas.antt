@@ -94,7 +94,7 @@ last_place : (ds : List ℕ) (n d place r : ℕ) → IsLastBefore ds d n r → p
     → ((k : ℕ) → place < k → k < n → d < slice_index ds k) → r ≡ place
 last_place ds n d place r h l is deep =
     ⊎_elim
-    (λ less. let w = h.behind place less l in absurd (omega (arith, is)))
+    (λ less. let w = h.following place less l in absurd (omega (arith, is)))
     (λ from. ⊎_elim (λ same. sym same) (λ other. let w = deep r (omega (arith, other, from)) h.within in absurd (omega (arith, h.depth))) (cases_eq place r))
     (cases_lt r place)
 
@@ -111,7 +111,7 @@ moved_current g last h =
     let l : last.0 < n = omega (arith, h.within, old) in
     let is : slice_index ds last.0 ≡ d = omega (arith, lower g.nodes last.0 last.0 (omega arith), h.depth) in
     let deep : (k : ℕ) → last.0 < k → k < n → d < slice_index ds k = λ k a b.
-    omega (arith, lower g.nodes last.0 k (omega arith), h.behind k a (omega (arith, old))) in
+    omega (arith, lower g.nodes last.0 k (omega arith), h.following k a (omega (arith, old))) in
     let before = last_before-is ds d last.0 n l is (λ k a b. omega (arith, deep k a b)) in
     ap (λ k. Some (at_place k)) (last_place ds n d last.0 (last_before ds d n) before l is deep)
 

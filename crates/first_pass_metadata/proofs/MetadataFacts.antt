@@ -4,8 +4,8 @@ use Rattle.std.proofs.Common.{nat_lt, List, [], ◌∷◌, length, drop, refl, s
 use Rattle.std.specs.List.{list_any}
 use Rattle.std.proofs.lemmas.Bool.{cases_lt, lt-ltb, le-ltb}
 use Rattle.first_pass_lines.specs.Lines.{begins, is_content, ends_line, line_len}
-use Rattle.first_pass_lines.specs.Places.{Place, line_place, lines_behind, lines_at}
-use Rattle.first_pass_metadata.specs.Metadata.{closes_metadata, any_line_closes, behind_line, opens_metadata, metadata_byte}
+use Rattle.first_pass_lines.specs.Places.{Place, line_place, lines_after, lines_at}
+use Rattle.first_pass_metadata.specs.Metadata.{closes_metadata, any_line_closes, after_line, opens_metadata, metadata_byte}
 use Rattle.first_pass_metadata.specs.MetadataSearch.{first_closing, closing_line_from}
 use Rattle.first_pass_lines.proofs.LineFacts.{line_len-inside, line_len-within, lines_at-line, lines_at-end}
 use Rattle.first_pass_lines.specs.Plain.{is_plain, begins_plain}
@@ -46,7 +46,7 @@ lines-apart text s y h =
                 omega (arith, ap line_len d)
             | inr outside ↦ omega arith
           ]
-      | inr behind ↦
+      | inr following ↦
           let d : drop (s - y) (drop y text) ≡ drop s text = drop-drop (s - y) y text ∙ ap (λ k. drop k text) (omega arith) in
           let e = line_len-inside (drop y text) (s - y) (omega arith) in
           omega (arith, ap line_len d)
@@ -84,16 +84,16 @@ pub closing_line-same : (c : ℕ) (text : List ℕ) (s y from : ℕ)
 closing_line-same c text s y from e b w = same_up_to c text from s y from e (omega arith) b w
 
 -- whether a line closes does not depend on the offset of the bytes
-any_behind : (c b s t : ℕ) (bs : List ℕ)
-    → list_any (λ line. closes_metadata c line.rest.left) (lines_behind b s bs) ≡ list_any (λ line. closes_metadata c line.rest.left) (lines_behind b t bs)
-unfolding lines_behind
-any_behind c b s t [] = refl
-any_behind c b s t (x ∷ xs) =
+any_after : (c b s t : ℕ) (bs : List ℕ)
+    → list_any (λ line. closes_metadata c line.rest.left) (lines_after b s bs) ≡ list_any (λ line. closes_metadata c line.rest.left) (lines_after b t bs)
+unfolding lines_after
+any_after c b s t [] = refl
+any_after c b s t (x ∷ xs) =
     let p : Place → Bool = λ line. closes_metadata c line.rest.left in
-    let r = any_behind c x (s + 1) (t + 1) xs in
+    let r = any_after c x (s + 1) (t + 1) xs in
     elim (ends_line b (x ∷ xs)) as (λ u.
-    let here : List Place = lines_behind x (s + 1) xs in
-    let there : List Place = lines_behind x (t + 1) xs in
+    let here : List Place = lines_after x (s + 1) xs in
+    let there : List Place = lines_after x (t + 1) xs in
     list_any p (cond u (line_place s (x ∷ xs) ∷ here) here) ≡ list_any p (cond u (line_place t (x ∷ xs) ∷ there) there)) [
       | true ↦ ap (λ v. closes_metadata c (x ∷ xs) || v) r
       | false ↦ r
@@ -102,7 +102,7 @@ any_behind c b s t (x ∷ xs) =
 pub any_line-anywhere : (c s t : ℕ) (bs : List ℕ) → any_line_closes c s bs ≡ any_line_closes c t bs
 unfolding lines_at
 any_line-anywhere c s t [] = refl
-any_line-anywhere c s t (b ∷ bs) = ap (λ v. closes_metadata c (b ∷ bs) || v) (any_behind c b (s + 1) (t + 1) bs)
+any_line-anywhere c s t (b ∷ bs) = ap (λ v. closes_metadata c (b ∷ bs) || v) (any_after c b (s + 1) (t + 1) bs)
 
 -- some line closes exactly if the first that does begins before the end of the text
 sought_step : (c : ℕ) (text : List ℕ) (most s : ℕ) (t : Bool) → s < length text → length text ≤ s + suc most → t ≡ closes_metadata c (drop s text)
@@ -135,10 +135,10 @@ pub any_line-sought : (c : ℕ) (text : List ℕ) (s : ℕ) → nat_lt (closing_
 any_line-sought c text s = sought_up_to c text (length text) s (omega arith)
 
 -- the same for the lines after the one at an offset
-pub any_line-behind : (c : ℕ) (text : List ℕ) (s from : ℕ)
-    → from ≡ s + line_len (drop s text) → nat_lt (closing_line_from c text from) (length text) ≡ any_line_closes c 0 (behind_line (drop s text))
-any_line-behind c text s from e =
-    let d : drop from text ≡ behind_line (drop s text) = ap (λ k. drop k text) e ∙ sym (drop-drop (line_len (drop s text)) s text) in
+pub any_line-following : (c : ℕ) (text : List ℕ) (s from : ℕ)
+    → from ≡ s + line_len (drop s text) → nat_lt (closing_line_from c text from) (length text) ≡ any_line_closes c 0 (after_line (drop s text))
+any_line-following c text s from e =
+    let d : drop from text ≡ after_line (drop s text) = ap (λ k. drop k text) e ∙ sym (drop-drop (line_len (drop s text)) s text) in
     any_line-sought c text from ∙ any_line-anywhere c from 0 (drop from text) ∙ ap (any_line_closes c 0) d
 
 -- the bytes that open metadata are no line endings

@@ -31,19 +31,19 @@ abbrev pub any_line_closes : ℕ → ℕ → List ℕ → Bool
 any_line_closes c start bs = list_any (λ line. closes_metadata c line.rest.left) (lines_at start bs)
 
 -- the bytes after the line that begins here (CommonMark 2.1, line)
-abbrev pub behind_line : List ℕ → List ℕ
-behind_line bs = drop (line_len bs) bs
+abbrev pub after_line : List ℕ → List ℕ
+after_line bs = drop (line_len bs) bs
 
 -- The first two lines allow metadata of the byte c to open here: the first is exactly three of that byte, then white
 -- space, and the second is neither blank nor a closing line (this project).
 unfoldable pub begins_metadata : ℕ → List ℕ → Bool
 begins_metadata c bs =
-    let next = behind_line bs in
+    let next = after_line bs in
     (run_len c bs == 3) && is_blank_line (drop 3 bs) && not (is_blank_line next) && not (closes_metadata c next)
 
 -- metadata of the byte c opens here: its first two lines allow it, and a later line closes it (this project)
 unfoldable pub opens_metadata : ℕ → List ℕ → Bool
-opens_metadata c bs = begins_metadata c bs && any_line_closes c 0 (behind_line (behind_line bs))
+opens_metadata c bs = begins_metadata c bs && any_line_closes c 0 (after_line (after_line bs))
 
 -- the byte of the metadata block that opens here: `-` if the YAML form is on, `+` if the other form is on
 -- (this project)

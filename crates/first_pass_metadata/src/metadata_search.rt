@@ -1,7 +1,7 @@
 //! Metadata blocks of one text, with a record of the closing lines found.
 
 ghost use Rattle.std.specs.Prelude.{◌≡◌, ◌≤◌, ℕ, List, length, drop, IfSome};
-ghost use Rattle.first_pass_metadata.specs.Metadata.{behind_line, any_line_closes, opens_metadata, metadata_byte};
+ghost use Rattle.first_pass_metadata.specs.Metadata.{after_line, any_line_closes, opens_metadata, metadata_byte};
 ghost use Rattle.first_pass_metadata.specs.MetadataSearch.{IsClosingLine, IsKnownOf};
 
 use crate::metadata_scan::{scan_closing_line, scan_metadata_opening};
@@ -77,15 +77,15 @@ fn opens_at(text: &[u8], start: usize, byte: u8, known: &mut Option<ClosingLine>
 {
     match scan_metadata_opening(rest_of(text, start), byte) {
         None => false,
-        Some(end) => closes_behind(text, start + end, byte, known),
+        Some(end) => closes_after(text, start + end, byte, known),
     }
 }
 
 // Whether a line after the one at the offset `line` closes metadata of the byte.
-fn closes_behind(text: &[u8], line: usize, byte: u8, known: &mut Option<ClosingLine>) -> bool
+fn closes_after(text: &[u8], line: usize, byte: u8, known: &mut Option<ClosingLine>) -> bool
     requires within { line ≤ length text.now }
     requires known { IfSome known.old (IsClosingLine byte text.now) }
-    ensures value { result ≡ any_line_closes byte 0 (behind_line (drop line text.now)) }
+    ensures value { result ≡ any_line_closes byte 0 (after_line (drop line text.now)) }
     ensures known { IfSome known.new (IsClosingLine byte text.now) }
 {
     let from = next_line(text, line);

@@ -35,10 +35,10 @@ put_is label x es = λ i. cond (is_some (lookup (λ l. texts_ties (folding_of la
 
 module _ {X Y : Type 0} (seen : CowStr × X → Y) where
   -- after an entry that comes before
-  put_behind : (found : Bool) (e : CowStr × X) (es more : List (CowStr × X))
+  put_after : (found : Bool) (e : CowStr × X) (es more : List (CowStr × X))
       → map seen (cond found (e ∷ es) (e ∷ more)) ≡ seen e ∷ map seen (cond found es more)
-  put_behind true e es more = refl
-  put_behind false e es more = refl
+  put_after true e es more = refl
+  put_after false e es more = refl
 
   put_cons : (label : CowStr) (x : X) (e : CowStr × X) (es : List (CowStr × X)) (more : List Y) → IsInOrder (e ∷ es) → (o : Ordering) → label_cmp label e.0 ≡ o
       → map seen (put label x es) ≡ more
@@ -51,7 +51,7 @@ module _ {X Y : Type 0} (seen : CowStr × X → Y) where
       ap (λ (r : Option X). map seen (cond (is_some r) (e ∷ es) ((label, x) ∷ e ∷ es))) here
   put_cons label x e es more order Equal is rest = refl
   put_cons label x e es more order Greater is rest =
-      put_behind (is_some (lookup (is_at (label_cmp label)) es)) e es (insert_entry label_cmp es label x) ∙ ap (λ z. seen e ∷ z) rest
+      put_after (is_some (lookup (is_at (label_cmp label)) es)) e es (insert_entry label_cmp es label x) ∙ ap (λ z. seen e ∷ z) rest
 
 put_entries : (label : CowStr) (x : LinkDef) (es : List (CowStr × LinkDef))
     → IsInOrder es → map link_entry (put label x es) ≡ with_link (link_entry (label, x)) (map link_entry es)

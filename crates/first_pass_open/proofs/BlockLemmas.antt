@@ -45,11 +45,11 @@ opened_nodes g x chain ix =
     chained-nodes (pushed (appended g x) ix) chain ∙ append_assoc g.nodes ((length g.spine + 1, x) ∷ []) (at_depth (suc (length g.spine) + 1) (leaves chain))
     ∙ ap (λ (d : ℕ). g.nodes ++ (length g.spine + 1, x) ∷ at_depth d (leaves chain)) deeper
 
-get_behind : (ns more : List (ℕ × Item)) (n : ℕ × Item) (i : ℕ) → i ≡ length ns → slice_get (ns ++ n ∷ more) i ≡ Some n
-get_behind [] more n zero at = refl
-get_behind [] more n (suc i) at = absurd (omega arith)
-get_behind (m ∷ ns) more n zero at = absurd (omega arith)
-get_behind (m ∷ ns) more n (suc i) at = get_behind ns more n i (omega arith)
+get_after : (ns more : List (ℕ × Item)) (n : ℕ × Item) (i : ℕ) → i ≡ length ns → slice_get (ns ++ n ∷ more) i ≡ Some n
+get_after [] more n zero at = refl
+get_after [] more n (suc i) at = absurd (omega arith)
+get_after (m ∷ ns) more n zero at = absurd (omega arith)
+get_after (m ∷ ns) more n (suc i) at = get_after ns more n i (omega arith)
 
 same_current : (g : Forest Item) (x y : Item) (chain : List Item) (ix : TreeIndex)
     → (chained (pushed (appended g x) ix) chain).current ≡ (chained (pushed (appended g y) ix) chain).current
@@ -83,7 +83,7 @@ module _ (g n : Forest Item) (x : Item) (chain : List Item) (ix : TreeIndex) (at
   open_item_of =
       ap (λ (v : Forest Item). item_at v ix) filled
       ∙ ap (λ (ns : List (ℕ × Item)). option_map (λ (z : ℕ × Item). z.1) (slice_get ns ix.0)) (opened_nodes g x chain ix)
-      ∙ ap (option_map (λ (z : ℕ × Item). z.1)) (get_behind g.nodes (at_depth (length g.spine + 2) (leaves chain)) (length g.spine + 1, x) ix.0 at)
+      ∙ ap (option_map (λ (z : ℕ × Item). z.1)) (get_after g.nodes (at_depth (length g.spine + 2) (leaves chain)) (length g.spine + 1, x) ix.0 at)
 
   -- another kind of block, while it is open
   pub open_named : (body : ItemBody) → with_body_at n ix body ≡ chained (pushed (appended g (record x { body = body })) ix) chain

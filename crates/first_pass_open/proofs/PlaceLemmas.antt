@@ -24,7 +24,7 @@ use Rattle.first_pass_grammar.specs.declared.kind.Container.{Container}
 use Rattle.first_pass_grammar.specs.declared.kind.Container.TheVariants.{BlockQuote, ListItem, FootnoteDefinition, Definition}
 use Rattle.first_pass_grammar.specs.Containers.{has_columns, prefix, after, or_shorter, front}
 use Rattle.first_pass_grammar.specs.Kinds.{all_taken, unindented, item_at, definition_marker_at}
-use Rattle.first_pass_grammar.specs.Openers.{task_by, task_behind}
+use Rattle.first_pass_grammar.specs.Openers.{task_by, task_after}
 
 all_by : (k : ℕ) (r : Rest) (o : Option Rest)
     → next_column r ≡ o → ((s : Rest) → after_columns (indent (after_columns k s)) (after_columns k s) ≡ after_columns (indent s) s)
@@ -254,32 +254,32 @@ task_found (Some task) found checked old new e h = (let z : Some task.0 ≡ Some
     ap (λ k. Some (k, task.1)) w ∙ ap (λ (q : Rest). Some (checked, q)) (sym h.1))
 
 -- after the markers of an item, or after the first if there is no other or the option is off
-behind_by : (text : List ℕ) (line : ℕ) (r : Rest) (o : Option (Bool × Rest))
+following_by : (text : List ℕ) (line : ℕ) (r : Rest) (o : Option (Bool × Rest))
     → ((task : Bool × Rest) → o ≡ Some task → task_of r ≡ Some task) → IsUtf8 text → IsPlaceOf text (place_at line r)
     → (
     let q : Rest = (task_by line r o).1 in
     IsPlaceOf text (place_at line q) × (line_end (place_at line q) ≡ line_end (place_at line r)) × (length q.left ≤ length r.left))
-behind_by text line r None h u i = (i, refl, omega arith)
-behind_by text line r (Some task) h u i = task_keeps text line r task u (h task refl) i
+following_by text line r None h u i = (i, refl, omega arith)
+following_by text line r (Some task) h u i = task_keeps text line r task u (h task refl) i
 
 pub option_on : (t : Bool) (o : Option (Bool × Rest)) (task : Bool × Rest) → (if t then o else None) ≡ Some task → o ≡ Some task
 option_on true o task h = h
 option_on false o task h = cc
 
-pub behind_keeps : (text : List ℕ) (options : Options) (line : ℕ) (r : Rest) → IsUtf8 text → IsPlaceOf text (place_at line r)
+pub past_keeps : (text : List ℕ) (options : Options) (line : ℕ) (r : Rest) → IsUtf8 text → IsPlaceOf text (place_at line r)
     → (
-    let q : Rest = (task_behind options line r).1 in
+    let q : Rest = (task_after options line r).1 in
     IsPlaceOf text (place_at line q) × (line_end (place_at line q) ≡ line_end (place_at line r)) × (length q.left ≤ length r.left))
-behind_keeps text options line r u i =
-    behind_by text line r (if has options 16 then task_of r else None) (λ task h. option_on (has options 16) (task_of r) task h) u i
+past_keeps text options line r u i =
+    following_by text line r (if has options 16 then task_of r else None) (λ task h. option_on (has options 16) (task_of r) task h) u i
 
 -- after the markers of an item
 pub markers_keep : (text : List ℕ) (options : Options) (line : ℕ) (r : Rest) (item : (ℕ × ℕ × ℕ) × Rest) (new : Rest)
-    → IsUtf8 text → item_at r ≡ Some item → new ≡ (task_behind options line item.1).1 → IsPlaceOf text (place_at line r)
+    → IsUtf8 text → item_at r ≡ Some item → new ≡ (task_after options line item.1).1 → IsPlaceOf text (place_at line r)
     → IsPlaceOf text (place_at line new) × (line_end (place_at line new) ≡ line_end (place_at line r)) × (length new.left < length r.left)
 markers_keep text options line r item new u is rest i =
     let k = item_keeps text line r item u is i in
-    let b = behind_keeps text options line item.1 u k.0 in
+    let b = past_keeps text options line item.1 u k.0 in
     let s = item_shorter r item is in
     let e = ap (λ (q : Rest). length q.left) rest in
     (subst (λ q. IsPlaceOf text (place_at line q)) (sym rest) b.0, ap (λ q. line_end (place_at line q)) rest ∙ b.1 ∙ k.1, let l = b.2 in omega arith)
@@ -291,7 +291,7 @@ mark_by line r (Some task) x h = (
     let e : record { start = offset (place_at line r); «end» = offset (place_at line task.1); body = TaskListMarker task.0 } ≡ x = cc in
     sym (ap (λ (i : Item). is_task_marker i.body) e))
 
-pub mark_is_task : (options : Options) (line : ℕ) (r : Rest) (x : Item) → (task_behind options line r).0 ≡ Some x → is_task_marker x.body ≡ true
+pub mark_is_task : (options : Options) (line : ℕ) (r : Rest) (x : Item) → (task_after options line r).0 ≡ Some x → is_task_marker x.body ≡ true
 mark_is_task options line r x h = mark_by line r (if has options 16 then task_of r else None) x h
 
 -- the end of a line, from the bytes at a place in it

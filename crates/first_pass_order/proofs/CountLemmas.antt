@@ -22,8 +22,8 @@ use Rattle.first_pass_lines.proofs.LineFacts.{line_len-some}
 use Rattle.first_pass_lines.proofs.PlaceFacts.{place_length}
 use Rattle.first_pass_grammar.specs.Derivation.{list_flags}
 use Rattle.first_pass_grammar.specs.Kinds.{Kind, Blank, is_blank_rest, first_kind, IsKindBy, IsKind}
-use Rattle.first_pass_grammar.specs.Openers.{task_by, task_behind}
-use Rattle.first_pass_grammar.specs.Counting.{is_cell, is_row, last_cell, is_filled_behind, own, own_nodes}
+use Rattle.first_pass_grammar.specs.Openers.{task_by, task_after}
+use Rattle.first_pass_grammar.specs.Counting.{is_cell, is_row, last_cell, is_filled_after, own, own_nodes}
 use Rattle.first_pass_grammar.specs.Order.{GrowsBy}
 use Rattle.first_pass_grammar.proofs.OwnNodes.{alike_first, own_first, own_ended, own_changed, own_one, own_added}
 use Rattle.first_pass_open.specs.OpenBlock.{with_child}
@@ -51,7 +51,7 @@ count r = own_nodes r.tree.nodes
 own_shallower : (cell : Option ℕ) (nodes : List (ℕ × Item)) → own cell (map shallower nodes) ≡ own cell nodes
 unfolding own
 own_shallower cell [] = refl
-own_shallower cell (n ∷ nodes) = ap (λ k. (if is_filled_behind cell n.1 then 0 else 1) + k) (own_shallower (last_cell cell n.1) nodes)
+own_shallower cell (n ∷ nodes) = ap (λ k. (if is_filled_after cell n.1 then 0 else 1) + k) (own_shallower (last_cell cell n.1) nodes)
 
 own_moved : (place : ℕ) (cell : Option ℕ) (nodes : List (ℕ × Item)) → own cell (map_from shallower place nodes) ≡ own cell nodes
 own_moved zero cell nodes = own_shallower cell nodes
@@ -146,7 +146,7 @@ title_kept_count e r is =
 own_deeper : (cell : Option ℕ) (nodes : List (ℕ × Item)) → own cell (map deeper nodes) ≡ own cell nodes
 unfolding own
 own_deeper cell [] = refl
-own_deeper cell (n ∷ nodes) = ap (λ k. (if is_filled_behind cell n.1 then 0 else 1) + k) (own_deeper (last_cell cell n.1) nodes)
+own_deeper cell (n ∷ nodes) = ap (λ k. (if is_filled_after cell n.1 then 0 else 1) + k) (own_deeper (last_cell cell n.1) nodes)
 
 filled_one : (t : Bool) (m : ℕ) → (if t then 0 else 1) + m ≤ m + 1
 filled_one true m = omega arith
@@ -158,9 +158,9 @@ unfolding own
 own_wrapped cell nodes zero d x cells rows =
     let same : last_cell cell x ≡ cell = rw (rows, cells) refl in
     let e : own (last_cell cell x) (map deeper nodes) ≡ own cell nodes = ap (λ c. own c (map deeper nodes)) same ∙ own_deeper cell nodes in
-    let most = filled_one (is_filled_behind cell x) (own (last_cell cell x) (map deeper nodes)) in
+    let most = filled_one (is_filled_after cell x) (own (last_cell cell x) (map deeper nodes)) in
     omega arith
-own_wrapped cell [] (suc j) d x cells rows = (let most = filled_one (is_filled_behind cell x) 0 in omega arith)
+own_wrapped cell [] (suc j) d x cells rows = (let most = filled_one (is_filled_after cell x) 0 in omega arith)
 own_wrapped cell (n ∷ nodes) (suc j) d x cells rows = (let h = own_wrapped (last_cell cell n.1) nodes j d x cells rows in omega arith)
 
 opened_by_count : (f : Forest Item) (c : TreeIndex) (start e : ℕ) (b : ItemBody) → body_at f.nodes c.0 ≡ Some b
@@ -239,7 +239,7 @@ mark_by line r None x h is = cc
 mark_by line r (Some task) x h is = task_shorter r task (h task refl)
 
 pub mark_shorter : (options : Options) (line : ℕ) (r s : Rest) (marker : Option Item) (x : Item)
-    → marker ≡ (task_behind options line r).0 → s ≡ (task_behind options line r).1 → marker ≡ Some x → length s.left < length r.left
+    → marker ≡ (task_after options line r).0 → s ≡ (task_after options line r).1 → marker ≡ Some x → length s.left < length r.left
 mark_shorter options line r s marker x is rest some =
     let less = mark_by line r (if has options 16 then task_of r else None) x (λ task h. option_on (has options 16) (task_of r) task h) (sym is ∙ some) in
     let same = ap (λ (q : Rest). length q.left) rest in

@@ -34,8 +34,8 @@ open_before ds [] c d path last deep = tt
 open_before ds (ix ∷ spine) c d path last deep =
     (last-order ds (length spine + 1) d ix.0 c path.0 last (omega arith), open_before ds spine c d path.1 last (omega arith))
 
-pub current_behind : (f : Forest Item) (c : TreeIndex) → IsForest f → f.current ≡ Some c → AreBefore c.0 f.spine
-current_behind f c forest current =
+pub current_past : (f : Forest Item) (c : TreeIndex) → IsForest f → f.current ≡ Some c → AreBefore c.0 f.spine
+current_past f c forest current =
     open_before (depths f.nodes) f.spine c.0 (length f.spine + 1) forest.opened
     (subst (λ z. IfSome z (λ c. IsLastAt (depths f.nodes) (length f.spine + 1) c.0)) current forest.at_current) (omega arith)
 
@@ -86,7 +86,7 @@ module _ (names : Names) where
       let w = here_within f.nodes c.0 x here in
       let n = list_length f.nodes c.0 in
       let within : c.0 + 1 ≤ length nodes = omega arith in
-      let before = current_behind f c forest current in
+      let before = current_past f c forest current in
       let now : List (ℕ × Item) = take (c.0 + 1) nodes ++ t ∷ map deeper (drop (c.0 + 1) nodes) in
       same_shown names f (pushed (wrapped (with_body_at f c list) c t.1) c)
       (marks_wrapped names nodes c.0 (c.0 + 1) t (omega arith) (λ names depth start end. refl) still

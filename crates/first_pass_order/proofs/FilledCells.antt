@@ -7,7 +7,7 @@ use Rattle.first_pass_items.specs.declared.item.Item.{Item}
 use Rattle.first_pass_items.specs.declared.item.ItemBody.{ItemBody}
 use Rattle.first_pass_items.specs.declared.item.ItemBody.TheVariants.{Table, TableHead, TableRow, TableCell}
 use Rattle.first_pass_grammar.specs.Names.{Names}
-use Rattle.first_pass_grammar.specs.Counting.{is_cell, is_filled_behind, own, own_nodes, is_filled, filled_in_row, filled_cells}
+use Rattle.first_pass_grammar.specs.Counting.{is_cell, is_filled_after, own, own_nodes, is_filled, filled_in_row, filled_cells}
 use Rattle.first_pass_grammar.specs.WholeTables.{Mark, ATable, ARow, ACell, shown, marks, RowCells, row_marks, TableRows, table_marks, StartApart, HaveCells}
 use Rattle.first_pass_grammar.specs.WholeTables.{AreFull, AreWholeTables}
 
@@ -43,7 +43,7 @@ at_end «end» [] = 0
 at_end «end» (m ∷ ms) = (if starts_at «end» m then 1 else 0) + at_end (end_after «end» m) ms
 
 -- one of the two counts each node
-filled_is : (cell : Option ℕ) (start e : ℕ) → is_filled_behind cell (record { start = start; «end» = e; body = TableCell }) ≡ is_at cell start
+filled_is : (cell : Option ℕ) (start e : ℕ) → is_filled_after cell (record { start = start; «end» = e; body = TableCell }) ≡ is_at cell start
 filled_is None start e = refl
 filled_is (Some at) start e = refl
 
@@ -51,9 +51,9 @@ one_or_other : (t : Bool) (m k n : ℕ) → m + k ≡ n → (if t then 0 else 1)
 one_or_other true m k n h = omega arith
 one_or_other false m k n h = omega arith
 
-plain_behind : (cell : Option ℕ) (x : Item) → is_cell x.body ≡ false → is_filled_behind cell x ≡ false
-plain_behind None x h = refl
-plain_behind (Some at) x h = rw h refl
+plain_past : (cell : Option ℕ) (x : Item) → is_cell x.body ≡ false → is_filled_after cell x ≡ false
+plain_past None x h = refl
+plain_past (Some at) x h = rw h refl
 
 counted_with : (names : Names) (cell : Option ℕ) (depth start e : ℕ) (b : ItemBody) (nodes : List (ℕ × Item))
     → ((after : Option ℕ) → own after nodes + repeated after (marks names nodes) ≡ length nodes)
@@ -62,22 +62,22 @@ counted_with : (names : Names) (cell : Option ℕ) (depth start e : ℕ) (b : It
 unfolding own repeated
 counted_with names cell depth start e (Table ix) nodes h =
     let rest = h cell in
-    let not = plain_behind cell (record { start = start; «end» = e; body = Table ix }) refl in
+    let not = plain_past cell (record { start = start; «end» = e; body = Table ix }) refl in
     rw not (omega arith)
 counted_with names cell depth start e TableHead nodes h =
     let rest = h None in
-    let not = plain_behind cell (record { start = start; «end» = e; body = TableHead }) refl in
+    let not = plain_past cell (record { start = start; «end» = e; body = TableHead }) refl in
     rw not (omega arith)
 counted_with names cell depth start e TableRow nodes h =
     let rest = h None in
-    let not = plain_behind cell (record { start = start; «end» = e; body = TableRow }) refl in
+    let not = plain_past cell (record { start = start; «end» = e; body = TableRow }) refl in
     rw not (omega arith)
 counted_with names cell depth start e TableCell nodes h =
     rw (filled_is cell start e)
     (one_or_other (is_at cell start) (own (Some start) nodes) (repeated (Some start) (marks names nodes)) (length nodes) (h (Some start)))
 counted_with names cell depth start e b nodes h =
     let rest = h cell in
-    let not = plain_behind cell (record { start = start; «end» = e; body = b }) refl in
+    let not = plain_past cell (record { start = start; «end» = e; body = b }) refl in
     rw not (omega arith)
 
 counted : (names : Names) (cell : Option ℕ) (nodes : List (ℕ × Item)) → own cell nodes + repeated cell (marks names nodes) ≡ length nodes

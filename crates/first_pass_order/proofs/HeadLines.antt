@@ -78,15 +78,15 @@ after_less (c ∷ path) r s e = after_by c r s (after path r) e (λ q g. after_l
 empty_left : (path : List Container) (r : Rest) → after path (line_rest []) ≡ Some r → r.left ≡ []
 empty_left path r taken = (let less = after_less path (line_rest []) r taken in nil_from_length r.left (omega arith))
 
-row_behind : (path : List Container) (o : Option Rest) → after path (line_rest []) ≡ o → option_and_then delimiter_row_of o ≡ None
-row_behind path None taken = refl
-row_behind path (Some r) taken = no_row_of r (empty_left path r taken)
+row_after : (path : List Container) (o : Option Rest) → after path (line_rest []) ≡ o → option_and_then delimiter_row_of o ≡ None
+row_after path None taken = refl
+row_after path (Some r) taken = no_row_of r (empty_left path r taken)
 
 no_table : (path : List Container) (bs : List ℕ) → drop (line_len bs) bs ≡ [] → table_at path bs ≡ None
 unfolding table_at
 no_table path bs none =
     ap (λ (rest : List ℕ). option_and_then (if_as_many (head_columns bs)) (option_and_then delimiter_row_of (after path (line_rest rest)))) none
-    ∙ ap (option_and_then (if_as_many (head_columns bs))) (row_behind path (after path (line_rest [])) refl)
+    ∙ ap (option_and_then (if_as_many (head_columns bs))) (row_after path (after path (line_rest [])) refl)
 
 -- A line that heads a table ends before the text does.
 pub table_has_line : (path : List Container) (bs : List ℕ) (alignments : List Alignment) → table_at path bs ≡ Some alignments → line_len bs < length bs

@@ -159,7 +159,7 @@ first_at text utf8 =
       places = tt;
       fits = z;
       within = n;
-      whole = (record { behind = z; order = n; before = l; starts = IsCharBoundary-start text utf8; ends = IsCharBoundary-end text }, refl, refl);
+      whole = (record { following = z; order = n; before = l; starts = IsCharBoundary-start text utf8; ends = IsCharBoundary-end text }, refl, refl);
     }
 
 -- before the first block

@@ -37,7 +37,7 @@ unfolding Fits
 fits_last text w from to e Empty x kids plain later b (inl (between, inside, room)) =
     let o = between.order in
     inl (
-      record { behind = between.behind; order = omega arith; before = omega arith; starts = between.starts; ends = b },
+      record { following = between.following; order = omega arith; before = omega arith; starts = between.starts; ends = b },
       subst (λ v. Fits text v x.start e kids) (sym (below_ended w from x e)) (fits-later text (below w from x) x.start x.«end» e kids later inside),
       omega arith,
     )
@@ -46,7 +46,7 @@ fits_last text w from to e (Node y more before) x kids plain later b (inl (betwe
     let rest' = fits_last text (beyond w) y.«end» to e before x kids plain later b rest in
     inl (
       record {
-        behind = between.behind;
+        following = between.following;
         order = between.order;
         before = fits-order text (beyond w) y.«end» e (beside before (Node (ended_at x e) kids Empty)) rest';
         starts = between.starts;
@@ -102,7 +102,9 @@ fits_apart text w from to (Node y more before) x kids plain (inl (between, insid
     let room : y.«end» ≤ r.mid = fits-order text (beyond w) y.«end» r.mid before r.front in
     record {
       mid = r.mid;
-      front = inl (record { behind = between.behind; order = between.order; before = room; starts = between.starts; ends = between.ends }, inside, r.front);
+      front = inl (
+          record { following = between.following; order = between.order; before = room; starts = between.starts; ends = between.ends },
+          inside, r.front);
       between = r.between;
       stands = r.stands;
       which = inr (beyond_twice w r.stands r.which);
@@ -197,7 +199,7 @@ titled_in text to mid true x kids v other block inner outer between h =
     let e : below v mid x ≡ InText mid = ap (λ w. below w mid x) (inner refl) ∙ (let f : below InItem mid x ≡ InText mid = rw (other, block) refl in f) in
     let g : below (InFirst mid) x.start x ≡ InText mid = rw (other, block) refl in
     inl (
-      record { behind = start; order = between.order; before = between.before; starts = between.starts; ends = between.ends },
+      record { following = start; order = between.order; before = between.before; starts = between.starts; ends = between.ends },
       subst (λ w. Fits text w x.start x.«end» kids) (e ∙ sym g) h,
       between.before,
     )
@@ -205,7 +207,7 @@ titled_in text to mid false x kids v other block inner outer between h =
     let start : x.start ≤ x.start = omega arith in
     let g : below Elsewhere x.start x ≡ Elsewhere = rw other refl in
     inl (
-      record { behind = start; order = between.order; before = between.before; starts = between.starts; ends = between.ends },
+      record { following = start; order = between.order; before = between.before; starts = between.starts; ends = between.ends },
       subst (λ w. Fits text w x.start x.«end» kids) (sym g) (plain_by text v mid x.start x.«end» x kids other (outer refl) h),
       between.before,
     )
@@ -218,7 +220,7 @@ fits_open_titled text to [] before x kids plain other block none h =
     let r = fits_apart text Elsewhere 0 to before x kids plain h in
     let stands = which_plain Elsewhere r.stands (inl refl) r.which in (
       r.mid,
-      r.between.behind,
+      r.between.following,
       titled_in text to r.mid false x kids r.stands other block (λ e. cc) (λ e. stands) r.between r.inside,
       r.between.starts,
       r.front,
@@ -227,7 +229,7 @@ fits_open_titled text to (level ∷ levels) before x kids plain other block none
     let w : Within = below (open_within levels) from level.1 in
     let r = fits_apart text w level.1.start to before x kids plain h in (
       r.mid,
-      r.between.behind,
+      r.between.following,
       titled_in text to r.mid level.1.item x kids r.stands other block (λ item. in_stands (open_within levels) from level.1 r.stands item r.which)
           (λ item. which_plain w r.stands (open_plain levels from level.1 item none) r.which) r.between r.inside,
       r.between.starts,
@@ -258,11 +260,11 @@ deep-at d [] k h w = absurd (omega arith)
 deep-at d (n ∷ ns) zero h w = h.0
 deep-at d (n ∷ ns) (suc k) h w = deep-at d ns k h.1 (omega arith)
 
-behind_first : (n : ℕ) (ns : List ℕ) (d k : ℕ) → IsLastAt (n ∷ ns) d (suc k) → IsLastAt ns d k
-behind_first n ns d k h = record {
+after_first : (n : ℕ) (ns : List ℕ) (d k : ℕ) → IsLastAt (n ∷ ns) d (suc k) → IsLastAt ns d k
+after_first n ns d k h = record {
   within = (let w = h.within in omega arith);
   depth = h.depth;
-  behind = λ i low high. h.behind (suc i) (omega arith) (omega arith);
+  following = λ i low high. h.following (suc i) (omega arith) (omega arith);
 }
 
 depth_there : (front : List (ℕ × Extent)) (d : ℕ) (x : Extent) (more : List (ℕ × Extent)) → slice_index (depths (front ++ (d, x) ∷ more)) (length front) ≡ d
@@ -284,10 +286,10 @@ last_place [] d x deep (suc k) below h =
     absurd (omega arith)
 last_place (n ∷ front) d x deep zero below h =
     let w = within_there front d x deep in
-    let high : d < slice_index (depths (front ++ (d, x) ∷ deep)) (length front) = h.behind (suc (length front)) (omega arith) (omega arith) in
+    let high : d < slice_index (depths (front ++ (d, x) ∷ deep)) (length front) = h.following (suc (length front)) (omega arith) (omega arith) in
     let is = depth_there front d x deep in
     absurd (omega arith)
-last_place (n ∷ front) d x deep (suc k) below h = ap suc (last_place front d x deep k below (behind_first n.0 (depths (front ++ (d, x) ∷ deep)) d k h))
+last_place (n ∷ front) d x deep (suc k) below h = ap suc (last_place front d x deep k below (after_first n.0 (depths (front ++ (d, x) ∷ deep)) d k h))
 
 -- after a last node that is less deep there is none of that depth
 no_place : (front : List (ℕ × Extent)) (d e : ℕ) (x : Extent) (k : ℕ) → e < d → IsLastAt (depths (front ++ (e, x) ∷ [])) d k → ⊥
@@ -295,10 +297,10 @@ no_place [] d e x zero less h = (let is : e ≡ d = h.depth in absurd (omega ari
 no_place [] d e x (suc k) less h = (let w = h.within in absurd (omega arith))
 no_place (n ∷ front) d e x zero less h =
     let w = within_there front e x [] in
-    let high : d < slice_index (depths (front ++ (e, x) ∷ [])) (length front) = h.behind (suc (length front)) (omega arith) (omega arith) in
+    let high : d < slice_index (depths (front ++ (e, x) ∷ [])) (length front) = h.following (suc (length front)) (omega arith) (omega arith) in
     let is = depth_there front e x [] in
     absurd (omega arith)
-no_place (n ∷ front) d e x (suc k) less h = no_place front d e x k less (behind_first n.0 (depths (front ++ (e, x) ∷ [])) d k h)
+no_place (n ∷ front) d e x (suc k) less h = no_place front d e x k less (after_first n.0 (depths (front ++ (e, x) ∷ [])) d k h)
 
 no_child : (root : Extent) (levels : List (Siblings × Extent)) (k : ℕ) → IsLastAt (depths (laid_open root levels Empty)) (suc (length levels)) k → ⊥
 unfolding laid_open laid

@@ -113,17 +113,17 @@ first_same m k ms ks e = cc
 rest_same : (m k : Mark) (ms ks : List Mark) → m ∷ ms ≡ k ∷ ks → ms ≡ ks
 rest_same m k ms ks e = cc
 
-behind_rows : (rows m all : List Mark) (more : List TableRows) → NoTables rows → m ++ table_marks more ≡ rows ++ all
-    → (behind : List Mark) × (m ≡ rows ++ behind) × (behind ++ table_marks more ≡ all)
+after_rows : (rows m all : List Mark) (more : List TableRows) → NoTables rows → m ++ table_marks more ≡ rows ++ all
+    → (following : List Mark) × (m ≡ rows ++ following) × (following ++ table_marks more ≡ all)
 unfolding table_marks
-behind_rows [] m all more none e = (m, refl, e)
-behind_rows (k ∷ rows) [] all [] none e = absurd (let n = ap length e in omega arith)
-behind_rows (k ∷ rows) [] all (t ∷ more) none e =
+after_rows [] m all more none e = (m, refl, e)
+after_rows (k ∷ rows) [] all [] none e = absurd (let n = ap length e in omega arith)
+after_rows (k ∷ rows) [] all (t ∷ more) none e =
     absurd (true≢false (ap is_table (first_same (ATable t.depth t.columns) k (row_marks (suc t.depth) t.rows ++ table_marks more) (rows ++ all) e) ∙ none.0))
-behind_rows (k ∷ rows) (b ∷ m) all more none e =
+after_rows (k ∷ rows) (b ∷ m) all more none e =
     let first = first_same b k (m ++ table_marks more) (rows ++ all) e in
-    let (behind, is, rest) = behind_rows rows m all more none.1 (rest_same b k (m ++ table_marks more) (rows ++ all) e) in
-    (behind, ap (λ (z : Mark). z ∷ m) first ∙ ap (λ (z : List Mark). k ∷ z) is, rest)
+    let (following, is, rest) = after_rows rows m all more none.1 (rest_same b k (m ++ table_marks more) (rows ++ all) e) in
+    (following, ap (λ (z : Mark). z ∷ m) first ∙ ap (λ (z : List Mark). k ∷ z) is, rest)
 
 front_of : (m : List Mark) (more all : List TableRows) → m ++ table_marks more ≡ table_marks all → AreFull all
     → (front : List TableRows) × (m ≡ table_marks front) × AreFull front
@@ -133,9 +133,9 @@ front_of (b ∷ m) more [] e full = absurd (let n = ap length e in omega arith)
 front_of (b ∷ m) more (t ∷ all) e full =
     let rest = row_marks (suc t.depth) t.rows ++ table_marks all in
     let first = first_same b (ATable t.depth t.columns) (m ++ table_marks more) rest e in
-    let (behind, is, further) = behind_rows (row_marks (suc t.depth) t.rows) m (table_marks all) more (rows_no_tables (suc t.depth) t.rows)
+    let (following, is, further) = after_rows (row_marks (suc t.depth) t.rows) m (table_marks all) more (rows_no_tables (suc t.depth) t.rows)
     (rest_same b (ATable t.depth t.columns) (m ++ table_marks more) rest e) in
-    let (front, same, whole) = front_of behind more all further full.2 in (
+    let (front, same, whole) = front_of following more all further full.2 in (
       t ∷ front,
       ap (λ (z : Mark). z ∷ m) first
           ∙ ap (λ (z : List Mark). ATable t.depth t.columns ∷ z) (is ∙ ap (λ (z : List Mark). row_marks (suc t.depth) t.rows ++ z) same),

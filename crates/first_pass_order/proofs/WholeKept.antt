@@ -34,7 +34,7 @@ use Rattle.first_pass_grammar.proofs.LinesLeft.{lines_from_at}
 use Rattle.first_pass_completion.proofs.SilentNodes.{IsSilent, from_modified, from_from, marks_moved}
 use Rattle.first_pass_grammar.proofs.TableMarks.{whole_deeper}
 use Rattle.first_pass_order.proofs.WholeBefore.{whole_still}
-use Rattle.first_pass_completion.proofs.SilentTexts.{silent_behind}
+use Rattle.first_pass_completion.proofs.SilentTexts.{silent_past}
 use Rattle.first_pass_grammar.proofs.TableItems.{deeper_nodes}
 use Rattle.first_pass_grammar.proofs.WholeBlocks.{whole_none, ShownBy, text_whole, opens_as}
 use Rattle.first_pass_grammar.proofs.WholeForests.{whole_both, whole_same}
@@ -158,7 +158,7 @@ pub block_last : (nodes items : List (ℕ × Item)) (depth : ℕ) → IsSilentFi
     → IsSilentLast (nodes ++ at_depth depth items) (Some (record { 0 = length nodes }))
 block_last nodes [] depth first may = absurd (true≢false (sym may ∙ ap (λ o. option_map_or may_be_title o false) (none_there nodes)))
 block_last nodes (x ∷ items) depth first may =
-    silent_behind nodes (depth + x.0, x.1) (at_depth depth items)
+    silent_past nodes (depth + x.0, x.1) (at_depth depth items)
     (deeper_nodes ShowsNothing depth (x ∷ items)
     (first (sym (ap (λ o. option_map_or may_be_title o false) (first_there nodes (depth + x.0, x.1) (at_depth depth items))) ∙ may)))
 

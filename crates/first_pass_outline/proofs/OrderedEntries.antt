@@ -23,7 +23,7 @@ between_from : (text : List ℕ) (a b to : ℕ) (entries : List Entry) → a ≤
 unfolding LieBetween
 between_from text a b to [] le h = omega arith
 between_from text a b to (e ∷ entries) le h =
-    (record { behind = (let from = h.0.behind in omega arith); order = h.0.order; starts = h.0.starts; ends = h.0.ends }, h.1)
+    (record { following = (let from = h.0.following in omega arith); order = h.0.order; starts = h.0.starts; ends = h.0.ends }, h.1)
 
 between_both : (text : List ℕ) (from mid to : ℕ) (entries more : List Entry) → LieBetween text from mid entries → LieBetween text mid to more
     → LieBetween text from to (entries ++ more)
@@ -163,7 +163,7 @@ pub record NodeFits (text : List ℕ) (least to : ℕ) (x : Extent) (kids next :
 
 range_from : (text : List ℕ) (least from to : ℕ) (x : Extent) → least ≤ from → IsBetween text from to x → IsRangeFrom text least x.start x.«end»
 range_from text least from to x le h =
-    record { behind = (let a = h.behind in omega arith); order = h.order; starts = h.starts; ends = h.ends }
+    record { following = (let a = h.following in omega arith); order = h.order; starts = h.starts; ends = h.ends }
 
 module _ (names : Names) (text : List ℕ) where
   node_entries : (least to depth : ℕ) (x : Extent) (n : ℕ × Item) (nodes kids next : List (ℕ × Item)) → ◌≡◌ {A = ℕ × Extent} (n.0, extent_of n.1) (depth, x)
@@ -192,7 +192,7 @@ module _ (names : Names) (text : List ℕ) where
       let apart : NoneInside (ks ++ ns) = subst NoneInside is none.1 in
       let deep : AreDeep (suc depth) ks =
       extents_deep (suc depth) ks (subst (AreDeep (suc depth)) (sym a) (laid_deep (suc depth) (suc depth) kids (omega arith))) in
-      let reaches = below_reaches within from x back between.behind in
+      let reaches = below_reaches within from x back between.following in
       let kids_in = row_entries (below within from x) x.start x.«end» kids (suc depth) ks reaches.1 inner a (inside_front ks ns apart) in
       let beyond_is = beyond_reach within x.«end» in
       let next_in = row_entries (beyond within) x.«end» to next depth ns (omega (arith, beyond_is)) after b (inside_back ks ns apart) in
@@ -217,7 +217,7 @@ module _ (names : Names) (text : List ℕ) where
       node_entries before to depth x n nodes ks ns first is deep
       (record {
         range = range_from text before before from x (omega arith) lead.1;
-        inner = between_from text before x.start x.«end» (entries_of names ks) lead.1.behind kids_in;
+        inner = between_from text before x.start x.«end» (entries_of names ks) lead.1.following kids_in;
         after = between_from text x.«end» from to (entries_of names ns) lead.1.before next_in;
       }) none
 

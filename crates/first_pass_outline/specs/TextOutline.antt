@@ -23,7 +23,7 @@ IsOnlyOutline options text entries =
 
 -- a range that starts at or after an offset, and whose ends are character boundaries of a text
 pub record IsRangeFrom (text : List ℕ) (from start «end» : ℕ) : Type 0 where
-  pub behind : from ≤ start
+  pub following : from ≤ start
   pub order : start ≤ «end»
   pub starts : IsCharBoundary text start
   pub ends : IsCharBoundary text «end»

@@ -20,13 +20,13 @@ unfoldable pub class_values : List (List ℕ) → List ℕ
 class_values classes = flat_map class_value classes
 
 -- the value of a key after `=`, if it has one (this project)
-abbrev pub value_behind_key : Option (List ℕ) → List ℕ
-value_behind_key None = []
-value_behind_key (Some value) = codes "=" ++ visible value
+abbrev pub value_after_key : Option (List ℕ) → List ℕ
+value_after_key None = []
+value_after_key (Some value) = codes "=" ++ visible value
 
 -- a key and its value, after a comma (this project)
 abbrev pub key_value : List ℕ × Option (List ℕ) → List ℕ
-key_value pair = codes "," ++ visible pair.0 ++ value_behind_key pair.1
+key_value pair = codes "," ++ visible pair.0 ++ value_after_key pair.1
 
 -- keys in this form, in their order
 unfoldable pub key_values : List (List ℕ × Option (List ℕ)) → List ℕ

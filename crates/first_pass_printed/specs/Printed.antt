@@ -122,13 +122,13 @@ alignment_sign Center = codes "c"
 alignment_sign Right = codes "r"
 
 -- the signs of columns, each after a comma
-unfoldable pub signs_behind : List Alignment → List ℕ
-signs_behind columns = flat_map (λ column. codes "," ++ alignment_sign column) columns
+unfoldable pub signs_after : List Alignment → List ℕ
+signs_after columns = flat_map (λ column. codes "," ++ alignment_sign column) columns
 
 -- the signs of a table's columns, separated by commas
 abbrev pub alignment_signs : List Alignment → List ℕ
 alignment_signs [] = []
-alignment_signs (first ∷ others) = alignment_sign first ++ signs_behind others
+alignment_signs (first ∷ others) = alignment_sign first ++ signs_after others
 
 -- the entry of a node's index, in parentheses: a text, the signs of a table's columns, or the level of a heading and
 -- its attributes; nothing for other nodes

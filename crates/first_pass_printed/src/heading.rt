@@ -3,7 +3,7 @@
 ghost use Rattle.std.specs.Prelude.{◌≡◌, ◌++◌, OnOk, map};
 ghost use Rattle.std.specs.Option.{option_map};
 ghost use Rattle.first_pass_attributes.specs.Attributes.{attributes_in, pair_in};
-ghost use Rattle.first_pass_printed.specs.HeadingValues.{attribute_values, class_value, class_values, heading_values, id_value, key_value, key_values, value_behind_key};
+ghost use Rattle.first_pass_printed.specs.HeadingValues.{attribute_values, class_value, class_values, heading_values, id_value, key_value, key_values, value_after_key};
 ghost use Rattle.first_pass_printed.specs.Printed.{visible};
 
 use crate::node::{append_number, append_visible};
@@ -52,7 +52,7 @@ fn append_id(line: &mut Vec<u8>, id: Option<&str>) -> Result<(), AllocError>
 {
     match id {
         None => Ok(()),
-        Some(text) => append_behind(line, b",#", text),
+        Some(text) => append_after(line, b",#", text),
     }
 }
 
@@ -63,7 +63,7 @@ fn append_classes(line: &mut Vec<u8>, classes: &[&str]) -> Result<(), AllocError
         ≡ line.old.items ++ class_values (map (λ class. class.now) classes.now)) }
 {
     for class in classes {
-        append_behind(line, b",.", *class)?;
+        append_after(line, b",.", *class)?;
     }
     Ok(())
 }
@@ -83,23 +83,23 @@ fn append_keys(line: &mut Vec<u8>, pairs: &[(&str, Option<&str>)]) -> Result<(),
 fn append_key(line: &mut Vec<u8>, pair: (&str, Option<&str>)) -> Result<(), AllocError>
     ensures { OnOk result (line.new.items ≡ line.old.items ++ key_value (pair_in pair.entry)) }
 {
-    append_behind(line, b",", pair.0)?;
+    append_after(line, b",", pair.0)?;
     append_value(line, pair.1)
 }
 
 /// Appends the value of a key after `=`, if it has one.
 fn append_value(line: &mut Vec<u8>, value: Option<&str>) -> Result<(), AllocError>
     ensures { OnOk result (line.new.items
-        ≡ line.old.items ++ value_behind_key (option_map (λ text. text.now) value.entry)) }
+        ≡ line.old.items ++ value_after_key (option_map (λ text. text.now) value.entry)) }
 {
     match value {
         None => Ok(()),
-        Some(text) => append_behind(line, b"=", text),
+        Some(text) => append_after(line, b"=", text),
     }
 }
 
 /// Appends the bytes of a sign, then a text.
-fn append_behind(line: &mut Vec<u8>, sign: &[u8], text: &str) -> Result<(), AllocError>
+fn append_after(line: &mut Vec<u8>, sign: &[u8], text: &str) -> Result<(), AllocError>
     ensures { OnOk result (line.new.items ≡ line.old.items ++ sign.now ++ visible text.now) }
 {
     line.extend_from_slice(sign)?;

@@ -1,7 +1,7 @@
 //! The printed form of the alignments of a table's columns.
 
 ghost use Rattle.std.specs.Prelude.{◌≡◌, ◌++◌, OnOk};
-ghost use Rattle.first_pass_printed.specs.Printed.{alignment_sign, signs_behind, alignment_signs, enclosed};
+ghost use Rattle.first_pass_printed.specs.Printed.{alignment_sign, signs_after, alignment_signs, enclosed};
 
 use first_pass_items::item::Alignment;
 use std::alloc::AllocError;
@@ -24,15 +24,15 @@ fn append_signs(line: &mut Vec<u8>, alignments: &[Alignment]) -> Result<(), Allo
         None => Ok(()),
         Some((first, others)) => {
             line.extend_from_slice(alignment_sign(*first).as_bytes())?;
-            append_signs_behind(line, others)
+            append_signs_after(line, others)
         }
     }
 }
 
 /// Appends the signs of columns, each after a comma.
-#[tactic(auto, unfolding(crate::specs::Printed::signs_behind))]
-fn append_signs_behind(line: &mut Vec<u8>, alignments: &[Alignment]) -> Result<(), AllocError>
-    ensures { OnOk result (line.new.items ≡ line.old.items ++ signs_behind alignments.now) }
+#[tactic(auto, unfolding(crate::specs::Printed::signs_after))]
+fn append_signs_after(line: &mut Vec<u8>, alignments: &[Alignment]) -> Result<(), AllocError>
+    ensures { OnOk result (line.new.items ≡ line.old.items ++ signs_after alignments.now) }
 {
     for alignment in alignments {
         line.push(b',')?;

@@ -18,7 +18,7 @@ use Rattle.first_pass_grammar.specs.RawLines.{Ranges, IsRawLine, AreRawLines}
 use Rattle.first_pass_grammar.specs.Extents.{Extent, with_line, ends_at, Verdict, extent_by, extent, judged, in_containers}
 use Rattle.first_pass_grammar.specs.Completion.{lines_from}
 use Rattle.first_pass_raw.specs.declared.raw_line.RawKind.{RawKind}
-use Rattle.first_pass_raw.specs.RawBlocks.{range_of, said, AppendsRaw, AppendsLines, behind_line_at}
+use Rattle.first_pass_raw.specs.RawBlocks.{range_of, said, AppendsRaw, AppendsLines, after_line_at}
 use Rattle.first_pass_open.specs.Path.{path_of, container_of, with_container, has_quote_after}
 use Rattle.first_pass_items.specs.declared.item.ItemBody.{ItemBody}
 use Rattle.first_pass_open.specs.OpenBlock.{begun_item, opened_block, closed_by}
@@ -50,7 +50,7 @@ pub lines_start : (range : Ranges) (text : List ℕ) (options : Options) (names 
     → LinesSoFar range text options names whole whole old old
 lines_start range text options names whole old = record { chain = []; tree_is = refl; goes_on = λ more last e lines. lines; end_is = refl; left_is = refl }
 
-lines_behind : (range : Ranges) (text : List ℕ) (options : Options) (names named : Names) (whole rest further : Extent) (p : Place) (chain line : List Item)
+lines_after : (range : Ranges) (text : List ℕ) (options : Options) (names named : Names) (whole rest further : Extent) (p : Place) (chain line : List Item)
     → rest ≡ with_line p further
     → ((more : Names) (last : List Item) → Extends more names → AreRawLines range (document text options more) chain rest.places last
     → AreRawLines range (document text options more) [] whole.places last)
@@ -58,7 +58,7 @@ lines_behind : (range : Ranges) (text : List ℕ) (options : Options) (names nam
     → (more : Names) (last : List Item) → Extends more named → AreRawLines range (document text options more) (add_tokens chain line) further.places last
     → AreRawLines range (document text options more) [] whole.places last
 unfolding AreRawLines
-lines_behind range text options names named whole rest further p chain line is goes_on e are more last f lines =
+lines_after range text options names named whole rest further p chain line is goes_on e are more last f lines =
     goes_on more last (extends_both more named names f e)
     (subst (λ (x : Extent). AreRawLines range (document text options more) chain x.places last) (sym is) (line, are more f, lines))
 
@@ -72,7 +72,7 @@ lines_more range text options names named whole rest further p old now new owed 
     record {
       chain = add_tokens s.chain line.items;
       tree_is = line.tree_is ∙ ap (λ f. with_tokens f line.items) s.tree_is ∙ with_tokens-chained old s.chain line.items apart;
-      goes_on = lines_behind range text options names named whole rest further p s.chain line.items is s.goes_on e (λ more f.
+      goes_on = lines_after range text options names named whole rest further p s.chain line.items is s.goes_on e (λ more f.
           subst (λ k. IsRawLine range (document text options more) p.rest.owed (offset p) k line.items) to_is
           (subst (λ k. IsRawLine range (document text options more) p.rest.owed k to line.items) from_is
           (subst (λ k. IsRawLine range (document text options more) k from to line.items) owed_is (line.are options more f))));
@@ -135,9 +135,9 @@ line_read text bytes at next u here within e f =
     }
 
 -- After the prefixes of a path, a line has the same end.
-pub behind_path : (text : List ℕ) (path : List Container) (at next : ℕ) (r : Rest)
+pub after_path : (text : List ℕ) (path : List Container) (at next : ℕ) (r : Rest)
     → IsUtf8 text → IsLineAt text at next → after path (line_rest (drop at text)) ≡ Some r → line_end (place_at at r) ≡ next
-behind_path text path at next r u line e =
+after_path text path at next r u line e =
     (after_keeps text at path (line_rest (drop at text)) r u e (line_is_place text at line.here)).1 ∙ line_start_end text at ∙ sym line.next_is
 
 pub within_line : (at from next : ℕ) (r : Rest) → from ≡ at + r.taken → line_end (place_at at r) ≡ next → from ≤ next
@@ -260,9 +260,9 @@ line_as text names kind named owed from to old new is = subst (λ k. AppendsRaw 
 
 -- the end of the line containing an offset
 pub first_read : (text bytes : List ℕ) (start first : ℕ) → IsUtf8 text → IsCharBoundary text start → bytes ≡ text → first ≡ start + line_len (drop start bytes)
-    → (first ≡ behind_line_at text start) × IsCharBoundary text first
+    → (first ≡ after_line_at text start) × IsCharBoundary text first
 first_read text bytes start first u b e f =
-    let is : first ≡ behind_line_at text start = f ∙ ap (λ bs. start + line_len (drop start bs)) e in
+    let is : first ≡ after_line_at text start = f ∙ ap (λ bs. start + line_len (drop start bs)) e in
     (is, subst (IsCharBoundary text) (line_start_end text start ∙ sym is) (place_end text (line_place start (drop start text)) u (line_is_place text start b)))
 
 -- the containers around a block that was just opened
@@ -275,9 +275,9 @@ opened_path options g opened start body is leaf there =
 -- the lines after the first of a block that was just opened
 pub lines_of : (range : Ranges) (text : List ℕ) (options : Options) (names : Names) (g opened filled : Forest Item) (start first e next : ℕ) (body : ItemBody)
     (judge : Place → Place → Verdict) → AreIn (length g.nodes) g.spine
-    → opened ≡ opened_block g start body → container_of options body ≡ None → first ≡ behind_line_at text start
+    → opened ≡ opened_block g start body → container_of options body ≡ None → first ≡ after_line_at text start
     → AppendsLines range (document text options names) (extent_from text (path_of options opened) judge first) opened filled e next
-    → AppendsLines range (document text options names) (extent_from text (path_of options g) judge (behind_line_at text start)) opened filled e next
+    → AppendsLines range (document text options names) (extent_from text (path_of options g) judge (after_line_at text start)) opened filled e next
 lines_of range text options names g opened filled start first e next body judge there is leaf first_is lines =
     subst (λ y. AppendsLines range (document text options names) y opened filled e next)
     (ap (λ path. extent_from text path judge first) (opened_path options g opened start body is leaf there)

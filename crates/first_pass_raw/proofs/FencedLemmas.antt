@@ -30,7 +30,7 @@ use Rattle.first_pass_grammar.specs.Extents.{Extent}
 use Rattle.first_pass_grammar.specs.RawLines.{range_text}
 use Rattle.first_pass_open.specs.OpenBlock.{opened_block, closed_by}
 use Rattle.first_pass_open.specs.Path.{path_of}
-use Rattle.first_pass_raw.specs.RawBlocks.{AppendsLines, AddsRaw, fenced_behind, behind_line_at}
+use Rattle.first_pass_raw.specs.RawBlocks.{AppendsLines, AddsRaw, fenced_after, after_line_at}
 use Rattle.first_pass_raw.proofs.ExtentLemmas.{extent_from, lines_of, block_done}
 use Rattle.first_pass_names.proofs.NameLemmas.{extends_both}
 use Rattle.first_pass_open.proofs.PathLemmas.{AreIn}
@@ -113,10 +113,10 @@ module _ (text : List ℕ) (start from next white : ℕ) (info : IsInfo text sta
       let same = info.white_is in
       let passes = last_passes is_ascii_white line (omega arith) in
       let place : length line - suffix_len is_ascii_white line ≡ next - from - white = omega arith in
-      let behind : from + (next - from - white) ≡ next - white = omega (arith, l.1) in
+      let following : from + (next - from - white) ≡ next - white = omega (arith, l.1) in
       let read : get_or line (length line - suffix_len is_ascii_white line) 0 ≡ get_or text (next - white) 0 =
       ap (λ k. get_or line k 0) place ∙ get_or-take (next - from) (drop from text) (next - from - white) 0 (omega arith)
-      ∙ get_or-drop from text (next - from - white) 0 ∙ ap (λ k. get_or text k 0) behind in
+      ∙ get_or-drop from text (next - from - white) 0 ∙ ap (λ k. get_or text k 0) following in
       let ascii : (k : ℕ) → is_ascii_white k ≡ true → k < 128 = λ k h. grind (arith, nat_tests, h) in
       IsCharBoundary-before_ascii text (next - white) (omega (arith, l.1, l.2)) (ascii _ (ap is_ascii_white (sym read) ∙ passes))
 
@@ -178,15 +178,15 @@ fence_end text start n c u b h =
 -- a fenced code block, its info string, its lines and its end
 pub fenced_added : (text : List ℕ) (options : Options) (named names : Names) (g opened filled new : Forest Item) (start columns byte count first e next : ℕ)
     (info : CowIndex) → AreIn (length g.nodes) g.spine
-    → opened ≡ opened_block g start (FencedCodeBlock info) → first ≡ behind_line_at text start
+    → opened ≡ opened_block g start (FencedCodeBlock info) → first ≡ after_line_at text start
     → ((more : Names) → Extends more named → NamesInfo more info (info_string (drop (start + count) text))) → Extends names named
     → AppendsLines range_text (document text options names)
     (extent_from text (path_of options opened) (fence_judge columns byte count) first) opened filled e next → new ≡ closed_by filled e filled.spine
     → (
-    let x = fenced_behind text (path_of options g) columns byte count start in
+    let x = fenced_after text (path_of options g) columns byte count start in
     AddsRaw (document text options names) (λ d. IsFencedCode d start count x.places x.«end») x.left g new next)
 fenced_added text options named names g opened filled new start columns byte count first e next info there is first_is names_info extends lines new_is =
-    let x : Extent = fenced_behind text (path_of options g) columns byte count start in
+    let x : Extent = fenced_after text (path_of options g) columns byte count start in
     let all = lines_of range_text text options names g opened filled start first e next (FencedCodeBlock info)
     (fence_judge columns byte count) there is refl first_is lines in
     record {

@@ -35,7 +35,7 @@ use Rattle.first_pass_names.proofs.NameLemmas.{extends_none, extends_both}
 use Rattle.first_pass_open.specs.OpenBlock.{closed_by, opened_block}
 use Rattle.first_pass_open.specs.Path.{path_of}
 use Rattle.first_pass_open.proofs.PathLemmas.{AreIn}
-use Rattle.first_pass_raw.specs.RawBlocks.{IsPlaceAt, AppendsRaw, AppendsLines, AddsRaw, behind_line_at, html_to_end, html_to_blank}
+use Rattle.first_pass_raw.specs.RawBlocks.{IsPlaceAt, AppendsRaw, AppendsLines, AddsRaw, after_line_at, html_to_end, html_to_blank}
 use Rattle.first_pass_raw.proofs.IndentedLemmas.{first_at, first_is}
 use Rattle.first_pass_raw.proofs.ExtentLemmas.{LinesSoFar, lines_start, lines_more, lines_end, lines_path, opened_path, extent_from, block_open, block_done}
 
@@ -50,8 +50,8 @@ begun text bs =
 stands_first : (text bs : List ℕ) → ((b : List ℕ) × (bs ≡ text ++ b)) → HasSubslice bs text
 stands_first text bs s = ([], s.0, s.1)
 
-stands_behind : (text : List ℕ) (b : ℕ) (bs : List ℕ) → HasSubslice bs text → HasSubslice (b ∷ bs) text
-stands_behind text b bs s = (b ∷ s.0, s.1, ap (λ xs. b ∷ xs) s.2)
+stands_past : (text : List ℕ) (b : ℕ) (bs : List ℕ) → HasSubslice bs text → HasSubslice (b ∷ bs) text
+stands_past text b bs s = (b ∷ s.0, s.1, ap (λ xs. b ∷ xs) s.2)
 
 stands_either : (text : List ℕ) (b : ℕ) (bs : List ℕ) → HasSubslice (b ∷ bs) text → ((c : List ℕ) × (b ∷ bs ≡ text ++ c)) ⊎ HasSubslice bs text
 stands_either text b bs ([], c, e) = inl (c, e)
@@ -67,7 +67,7 @@ unfolding holds
 holds-decides text [] = Decides-like (begins_with text []) (stands_first text []) (none_before text) (begun text [])
 holds-decides text (b ∷ bs) =
     Decides-like (begins_with text (b ∷ bs) || holds text bs)
-    (λ s. elim s [ inl first ↦ stands_first text (b ∷ bs) first | inr behind ↦ stands_behind text b bs behind ]) (stands_either text b bs)
+    (λ s. elim s [ inl first ↦ stands_first text (b ∷ bs) first | inr following ↦ stands_past text b bs following ]) (stands_either text b bs)
     (Decides-or (begins_with text (b ∷ bs)) (holds text bs) (begun text (b ∷ bs)) (holds-decides text bs))
 
 -- the result of a search in a line
@@ -145,19 +145,19 @@ plain_apart f (x ∷ xs) apart h =
     subst (λ (g : Forest Item). JoinsNone (with_tokens g xs)) (sym (with_token-plain f x h.0)) (plain_apart (appended f x) xs (joins_none-appended f x h.0) h.1)
 
 -- more raw lines of HTML before these
-html_behind : (d : Document) (before chain : List Item) (ps : List Place) (whole : List Item)
+html_after : (d : Document) (before chain : List Item) (ps : List Place) (whole : List Item)
     → AreRawLines range_html d chain ps whole → AreRawLines range_html d (before ++ chain) ps (before ++ whole)
 unfolding AreRawLines
-html_behind d before chain [] whole is = ap (λ c. before ++ c) is
-html_behind d before chain (p ∷ ps) whole (line, is, further) =
+html_after d before chain [] whole is = ap (λ c. before ++ c) is
+html_after d before chain (p ∷ ps) whole (line, is, further) =
     let plain = plain_line d p.rest.owed (offset p) (line_end p) line is in
     let same : add_tokens (before ++ chain) line ≡ before ++ add_tokens chain line =
     plain_tokens line (before ++ chain) plain ∙ append_assoc before chain line ∙ ap (λ c. before ++ c) (sym (plain_tokens line chain plain)) in
-    (line, is, subst (λ c. AreRawLines range_html d c ps (before ++ whole)) (sym same) (html_behind d before (add_tokens chain line) ps whole further))
+    (line, is, subst (λ c. AreRawLines range_html d c ps (before ++ whole)) (sym same) (html_after d before (add_tokens chain line) ps whole further))
 
 -- The first line of an HTML block, with columns owed at its start, is appended to a tree in which the block is open.
 module _ (text : List ℕ) (options : Options) (named : Names) (start columns next : ℕ) (g one : Forest Item)
-    (first : AppendsRaw range_html text named columns start next (opened_block g start HtmlBlock) one) (next_is : next ≡ behind_line_at text start) where
+    (first : AppendsRaw range_html text named columns start next (opened_block g start HtmlBlock) one) (next_is : next ≡ after_line_at text start) where
   abbrev opened : Forest Item
   opened = opened_block g start HtmlBlock
 
@@ -171,7 +171,7 @@ module _ (text : List ℕ) (options : Options) (named : Names) (start columns ne
 
   module _ (p : Place) (i : IsPlaceAt text start p) where
     pub first_end : next ≡ line_end p
-    first_end = next_is ∙ ap (behind_line_at text) (sym i.offset_is) ∙ ap (λ bs. offset p + line_len bs) (ap (λ k. drop k text) i.offset_is ∙ sym i.left_is)
+    first_end = next_is ∙ ap (after_line_at text) (sym i.offset_is) ∙ ap (λ bs. offset p + line_len bs) (ap (λ k. drop k text) i.offset_is ∙ sym i.left_is)
 
     first_read : (further : Extent) → LinesSoFar range_html text options named (with_line (owing columns p) further) further opened one
     first_read further =
@@ -197,7 +197,7 @@ module _ (text : List ℕ) (options : Options) (named : Names) (start columns ne
           tree_is = lines.tree_is ∙ ap (λ f. chained f lines.chain) s.tree_is ∙ chained-append opened s.chain lines.chain;
           lines = λ more f. s.goes_on more (s.chain ++ lines.chain) (extends_both more names named f extends)
               (subst (λ c. AreRawLines range_html (document text options more) c further.places (s.chain ++ lines.chain)) (append-nil s.chain)
-              (html_behind (document text options more) s.chain [] further.places lines.chain (lines.lines more f)));
+              (html_after (document text options more) s.chain [] further.places lines.chain (lines.lines more f)));
           end_is = lines.end_is ∙ sym s.end_is;
           left_is = lines.left_is ∙ sym s.left_is;
         }
@@ -216,29 +216,29 @@ module _ (text : List ℕ) (options : Options) (named : Names) (start columns ne
         })
 
     -- the lines after the first one begin at its end
-    behind_first : (path : List Container) (judge : Place → Place → Verdict)
-        → extent_from text path judge (behind_line_at text (offset p)) ≡ extent_from text path judge next
-    behind_first path judge = ap (extent_from text path judge) (ap (behind_line_at text) i.offset_is ∙ sym next_is)
+    after_first : (path : List Container) (judge : Place → Place → Verdict)
+        → extent_from text path judge (after_line_at text (offset p)) ≡ extent_from text path judge next
+    after_first path judge = ap (extent_from text path judge) (ap (after_line_at text) i.offset_is ∙ sym next_is)
 
     -- the first line contains the end of the block
     held_extent : (path : List Container) (until : BlockEnd)
         → holds_end until (line_of p) ≡ true → html_to_end text path until p ≡ with_line p (ends_at next (lines_from text next))
     held_extent path until held =
-        ap (λ t. extent_by (if t then IsLast p else GoesOn p) p (lines_from text (behind_line_at text (offset p)))
-        (extent_from text path (tag_judge until) (behind_line_at text (offset p)))) held
-        ∙ ap (λ k. with_line p (ends_at k (lines_from text (behind_line_at text (offset p))))) (sym first_end)
-        ∙ ap (λ k. with_line p (ends_at next (lines_from text k))) (ap (behind_line_at text) i.offset_is ∙ sym next_is)
+        ap (λ t. extent_by (if t then IsLast p else GoesOn p) p (lines_from text (after_line_at text (offset p)))
+        (extent_from text path (tag_judge until) (after_line_at text (offset p)))) held
+        ∙ ap (λ k. with_line p (ends_at k (lines_from text (after_line_at text (offset p))))) (sym first_end)
+        ∙ ap (λ k. with_line p (ends_at next (lines_from text k))) (ap (after_line_at text) i.offset_is ∙ sym next_is)
 
     -- it does not, or none is looked for
     pub tag_extent : (path : List Container) (until : BlockEnd)
         → holds_end until (line_of p) ≡ false → html_to_end text path until p ≡ with_line p (extent_from text path (tag_judge until) next)
     tag_extent path until held =
-        ap (λ t. extent_by (if t then IsLast p else GoesOn p) p (lines_from text (behind_line_at text (offset p)))
-        (extent_from text path (tag_judge until) (behind_line_at text (offset p)))) held
-        ∙ ap (with_line p) (behind_first path (tag_judge until))
+        ap (λ t. extent_by (if t then IsLast p else GoesOn p) p (lines_from text (after_line_at text (offset p)))
+        (extent_from text path (tag_judge until) (after_line_at text (offset p)))) held
+        ∙ ap (with_line p) (after_first path (tag_judge until))
 
     pub blank_extent : (path : List Container) → html_to_blank text path p ≡ with_line p (extent_from text path blank_judge next)
-    blank_extent path = ap (with_line p) (behind_first path blank_judge)
+    blank_extent path = ap (with_line p) (after_first path blank_judge)
 
     -- the containers around the block are those around its lines
     path_by : AreIn (length g.nodes) g.spine → AreIn (length opened.nodes) opened.spine → path_of options one ≡ path_of options g

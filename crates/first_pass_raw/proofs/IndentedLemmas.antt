@@ -34,7 +34,7 @@ use Rattle.first_pass_grammar.specs.CodeBlocks.{code_place, code_by, code_lines,
 use Rattle.first_pass_raw.specs.declared.indented_code.Kept.{Kept}
 use Rattle.first_pass_open.specs.OpenBlock.{IsJustPushed, begun_item, closed_by, opened_block}
 use Rattle.first_pass_open.specs.Path.{path_of, has_quote_after}
-use Rattle.first_pass_raw.specs.RawBlocks.{AppendsRaw, AddsIndented, IsPlaceAt, code_rest, code_rest_at, behind_line_at, code_behind}
+use Rattle.first_pass_raw.specs.RawBlocks.{AppendsRaw, AddsIndented, IsPlaceAt, code_rest, code_rest_at, after_line_at, code_after}
 use Rattle.first_pass_open.proofs.BlockLemmas.{just_pushed, still_open, block_closed}
 use Rattle.first_pass_open.proofs.PathLemmas.{open_are_in, path_of-chained, path_of-opened}
 use Rattle.first_pass_open.proofs.QuoteLemmas.{quote_after-chained}
@@ -180,7 +180,7 @@ module _ (old : Forest Item) (opened : open_place old.spine + 1 ≡ length old.n
       let l = chain_length in
       let s = ap open_place (chained-spine old (front ++ x ∷ rest)) in
       let within : place.0 < length (chained old (front ++ x ∷ rest)).nodes = omega arith in
-      record { within = within; depth = leaf place.0 (omega arith) within; behind = omega arith }
+      record { within = within; depth = leaf place.0 (omega arith) within; following = omega arith }
 
   chain_split : chained old (front ++ x ∷ rest) ≡ chained (chained old (front ++ x ∷ [])) rest
   chain_split = ap (chained old) (sym (append_assoc front (x ∷ []) rest)) ∙ sym (chained-append old (front ++ x ∷ []) rest)
@@ -221,16 +221,16 @@ pub more_lines : (d : Document) (chain : List Item) (ps : List Place) (q : Place
 more_lines d chain ps q mid line are is = code_append d chain ps (q ∷ []) mid (add_tokens mid line) are (one_line d mid q line is)
 
 -- a blank line after others, and a line that is not blank
-blank_behind : (ps : List Place) (q : Place) → is_blank_rest q.rest ≡ true → without_blanks (ps ++ q ∷ []) ≡ without_blanks ps
+blank_after : (ps : List Place) (q : Place) → is_blank_rest q.rest ≡ true → without_blanks (ps ++ q ∷ []) ≡ without_blanks ps
 unfolding without_blanks
-blank_behind [] q h = cond-true _ _ _ h
-blank_behind (p ∷ ps) q h = ap (unless_blank p) (blank_behind ps q h)
+blank_after [] q h = cond-true _ _ _ h
+blank_after (p ∷ ps) q h = ap (unless_blank p) (blank_after ps q h)
 
-some_behind : (ps : List Place) (q : Place) → is_blank_rest q.rest ≡ false → without_blanks (ps ++ q ∷ []) ≡ ps ++ q ∷ []
+some_after : (ps : List Place) (q : Place) → is_blank_rest q.rest ≡ false → without_blanks (ps ++ q ∷ []) ≡ ps ++ q ∷ []
 unfolding without_blanks
-some_behind [] q h = cond-false _ _ _ h
-some_behind (p ∷ []) q h = ap (unless_blank p) (some_behind [] q h)
-some_behind (p ∷ r ∷ ps) q h = ap (unless_blank p) (some_behind (r ∷ ps) q h)
+some_after [] q h = cond-false _ _ _ h
+some_after (p ∷ []) q h = ap (unless_blank p) (some_after [] q h)
+some_after (p ∷ r ∷ ps) q h = ap (unless_blank p) (some_after (r ∷ ps) q h)
 
 last_blank : (ps : List Place) (q : Place) → last_is_blank (ps ++ q ∷ []) ≡ is_blank_rest q.rest
 unfolding last_is_blank
@@ -274,11 +274,11 @@ unfolding code_lines
 lines_none path = refl
 
 lines_next : (text : List ℕ) (path : List Container) (next : ℕ) → next < length text
-    → code_lines path (lines_from text next) ≡ code_by (lines_from text (behind_line_at text next)) (lines_from text next)
-    (option_map (at_rest (line_place next (drop next text))) (code_rest_at text path next)) (code_lines path (lines_from text (behind_line_at text next)))
+    → code_lines path (lines_from text next) ≡ code_by (lines_from text (after_line_at text next)) (lines_from text next)
+    (option_map (at_rest (line_place next (drop next text))) (code_rest_at text path next)) (code_lines path (lines_from text (after_line_at text next)))
 lines_next text path next more =
     let first = lines_at-line text next more in
-    let further : List Place = lines_from text (behind_line_at text next) in
+    let further : List Place = lines_from text (after_line_at text next) in
     ap (code_lines path) first ∙ lines_by path (line_place next (drop next text)) further
     ∙ ap (λ ls. code_by further ls (code_place path (line_place next (drop next text))) (code_lines path further)) (sym first)
     ∙ ap (λ o. code_by further (lines_from text next) o (code_lines path further)) (next_place text path next more)
@@ -287,7 +287,7 @@ lines_next text path next more =
 pub lines_stop : (text : List ℕ) (path : List Container) (next : ℕ)
     → code_rest_at text path next ≡ None → code_lines path (lines_from text next) ≡ ([], lines_from text next)
 lines_stop text path next none =
-    let further : List Place = lines_from text (behind_line_at text next) in
+    let further : List Place = lines_from text (after_line_at text next) in
     elim (cases_lt next (length text)) [
       | inl more ↦ lines_next text path next more
           ∙ ap (λ o. code_by further (lines_from text next) (option_map (at_rest (line_place next (drop next text))) o) (code_lines path further)) none
@@ -304,9 +304,9 @@ next_within text path next r within some =
 
 pub lines_more : (text : List ℕ) (path : List Container) (next : ℕ) (r : Rest) → next ≤ length text → code_rest_at text path next ≡ Some r
     → code_lines path (lines_from text next)
-    ≡ (let further = code_lines path (lines_from text (behind_line_at text next)) in (place_at next r ∷ further.0, further.1))
+    ≡ (let further = code_lines path (lines_from text (after_line_at text next)) in (place_at next r ∷ further.0, further.1))
 lines_more text path next r within some =
-    let further : List Place = lines_from text (behind_line_at text next) in
+    let further : List Place = lines_from text (after_line_at text next) in
     lines_next text path next (next_within text path next r within some)
     ∙ ap (λ o. code_by further (lines_from text next) (option_map (at_rest (line_place next (drop next text))) o) (code_lines path further)) some
 
@@ -316,7 +316,7 @@ columns_by r (Some s) e = (s, refl, (cond_some (has_columns 4 s) (after_columns 
 
 -- It ends at the end of its text.
 pub next_end : (text : List ℕ) (path : List Container) (next : ℕ) (r : Rest)
-    → IsUtf8 text → IsCharBoundary text next → code_rest_at text path next ≡ Some r → line_end (place_at next r) ≡ behind_line_at text next
+    → IsUtf8 text → IsCharBoundary text next → code_rest_at text path next ≡ Some r → line_end (place_at next r) ≡ after_line_at text next
 next_end text path next r u b some =
     let more = next_within text path next r b.0 some in
     let c = columns_by r (after path (line_rest (drop next text))) (sym (cond-false _ _ _ (ne_eqb next (length text) (λ same. omega arith))) ∙ some) in
@@ -325,12 +325,12 @@ next_end text path next r u b some =
 
 -- the offset of its end, as the code computes it
 pub next_read : (text : List ℕ) (path : List Container) (next taken last : ℕ) (r : Rest) → IsUtf8 text → IsCharBoundary text next
-    → code_rest_at text path next ≡ Some r → IsPlaceOf text (place_at next r) → taken ≡ r.taken → last ≡ behind_line_at text (next + taken)
-    → (last ≡ behind_line_at text next) × (next < last) × IsCharBoundary text last
+    → code_rest_at text path next ≡ Some r → IsPlaceOf text (place_at next r) → taken ≡ r.taken → last ≡ after_line_at text (next + taken)
+    → (last ≡ after_line_at text next) × (next < last) × IsCharBoundary text last
 next_read text path next taken last r u b some i t e =
     let more = next_within text path next r b.0 some in
     let w = line_len-within text next more in
-    let n : last ≡ behind_line_at text next = e ∙ ap (λ k. behind_line_at text (next + k)) t ∙ read_end text next r i ∙ next_end text path next r u b some in
+    let n : last ≡ after_line_at text next = e ∙ ap (λ k. after_line_at text (next + k)) t ∙ read_end text next r i ∙ next_end text path next r u b some in
     (n, omega arith, subst (IsCharBoundary text) (sym n) (line_end_boundary text next u b more))
 
 -- a line that is not blank has a byte
@@ -346,7 +346,7 @@ some_within text start h =
 
 -- the end of the first line
 pub first_boundary : (text : List ℕ) (start next : ℕ)
-    → IsUtf8 text → IsCharBoundary text start → is_blank_line (drop start text) ≡ false → next ≡ behind_line_at text start → IsCharBoundary text next
+    → IsUtf8 text → IsCharBoundary text start → is_blank_line (drop start text) ≡ false → next ≡ after_line_at text start → IsCharBoundary text next
 first_boundary text start next u b some e = subst (IsCharBoundary text) (sym e) (line_end_boundary text start u b (some_within text start some))
 
 -- lines before others that continue indented code
@@ -365,10 +365,10 @@ pub record AppendsIndented (text : List ℕ) (options : Options) (names : Names)
   pub chain : List Item
   pub tree_is : new ≡ chained old chain
   pub lines : (more : Names) → Extends more names
-      → AreRawLines range_text (document text options more) [] (without_blanks (p ∷ (code_behind text (path_of options old) (offset p)).0)) chain
-  pub end_is : «end» ≡ last_end (offset p) (without_blanks (p ∷ (code_behind text (path_of options old) (offset p)).0))
-  pub blank_is : blank ≡ last_is_blank (code_behind text (path_of options old) (offset p)).0
-  pub left_is : lines_from text next ≡ (code_behind text (path_of options old) (offset p)).1
+      → AreRawLines range_text (document text options more) [] (without_blanks (p ∷ (code_after text (path_of options old) (offset p)).0)) chain
+  pub end_is : «end» ≡ last_end (offset p) (without_blanks (p ∷ (code_after text (path_of options old) (offset p)).0))
+  pub blank_is : blank ≡ last_is_blank (code_after text (path_of options old) (offset p)).0
+  pub left_is : lines_from text next ≡ (code_after text (path_of options old) (offset p)).1
 
 -- The lines of indented code, the first at a place, are read up to the start of another. The chain of those up to the
 -- last that is not blank ends with a text; then come the tokens of the blank ones.
@@ -384,7 +384,7 @@ pub record IndentedSoFar (text : List ℕ) (options : Options) (names : Names) (
   pub all : (further : Names) → Extends further names → AreRawLines range_text (document text options further) [] (p ∷ read) (add_tokens chain more)
   pub end_is : kept.«end» ≡ last_end (offset p) (without_blanks (p ∷ read))
   pub blank_is : blank ≡ last_is_blank read
-  pub behind : code_behind text (path_of options old) (offset p) ≡ put_before read (code_lines (path_of options old) (lines_from text next))
+  pub following : code_after text (path_of options old) (offset p) ≡ put_before read (code_lines (path_of options old) (lines_from text next))
 
 -- a raw line from a place on
 line_at : (text : List ℕ) (options : Options) (names : Names) (p : Place) (owed from to : ℕ) (old new : Forest Item)
@@ -395,7 +395,7 @@ line_at text options names p owed from to old new a o f t further e =
     (subst (λ k. IsRawLine range_text (document text options further) owed k (line_end p) a.items) (sym f)
     (subst (λ k. IsRawLine range_text (document text options further) owed from k a.items) (sym t) (a.are options further e)))
 
-place_line_end : (text : List ℕ) (start : ℕ) (p : Place) → IsPlaceAt text start p → line_end p ≡ behind_line_at text start
+place_line_end : (text : List ℕ) (start : ℕ) (p : Place) → IsPlaceAt text start p → line_end p ≡ after_line_at text start
 place_line_end text start p at = ap (λ bs. offset p + line_len bs) at.left_is ∙ ap (λ k. k + line_len (drop start text)) at.offset_is
 
 -- its current node, if a chain ends with a text
@@ -406,7 +406,7 @@ current_is old now chain to e is = ap (λ (f : Forest Item). f.current) (is ∙ 
 -- after the first line
 pub so_far_first : (text : List ℕ) (options : Options) (names : Names) (p : Place) (old now : Forest Item) (start owed next : ℕ) (current : Option TreeIndex)
     → IsPlaceAt text start p → p.rest.owed ≡ owed → is_blank_line (drop start text) ≡ false → JoinsNone old
-    → next ≡ behind_line_at text start → AppendsRaw range_text text names owed start next old now → current ≡ now.current
+    → next ≡ after_line_at text start → AppendsRaw range_text text names owed start next old now → current ≡ now.current
     → IndentedSoFar text options names p old now next (record { last = current; «end» = next }) false
 so_far_first text options names p old now start owed next current at o some apart next_is a c =
     let chain : List Item = add_tokens [] a.items in
@@ -415,7 +415,7 @@ so_far_first text options names p old now start owed next current at o some apar
     let last = ends_line (document text options names) [] owed start next a.items later (a.are options names (extends_none names)) in
     let tree : now ≡ chained old chain = a.tree_is ∙ with_tokens-chained old [] a.items apart in
     let full : is_blank_rest p.rest ≡ false = ap is_blank_line at.left_is ∙ some in
-    let one = some_behind [] p full in
+    let one = some_after [] p full in
     let are : (further : Names) → Extends further names → AreRawLines range_text (document text options further) [] (p ∷ []) chain =
     λ further f. one_line (document text options further) [] p a.items (line_at text options names p owed start next old now a o at.offset_is e further f) in
     record {
@@ -429,7 +429,7 @@ so_far_first text options names p old now start owed next current at o some apar
       all = are;
       end_is = sym e ∙ sym (last_line_end (offset p) [] p) ∙ ap (last_end (offset p)) (sym one);
       blank_is = sym no_last;
-      behind = ap (λ k. code_lines (path_of options old) (lines_from text k)) (ap (behind_line_at text) at.offset_is ∙ sym next_is);
+      following = ap (λ k. code_lines (path_of options old) (lines_from text k)) (ap (after_line_at text) at.offset_is ∙ sym next_is);
     }
 
 module _ (text : List ℕ) (options : Options) (names more_names : Names) (p : Place) (old now new : Forest Item) (next last owed taken : ℕ) (kept : Kept)
@@ -437,15 +437,15 @@ module _ (text : List ℕ) (options : Options) (names more_names : Names) (p : P
     (s : IndentedSoFar text options names p old now next kept blank) (goes : code_rest_at text (path_of options old) next ≡ Some r)
     (i : IsPlaceOf text (place_at next r)) (e : Extends more_names names)
     (owed_is : owed ≡ r.owed) (taken_is : taken ≡ r.taken) (a : AppendsRaw range_text text more_names owed (next + taken) last now new)
-    (last_is : last ≡ behind_line_at text (next + taken)) where
+    (last_is : last ≡ after_line_at text (next + taken)) where
   -- the start of the text of the next line
   abbrev q : Place
   q = place_at next r
 
   q_end : line_end q ≡ last
-  q_end = sym (last_is ∙ ap (λ k. behind_line_at text (next + k)) taken_is ∙ read_end text next r i)
+  q_end = sym (last_is ∙ ap (λ k. after_line_at text (next + k)) taken_is ∙ read_end text next r i)
 
-  last_place : last ≡ behind_line_at text next
+  last_place : last ≡ after_line_at text next
   last_place = sym q_end ∙ next_end text (path_of options old) next r u b goes
 
   tree : new ≡ chained old (add_tokens (add_tokens s.chain s.more) a.items)
@@ -458,10 +458,10 @@ module _ (text : List ℕ) (options : Options) (names more_names : Names) (p : P
       (s.all further (extends_both further more_names names f e))
       (line_at text options more_names q owed (next + taken) last now new a (sym owed_is) (ap (λ k. next + k) (sym taken_is)) q_end further f)
 
-  behind_too : code_behind text (path_of options old) (offset p) ≡ put_before (s.read ++ q ∷ []) (code_lines (path_of options old) (lines_from text last))
-  behind_too =
-      let further : List Place × List Place = code_lines (path_of options old) (lines_from text (behind_line_at text next)) in
-      s.behind ∙ ap (put_before s.read) (lines_more text (path_of options old) next r b.0 goes)
+  after_too : code_after text (path_of options old) (offset p) ≡ put_before (s.read ++ q ∷ []) (code_lines (path_of options old) (lines_from text last))
+  after_too =
+      let further : List Place × List Place = code_lines (path_of options old) (lines_from text (after_line_at text next)) in
+      s.following ∙ ap (put_before s.read) (lines_more text (path_of options old) next r b.0 goes)
       ∙ ap (λ ps. (ps, further.1)) (sym (append_assoc s.read (q ∷ []) further.0))
       ∙ ap (λ k. put_before (s.read ++ q ∷ []) (code_lines (path_of options old) (lines_from text k))) (sym last_place)
 
@@ -469,7 +469,7 @@ module _ (text : List ℕ) (options : Options) (names more_names : Names) (p : P
   blank_next : is_blank_rest r ≡ true → IndentedSoFar text options more_names p old new last kept true
   blank_next h =
       let same : add_tokens s.chain (s.more ++ a.items) ≡ add_tokens (add_tokens s.chain s.more) a.items = add_tokens-append s.chain s.more a.items in
-      let kept_lines : without_blanks (p ∷ s.read ++ q ∷ []) ≡ without_blanks (p ∷ s.read) = blank_behind (p ∷ s.read) q h in
+      let kept_lines : without_blanks (p ∷ s.read ++ q ∷ []) ≡ without_blanks (p ∷ s.read) = blank_after (p ∷ s.read) q h in
       record {
         read = s.read ++ q ∷ [];
         chain = s.chain;
@@ -482,13 +482,13 @@ module _ (text : List ℕ) (options : Options) (names more_names : Names) (p : P
         all = λ further f. subst (λ c. AreRawLines range_text (document text options further) [] (p ∷ s.read ++ q ∷ []) c) (sym same) (lines_too further f);
         end_is = s.end_is ∙ ap (last_end (offset p)) (sym kept_lines);
         blank_is = sym h ∙ sym (last_blank s.read q);
-        behind = behind_too;
+        following = after_too;
       }
 
   some_next : is_blank_rest r ≡ false → IndentedSoFar text options more_names p old new last (record { last = new.current; «end» = last }) false
   some_next h =
       let chain : List Item = add_tokens (add_tokens s.chain s.more) a.items in
-      let full : without_blanks (p ∷ s.read ++ q ∷ []) ≡ p ∷ s.read ++ q ∷ [] = some_behind (p ∷ s.read) q h in
+      let full : without_blanks (p ∷ s.read ++ q ∷ []) ≡ p ∷ s.read ++ q ∷ [] = some_after (p ∷ s.read) q h in
       let from : 0 < length r.left = some_bytes r.left h in
       let later : next + taken < last = (let l = line_len-some r.left from in let z = q_end in omega arith) in
       let text_last = ends_line (document text options more_names) (add_tokens s.chain s.more) owed (next + taken) last a.items later
@@ -504,7 +504,7 @@ module _ (text : List ℕ) (options : Options) (names more_names : Names) (p : P
         all = lines_too;
         end_is = sym q_end ∙ sym (last_line_end (offset p) (p ∷ s.read) q) ∙ ap (last_end (offset p)) (sym full);
         blank_is = sym h ∙ sym (last_blank s.read q);
-        behind = behind_too;
+        following = after_too;
       }
 
   next_by : (t : Bool) (kept_now : Kept) → is_blank_rest r ≡ t → kept_now ≡ (if t then kept else record { last = new.current; «end» = last })
@@ -580,16 +580,16 @@ module _ (text : List ℕ) (options : Options) (names : Names) (p : Place) (old 
       → code_rest_at text (path_of options old) next ≡ None → IfSome kept.last (λ child. new ≡ with_end_at (kept_after now child) child kept.«end»)
       → AppendsIndented text options names p old new kept.«end» next blank
   so_far_stop new stops cut =
-      let behind : code_behind text (path_of options old) (offset p) ≡ (s.read, lines_from text next) =
-      s.behind ∙ ap (put_before s.read) (lines_stop text (path_of options old) next stops) ∙ ap (λ ps. (ps, lines_from text next)) (append-nil s.read) in
-      let read : s.read ≡ (code_behind text (path_of options old) (offset p)).0 = sym (ap (λ (l : List Place × List Place). l.0) behind) in
+      let following : code_after text (path_of options old) (offset p) ≡ (s.read, lines_from text next) =
+      s.following ∙ ap (put_before s.read) (lines_stop text (path_of options old) next stops) ∙ ap (λ ps. (ps, lines_from text next)) (append-nil s.read) in
+      let read : s.read ≡ (code_after text (path_of options old) (offset p)).0 = sym (ap (λ (l : List Place × List Place). l.0) following) in
       record {
         chain = s.chain;
         tree_is = cut_is new cut;
         lines = λ further f. subst (λ ps. AreRawLines range_text (document text options further) [] (without_blanks (p ∷ ps)) s.chain) read (s.lines further f);
         end_is = s.end_is ∙ ap (λ ps. last_end (offset p) (without_blanks (p ∷ ps))) read;
         blank_is = s.blank_is ∙ ap last_is_blank read;
-        left_is = sym (ap (λ (l : List Place × List Place). l.1) behind);
+        left_is = sym (ap (λ (l : List Place × List Place). l.1) following);
       }
 
 abbrev code_item : ℕ → Item
@@ -617,9 +617,9 @@ module _ (text : List ℕ) (options : Options) (names : Names) (p : Place) (old 
   code_added new f at closed =
       let path : path_of options opened ≡ path_of options old = ap (path_of options) opened_is
       ∙ path_of-opened options old (code_item start) (place_in (length old.nodes)) refl (open_are_in old.nodes old.spine f.opened) in
-      let same = ap (λ c. code_behind text c (offset p)) path in
+      let same = ap (λ c. code_after text c (offset p)) path in
       let further = ap (λ (l : List Place × List Place). l.0) same in
-      let ends : «end» ≡ last_end (offset p) (without_blanks (p ∷ (code_behind text (path_of options old) (offset p)).0)) =
+      let ends : «end» ≡ last_end (offset p) (without_blanks (p ∷ (code_after text (path_of options old) (offset p)).0)) =
       a.end_is ∙ ap (λ ps. last_end (offset p) (without_blanks (p ∷ ps))) further in
       record {
         items = block_with start «end» IndentCodeBlock a.chain;

@@ -13,19 +13,19 @@ use Rattle.first_pass_grammar.specs.CodeBlocks.{metadata_judge, metadata_kind, I
 use Rattle.first_pass_open.specs.OpenBlock.{opened_block, closed_by}
 use Rattle.first_pass_open.specs.Path.{path_of}
 use Rattle.first_pass_open.proofs.PathLemmas.{AreIn}
-use Rattle.first_pass_raw.specs.RawBlocks.{AppendsLines, AddsRaw, metadata_behind, behind_line_at}
+use Rattle.first_pass_raw.specs.RawBlocks.{AppendsLines, AddsRaw, metadata_after, after_line_at}
 use Rattle.first_pass_raw.proofs.ExtentLemmas.{extent_from, lines_of, block_done}
 
 pub metadata_added : (text : List ℕ) (options : Options) (names : Names) (g opened filled new : Forest Item) (start byte first e next : ℕ)
     (kind : MetadataBlockKind) → AreIn (length g.nodes) g.spine
-    → opened ≡ opened_block g start (MetadataBlock kind) → kind ≡ metadata_kind byte → first ≡ behind_line_at text start
+    → opened ≡ opened_block g start (MetadataBlock kind) → kind ≡ metadata_kind byte → first ≡ after_line_at text start
     → AppendsLines range_text (document text options names) (extent_from text (path_of options opened) (metadata_judge byte) first) opened filled e next
     → new ≡ closed_by filled e filled.spine
     → (
-    let x = metadata_behind text (path_of options g) byte start in
+    let x = metadata_after text (path_of options g) byte start in
     AddsRaw (document text options names) (λ d. IsMetadata d start byte x.places x.«end») x.left g new next)
 metadata_added text options names g opened filled new start byte first e next kind there is kind_is first_is lines new_is =
-    let x : Extent = metadata_behind text (path_of options g) byte start in
+    let x : Extent = metadata_after text (path_of options g) byte start in
     let all =
     lines_of range_text text options names g opened filled start first e next (MetadataBlock kind) (metadata_judge byte) there is refl first_is lines in
     record {

@@ -41,7 +41,7 @@ use Rattle.first_pass_grammar.specs.Counting.{own_nodes}
 use Rattle.first_pass_grammar.specs.Order.{Elsewhere, FitsBetween}
 use Rattle.first_pass_grammar.proofs.Orders.{block_fits, length-block}
 use Rattle.first_pass_grammar.proofs.OwnNodes.{own_at_most}
-use Rattle.first_pass_raw.specs.RawBlocks.{behind_line_at, code_behind, fenced_behind, metadata_behind, html_to_end, html_to_blank}
+use Rattle.first_pass_raw.specs.RawBlocks.{after_line_at, code_after, fenced_after, metadata_after, html_to_end, html_to_blank}
 use Rattle.first_pass_open.proofs.PlaceLemmas.{all_keep, after_keeps, place_end, line_start_end}
 
 -- These places are in the text between two offsets, each after the line of the one before it.
@@ -217,8 +217,8 @@ bytes_few text from to (p ∷ ps) some placed =
 -- So a block of raw lines has at most four items for each byte between two offsets around it.
 few_by : (text : List ℕ) (from to start stop n : ℕ) (ps : List Place)
     → n ≤ 0 + 3 * length ps → AreFew start ps → ArePlaced text start ps stop → from ≤ start → stop ≤ to → from < to → suc n ≤ 4 * (to - from)
-few_by text from to start stop n ps least (inl one) placed behind before apart = omega arith
-few_by text from to start stop n ps least (inr some) placed behind before apart = (let k = bytes_few text start stop ps some placed in omega arith)
+few_by text from to start stop n ps least (inl one) placed following before apart = omega arith
+few_by text from to start stop n ps least (inr some) placed following before apart = (let k = bytes_few text start stop ps some placed in omega arith)
 
 -- A raw line is in order, in code and metadata or in HTML.
 pub text_line_in_order : (d : Document) (owed from to : ℕ) (items : List Item)
@@ -234,12 +234,12 @@ raw_fits : (range : Ranges) → IsRange range → (d : Document) (from to start 
     (items : List (ℕ × Item)) → IsUtf8 d.text → items ≡ block_with start stop body chain
     → AreRawLines range d [] ps chain → IsCharBoundary d.text start → IsCharBoundary d.text stop → ArePlaced d.text start ps stop → AreFew start ps
     → from ≤ start → stop ≤ to → FitsBetween d.text Elsewhere from to items
-raw_fits range r d from to start stop body ps chain items u is lines b c placed few behind before =
+raw_fits range r d from to start stop body ps chain items u is lines b c placed few following before =
     subst (FitsBetween d.text Elsewhere from to) (sym is)
     (block_fits d.text Elsewhere from to (record { start = start; «end» = stop; body = body }) chain
-    (record { behind = behind; order = placed_bound d.text start stop ps placed; before = before; starts = b; ends = c })
+    (record { following = following; order = placed_bound d.text start stop ps placed; before = before; starts = b; ends = c })
     (lines_in_order range r d ps start start stop [] chain u placed (omega arith) lines)
-    (few_by d.text from to start stop (length chain) ps (lines_few range r d ps [] chain lines) few placed behind before))
+    (few_by d.text from to start stop (length chain) ps (lines_few range r d ps [] chain lines) few placed following before))
 
 -- the lines without the blank ones at the end
 kept_by : (text : List ℕ) (from to : ℕ) (p : Place) (t : Bool) (qs : List Place)
@@ -307,32 +307,32 @@ pub indented_fits : (d : Document) (p : Place) (further : List Place) (items : L
     → IsUtf8 d.text → IsIndentedCode d p further items → ArePlaced d.text (offset p) (p ∷ further) limit → AreFew (offset p) (p ∷ further)
     → (from to : ℕ) → from ≤ offset p → last_end (offset p) (without_blanks (p ∷ further)) ≤ to → FitsBetween d.text Elsewhere from to items
 unfolding ArePlaced
-indented_fits d p further items limit u is placed few from to behind before =
+indented_fits d p further items limit u is placed few from to following before =
     let all : List Place = without_blanks (p ∷ further) in
     let k = kept_placed d.text (offset p) limit (p ∷ further) u placed.1.boundary placed in
     raw_fits range_text text_range d from to (offset p) (last_end (offset p) all) IndentCodeBlock all is.chain items u is.items_are is.lines placed.1.boundary
-    k.1 k.0 (kept_few (offset p) (p ∷ further) few) behind before
+    k.1 k.0 (kept_few (offset p) (p ∷ further) few) following before
 
 -- So do a fenced code block, a metadata block and an HTML block.
 pub fenced_fits : (d : Document) (start count : ℕ) (e : Lines) (items : List (ℕ × Item))
     → IsUtf8 d.text → IsFencedCode d start count e.places e.«end» items → IsCharBoundary d.text start → IsPlaced d.text start e
     → (from to : ℕ) → from ≤ start → e.«end» ≤ to → FitsBetween d.text Elsewhere from to items
-fenced_fits d start count e items u is b placed from to behind before =
+fenced_fits d start count e items u is b placed from to following before =
     raw_fits range_text text_range d from to start e.«end»
-    (FencedCodeBlock is.info) e.places is.chain items u is.items_are is.lines b placed.boundary placed.places placed.few behind before
+    (FencedCodeBlock is.info) e.places is.chain items u is.items_are is.lines b placed.boundary placed.places placed.few following before
 
 pub metadata_fits : (d : Document) (start byte : ℕ) (e : Lines) (items : List (ℕ × Item))
     → IsUtf8 d.text → IsMetadata d start byte e.places e.«end» items → IsCharBoundary d.text start → IsPlaced d.text start e
     → (from to : ℕ) → from ≤ start → e.«end» ≤ to → FitsBetween d.text Elsewhere from to items
-metadata_fits d start byte e items u is b placed from to behind before =
+metadata_fits d start byte e items u is b placed from to following before =
     raw_fits range_text text_range d from to start e.«end»
-    (MetadataBlock (metadata_kind byte)) e.places is.chain items u is.items_are is.lines b placed.boundary placed.places placed.few behind before
+    (MetadataBlock (metadata_kind byte)) e.places is.chain items u is.items_are is.lines b placed.boundary placed.places placed.few following before
 
 -- the lines do not move if columns are owed at the first
 owing_placed : (text : List ℕ) (columns from to : ℕ) (ps : List Place) → ArePlaced text from ps to → ArePlaced text from (first_owing columns ps) to
 unfolding ArePlaced
 owing_placed text columns from to [] placed = placed
-owing_placed text columns from to (p ∷ ps) (behind, i, further) = (behind, record { left = i.left; within = i.within; boundary = i.boundary }, further)
+owing_placed text columns from to (p ∷ ps) (following, i, further) = (following, record { left = i.left; within = i.within; boundary = i.boundary }, further)
 
 owing_few : (columns from : ℕ) (ps : List Place) → AreFew from ps → AreFew from (first_owing columns ps)
 unfolding HaveBytes
@@ -343,19 +343,19 @@ owing_few columns from (p ∷ ps) (inr some) = inr some
 pub html_fits : (d : Document) (start columns : ℕ) (e : Lines) (items : List (ℕ × Item))
     → IsUtf8 d.text → IsHtml d start columns e.places e.«end» items → IsCharBoundary d.text start → IsPlaced d.text start e
     → (from to : ℕ) → from ≤ start → e.«end» ≤ to → FitsBetween d.text Elsewhere from to items
-html_fits d start columns e items u is b placed from to behind before =
+html_fits d start columns e items u is b placed from to following before =
     raw_fits range_html html_range d from to start e.«end» HtmlBlock (first_owing columns e.places) is.chain items u is.items_are is.lines b placed.boundary
-    (owing_placed d.text columns start e.«end» e.places placed.places) (owing_few columns start e.places placed.few) behind before
+    (owing_placed d.text columns start e.«end» e.places placed.places) (owing_few columns start e.places placed.few) following before
 
 -- Up to the start of the first remaining line, an HTML block has at most four items for each byte, all of its own.
 pub html_few : (d : Document) (start columns stop : ℕ) (e : Lines) (items : List (ℕ × Item))
     → IsHtml d start columns e.places e.«end» items → ArePlaced d.text start e.places stop → AreFew start e.places
     → (from to : ℕ) → from ≤ start → stop ≤ to → from < to → own_nodes items ≤ 4 * (to - from)
-html_few d start columns stop e items is placed few from to behind before apart =
+html_few d start columns stop e items is placed few from to following before apart =
     let ps : List Place = first_owing columns e.places in
     let more =
     few_by d.text from to start stop (length is.chain) ps (lines_few range_html html_range d ps [] is.chain is.lines) (owing_few columns start e.places few)
-    (owing_placed d.text columns start stop e.places placed) behind before apart in
+    (owing_placed d.text columns start stop e.places placed) following before apart in
     let size = length-block (record { start = start; «end» = e.«end»; body = HtmlBlock }) is.chain in
     let same = ap length is.items_are in
     let most = own_at_most None items in
@@ -413,7 +413,7 @@ fence_ends byte count bs n h =
       | inr some ↦
           let f = found_by (nat_le count k && at_line_end (drop m bs)) m n some in
           let run = prefix_len-le-length (λ b. b == byte) bs in
-          let behind = prefix_len-le-length is_blank (drop k bs) in
+          let following = prefix_len-le-length is_blank (drop k bs) in
           let l = length-drop k bs in
           (omega (arith, f.1), ap (λ j. at_line_end (drop j bs)) (sym f.1) ∙ (and_parts (nat_le count k) (at_line_end (drop m bs)) f.0).1)
     ]
@@ -439,7 +439,7 @@ metadata_ends byte bs n h =
     let f = found_by (closing_marks byte bs && at_line_end (drop m bs)) m n h in
     let a = and_parts (closing_marks byte bs) (at_line_end (drop m bs)) f.0 in
     let long = marks_long byte bs a.0 in
-    let behind = prefix_len-le-length (λ b. b == 32) (drop 3 bs) in
+    let following = prefix_len-le-length (λ b. b == 32) (drop 3 bs) in
     let l = length-drop 3 bs in
     (omega (arith, f.1), ap (λ j. at_line_end (drop j bs)) (sym f.1) ∙ a.1)
 
@@ -457,21 +457,21 @@ run_first : (test : ℕ → Bool) → ((b : ℕ) → test b ≡ true → is_cont
 run_first test content [] = omega arith
 run_first test content (b ∷ bs) = run_step test content (test b) b bs refl (run_first test content bs)
 
-run_behind_by : (test : ℕ → Bool)
+run_after_by : (test : ℕ → Bool)
     → ((b : ℕ) → test b ≡ true → is_content b ≡ true) → (t : Bool) (k b : ℕ) (bs : List ℕ) → is_content b ≡ t → suc k ≤ prefix_len is_content (b ∷ bs)
     → (k ≤ prefix_len is_content bs → k + prefix_len test (drop k bs) ≤ prefix_len is_content bs)
     → suc k + prefix_len test (drop k bs) ≤ prefix_len is_content (b ∷ bs)
-run_behind_by test content true k b bs e h f =
+run_after_by test content true k b bs e h f =
     let c = content_first b bs e in
     let r = f (omega arith) in
     omega arith
-run_behind_by test content false k b bs e h f = (let c : prefix_len is_content (b ∷ bs) ≡ 0 = rw e in absurd (omega arith))
+run_after_by test content false k b bs e h f = (let c : prefix_len is_content (b ∷ bs) ≡ 0 = rw e in absurd (omega arith))
 
-run_behind : (test : ℕ → Bool) → ((b : ℕ) → test b ≡ true → is_content b ≡ true) → (k : ℕ) (bs : List ℕ) → k ≤ prefix_len is_content bs
+run_after : (test : ℕ → Bool) → ((b : ℕ) → test b ≡ true → is_content b ≡ true) → (k : ℕ) (bs : List ℕ) → k ≤ prefix_len is_content bs
     → k + prefix_len test (drop k bs) ≤ prefix_len is_content bs
-run_behind test content zero bs h = (let f = run_first test content bs in omega arith)
-run_behind test content (suc k) [] h = absurd (omega arith)
-run_behind test content (suc k) (b ∷ bs) h = run_behind_by test content (is_content b) k b bs refl h (run_behind test content k bs)
+run_after test content zero bs h = (let f = run_first test content bs in omega arith)
+run_after test content (suc k) [] h = absurd (omega arith)
+run_after test content (suc k) (b ∷ bs) h = run_after_by test content (is_content b) k b bs refl h (run_after test content k bs)
 
 -- No byte of the opening marks is one of a line ending.
 fence_plain_by : (t v w x : Bool) (p q r : ℕ × ℕ) → is_content p.1 ≡ true → is_content q.1 ≡ true
@@ -501,7 +501,7 @@ fence_within byte count bs n plain h =
       | inr some ↦
           let f = found_by (nat_le count k && at_line_end (drop m bs)) m n some in
           let run = run_first (λ b. b == byte) (λ b e. ap is_content (eqb-true b byte e) ∙ plain) bs in
-          let behind = run_behind is_blank (λ b e. grind (arith, nat_tests, e)) k bs run in
+          let following = run_after is_blank (λ b e. grind (arith, nat_tests, e)) k bs run in
           let w = content_within bs in
           omega (arith, f.1)
     ]
@@ -533,17 +533,17 @@ metadata_within byte bs n plain h =
     let m : ℕ = 3 + run_len 32 (drop 3 bs) in
     let f = found_by (closing_marks byte bs && at_line_end (drop m bs)) m n h in
     let marks = marks_plain byte bs plain (and_parts (closing_marks byte bs) (at_line_end (drop m bs)) f.0).0 in
-    let behind = run_behind (λ b. b == 32) (λ b e. ap is_content (eqb-true b 32 e)) 3 bs marks in
+    let following = run_after (λ b. b == 32) (λ b e. ap is_content (eqb-true b 32 e)) 3 bs marks in
     let w = content_within bs in
     omega (arith, f.1)
 
 -- the first of the lines from an offset on, and the other lines
 pub first_line : (text : List ℕ) (at : ℕ) (line : Place) (lines : List Place)
-    → line ∷ lines ≡ lines_from text at → (at < length text) × (line ≡ line_place at (drop at text)) × (lines ≡ lines_from text (behind_line_at text at))
+    → line ∷ lines ≡ lines_from text at → (at < length text) × (line ≡ line_place at (drop at text)) × (lines ≡ lines_from text (after_line_at text at))
 first_line text at line lines is =
     elim (cases_lt at (length text)) [
       | inl within ↦ (
-          let e : line ∷ lines ≡ line_place at (drop at text) ∷ lines_from text (behind_line_at text at) = is ∙ lines_at-line text at within in
+          let e : line ∷ lines ≡ line_place at (drop at text) ∷ lines_from text (after_line_at text at) = is ∙ lines_at-line text at within in
           (within, cc, cc))
       | inr past ↦ (let e : line ∷ lines ≡ [] = is ∙ lines_at-end text at past in cc)
     ]
@@ -555,11 +555,11 @@ module _ (text : List ℕ) (u : IsUtf8 text) (path : List Container) where
   pub record IsIn (at : ℕ) (q : Place) : Type 0 where
     pub stands : IsPlaceOf text q
     pub here : q.line ≡ at
-    pub same_end : line_end q ≡ behind_line_at text at
+    pub same_end : line_end q ≡ after_line_at text at
     pub some : at < line_end q
 
-  behind_is_boundary : (at : ℕ) → IsCharBoundary text at → IsCharBoundary text (behind_line_at text at)
-  behind_is_boundary at b = subst (IsCharBoundary text) (line_start_end text at) (place_end text (line_place at (drop at text)) u (line_is_place text at b))
+  after_is_boundary : (at : ℕ) → IsCharBoundary text at → IsCharBoundary text (after_line_at text at)
+  after_is_boundary at b = subst (IsCharBoundary text) (line_start_end text at) (place_end text (line_place at (drop at text)) u (line_is_place text at b))
 
   in_by : (at : ℕ) (q : Place) (o : Option Rest) → at < length text → IsCharBoundary text at → after path (line_rest (drop at text)) ≡ o
       → option_map (at_rest (line_place at (drop at text))) o ≡ Some q → IsIn at q
@@ -567,7 +567,7 @@ module _ (text : List ℕ) (u : IsUtf8 text) (path : List Container) where
   in_by at q (Some r) w b e h =
       let same : place_at at r ≡ q = cc in
       let k = after_keeps text at path (line_rest (drop at text)) r u e (line_is_place text at b) in
-      let ends : line_end (place_at at r) ≡ behind_line_at text at = k.1 ∙ line_start_end text at in
+      let ends : line_end (place_at at r) ≡ after_line_at text at = k.1 ∙ line_start_end text at in
       let more = (line_len-within text at w).0 in
       subst (IsIn at) same (record { stands = k.0; here = refl; same_end = ends; some = omega arith })
 
@@ -579,15 +579,15 @@ module _ (text : List ℕ) (u : IsUtf8 text) (path : List Container) where
       let same = columns_line_end n q in
       let some = i.some in record { stands = columns_keep text n q u i.stands; here = i.here; same_end = same ∙ i.same_end; some = omega arith })
 
-  in_behind : (at : ℕ) (q : Place) → IsIn at q → at ≤ offset q
-  in_behind at q i = (let h = i.here in omega arith)
+  in_after : (at : ℕ) (q : Place) → IsIn at q → at ≤ offset q
+  in_after at q i = (let h = i.here in omega arith)
 
   -- a line before those that are placed after it
-  line_placed : (at to : ℕ) (q : Place) (ps : List Place) → IsIn at q → ArePlaced text (behind_line_at text at) ps to → ArePlaced text at (q ∷ ps) to
+  line_placed : (at to : ℕ) (q : Place) (ps : List Place) → IsIn at q → ArePlaced text (after_line_at text at) ps to → ArePlaced text at (q ∷ ps) to
   unfolding ArePlaced
-  line_placed at to q ps i further = (in_behind at q i, i.stands, subst (λ k. ArePlaced text k ps to) (sym i.same_end) further)
+  line_placed at to q ps i further = (in_after at q i, i.stands, subst (λ k. ArePlaced text k ps to) (sym i.same_end) further)
 
-  extent_placed : (at : ℕ) (q : Place) (e : Lines) → IsIn at q → IsFilled text (behind_line_at text at) e → IsFilled text at (with_line q e)
+  extent_placed : (at : ℕ) (q : Place) (e : Lines) → IsIn at q → IsFilled text (after_line_at text at) e → IsFilled text at (with_line q e)
   unfolding HaveBytes
   extent_placed at q e i further = record {
     places = line_placed at e.«end» q e.places i further.places;
@@ -615,7 +615,7 @@ module _ (text : List ℕ) (u : IsUtf8 text) (path : List Container) where
 
   code_step : (at : ℕ) (line : Place) (lines : List Place) (o : Option Place) (further : List Place × List Place)
       → line.line ≡ at → ((q : Place) → o ≡ Some q → IsIn at q)
-      → ArePlaced text (behind_line_at text at) further.0 (start_of (length text) further.1)
+      → ArePlaced text (after_line_at text at) further.0 (start_of (length text) further.1)
       → (let all = code_by lines (line ∷ lines) o further in ArePlaced text at all.0 (start_of (length text) all.1))
   unfolding ArePlaced
   code_step at line lines None further start i rest = omega arith
@@ -630,7 +630,7 @@ module _ (text : List ℕ) (u : IsUtf8 text) (path : List Container) where
       let f = first_line text at line lines is in
       code_step at line lines (code_place path line) (code_lines path lines) (ap (λ (p : Place). p.line) f.1)
       (λ q h. code_in at q (taken path line) (λ q h. taken_in at line q f.0 b f.1 h) h)
-      (code_placed lines (behind_line_at text at) f.2 (behind_is_boundary at b))
+      (code_placed lines (after_line_at text at) f.2 (after_is_boundary at b))
 
   -- the verdict on the line at an offset stays within that line
   abbrev pub IsWithin : ℕ → Verdict → Type 0
@@ -648,11 +648,11 @@ module _ (text : List ℕ) (u : IsUtf8 text) (path : List Container) where
   judged_within judge stays at line (Some q) is b i = stays at line q is b (i q refl)
 
   verdict_filled : (at : ℕ) (v : Verdict) (line : Place) (lines : List Place) (further : Lines)
-      → IsWithin at v → IsFilled text (behind_line_at text at) further → IsFilled text at (extent_by v line lines further)
+      → IsWithin at v → IsFilled text (after_line_at text at) further → IsFilled text at (extent_by v line lines further)
   verdict_filled at (GoesOn p) line lines further i rest = extent_placed at p further i rest
   verdict_filled at (IsLast p) line lines further i rest =
       extent_placed at p (ends_at (line_end p) lines) i
-      (let same = i.same_end in stops_placed (behind_line_at text at) (line_end p) lines (omega arith) (place_end text p u i.stands))
+      (let same = i.same_end in stops_placed (after_line_at text at) (line_end p) lines (omega arith) (place_end text p u i.stands))
   verdict_filled at (Closes e) line lines further i rest = stops_placed at e lines i.0 i.1
   verdict_filled at (Stops e) line lines further i rest = stops_placed at e (line ∷ lines) i.0 i.1
 
@@ -665,17 +665,17 @@ module _ (text : List ℕ) (u : IsUtf8 text) (path : List Container) where
       let f = first_line text at line lines is in
       verdict_filled at (in_containers path judge line) line lines (extent (in_containers path judge) (length text) lines)
       (judged_within judge stays at line (taken path line) f.1 b (λ q h. taken_in at line q f.0 b f.1 h))
-      (extent_filled judge stays lines (behind_line_at text at) f.2 (behind_is_boundary at b))
+      (extent_filled judge stays lines (after_line_at text at) f.2 (after_is_boundary at b))
 
   -- the start of the lines after one
   left_start : (at : ℕ) (lines : List Place)
-      → IsCharBoundary text at → lines ≡ lines_from text (behind_line_at text at) → start_of (length text) lines ≡ behind_line_at text at
-  left_start at lines b is = (let w = (behind_is_boundary at b).0 in ap (start_of (length text)) is ∙ start_of-lines text (behind_line_at text at) w)
+      → IsCharBoundary text at → lines ≡ lines_from text (after_line_at text at) → start_of (length text) lines ≡ after_line_at text at
+  left_start at lines b is = (let w = (after_is_boundary at b).0 in ap (start_of (length text)) is ∙ start_of-lines text (after_line_at text at) w)
 
   -- They are placed before the start of the remaining lines.
   verdict_left : (at : ℕ) (v : Verdict) (line : Place) (lines : List Place) (further : Lines)
-      → line ≡ line_place at (drop at text) → start_of (length text) lines ≡ behind_line_at text at → IsWithin at v
-      → ArePlaced text (behind_line_at text at) further.places (start_of (length text) further.left)
+      → line ≡ line_place at (drop at text) → start_of (length text) lines ≡ after_line_at text at → IsWithin at v
+      → ArePlaced text (after_line_at text at) further.places (start_of (length text) further.left)
       → (let e = extent_by v line lines further in ArePlaced text at e.places (start_of (length text) e.left))
   unfolding ArePlaced
   verdict_left at (GoesOn p) line lines further is left i rest = line_placed at (start_of (length text) further.left) p further.places i rest
@@ -691,7 +691,7 @@ module _ (text : List ℕ) (u : IsUtf8 text) (path : List Container) where
       let f = first_line text at line lines is in
       verdict_left at (in_containers path judge line) line lines (extent (in_containers path judge) (length text) lines) f.1
       (left_start at lines b f.2) (judged_within judge stays at line (taken path line) f.1 b (λ q h. taken_in at line q f.0 b f.1 h))
-      (extent_left judge stays lines (behind_line_at text at) f.2 (behind_is_boundary at b))
+      (extent_left judge stays lines (after_line_at text at) f.2 (after_is_boundary at b))
 
   -- for a fenced code block
   fence_in_by : (t : Bool) (at e : ℕ) (q : Place) (o : Option ℕ)
@@ -735,7 +735,7 @@ module _ (text : List ℕ) (u : IsUtf8 text) (path : List Container) where
   -- for an HTML block
   tag_stays : (until : BlockEnd) → StaysWithin (tag_judge until)
   tag_stays until at line q is b i =
-      cond_both (is_empty q.rest.left) (Closes (offset q)) (tag_verdict until q) (IsWithin at) (λ none. (in_behind at q i, i.stands.boundary))
+      cond_both (is_empty q.rest.left) (Closes (offset q)) (tag_verdict until q) (IsWithin at) (λ none. (in_after at q i, i.stands.boundary))
       (λ some. cond_both (holds_end until (line_of q)) (IsLast q) (GoesOn q) (IsWithin at) (λ held. i) (λ other. i))
 
   blank_stays : StaysWithin blank_judge
@@ -743,7 +743,7 @@ module _ (text : List ℕ) (u : IsUtf8 text) (path : List Container) where
       let start = ap (λ (p : Place). p.line) is in
       cond_both (at_line_end q.rest.left) (Stops line.line) (if is_blank_rest q.rest then Stops (offset q) else GoesOn q) (IsWithin at)
       (λ here. (omega arith, subst (IsCharBoundary text) (sym start) b))
-      (λ other. cond_both (is_blank_rest q.rest) (Stops (offset q)) (GoesOn q) (IsWithin at) (λ blank. (in_behind at q i, i.stands.boundary)) (λ more. i))
+      (λ other. cond_both (is_blank_rest q.rest) (Stops (offset q)) (GoesOn q) (IsWithin at) (λ blank. (in_after at q i, i.stands.boundary)) (λ more. i))
 
   -- a first line before them, which has a byte if another line follows
   first_some : (p : Place) → IsPlaceOf text p → line_end p < length text → offset p < line_end p
@@ -766,7 +766,7 @@ module _ (text : List ℕ) (u : IsUtf8 text) (path : List Container) where
       record { places = (omega arith, i, f.places); boundary = f.boundary; few = inr (first_some p i (first_line text (line_end p) line lines is).0, f.bytes) }
 
   -- the end of the line of a place
-  place_line : (p : Place) → IsPlaceOf text p → behind_line_at text (offset p) ≡ line_end p
+  place_line : (p : Place) → IsPlaceOf text p → after_line_at text (offset p) ≡ line_end p
   place_line p i = ap (λ bs. offset p + line_len bs) (sym i.left)
 
   later_bytes : (start at : ℕ) (ps : List Place) → start ≤ at → HaveBytes at ps → HaveBytes start ps
@@ -782,19 +782,19 @@ module _ (text : List ℕ) (u : IsUtf8 text) (path : List Container) where
   }
 
   -- The lines of each raw leaf block are placed in the text, from its start on.
-  pub indented_behind_placed : (p : Place)
-      → IsPlaceOf text p → (let all = code_behind text path (offset p) in ArePlaced text (offset p) (p ∷ all.0) (start_of (length text) all.1))
+  pub indented_after_placed : (p : Place)
+      → IsPlaceOf text p → (let all = code_after text path (offset p) in ArePlaced text (offset p) (p ∷ all.0) (start_of (length text) all.1))
   unfolding ArePlaced
-  indented_behind_placed p i =
-      let b = behind_is_boundary (offset p) i.boundary in (
+  indented_after_placed p i =
+      let b = after_is_boundary (offset p) i.boundary in (
         omega arith,
         i,
-        subst (λ k. let all = code_behind text path (offset p) in ArePlaced text k all.0 (start_of (length text) all.1)) (place_line p i)
-            (code_placed (lines_from text (behind_line_at text (offset p))) (behind_line_at text (offset p)) refl b),
+        subst (λ k. let all = code_after text path (offset p) in ArePlaced text k all.0 (start_of (length text) all.1)) (place_line p i)
+            (code_placed (lines_from text (after_line_at text (offset p))) (after_line_at text (offset p)) refl b),
       )
 
   code_bytes_by : (at : ℕ) (lines : List Place) (line : Place) (o : Option Place) (further : List Place × List Place)
-      → ((q : Place) → o ≡ Some q → IsIn at q) → HaveBytes (behind_line_at text at) further.0
+      → ((q : Place) → o ≡ Some q → IsIn at q) → HaveBytes (after_line_at text at) further.0
       → HaveBytes at (code_by lines (line ∷ lines) o further).0
   unfolding HaveBytes
   code_bytes_by at lines line None further i rest = tt
@@ -807,7 +807,7 @@ module _ (text : List ℕ) (u : IsUtf8 text) (path : List Container) where
       let f = first_line text at line lines is in
       code_bytes_by at lines line
       (code_place path line) (code_lines path lines) (λ q h. code_in at q (taken path line) (λ q h. taken_in at line q f.0 b f.1 h) h)
-      (code_bytes lines (behind_line_at text at) f.2 (behind_is_boundary at b))
+      (code_bytes lines (after_line_at text at) f.2 (after_is_boundary at b))
 
   indented_few : (lines : List Place) (p : Place) → IsPlaceOf text p → lines ≡ lines_from text (line_end p) → AreFew (offset p) (p ∷ (code_lines path lines).0)
   unfolding HaveBytes code_lines
@@ -815,41 +815,41 @@ module _ (text : List ℕ) (u : IsUtf8 text) (path : List Container) where
   indented_few (line ∷ lines) p i is =
       inr (first_some p i (first_line text (line_end p) line lines is).0, code_bytes (line ∷ lines) (line_end p) is (place_end text p u i))
 
-  pub indented_behind_few : (p : Place) → IsPlaceOf text p → AreFew (offset p) (p ∷ (code_behind text path (offset p)).0)
-  indented_behind_few p i = indented_few (lines_from text (behind_line_at text (offset p))) p i (ap (lines_from text) (place_line p i))
+  pub indented_after_few : (p : Place) → IsPlaceOf text p → AreFew (offset p) (p ∷ (code_after text path (offset p)).0)
+  indented_after_few p i = indented_few (lines_from text (after_line_at text (offset p))) p i (ap (lines_from text) (place_line p i))
 
-  behind_placed : (judge : Place → Place → Verdict) → StaysWithin judge → (start : ℕ) → IsCharBoundary text start
-      → IsPlaced text start (extent (in_containers path judge) (length text) (lines_from text (behind_line_at text start)))
-  behind_placed judge stays start b =
-      later_placed start (behind_line_at text start) _ (omega arith)
-      (extent_filled judge stays (lines_from text (behind_line_at text start)) (behind_line_at text start) refl (behind_is_boundary start b))
+  after_placed : (judge : Place → Place → Verdict) → StaysWithin judge → (start : ℕ) → IsCharBoundary text start
+      → IsPlaced text start (extent (in_containers path judge) (length text) (lines_from text (after_line_at text start)))
+  after_placed judge stays start b =
+      later_placed start (after_line_at text start) _ (omega arith)
+      (extent_filled judge stays (lines_from text (after_line_at text start)) (after_line_at text start) refl (after_is_boundary start b))
 
-  pub fenced_behind_placed : (columns byte count start : ℕ) → IsCharBoundary text start → IsPlaced text start (fenced_behind text path columns byte count start)
-  fenced_behind_placed columns byte count start b = behind_placed (fence_judge columns byte count) (fence_stays columns byte count) start b
+  pub fenced_after_placed : (columns byte count start : ℕ) → IsCharBoundary text start → IsPlaced text start (fenced_after text path columns byte count start)
+  fenced_after_placed columns byte count start b = after_placed (fence_judge columns byte count) (fence_stays columns byte count) start b
 
-  pub metadata_behind_placed : (byte start : ℕ) → IsCharBoundary text start → IsPlaced text start (metadata_behind text path byte start)
-  metadata_behind_placed byte start b = behind_placed (metadata_judge byte) (metadata_stays byte) start b
+  pub metadata_after_placed : (byte start : ℕ) → IsCharBoundary text start → IsPlaced text start (metadata_after text path byte start)
+  metadata_after_placed byte start b = after_placed (metadata_judge byte) (metadata_stays byte) start b
 
   pub to_end_placed : (until : BlockEnd) (p : Place) → IsPlaceOf text p → IsPlaced text (offset p) (html_to_end text path until p)
   to_end_placed until p i =
-      let lines : List Place = lines_from text (behind_line_at text (offset p)) in
+      let lines : List Place = lines_from text (after_line_at text (offset p)) in
       cond_both (holds_end until (line_of p)) (IsLast p) (GoesOn p)
       (λ (v : Verdict). IsPlaced text (offset p) (extent_by v p lines (extent (in_containers path (tag_judge until)) (length text) lines)))
       (λ held. only_placed p (line_end p) lines i (omega arith) (place_end text p u i))
       (λ other. first_placed (tag_judge until) (tag_stays until) lines p i (ap (lines_from text) (place_line p i)))
 
   pub to_blank_placed : (p : Place) → IsPlaceOf text p → IsPlaced text (offset p) (html_to_blank text path p)
-  to_blank_placed p i = first_placed blank_judge blank_stays (lines_from text (behind_line_at text (offset p))) p i (ap (lines_from text) (place_line p i))
+  to_blank_placed p i = first_placed blank_judge blank_stays (lines_from text (after_line_at text (offset p))) p i (ap (lines_from text) (place_line p i))
 
   pub to_blank_left : (p : Place) → IsPlaceOf text p → (let e = html_to_blank text path p in ArePlaced text (offset p) e.places (start_of (length text) e.left))
   unfolding ArePlaced
   to_blank_left p i =
-      let lines : List Place = lines_from text (behind_line_at text (offset p)) in
+      let lines : List Place = lines_from text (after_line_at text (offset p)) in
       let e : Lines = extent (in_containers path blank_judge) (length text) lines in
       (omega arith, i, extent_left blank_judge blank_stays lines (line_end p) (ap (lines_from text) (place_line p i)) (place_end text p u i))
 
   fence_before_by : (t : Bool) (at e : ℕ) (q : Place) (o : Option ℕ) → ((n : ℕ) → o ≡ Some n → n ≤ line_len (all_taken q.rest).left) → IsIn at q
-      → (if t then option_map (λ n. offset (unindented q) + n) o else None) ≡ Some e → e ≤ behind_line_at text at
+      → (if t then option_map (λ n. offset (unindented q) + n) o else None) ≡ Some e → e ≤ after_line_at text at
   fence_before_by false at e q o within i h = cc
   fence_before_by true at e q None within i h = cc
   fence_before_by true at e q (Some n) within i h =
@@ -862,8 +862,8 @@ module _ (text : List ℕ) (u : IsUtf8 text) (path : List Container) where
   -- with the verdict on the line at an offset, the block ends no later than the start of the first remaining line
   abbrev pub IsBefore : ℕ → Verdict → Type 0
   IsBefore at (GoesOn p) = Unit {0}
-  IsBefore at (IsLast p) = line_end p ≤ behind_line_at text at
-  IsBefore at (Closes e) = e ≤ behind_line_at text at
+  IsBefore at (IsLast p) = line_end p ≤ after_line_at text at
+  IsBefore at (Closes e) = e ≤ after_line_at text at
   IsBefore at (Stops e) = e ≤ at
 
   abbrev pub StaysBefore : (Place → Place → Verdict) → Type 0
@@ -875,7 +875,7 @@ module _ (text : List ℕ) (u : IsUtf8 text) (path : List Container) where
   judged_before judge stays at line (Some q) is i = stays at line q is (i q refl)
 
   verdict_before : (at : ℕ) (v : Verdict) (line : Place) (lines : List Place) (further : Lines)
-      → line ≡ line_place at (drop at text) → start_of (length text) lines ≡ behind_line_at text at → IsBefore at v → EndsBefore text further
+      → line ≡ line_place at (drop at text) → start_of (length text) lines ≡ after_line_at text at → IsBefore at v → EndsBefore text further
       → EndsBefore text (extent_by v line lines further)
   verdict_before at (GoesOn p) line lines further is left h rest = rest
   verdict_before at (IsLast p) line lines further is left h rest = omega arith
@@ -890,9 +890,9 @@ module _ (text : List ℕ) (u : IsUtf8 text) (path : List Container) where
       let f = first_line text at line lines is in
       verdict_before at (in_containers path judge line) line lines (extent (in_containers path judge) (length text) lines) f.1 (left_start at lines b f.2)
       (judged_before judge stays at line (taken path line) f.1 (λ q h. taken_in at line q f.0 b f.1 h))
-      (extent_before judge stays lines (behind_line_at text at) f.2 (behind_is_boundary at b))
+      (extent_before judge stays lines (after_line_at text at) f.2 (after_is_boundary at b))
 
-  fence_before : (columns at : ℕ) (q : Place) (o : Option ℕ) → ((e : ℕ) → o ≡ Some e → e ≤ behind_line_at text at) → IsBefore at (fence_verdict columns q o)
+  fence_before : (columns at : ℕ) (q : Place) (o : Option ℕ) → ((e : ℕ) → o ≡ Some e → e ≤ after_line_at text at) → IsBefore at (fence_verdict columns q o)
   fence_before columns at q None c = tt
   fence_before columns at q (Some e) c = c e refl
 
@@ -903,7 +903,7 @@ module _ (text : List ℕ) (u : IsUtf8 text) (path : List Container) where
       (λ n g. fence_within byte count (all_taken q.rest).left n plain g) i h)
 
   metadata_before : (at : ℕ) (line q : Place) (o : Option ℕ)
-      → ((n : ℕ) → o ≡ Some n → line.line + n ≤ behind_line_at text at) → IsBefore at (metadata_verdict line q o)
+      → ((n : ℕ) → o ≡ Some n → line.line + n ≤ after_line_at text at) → IsBefore at (metadata_verdict line q o)
   metadata_before at line q None c = tt
   metadata_before at line q (Some n) c = c n refl
 
@@ -920,23 +920,23 @@ module _ (text : List ℕ) (u : IsUtf8 text) (path : List Container) where
       (λ some. cond_both (holds_end until (line_of q)) (IsLast q) (GoesOn q) (IsBefore at) (λ held. omega arith) (λ other. tt))
 
   -- So do the raw leaf blocks, except an HTML block that ends after the prefix of a blank line.
-  behind_before : (judge : Place → Place → Verdict) → StaysBefore judge → (start : ℕ) → IsCharBoundary text start
-      → EndsBefore text (extent (in_containers path judge) (length text) (lines_from text (behind_line_at text start)))
-  behind_before judge stays start b =
-      extent_before judge stays (lines_from text (behind_line_at text start)) (behind_line_at text start) refl (behind_is_boundary start b)
+  after_before : (judge : Place → Place → Verdict) → StaysBefore judge → (start : ℕ) → IsCharBoundary text start
+      → EndsBefore text (extent (in_containers path judge) (length text) (lines_from text (after_line_at text start)))
+  after_before judge stays start b =
+      extent_before judge stays (lines_from text (after_line_at text start)) (after_line_at text start) refl (after_is_boundary start b)
 
-  pub fenced_behind_before : (columns byte count start : ℕ)
-      → is_content byte ≡ true → IsCharBoundary text start → EndsBefore text (fenced_behind text path columns byte count start)
-  fenced_behind_before columns byte count start plain b = behind_before (fence_judge columns byte count) (fence_stays_before columns byte count plain) start b
+  pub fenced_after_before : (columns byte count start : ℕ)
+      → is_content byte ≡ true → IsCharBoundary text start → EndsBefore text (fenced_after text path columns byte count start)
+  fenced_after_before columns byte count start plain b = after_before (fence_judge columns byte count) (fence_stays_before columns byte count plain) start b
 
-  pub metadata_behind_before : (byte start : ℕ) → is_content byte ≡ true → IsCharBoundary text start → EndsBefore text (metadata_behind text path byte start)
-  metadata_behind_before byte start plain b = behind_before (metadata_judge byte) (metadata_stays_before byte plain) start b
+  pub metadata_after_before : (byte start : ℕ) → is_content byte ≡ true → IsCharBoundary text start → EndsBefore text (metadata_after text path byte start)
+  metadata_after_before byte start plain b = after_before (metadata_judge byte) (metadata_stays_before byte plain) start b
 
   pub to_end_before : (until : BlockEnd) (p : Place) → IsPlaceOf text p → EndsBefore text (html_to_end text path until p)
   to_end_before until p i =
-      let lines : List Place = lines_from text (behind_line_at text (offset p)) in
+      let lines : List Place = lines_from text (after_line_at text (offset p)) in
       let left = left_start (offset p) lines i.boundary refl in
       let ends = place_line p i in
       cond_both (holds_end until (line_of p)) (IsLast p) (GoesOn p)
       (λ (v : Verdict). EndsBefore text (extent_by v p lines (extent (in_containers path (tag_judge until)) (length text) lines)))
-      (λ held. omega arith) (λ other. behind_before (tag_judge until) (tag_stays_before until) (offset p) i.boundary)
+      (λ held. omega arith) (λ other. after_before (tag_judge until) (tag_stays_before until) (offset p) i.boundary)

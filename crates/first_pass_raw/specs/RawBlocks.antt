@@ -57,21 +57,21 @@ pub record IsPlaceAt (text : List ℕ) (start : ℕ) (p : Place) : Type 0 where
   pub left_is : p.rest.left ≡ drop start text
 
 -- the end of the line containing an offset
-abbrev pub behind_line_at : List ℕ → ℕ → ℕ
-behind_line_at text at = at + line_len (drop at text)
+abbrev pub after_line_at : List ℕ → ℕ → ℕ
+after_line_at text at = at + line_len (drop at text)
 
 -- the lines that continue indented code whose first line contains an offset, and the remaining lines
-abbrev pub code_behind : List ℕ → List Container → ℕ → List Place × List Place
-code_behind text path start = code_lines path (lines_from text (behind_line_at text start))
+abbrev pub code_after : List ℕ → List Container → ℕ → List Place × List Place
+code_after text path start = code_lines path (lines_from text (after_line_at text start))
 
 -- Indented code is appended as a last child of the innermost open node.
 pub record AddsIndented (d : Document) (p : Place) (old new : Forest Item) (next : ℕ) (blank : Bool) : Type 0 where
   pub items : List (ℕ × Item)
   pub tree_is : new ≡ added old items
   pub is : (more : Names)
-      → Extends more d.names → IsIndentedCode (document d.text d.options more) p (code_behind d.text (path_of d.options old) (offset p)).0 items
-  pub blank_is : blank ≡ last_is_blank (code_behind d.text (path_of d.options old) (offset p)).0
-  pub left_is : lines_from d.text next ≡ (code_behind d.text (path_of d.options old) (offset p)).1
+      → Extends more d.names → IsIndentedCode (document d.text d.options more) p (code_after d.text (path_of d.options old) (offset p)).0 items
+  pub blank_is : blank ≡ last_is_blank (code_after d.text (path_of d.options old) (offset p)).0
+  pub left_is : lines_from d.text next ≡ (code_after d.text (path_of d.options old) (offset p)).1
 
 -- the verdict of the grammar for a returned one, with the place of the text of the line if it has any
 abbrev pub said : Answer → Place → Verdict
@@ -97,15 +97,15 @@ pub record AddsRaw (d : Document) (Are : Document → List (ℕ × Item) → Typ
   pub left_is : lines_from d.text next ≡ left
 
 -- the lines of a fenced code block, or of a metadata block, after the line containing an offset
-abbrev pub fenced_behind : List ℕ → List Container → ℕ → ℕ → ℕ → ℕ → Extent
-fenced_behind text path columns byte count start = fenced_lines (length text) path columns byte count (lines_from text (behind_line_at text start))
+abbrev pub fenced_after : List ℕ → List Container → ℕ → ℕ → ℕ → ℕ → Extent
+fenced_after text path columns byte count start = fenced_lines (length text) path columns byte count (lines_from text (after_line_at text start))
 
-abbrev pub metadata_behind : List ℕ → List Container → ℕ → ℕ → Extent
-metadata_behind text path byte start = metadata_lines (length text) path byte (lines_from text (behind_line_at text start))
+abbrev pub metadata_after : List ℕ → List Container → ℕ → ℕ → Extent
+metadata_after text path byte start = metadata_lines (length text) path byte (lines_from text (after_line_at text start))
 
 -- the lines of an HTML block from a place on
 abbrev pub html_to_end : List ℕ → List Container → BlockEnd → Place → Extent
-html_to_end text path until p = until_end (length text) path until p (lines_from text (behind_line_at text (offset p)))
+html_to_end text path until p = until_end (length text) path until p (lines_from text (after_line_at text (offset p)))
 
 abbrev pub html_to_blank : List ℕ → List Container → Place → Extent
-html_to_blank text path p = until_blank (length text) path p (lines_from text (behind_line_at text (offset p)))
+html_to_blank text path p = until_blank (length text) path p (lines_from text (after_line_at text (offset p)))

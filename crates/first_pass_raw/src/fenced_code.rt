@@ -9,7 +9,7 @@ ghost use Rattle.first_pass_open.specs.Path.{path_of};
 ghost use Rattle.first_pass_names.specs.TableEntries.{names_of, NamesMore};
 ghost use Rattle.first_pass_scan.specs.LeafLines.{code_fence};
 ghost use Rattle.first_pass_grammar.specs.CodeBlocks.{info_string, closing_fence_end, IsFencedCode};
-ghost use Rattle.first_pass_raw.specs.RawBlocks.{AddsRaw, fenced_behind, behind_line_at};
+ghost use Rattle.first_pass_raw.specs.RawBlocks.{AddsRaw, fenced_after, after_line_at};
 
 use crate::extent::{JudgesLines, read_lines};
 use crate::raw_line::RawKind;
@@ -47,11 +47,11 @@ pub fn parse_fenced_code_block<'a>(
     requires boundary { IsCharBoundary source.now.text.now start_ix }
     requires fence { code_fence (drop start_ix source.now.text.now) ≡ Some (fence.count, fence.byte) }
     ensures block { IfOk result (λ next.
-        let e = fenced_behind source.now.text.now (path_of source.now.options tree.old)
+        let e = fenced_after source.now.text.now (path_of source.now.options tree.old)
         fence.indent fence.byte fence.count start_ix in
         AddsRaw (document source.now.text.now source.now.options (names_of allocs.new)) (λ d.
         IsFencedCode d start_ix fence.count e.places e.«end») e.left tree.old tree.new next) }
-    ensures boundary { IfOk result (λ next. (behind_line_at source.now.text.now start_ix ≤ next)
+    ensures boundary { IfOk result (λ next. (after_line_at source.now.text.now start_ix ≤ next)
         × IsCharBoundary source.now.text.now next) }
     ensures more { OnOk result (NamesMore allocs.old allocs.new) }
     ensures utf8 { IsUtf8 source.now.text.now }

@@ -13,7 +13,7 @@ ghost use Rattle.first_pass_grammar.specs.HtmlBlocks.{holds_end, IsHtml};
 ghost use Rattle.first_pass_tokens.specs.TreeTokens.{JoinsNone};
 ghost use Rattle.first_pass_open.specs.OpenBlock.{opened_block};
 ghost use Rattle.first_pass_raw.specs.RawBlocks.{IsPlaceAt, AppendsRaw, AddsRaw, html_to_end, html_to_blank};
-ghost use Rattle.first_pass_raw.specs.RawBlocks.{behind_line_at};
+ghost use Rattle.first_pass_raw.specs.RawBlocks.{after_line_at};
 
 use crate::extent::{JudgesLines, read_lines};
 use crate::raw_line::{RawKind, RawLine, append_raw_line};
@@ -54,7 +54,7 @@ pub fn parse_html_block_type_1_to_5<'a>(
         → let e = html_to_end source.now.text.now (path_of source.now.options tree.old) (end_of html_end) p in
         AddsRaw (document source.now.text.now source.now.options (names_of allocs.new)) (λ d.
         IsHtml d start.at start.columns e.places e.«end») e.left tree.old tree.new next) }
-    ensures boundary { IfOk result (λ next. (behind_line_at source.now.text.now start.at ≤ next)
+    ensures boundary { IfOk result (λ next. (after_line_at source.now.text.now start.at ≤ next)
         × IsCharBoundary source.now.text.now next) }
     ensures more { OnOk result (NamesMore allocs.old allocs.new) }
     ensures utf8 { IsUtf8 source.now.text.now }
@@ -84,7 +84,7 @@ pub fn parse_html_block_type_6_or_7<'a>(
         → let e = html_to_blank source.now.text.now (path_of source.now.options tree.old) p in
         AddsRaw (document source.now.text.now source.now.options (names_of allocs.new)) (λ d.
         IsHtml d start.at start.columns e.places e.«end») e.left tree.old tree.new next) }
-    ensures boundary { IfOk result (λ next. (behind_line_at source.now.text.now start.at ≤ next)
+    ensures boundary { IfOk result (λ next. (after_line_at source.now.text.now start.at ≤ next)
         × IsCharBoundary source.now.text.now next) }
     ensures more { OnOk result (NamesMore allocs.old allocs.new) }
     ensures utf8 { IsUtf8 source.now.text.now }
@@ -105,7 +105,7 @@ fn open_html_block<'a>(
 ) -> Result<usize, AllocError>
     requires boundary { IsCharBoundary text.now start.at }
     requires columns { start.columns ≤ 3 }
-    ensures next { IfOk result (λ next. (next ≡ behind_line_at text.now start.at) × IsCharBoundary text.now next) }
+    ensures next { IfOk result (λ next. (next ≡ after_line_at text.now start.at) × IsCharBoundary text.now next) }
     ensures line { IfOk result (λ next. AppendsRaw range_html text.now (names_of allocs.new) start.columns start.at next
         (opened_block tree.old start.at HtmlBlock) tree.new) }
     ensures path { OnOk result ((options : Options) → path_of options tree.new ≡ path_of options tree.old) }

@@ -9,7 +9,7 @@ ghost use Rattle.first_pass_grammar.specs.RawLines.{range_text};
 ghost use Rattle.first_pass_open.specs.Path.{path_of, has_quote_after};
 ghost use Rattle.first_pass_names.specs.TableEntries.{names_of, NamesMore};
 ghost use Rattle.first_pass_lines.specs.Lines.{is_blank_line};
-ghost use Rattle.first_pass_raw.specs.RawBlocks.{code_rest_at, IsPlaceAt, AppendsRaw, AddsIndented, behind_line_at};
+ghost use Rattle.first_pass_raw.specs.RawBlocks.{code_rest_at, IsPlaceAt, AppendsRaw, AddsIndented, after_line_at};
 
 use crate::raw_line::{RawKind, RawLine, append_raw_line};
 use first_pass_items::item::{Item, ItemBody};
@@ -43,7 +43,7 @@ pub fn parse_indented_code_block<'a>(
         → IsPlaceAt source.now.text.now start_ix p → p.rest.owed ≡ remaining_space
         → AddsIndented (document source.now.text.now source.now.options (names_of allocs.new)) p
         tree.old tree.new answer.0 answer.1) }
-    ensures boundary { IfOk result (λ answer. (behind_line_at source.now.text.now start_ix ≤ answer.0)
+    ensures boundary { IfOk result (λ answer. (after_line_at source.now.text.now start_ix ≤ answer.0)
         × IsCharBoundary source.now.text.now answer.0) }
     ensures more { OnOk result (NamesMore allocs.old allocs.new) }
     ensures utf8 { IsUtf8 source.now.text.now }
@@ -65,7 +65,7 @@ pub fn parse_indented_code_block<'a>(
         next = append_line(tree, allocs, text, at, line_start.remaining_space())?;
         kept = kept_line(kept, tree, blank, next);
     }
-    cut_behind(tree, kept);
+    cut_after(tree, kept);
     close_block(tree, kept.end);
     Ok((next, blank))
 }
@@ -87,7 +87,7 @@ fn append_line<'a>(
 ) -> Result<usize, AllocError>
     requires within { at ≤ length text.now }
     requires owed { owed ≤ 3 }
-    ensures end { IfOk result (λ next. next ≡ behind_line_at text.now at) }
+    ensures end { IfOk result (λ next. next ≡ after_line_at text.now at) }
     ensures within { IfOk result (λ next. next ≤ length text.now) }
     ensures line { IfOk result (λ next. AppendsRaw range_text text.now (names_of allocs.new) owed at next tree.old
         tree.new) }
@@ -120,7 +120,7 @@ fn kept_line(kept: Kept, tree: &Tree<Item>, blank: bool, end: usize) -> Kept
 
 // Drops the nodes after the last node that stays. A blank line may have been joined to that node, so its end is set
 // again.
-fn cut_behind(tree: &mut Tree<Item>, kept: Kept)
+fn cut_after(tree: &mut Tree<Item>, kept: Kept)
     requires { IfSome kept.last (λ child. IsChild tree.old child) }
     ensures { IfSome kept.last (λ child. tree.new ≡ with_end_at (kept_after tree.old child) child kept.«end») }
 {

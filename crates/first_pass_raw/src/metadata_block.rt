@@ -5,7 +5,7 @@ ghost use Rattle.first_pass_grammar.specs.Leaves.{document};
 ghost use Rattle.first_pass_open.specs.Path.{path_of};
 ghost use Rattle.first_pass_names.specs.TableEntries.{names_of, NamesMore};
 ghost use Rattle.first_pass_grammar.specs.CodeBlocks.{IsMetadata, metadata_kind};
-ghost use Rattle.first_pass_raw.specs.RawBlocks.{AddsRaw, metadata_behind, behind_line_at};
+ghost use Rattle.first_pass_raw.specs.RawBlocks.{AddsRaw, metadata_after, after_line_at};
 
 use crate::extent::{JudgesLines, read_lines};
 use crate::raw_line::RawKind;
@@ -42,11 +42,11 @@ pub fn parse_metadata_block<'a>(
 ) -> Result<usize, AllocError>
     requires boundary { IsCharBoundary source.now.text.now start_ix }
     ensures block { IfOk result (λ next.
-        let e = metadata_behind source.now.text.now (path_of source.now.options tree.old)
+        let e = metadata_after source.now.text.now (path_of source.now.options tree.old)
         metadata_block_ch start_ix in
         AddsRaw (document source.now.text.now source.now.options (names_of allocs.new)) (λ d.
         IsMetadata d start_ix metadata_block_ch e.places e.«end») e.left tree.old tree.new next) }
-    ensures boundary { IfOk result (λ next. (behind_line_at source.now.text.now start_ix ≤ next)
+    ensures boundary { IfOk result (λ next. (after_line_at source.now.text.now start_ix ≤ next)
         × IsCharBoundary source.now.text.now next) }
     ensures more { OnOk result (NamesMore allocs.old allocs.new) }
     ensures utf8 { IsUtf8 source.now.text.now }

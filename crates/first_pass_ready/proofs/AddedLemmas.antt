@@ -17,9 +17,9 @@ use Rattle.first_pass_ready.proofs.ClosedIn.{closed_elsewhere_in, top_of, plain_
 use Rattle.first_pass_ready.proofs.OpenLemmas.{open_below, frame-append}
 
 -- the first of further nodes
-pub body_behind : (nodes more : List (ℕ × Item)) → body_at (nodes ++ more) (length nodes) ≡ body_at more 0
-body_behind [] more = refl
-body_behind (n ∷ nodes) more = body_behind nodes more
+pub body_after : (nodes more : List (ℕ × Item)) → body_at (nodes ++ more) (length nodes) ≡ body_at more 0
+body_after [] more = refl
+body_after (n ∷ nodes) more = body_after nodes more
 
 -- the last child after items are added, by the first of them
 abbrev pub begun_at : ℕ → List (ℕ × Item) → Closed
@@ -38,7 +38,7 @@ pub closed_added : (f : Forest Item) (items : List (ℕ × Item)) → is_definit
 closed_added f items none =
     let k : ℕ = length f.spine + 1 in
     closed_elsewhere_in (added f items) none
-    ∙ ap (λ z. option_map_or (closed_elsewhere (length f.nodes)) z OtherClosed) (body_behind f.nodes (at_depth k items))
+    ∙ ap (λ z. option_map_or (closed_elsewhere (length f.nodes)) z OtherClosed) (body_after f.nodes (at_depth k items))
     ∙ begun_is (length f.nodes) k items
 
 silent_by : (nodes : List (ℕ × Item)) (k : ℕ) (items : List (ℕ × Item)) (t : Bool) → begins_paragraph items ≡ t

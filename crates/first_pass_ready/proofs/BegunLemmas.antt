@@ -114,7 +114,7 @@ plain_open options f frames o none = plain_top options (top_body f) frames (top_
 
 -- the current node is after the open nodes
 not_before : (ds : List ℕ) (d i c : ℕ) → IsLastAt ds d i → IsLastAt ds (suc d) c → c < i → ⊥
-not_before ds d i c first last h = let b = last.behind i h first.within in let e = first.depth in absurd (omega arith)
+not_before ds d i c first last h = let b = last.following i h first.within in let e = first.depth in absurd (omega arith)
 
 not_same : (ds : List ℕ) (d i c : ℕ) → IsLastAt ds d i → IsLastAt ds (suc d) c → c ≡ i → ⊥
 not_same ds d i c first last h = let e = first.depth in let k = ap (slice_index ds) h in let l = last.depth in absurd (omega arith)

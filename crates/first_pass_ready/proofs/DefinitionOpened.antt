@@ -149,17 +149,17 @@ or_true : (a : Bool) → (a || true) ≡ true
 or_true true = refl
 or_true false = refl
 
-module _ (d : Document) (defined : Tables) (f : Forest Item) (run : Bool) (p : Place) (lines behind : List Place) (columns : ℕ) (from : From)
-    (forest : IsForest f) (opens : Opens d (level_of d.options f run) p lines (OpensNode (definition_head p columns) from behind))
+module _ (d : Document) (defined : Tables) (f : Forest Item) (run : Bool) (p : Place) (lines following : List Place) (columns : ℕ) (from : From)
+    (forest : IsForest f) (opens : Opens d (level_of d.options f run) p lines (OpensNode (definition_head p columns) from following))
     (ready : ReadyAt d defined f run (Inside p) lines) where
   abbrev Opened : Forest Item → Type 0
-  Opened g = ListIsOpen d defined run (path_of d.options f) g columns (offset p) from behind
+  Opened g = ListIsOpen d defined run (path_of d.options f) g columns (offset p) from following
 
   -- the opening there that completes the nodes, given the last child
   opens_at : (closed : Closed) → closed_in f ≡ closed
-      → Opens d (lvl ready.frames (tail closed run)) p lines (OpensNode (definition_head p columns) from behind)
+      → Opens d (lvl ready.frames (tail closed run)) p lines (OpensNode (definition_head p columns) from following)
   opens_at closed is =
-      subst (λ z. Opens d z p lines (OpensNode (definition_head p columns) from behind))
+      subst (λ z. Opens d z p lines (OpensNode (definition_head p columns) from following))
       (open_level d.options f ready.frames run ready.are_open ∙ ap (λ z. lvl ready.frames (tail z run)) is) opens
 
   completes_at : (closed : Closed) → closed_in f ≡ closed
@@ -182,7 +182,7 @@ module _ (d : Document) (defined : Tables) (f : Forest Item) (run : Bool) (p : P
       let deep : slice_index (depths f.nodes) c.0 + 1 ≡ length f.spine + 2 = (let e = last.depth in omega arith) in
       let nodes : g.nodes ≡ with_title f.nodes c.0 = titled_nodes f.nodes c.0 (c.0 + 1) (length f.spine + 2) x here (omega arith) deep in
       let longer : length (with_title f.nodes c.0) ≡ suc (length f.nodes) = length-with_title f.nodes c.0 within in
-      let k = completes-first_definition d defined run ready.frames f.nodes c.0 os p lines behind columns (offset p) p.line 0 from
+      let k = completes-first_definition d defined run ready.frames f.nodes c.0 os p lines following columns (offset p) p.line 0 from
       (plain_open d.options f ready.frames ready.are_open outside) within below (opens_at (ParagraphAt c.0) closed) (completes_at (ParagraphAt c.0) closed) in
       record {
         ix = c;
@@ -199,14 +199,14 @@ module _ (d : Document) (defined : Tables) (f : Forest Item) (run : Bool) (p : P
         below = subst (λ ns. AreBelow (length ns) (c.0 ∷ os)) (sym nodes) (omega arith, below);
         same = sym (open_path d.options f.nodes f.spine ready.frames ready.are_open);
         completes = subst (λ ns. CompletesAt d defined fresh (InContainer (Definition columns) ∷ InDefinitions run ∷ ready.frames)
-            (ns ++ (suc (suc (length os)), definition_node (offset p) 0 columns) ∷ []) (length ns ∷ c.0 ∷ os) from behind) (sym nodes) k;
+            (ns ++ (suc (suc (length os)), definition_node (offset p) 0 columns) ∷ []) (length ns ∷ c.0 ∷ os) from following) (sym nodes) k;
       }
 
   -- the facts about an open definition list
   list_opens : (l : IsInnermost f ready.frames) (closed : Closed) → closed_in f ≡ closed
-      → Opens d (lvl (InDefinitions l.loose ∷ l.outer) (tail closed run)) p lines (OpensNode (definition_head p columns) from behind)
+      → Opens d (lvl (InDefinitions l.loose ∷ l.outer) (tail closed run)) p lines (OpensNode (definition_head p columns) from following)
   list_opens l closed is =
-      subst (λ z. Opens d (lvl z (tail closed run)) p lines (OpensNode (definition_head p columns) from behind)) l.frames_are (opens_at closed is)
+      subst (λ z. Opens d (lvl z (tail closed run)) p lines (OpensNode (definition_head p columns) from following)) l.frames_are (opens_at closed is)
 
   list_completes : (l : IsInnermost f ready.frames) (closed : Closed) → closed_in f ≡ closed
       → CompletesAt d defined (tail closed run) (InDefinitions l.loose ∷ l.outer) f.nodes (l.ix.0 ∷ map (λ (i : TreeIndex). i.0) l.rest) (Inside p) lines
@@ -250,7 +250,7 @@ module _ (d : Document) (defined : Tables) (f : Forest Item) (run : Bool) (p : P
             (λ i h. ap (option_and_then (frame_of d.options)) (body-other f.nodes c.0 i (λ y. record y { body = DefinitionListTitle }) h)) below (list_open l);
         below = subst (λ n. AreBelow n (l.ix.0 ∷ os)) (sym size) k.below;
         same = list_path l;
-        completes = completes-title_definition d defined e c.0 run l.loose l.outer f.nodes l.ix.0 os p lines behind columns (offset p) p.line 0 from
+        completes = completes-title_definition d defined e c.0 run l.loose l.outer f.nodes l.ix.0 os p lines following columns (offset p) p.line 0 from
             (list_opens l (TitleAt e c.0) closed) k;
       }
 
@@ -273,7 +273,7 @@ module _ (d : Document) (defined : Tables) (f : Forest Item) (run : Bool) (p : P
         are_open = list_open l;
         below = k.below;
         same = list_path l;
-        completes = completes-definition d defined closed.0 closed.1 run l.loose l.outer f.nodes l.ix.0 (map (λ (i : TreeIndex). i.0) l.rest) p lines behind
+        completes = completes-definition d defined closed.0 closed.1 run l.loose l.outer f.nodes l.ix.0 (map (λ (i : TreeIndex). i.0) l.rest) p lines following
             columns (offset p) p.line 0 from (list_opens l (DefinitionClosed closed.0 closed.1) closed.2) k;
       }
 
@@ -360,20 +360,20 @@ kept_as : (r : Reading) (g : Forest Item) (run : Bool) → r.blank ≡ run → r
 kept_as r g true is none = (refl, refl, none)
 kept_as r g false is none = (refl, is, none)
 
-pub definition_is_open : (d : Document) (defined : Tables) (r : Reading) (p : Place) (lines behind : List Place) (columns : ℕ) (from : From)
+pub definition_is_open : (d : Document) (defined : Tables) (r : Reading) (p : Place) (lines following : List Place) (columns : ℕ) (from : From)
     → IsForest r.tree → takes_definition r.tree ≡ true
-    → Opens d (level_of d.options r.tree r.blank) p lines (OpensNode (definition_head p columns) from behind) → r.empty_item ≡ None
+    → Opens d (level_of d.options r.tree r.blank) p lines (OpensNode (definition_head p columns) from following) → r.empty_item ≡ None
     → ReadyAt d defined r.tree r.blank (Inside p) lines
-    → HasBegun d defined r (definition_begun (offset p) columns r) (Definition columns) from behind
+    → HasBegun d defined r (definition_begun (offset p) columns r) (Definition columns) from following
 unfolding definition_begun
-definition_is_open d defined r p lines behind columns from forest takes opens none ready =
+definition_is_open d defined r p lines following columns from forest takes opens none ready =
     let g : Forest Item = definitions_opened r.tree r.tree.current in
     let path : List Container = path_of d.options r.tree in
     let kept = kept_as r g r.blank refl none in
-    let l = opened_with d defined r.tree r.blank p lines behind columns from forest opens ready r.tree.current refl takes in
-    let done = loosened d defined r.blank path g columns (offset p) from behind l in
+    let l = opened_with d defined r.tree r.blank p lines following columns from forest opens ready r.tree.current refl takes in
+    let done = loosened d defined r.blank path g columns (offset p) from following l in
     record {
-      is_begun = subst (λ (h : Forest Item). IsBegun d defined (with_open h (definition_node (offset p) 0 columns)) (Definition columns) from behind path)
+      is_begun = subst (λ (h : Forest Item). IsBegun d defined (with_open h (definition_node (offset p) 0 columns)) (Definition columns) from following path)
           (sym kept.0) done;
       blank = kept.1;
       none = kept.2;

@@ -28,7 +28,7 @@ use Rattle.first_pass_grammar.specs.Footnotes.{footnote_prefix, footnote_at, foo
 use Rattle.first_pass_grammar.specs.Openers.{start_at}
 use Rattle.first_pass_grammar.specs.Leaves.{Document, around}
 use Rattle.first_pass_grammar.specs.Blocks.{BlankLine}
-use Rattle.first_pass_grammar.specs.Skeleton.{From, Line, Inside, Blanks, Opening, OpensLeaf, OpensFootnote, OpensAs, Opens, is_blank_behind, next_is_blank}
+use Rattle.first_pass_grammar.specs.Skeleton.{From, Line, Inside, Blanks, Opening, OpensLeaf, OpensFootnote, OpensAs, Opens, is_blank_after, next_is_blank}
 use Rattle.first_pass_grammar.specs.Skeleton.{Level, level, may_define, Lines, end_before}
 use Rattle.first_pass_grammar.specs.Derivation.{Tables, node_of}
 use Rattle.first_pass_grammar.specs.Completion.{Closed, Frame, InContainer, InList, InDefinitions, containers_of, AreBelow, last_plain, last_defined}
@@ -105,25 +105,25 @@ pub blank_columns : (k : ℕ) (r : Rest) → is_blank_rest (after_columns k r) �
 blank_columns zero r = refl
 blank_columns (suc k) r = columns_by k r (next_column r) refl (λ s. blank_columns k s)
 
-item_blank_by : (t : Bool) (n : ℕ) (q : Rest) → is_blank_behind (if t then Some (after_columns n q) else None) ≡ true → is_blank_rest q ≡ true
+item_blank_by : (t : Bool) (n : ℕ) (q : Rest) → is_blank_after (if t then Some (after_columns n q) else None) ≡ true → is_blank_rest q ≡ true
 item_blank_by true n q h = sym (blank_columns n q) ∙ h
 item_blank_by false n q h = cc
 
-item_blank : (b : ItemBody) (n : ℕ) (q : Rest) → is_blank_behind (prefix (item_container b n) q) ≡ true → is_blank_rest q ≡ true
+item_blank : (b : ItemBody) (n : ℕ) (q : Rest) → is_blank_after (prefix (item_container b n) q) ≡ true → is_blank_rest q ≡ true
 unfolding prefix
 item_blank (DefinitionListDefinition columns) n q h = item_blank_by (has_columns n q) n q h
 item_blank b n q h = item_blank_by (has_columns n q) n q h
 
-blank_behind_item : (b : ItemBody) (n : ℕ) (o : Option Rest) → is_blank_behind (option_and_then (prefix (item_container b n)) o) ≡ true
-    → is_blank_behind o ≡ true
-blank_behind_item b n None h = h
-blank_behind_item b n (Some q) h = item_blank b n q h
+blank_after_item : (b : ItemBody) (n : ℕ) (o : Option Rest) → is_blank_after (option_and_then (prefix (item_container b n)) o) ≡ true
+    → is_blank_after o ≡ true
+blank_after_item b n None h = h
+blank_after_item b n (Some q) h = item_blank b n q h
 
 -- a line that is blank after the prefix of an item or a definition is blank after those of the containers around it
-pub blank_behind : (b : ItemBody) (n : ℕ) (path : List Container) (r : Rest)
-    → is_blank_behind (after (item_container b n ∷ path) r) ≡ true → is_blank_behind (after (item_container b 0 ∷ path) r) ≡ true
+pub blank_after : (b : ItemBody) (n : ℕ) (path : List Container) (r : Rest)
+    → is_blank_after (after (item_container b n ∷ path) r) ≡ true → is_blank_after (after (item_container b 0 ∷ path) r) ≡ true
 unfolding after
-blank_behind b n path r h = ap is_blank_behind (after_zero b path r) ∙ blank_behind_item b n (after path r) h
+blank_after b n path r h = ap is_blank_after (after_zero b path r) ∙ blank_after_item b n (after path r) h
 
 -- No container begins on a blank line.
 first_by : (t u v : Bool) (b : ℕ) (bs : List ℕ) → is_white b ≡ t → (b == 10) ≡ u → (b == 13) ≡ v → is_some (blank_len (b ∷ bs)) ≡ true → (t || (u || v)) ≡ true
@@ -336,13 +336,13 @@ module _ (d : Document) (defined : Tables) (r : Reading) (p : Place) (lines : Li
       (subst (λ t. ReadyAt d defined t (blank_read_by r b).blank Line lines) (sym (same_tree b none))
       (subst (λ t. ReadyAt d defined r.tree t Line lines) counts now))
 
-blank_place : (line : Place) (o : Option Rest) → is_blank_behind o ≡ true → (q : Rest) × (o ≡ Some q) × (is_blank_rest q ≡ true)
+blank_place : (line : Place) (o : Option Rest) → is_blank_after o ≡ true → (q : Rest) × (o ≡ Some q) × (is_blank_rest q ≡ true)
 blank_place line None h = cc
 blank_place line (Some q) h = (q, refl, h)
 
 only_blank_by : (d : Document) (defined : Tables) (f : Forest Item) (t : Tail) (e : ℕ) (ix : TreeIndex) (rest : List TreeIndex) (c : Container) (line : Place)
     (lines : List Place) (frames : List Frame) → frame_at d.options f.nodes ix.0 ≡ Some (InContainer c) → is_quote c ≡ false
-    → is_blank_behind (after (c ∷ path_in d.options f.nodes rest) line.rest) ≡ true → AreOpen d.options f.nodes (ix ∷ rest) frames
+    → is_blank_after (after (c ∷ path_in d.options f.nodes rest) line.rest) ≡ true → AreOpen d.options f.nodes (ix ∷ rest) frames
     → CompletesAt d defined t frames f.nodes (ix.0 ∷ map (λ (i : TreeIndex). i.0) rest) (Blanks e) (line ∷ lines)
     → CompletesAt d defined (tail t.closed true) frames f.nodes (ix.0 ∷ map (λ (i : TreeIndex). i.0) rest) (Blanks e) lines
 only_blank_by d defined f t e ix rest c line lines [] is quote blank o k = absurd o
@@ -355,7 +355,7 @@ only_blank_by d defined f t e ix rest c line lines (InContainer a ∷ frames) is
     let x : Some (InContainer c) ≡ Some (InContainer a) = sym is ∙ o.0 in
     let same : c ≡ a = cc in
     let path : path_in d.options f.nodes rest ≡ containers_of frames = open_path d.options f.nodes rest frames o.1 in
-    let b = blank_place line (after (c ∷ containers_of frames) line.rest) (subst (λ z. is_blank_behind (after (c ∷ z) line.rest) ≡ true) path blank) in
+    let b = blank_place line (after (c ∷ containers_of frames) line.rest) (subst (λ z. is_blank_after (after (c ∷ z) line.rest) ≡ true) path blank) in
     let k' : CompletesAt d defined t (InContainer c ∷ frames) f.nodes os (Blanks e) (line ∷ lines) =
     subst (λ z. CompletesAt d defined t (InContainer z ∷ frames) f.nodes os (Blanks e) (line ∷ lines)) (sym same) k in
     subst (λ z. CompletesAt d defined (tail t.closed true) (InContainer z ∷ frames) f.nodes os (Blanks e) lines) same
@@ -366,7 +366,7 @@ only_blank_by d defined f t e ix rest c line lines (InContainer a ∷ frames) is
 -- a blank line in an item or a definition that takes only blank lines
 only_blank : (d : Document) (defined : Tables) (f : Forest Item) (run : Bool) (e : ℕ) (ix : TreeIndex) (rest : List TreeIndex) (b : ItemBody) (line : Place)
     (lines : List Place) → f.spine ≡ ix ∷ rest → body_at f.nodes ix.0 ≡ Some (item_body b 0)
-    → is_blank_behind (after (item_container b 0 ∷ path_in d.options f.nodes rest) line.rest) ≡ true → ReadyAt d defined f run (Blanks e) (line ∷ lines)
+    → is_blank_after (after (item_container b 0 ∷ path_in d.options f.nodes rest) line.rest) ≡ true → ReadyAt d defined f run (Blanks e) (line ∷ lines)
     → ReadyAt d defined f true (Blanks e) lines
 only_blank d defined f run e ix rest b line lines spine item blank ready =
     let t : Tail = tail (closed_in f) run in
@@ -433,8 +433,8 @@ module _ (d : Document) (defined : Tables) (r : Reading) (line : Place) (lines :
           sym (ap (λ s. after (path_in d.options r.tree.nodes s) line.rest) empty.spine
           ∙ ap (λ o. after (with_container o path) line.rest) (ap (option_and_then (container_of d.options)) is ∙ item_path d.options b empty.columns)) ∙ goes
 
-      blank_item : is_blank_rest rest ≡ true → is_blank_behind (after (item_container b 0 ∷ path) line.rest) ≡ true
-      blank_item blank = blank_behind b empty.columns path line.rest (ap is_blank_behind on_path ∙ blank)
+      blank_item : is_blank_rest rest ≡ true → is_blank_after (after (item_container b 0 ∷ path) line.rest) ≡ true
+      blank_item blank = blank_after b empty.columns path line.rest (ap is_blank_after on_path ∙ blank)
 
       top_item : top_body r.tree ≡ Some (item_body b empty.columns)
       top_item = ap (top_in r.tree.nodes) empty.spine ∙ is
@@ -465,13 +465,13 @@ module _ (d : Document) (defined : Tables) (r : Reading) (line : Place) (lines :
           subst (λ f. ReadyAt d defined f true (Blanks e) lines) (sym (zero_same none))
           (only_blank d defined r.tree true e empty.place empty.outer b line lines empty.spine item (blank_item h) ready)
       emptied_blank false run h ready =
-          let test : next_is_blank (path_of d.options r.tree) (line ∷ lines) ≡ true = ap is_blank_behind goes ∙ h in
+          let test : next_is_blank (path_of d.options r.tree) (line ∷ lines) ≡ true = ap is_blank_after goes ∙ h in
           let now : ReadyAt d defined (emptied_top r.tree) false (Blanks e) (line ∷ lines) =
           subst (ReadyBeforeLine d defined r.tree e (line ∷ lines)) test ready in
           let zero : ReadyAt d defined zero_tree false (Blanks e) (line ∷ lines) =
           subst (λ f. ReadyAt d defined f false (Blanks e) (line ∷ lines)) zero_is now in
           only_blank d defined zero_tree false e empty.place empty.outer b line lines empty.spine zero_body
-          (subst (λ z. is_blank_behind (after (item_container b 0 ∷ z) line.rest) ≡ true) (sym (outer_path false (Blanks e) (line ∷ lines) zero))
+          (subst (λ z. is_blank_after (after (item_container b 0 ∷ z) line.rest) ≡ true) (sym (outer_path false (Blanks e) (line ∷ lines) zero))
           (blank_item h)) zero
 
       -- the state after the blank line is read
@@ -535,7 +535,7 @@ module _ (d : Document) (defined : Tables) (r : Reading) (line : Place) (lines :
         leave_container d defined r.tree true (Blanks e) (line ∷ lines) e empty.place empty.outer (item_container b 0) empty.spine
         (ap (option_and_then (frame_of d.options)) item ∙ item_frame d.options b 0)
         (stops_blank d.options (level (item_container b 0 ∷ path) before) e (line ∷ lines)
-        (ap is_blank_behind on ∙ h)) last ready in
+        (ap is_blank_after on ∙ h)) last ready in
         let now : popped e r ≡ record r { tree = g; empty_item = None } =
         popped_as e r empty.place empty.outer (item_body b 0) empty.spine item (item_no_list b 0) ∙ item_popped r g empty.place b 0 in
         let same : path_of d.options g ≡ path =
@@ -546,7 +546,7 @@ module _ (d : Document) (defined : Tables) (r : Reading) (line : Place) (lines :
         subst (λ (q : Reading). ReadyAt d defined q.tree q.blank (Inside (at_rest line rest)) lines) (sym now)
         (subst (λ t. ReadyAt d defined g t (Inside (at_rest line rest)) lines) (sym is) inside)
     emptied_ends false is h ready =
-        let test : next_is_blank (path_of d.options r.tree) (line ∷ lines) ≡ false = ap is_blank_behind goes ∙ h in
+        let test : next_is_blank (path_of d.options r.tree) (line ∷ lines) ≡ false = ap is_blank_after goes ∙ h in
         let now : ReadyAt d defined r.tree false Line (line ∷ lines) = subst (ReadyBeforeLine d defined r.tree e (line ∷ lines)) test ready in
         subst (λ t. ReadyAt d defined r.tree t (Inside (at_rest line rest)) lines) (sym is)
         (ready_enter d defined r.tree false line lines rest goes (stays_unblank d.options r.tree) now)

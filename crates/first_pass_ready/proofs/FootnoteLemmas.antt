@@ -20,7 +20,7 @@ use Rattle.first_pass_grammar.specs.declared.kind.Container.TheVariants.{BlockQu
 use Rattle.first_pass_grammar.specs.Before.{Before}
 use Rattle.first_pass_grammar.specs.Blocks.{FootnoteMarker}
 use Rattle.first_pass_grammar.specs.Containers.{footnote_columns, in_footnote}
-use Rattle.first_pass_grammar.specs.Footnotes.{footnote_head_at, label_bytes, NamesLabel, place_behind, behind_head, ends_footnote}
+use Rattle.first_pass_grammar.specs.Footnotes.{footnote_head_at, label_bytes, NamesLabel, place_past, past_head, ends_footnote}
 use Rattle.first_pass_grammar.specs.Kinds.{unindented}
 use Rattle.first_pass_grammar.specs.LinkRuns.{lines_beyond}
 use Rattle.first_pass_items.specs.OptionWords.{gfm_footnotes}
@@ -216,10 +216,10 @@ note_left d defined r p lines head true is_head top ((ready, plain), before) =
 
 -- the place where blocks continue in a footnote definition, given the length of its head at a place, and the lines
 -- after that
-abbrev pub behind_note : Document → Place → List Place → ℕ → Place × List Place
-behind_note d p lines size =
-    let q : Place = place_behind size (unindented p) in
-    behind_head (gfm_footnotes d.options) q (lines_beyond (offset q) lines)
+abbrev pub after_note : Document → Place → List Place → ℕ → Place × List Place
+after_note d p lines size =
+    let q : Place = place_past size (unindented p) in
+    past_head (gfm_footnotes d.options) q (lines_beyond (offset q) lines)
 
 -- a footnote definition is open, and blocks continue in it
 pub record NoteIsOpen (d : Document) (defined : Tables) (q : Reading) (there : Place × List Place) : Type 0 where
@@ -234,7 +234,7 @@ module _ (d : Document) (defined : Tables) (r : Reading) (p : Place) (lines : Li
   opening = footnote_opening d p lines head.0 (FootnoteMarker (footnote_columns d.options) index head.1)
 
   abbrev there : Place × List Place
-  there = behind_note d p lines head.0
+  there = after_note d p lines head.0
 
   abbrev start : ℕ
   start = offset (unindented p)

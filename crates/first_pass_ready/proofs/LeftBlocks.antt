@@ -171,7 +171,7 @@ pop_as r e ix rest flags is =
     (body-kept r.tree.nodes ix.0 ix.0 (λ x. record { start = x.start; «end» = e; body = x.body }) (λ x. refl) ∙ is)
 
 -- a definition list is innermost, and its last child is no possible title
-pub record IsBehindDefinition (f : Forest Item) : Type 0 where
+pub record IsAfterDefinition (f : Forest Item) : Type 0 where
   pub place : TreeIndex
   pub outer : List TreeIndex
   pub flags : ListFlags
@@ -187,16 +187,16 @@ no_title : (o : Option TreeIndex) → not (is_some o) ≡ true → o ≡ None
 no_title None h = refl
 no_title (Some t) h = cc
 
-behind_by : (f : Forest Item) (s : List TreeIndex) → f.spine ≡ s
-    → is_definition_list (option_and_then (λ (ix : TreeIndex). body_at f.nodes ix.0) (slice_get s 0)) ≡ true → possible_title f ≡ None → IsBehindDefinition f
-behind_by f [] spine is none = cc
-behind_by f (ix ∷ rest) spine is none =
+following_by : (f : Forest Item) (s : List TreeIndex) → f.spine ≡ s
+    → is_definition_list (option_and_then (λ (ix : TreeIndex). body_at f.nodes ix.0) (slice_get s 0)) ≡ true → possible_title f ≡ None → IsAfterDefinition f
+following_by f [] spine is none = cc
+following_by f (ix ∷ rest) spine is none =
     let b = definition_list_is (body_at f.nodes ix.0) is in record { place = ix; outer = rest; flags = b.0; spine = spine; body = b.1; none = none }
 
-pub behind_definition : (f : Forest Item) → is_after_definition f ≡ true → IsBehindDefinition f
-behind_definition f h =
+pub past_definition : (f : Forest Item) → is_after_definition f ≡ true → IsAfterDefinition f
+past_definition f h =
     let p = and_parts (is_definition_list (top_body f)) (not (is_some (possible_title f))) h in
-    behind_by f f.spine refl p.0 (no_title (possible_title f) p.1)
+    following_by f f.spine refl p.0 (no_title (possible_title f) p.1)
 
 -- a list around it becomes loose
 body_added : (f : Forest Item) (items : List (ℕ × Item)) (ix : TreeIndex) (b : ItemBody) → ix.0 < length f.nodes
@@ -282,4 +282,4 @@ pub left_is : (r : Reading) (items : List (ℕ × Item)) (e : ℕ) → IsForest 
     → r.empty_item ≡ None → NoParagraph items
     → definitions_left e (with_tree r (added r.tree items)) ≡ with_tree (list_finished e r) (added (list_finished e r).tree items)
 left_is r items e old new after empty flat =
-    let b = behind_definition r.tree after in left_by r items e b.place b.outer b.flags b.spine b.body flat old new b.none empty
+    let b = past_definition r.tree after in left_by r items e b.place b.outer b.flags b.spine b.body flat old new b.none empty

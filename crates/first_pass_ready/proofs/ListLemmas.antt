@@ -33,20 +33,20 @@ run_all depth (n ∷ ns) deep =
     rw t (ap (λ k. tightened k n ∷ tight_run depth ns) z ∙ ap (λ ms. tightened (suc (suc depth)) n ∷ ms) r)
 
 -- all after a place are deeper
-abbrev AreDeeperBehind : ℕ → ℕ → List (ℕ × Item) → Type 0
-AreDeeperBehind depth i [] = Unit {0}
-AreDeeperBehind depth zero (n ∷ ns) = AreDeeper depth ns
-AreDeeperBehind depth (suc i) (n ∷ ns) = AreDeeperBehind depth i ns
+abbrev AreDeeperAfter : ℕ → ℕ → List (ℕ × Item) → Type 0
+AreDeeperAfter depth i [] = Unit {0}
+AreDeeperAfter depth zero (n ∷ ns) = AreDeeper depth ns
+AreDeeperAfter depth (suc i) (n ∷ ns) = AreDeeperAfter depth i ns
 
 all_deeper : (depth : ℕ) (ns : List (ℕ × Item)) → ((k : ℕ) → k < length (depths ns) → depth < slice_index (depths ns) k) → AreDeeper depth ns
 all_deeper depth [] h = tt
 all_deeper depth (n ∷ ns) h = (h 0 (omega arith), all_deeper depth ns (λ k l. h (suc k) (omega arith)))
 
-deeper_behind : (depth i : ℕ) (ns : List (ℕ × Item))
-    → ((k : ℕ) → i < k → k < length (depths ns) → depth < slice_index (depths ns) k) → AreDeeperBehind depth i ns
-deeper_behind depth i [] h = tt
-deeper_behind depth zero (n ∷ ns) h = all_deeper depth ns (λ k l. h (suc k) (omega arith) (omega arith))
-deeper_behind depth (suc i) (n ∷ ns) h = deeper_behind depth i ns (λ k l m. h (suc k) (omega arith) (omega arith))
+deeper_after : (depth i : ℕ) (ns : List (ℕ × Item))
+    → ((k : ℕ) → i < k → k < length (depths ns) → depth < slice_index (depths ns) k) → AreDeeperAfter depth i ns
+deeper_after depth i [] h = tt
+deeper_after depth zero (n ∷ ns) h = all_deeper depth ns (λ k l. h (suc k) (omega arith) (omega arith))
+deeper_after depth (suc i) (n ∷ ns) h = deeper_after depth i ns (λ k l m. h (suc k) (omega arith) (omega arith))
 
 tight_same : (t : Bool) (x : Item) (e : ℕ) (b : ItemBody) → x.body ≡ b → tight_body b ≡ b → flagged false b ≡ b
     → (let y : Item = if t then record { start = x.start; «end» = x.«end»; body = tight_body x.body } else x in
@@ -59,7 +59,7 @@ tight_same false x e b is plain set =
 
 -- The paragraphs become tight after the list gets its end, or the list is closed as a whole.
 tight_whole : (depth i e : ℕ) (ns : List (ℕ × Item)) (b : ItemBody)
-    → body_at ns i ≡ Some b → tight_body b ≡ b → flagged false b ≡ b → AreDeeperBehind depth i ns
+    → body_at ns i ≡ Some b → tight_body b ≡ b → flagged false b ≡ b → AreDeeperAfter depth i ns
     → tight_at depth (suc i) (modify ns i (λ x. record { start = x.start; «end» = e; body = x.body }))
     ≡ modify (map_from (tightened (suc (suc depth))) i ns) i (λ x. record { start = x.start; «end» = e; body = flagged false x.body })
 unfolding tight_at
@@ -104,11 +104,11 @@ tight_closed f ix rest e b forest spine is plain set =
     let same : depths nodes ≡ depths f.nodes = depths-modify f.nodes ix.0 _ in
     let z : length rest + 1 ≡ suc (length rest) = omega arith in
     let at : slice_index (depths nodes) ix.0 ≡ suc (length rest) = ap (λ ds. slice_index ds ix.0) same ∙ p.0.depth ∙ z in
-    let behind : (k : ℕ) → ix.0 < k → k < length (depths f.nodes) → suc (length rest) < slice_index (depths f.nodes) k =
-    λ k l m. (let b = p.0.behind k l m in omega arith) in
+    let following : (k : ℕ) → ix.0 < k → k < length (depths f.nodes) → suc (length rest) < slice_index (depths f.nodes) k =
+    λ k l m. (let b = p.0.following k l m in omega arith) in
     let y : ix.0 + 1 ≡ suc ix.0 = omega arith in
     ap (λ d. tight_at d (ix.0 + 1) nodes) at ∙ ap (λ k. tight_at (suc (length rest)) k nodes) y
-    ∙ tight_whole (suc (length rest)) ix.0 e f.nodes b is plain set (deeper_behind (suc (length rest)) ix.0 f.nodes behind)
+    ∙ tight_whole (suc (length rest)) ix.0 e f.nodes b is plain set (deeper_after (suc (length rest)) ix.0 f.nodes following)
 
 -- a loose list is closed
 pub loose_closed : (f : Forest Item) (ix : TreeIndex) (rest : List TreeIndex) (e : ℕ) (b : ItemBody)

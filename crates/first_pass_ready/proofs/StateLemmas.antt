@@ -23,7 +23,7 @@ use Rattle.first_pass_grammar.specs.declared.kind.Container.TheVariants.{BlockQu
 use Rattle.first_pass_grammar.specs.Containers.{footnote_columns, after, next_goes_on}
 use Rattle.first_pass_grammar.specs.Before.{Before}
 use Rattle.first_pass_grammar.specs.Leaves.{Document, document}
-use Rattle.first_pass_grammar.specs.Skeleton.{Line, Blanks, level, Lines, is_blank_behind, next_is_blank, end_before}
+use Rattle.first_pass_grammar.specs.Skeleton.{Line, Blanks, level, Lines, is_blank_after, next_is_blank, end_before}
 use Rattle.first_pass_grammar.specs.Derivation.{Tables, no_tables, Derives}
 use Rattle.first_pass_grammar.specs.Completion.{lines_from, Frame, InContainer, last_plain}
 use Rattle.first_pass_grammar.proofs.Finishes.{CompletesAt, Tail}
@@ -82,7 +82,7 @@ unfolding Ready
 ready_plain d defined r lines none ready = subst (λ o. ReadyWith d defined r lines o) (sym none) ready
 
 -- if the next line does not continue a path, it is not blank after it
-not_blank_by : (o : Option Rest) → is_some o ≡ false → is_blank_behind o ≡ false
+not_blank_by : (o : Option Rest) → is_some o ≡ false → is_blank_after o ≡ false
 not_blank_by None h = refl
 not_blank_by (Some r) h = absurd (true≢false h)
 

@@ -70,11 +70,11 @@ lower_map [] k = omega arith
 lower_map (n ∷ ns) zero = refl
 lower_map (n ∷ ns) (suc k) = lower_map ns k
 
-lower_behind : (ns : List (ℕ × Item)) (e k : ℕ) → e ≤ k → get_or (depths (map_from shallower e ns)) k 0 ≡ get_or (depths ns) k 0 - 1
-lower_behind ns zero k l = lower_map ns k
-lower_behind [] (suc e) k l = omega arith
-lower_behind (n ∷ ns) (suc e) zero l = absurd (omega arith)
-lower_behind (n ∷ ns) (suc e) (suc k) l = lower_behind ns e k (omega arith)
+lower_after : (ns : List (ℕ × Item)) (e k : ℕ) → e ≤ k → get_or (depths (map_from shallower e ns)) k 0 ≡ get_or (depths ns) k 0 - 1
+lower_after ns zero k l = lower_map ns k
+lower_after [] (suc e) k l = omega arith
+lower_after (n ∷ ns) (suc e) zero l = absurd (omega arith)
+lower_after (n ∷ ns) (suc e) (suc k) l = lower_after ns e k (omega arith)
 
 -- a moved node is the last of its depth, if all nodes after it were deeper
 pub moved_current : (ns : List (ℕ × Item)) (d at : ℕ) → IsLastAt (depths ns) (d + 1) at
@@ -84,11 +84,11 @@ moved_current ns d at l =
     let n : length ms ≡ length ns = lower_length ns at in
     let m : length (depths ns) ≡ length ns = length-map ns (λ n. n.0) in
     let w : at < length (depths ns) = l.within in
-    let here : get_or (depths ms) at 0 ≡ d = let z = lower_behind ns at at (omega arith) in let y : get_or (depths ns) at 0 ≡ d + 1 = l.depth in omega arith in
+    let here : get_or (depths ms) at 0 ≡ d = let z = lower_after ns at at (omega arith) in let y : get_or (depths ns) at 0 ≡ d + 1 = l.depth in omega arith in
     let past : (k : ℕ) → at < k → k < length ms → d < get_or (depths ms) k 0 =
-    λ k a b. (let z = lower_behind ns at k (omega arith) in let y : d + 1 < get_or (depths ns) k 0 = l.behind k a (omega arith) in omega arith) in
+    λ k a b. (let z = lower_after ns at k (omega arith) in let y : d + 1 < get_or (depths ns) k 0 = l.following k a (omega arith) in omega arith) in
     let i = last_before-is (depths ms) d at (length ms) (omega arith) here (λ k a b. let z = past k a b in omega arith) in
     let j : ℕ = last_before (depths ms) d (length ms) in
     let y : get_or (depths ms) j 0 ≡ d = i.depth in
     let x : j < length ms = i.within in
-    grind (arith, here, y, x, i.behind at, past j, n, m, w)
+    grind (arith, here, y, x, i.following at, past j, n, m, w)

@@ -15,8 +15,8 @@ use Rattle.first_pass_lines.specs.Lines.{is_content, is_white, is_ascii_white, b
 use Rattle.first_pass_lines.specs.Rest.{Rest, past_bytes, after_columns, indent}
 use Rattle.first_pass_lines.specs.Places.{place_at, line_end, moved_bytes, IsPlaceOf}
 use Rattle.first_pass_scan.specs.LeafLines.{hrule_len}
-use Rattle.first_pass_scan.specs.Markers.{is_bullet, number_from, bullet_marker, delimited, ordered_marker, list_marker, content_indent, behind_marker}
-use Rattle.first_pass_scan.specs.Markers.{behind_colon, item_by, item_of, definition_of, is_checked, task_box, task_of}
+use Rattle.first_pass_scan.specs.Markers.{is_bullet, number_from, bullet_marker, delimited, ordered_marker, list_marker, content_indent, after_marker}
+use Rattle.first_pass_scan.specs.Markers.{after_colon, item_by, item_of, definition_of, is_checked, task_box, task_of}
 use Rattle.first_pass_lines.proofs.PlaceFacts.{ascii_keeps, columns_keep, bytes_line_end, columns_line_end}
 
 -- between the two rests are a marker of at least one byte and the columns after it
@@ -146,9 +146,9 @@ content_columns : (n : ℕ) (s : Rest) → (k : ℕ) × ((content_indent n s).1 
 unfolding content_indent
 content_columns n s = content_by (is_some (blank_len s.left)) (nat_le 4 (indent s)) n s
 
-behind_columns : (n : ℕ) (q : Rest) (content : ℕ × Rest) → behind_marker n q ≡ Some content → (k : ℕ) × (content.1 ≡ after_columns k (after_columns 1 q))
-unfolding behind_marker
-behind_columns n q content h =
+past_columns : (n : ℕ) (q : Rest) (content : ℕ × Rest) → after_marker n q ≡ Some content → (k : ℕ) × (content.1 ≡ after_columns k (after_columns 1 q))
+unfolding after_marker
+past_columns n q content h =
     let p = cond_some (nat_le 1 (indent q) || at_line_end q.left) (content_indent (n + 1) (after_columns 1 q)) content h in
     let k = content_columns (n + 1) (after_columns 1 q) in
     (k.0, sym (ap (λ (x : ℕ × Rest). x.1) p.1) ∙ k.1)
@@ -157,8 +157,8 @@ item_marked : (outer : ℕ) (r : Rest) (o : Option (ℕ × ℕ × ℕ)) (item : 
     → list_marker r.left ≡ o → r.owed ≡ 0 → item_by outer r o ≡ Some item → IsMarked r item.1
 item_marked outer r None item e o h = absurd (none-some item h)
 item_marked outer r (Some m) item e o h =
-    let parts = mapped _ (behind_marker (outer + m.0) (past_bytes m.0 r)) item h in
-    let k = behind_columns (outer + m.0) (past_bytes m.0 r) parts.0 parts.1 in
+    let parts = mapped _ (after_marker (outer + m.0) (past_bytes m.0 r)) item h in
+    let k = past_columns (outer + m.0) (past_bytes m.0 r) parts.0 parts.1 in
     marked_by r item.1 m.0 1 k.0 (marker_front r.left m e) o (sym (ap (λ (x : (ℕ × ℕ × ℕ) × Rest). x.1) parts.2) ∙ k.1)
 
 pub item-marked : (outer : ℕ) (r : Rest) (item : (ℕ × ℕ × ℕ) × Rest) → item_of outer r ≡ Some item → IsMarked r item.1
@@ -177,7 +177,7 @@ pub definition-marked : (outer : ℕ) (r : Rest) (definition : ℕ × Rest) → 
 unfolding definition_of
 definition-marked outer r definition h =
     let q : Rest = past_bytes 1 r in
-    let p = cond_some ((r.owed == 0) && begins 58 r.left) (behind_colon (outer + 1) q) definition h in
+    let p = cond_some ((r.owed == 0) && begins 58 r.left) (after_colon (outer + 1) q) definition h in
     let a = and_parts (r.owed == 0) (begins 58 r.left) p.0 in
     let c = colon_by (nat_le 1 (indent q)) (outer + 1) q in
     marked_by r definition.1 1 c.0 c.1 (first_front 58 r.left (omega arith) refl a.1) (eqb-true r.owed 0 a.0) (sym (ap (λ (x : ℕ × Rest). x.1) p.1) ∙ c.2)

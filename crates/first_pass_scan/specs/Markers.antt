@@ -53,8 +53,8 @@ content_indent n r =
 
 -- the same after an item's marker that ends n columns in, if a column or the end of the line follows it
 -- (CommonMark 5.2)
-unfoldable pub behind_marker : ℕ → Rest → Option (ℕ × Rest)
-behind_marker n r =
+unfoldable pub after_marker : ℕ → Rest → Option (ℕ × Rest)
+after_marker n r =
     if nat_le 1 (indent r) || at_line_end r.left then Some (content_indent (n + 1) (after_columns 1 r)) else None
 
 -- the item after `outer` columns with this marker: the marker's byte and number, the item's indent, and the rest of its
@@ -62,7 +62,7 @@ behind_marker n r =
 abbrev pub item_by : ℕ → Rest → Option (ℕ × ℕ × ℕ) → Option ((ℕ × ℕ × ℕ) × Rest)
 item_by outer r None = None
 item_by outer r (Some m) =
-    option_map (λ content. ((m.1, m.2, content.0), content.1)) (behind_marker (outer + m.0) (past_bytes m.0 r))
+    option_map (λ content. ((m.1, m.2, content.0), content.1)) (after_marker (outer + m.0) (past_bytes m.0 r))
 
 -- the item that begins here, if no column is owed and no thematic break is here (CommonMark 5.2)
 unfoldable pub item_of : ℕ → Rest → Option ((ℕ × ℕ × ℕ) × Rest)
@@ -72,7 +72,7 @@ item_of outer r = if (r.owed == 0) && not (is_some (hrule_len r.left)) then item
 -- (CommonMark 5.2)
 abbrev pub listitem_by : List ℕ → Option (ℕ × ℕ × ℕ) → Option (ℕ × ℕ × ℕ × ℕ)
 listitem_by bs None = None
-listitem_by bs (Some m) = option_map (λ content. (m.0, m.1, m.2, content.0)) (behind_marker m.0 (past_bytes m.0 (line_rest bs)))
+listitem_by bs (Some m) = option_map (λ content. (m.0, m.1, m.2, content.0)) (after_marker m.0 (past_bytes m.0 (line_rest bs)))
 
 -- the list item at the start of a line, even if the line is a thematic break: the marker's width, byte and number, and
 -- the item's indent (CommonMark 5.2)
@@ -81,13 +81,13 @@ listitem bs = listitem_by bs (list_marker bs)
 
 -- the indent of a definition whose marker ends n columns in, and the rest of its line; no column need follow the marker
 -- (this project)
-abbrev pub behind_colon : ℕ → Rest → ℕ × Rest
-behind_colon n r = if nat_le 1 (indent r) then content_indent (n + 1) (after_columns 1 r) else (n, r)
+abbrev pub after_colon : ℕ → Rest → ℕ × Rest
+after_colon n r = if nat_le 1 (indent r) then content_indent (n + 1) (after_columns 1 r) else (n, r)
 
 -- the definition whose `:` is here after `outer` columns, if no column is owed: its indent, and the rest of its line
 -- (this project)
 unfoldable pub definition_of : ℕ → Rest → Option (ℕ × Rest)
-definition_of outer r = if (r.owed == 0) && begins colon r.left then Some (behind_colon (outer + 1) (past_bytes 1 r)) else None
+definition_of outer r = if (r.owed == 0) && begins colon r.left then Some (after_colon (outer + 1) (past_bytes 1 r)) else None
 
 -- the mark of a checked task, `x` or `X` (GFM 5.3)
 abbrev pub is_checked : ℕ → Bool

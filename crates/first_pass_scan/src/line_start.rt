@@ -6,7 +6,7 @@ ghost use Rattle.first_pass_scan.specs.LeafLines.{hrule_len};
 ghost use Rattle.first_pass_lines.specs.Rest.{next_column, after_columns, indent, past_bytes, past_quote};
 ghost use Rattle.first_pass_lines.specs.Places.{line_rest};
 ghost use Rattle.first_pass_lines.specs.Plain.{begins_plain, begins_inert};
-ghost use Rattle.first_pass_scan.specs.Markers.{list_marker, content_indent as content_after, behind_marker, behind_colon, item_of, listitem, definition_of, task_box, task_of, past_tag};
+ghost use Rattle.first_pass_scan.specs.Markers.{list_marker, content_indent as content_after, after_marker, after_colon, item_of, listitem, definition_of, task_box, task_of, past_tag};
 
 use crate::leaf_scan::{scan_hrule, scan_rule_free};
 use crate::markers::{scan_list_marker, scan_tag_line, scan_task_box};
@@ -209,7 +209,7 @@ impl<'a> LineStart<'a> {
         }
         let mut next = self.copy();
         next.skip(width);
-        let inner = next.scan_behind_marker(indent + width)?;
+        let inner = next.scan_after_marker(indent + width)?;
         *self = next;
         Some((byte, number, inner))
     }
@@ -230,7 +230,7 @@ impl<'a> LineStart<'a> {
             return None;
         }
         self.skip(1);
-        Some(self.scan_behind_colon(indent + 1))
+        Some(self.scan_after_colon(indent + 1))
     }
 
     /// Takes the task list item marker here, after up to three columns, and returns whether it is checked. It
@@ -348,10 +348,10 @@ impl<'a> LineStart<'a> {
     // Takes the columns after an item's marker that ends `width` columns in. Returns the columns before its
     // content, or `None` if neither a column nor the end of the line follows the marker.
     #[inline(always)]
-    #[tactic(auto, unfolding(crate::specs::Markers::behind_marker))]
-    fn scan_behind_marker(&mut self, width: usize) -> Option<usize>
+    #[tactic(auto, unfolding(crate::specs::Markers::after_marker))]
+    fn scan_after_marker(&mut self, width: usize) -> Option<usize>
         requires { width < 2 ^ 61 }
-        ensures { MatchOption (behind_marker width self.old) (result ≡ None) (λ content. (result ≡ Some content.0)
+        ensures { MatchOption (after_marker width self.old) (result ≡ None) (λ content. (result ≡ Some content.0)
             × (self.new ≡ content.1)) }
     {
         let ends = self.is_at_eol();
@@ -362,9 +362,9 @@ impl<'a> LineStart<'a> {
     }
 
     // The same after a definition's `:`, which no column need follow.
-    fn scan_behind_colon(&mut self, width: usize) -> usize
+    fn scan_after_colon(&mut self, width: usize) -> usize
         requires { width < 2 ^ 61 }
-        ensures { let content = behind_colon width self.old in (result ≡ content.0) × (self.new ≡ content.1) }
+        ensures { let content = after_colon width self.old in (result ≡ content.0) × (self.new ≡ content.1) }
     {
         if !self.scan_space(1) {
             return width;
@@ -435,6 +435,6 @@ pub fn scan_listitem(bytes: &[u8]) -> Option<(usize, u8, u64, usize)>
     let (width, byte, number) = scan_list_marker(bytes)?;
     let mut line = LineStart::new(bytes);
     line.skip(width);
-    let indent = line.scan_behind_marker(width)?;
+    let indent = line.scan_after_marker(width)?;
     Some((width, byte, number, indent))
 }

@@ -7,19 +7,19 @@ use Rattle.std.proofs.lemmas.List.{drop_more, drop_all, take-take}
 use Rattle.std.proofs.lemmas.List.Folds.{length-prefix_len}
 use Rattle.first_pass_items.specs.Bytes.{backslash, pipe}
 use Rattle.first_pass_lines.specs.Lines.{is_content}
-use Rattle.first_pass_table_scan.specs.TableHead.{is_pipe, pipes_behind, pipes_of, last_pipe_behind, header_columns, columns_by_pipes, head_columns}
+use Rattle.first_pass_table_scan.specs.TableHead.{is_pipe, pipes_after, pipes_of, last_pipe_after, header_columns, columns_by_pipes, head_columns}
 
 -- the offset after the last pipe of a row: of the bytes from an offset on, or the one found before
-abbrev pub end_behind : ℕ → ℕ → ℕ → List ℕ → ℕ
-end_behind at found b bs = option_map_or (λ last. at + last + 1) (last_pipe_behind b bs) found
+abbrev pub end_past : ℕ → ℕ → ℕ → List ℕ → ℕ
+end_past at found b bs = option_map_or (λ last. at + last + 1) (last_pipe_after b bs) found
 
 -- one more byte of a row
 at_byte : (row : List ℕ) (i x : ℕ) → i < length row → get_or row i 0 ≡ x → drop i row ≡ x ∷ drop (i + 1) row
 at_byte row i x l e = drop_more row i 0 l ∙ ap (λ y. y ∷ drop (i + 1) row) e
 
 pub pipes-at : (row : List ℕ) (i b x : ℕ) → i < length row → get_or row i 0 ≡ x
-    → pipes_behind b (drop i row) ≡ (if is_pipe x && not (b == backslash) then 1 else 0) + pipes_behind x (drop (i + 1) row)
-pipes-at row i b x l e = ap (pipes_behind b) (at_byte row i x l e)
+    → pipes_after b (drop i row) ≡ (if is_pipe x && not (b == backslash) then 1 else 0) + pipes_after x (drop (i + 1) row)
+pipes-at row i b x l e = ap (pipes_after b) (at_byte row i x l e)
 
 ending-cases : (at found : ℕ) (t : Bool) (o : Option ℕ)
     → option_map_or (λ last. at + last + 1) (option_map_or (λ k. Some (k + 1)) o (if t then Some 0 else None)) found
@@ -29,9 +29,9 @@ ending-cases at found false None = refl
 ending-cases at found t (Some k) = omega arith
 
 pub ending-at : (row : List ℕ) (i found b x : ℕ) → i < length row → get_or row i 0 ≡ x
-    → end_behind i found b (drop i row) ≡ end_behind (i + 1) (if is_pipe x && not (b == backslash) then i + 1 else found) x (drop (i + 1) row)
+    → end_past i found b (drop i row) ≡ end_past (i + 1) (if is_pipe x && not (b == backslash) then i + 1 else found) x (drop (i + 1) row)
 ending-at row i found b x l e =
-    ap (end_behind i found b) (at_byte row i x l e) ∙ ending-cases i found (is_pipe x && not (b == backslash)) (last_pipe_behind x (drop (i + 1) row))
+    ap (end_past i found b) (at_byte row i x l e) ∙ ending-cases i found (is_pipe x && not (b == backslash)) (last_pipe_after x (drop (i + 1) row))
 
 -- the last pipe is this one or a later one
 last-cases : (t : Bool) (o : Option ℕ) (n : ℕ)
@@ -52,82 +52,82 @@ none_if : (t : Bool) → t ≡ false → ◌≡◌ {A = ℕ} (if t then 1 else 0
 none_if t e = ap (λ u. if u then 1 else 0) e
 
 -- no pipes if there is no last pipe
-pub pipes-none : (b : ℕ) (bs : List ℕ) → last_pipe_behind b bs ≡ None → pipes_behind b bs ≡ 0
+pub pipes-none : (b : ℕ) (bs : List ℕ) → last_pipe_after b bs ≡ None → pipes_after b bs ≡ 0
 pipes-none b [] h = refl
 pipes-none b (c ∷ cs) h =
-    let parts = none-cases (is_pipe c && not (b == backslash)) (last_pipe_behind c cs) h in
+    let parts = none-cases (is_pipe c && not (b == backslash)) (last_pipe_after c cs) h in
     let rest = pipes-none c cs parts.0 in
     let no = none_if (is_pipe c && not (b == backslash)) parts.1 in
     omega arith
 
 -- at least one pipe if there is a last one
-pub pipes-some : (b : ℕ) (bs : List ℕ) (n : ℕ) → last_pipe_behind b bs ≡ Some n → 1 ≤ pipes_behind b bs
+pub pipes-some : (b : ℕ) (bs : List ℕ) (n : ℕ) → last_pipe_after b bs ≡ Some n → 1 ≤ pipes_after b bs
 pipes-some b [] n h = absurd cc
 pipes-some b (c ∷ cs) n h =
-    elim (last-cases (is_pipe c && not (b == backslash)) (last_pipe_behind c cs) n h) as (λ _. 1 ≤ pipes_behind b (c ∷ cs)) [
+    elim (last-cases (is_pipe c && not (b == backslash)) (last_pipe_after c cs) n h) as (λ _. 1 ≤ pipes_after b (c ∷ cs)) [
       | inl here ↦ (let one = one_if (is_pipe c && not (b == backslash)) here.1 in omega arith)
       | inr more ↦ (let rest = pipes-some c cs more.0 more.1 in omega arith)
     ]
 
 -- the last pipe is one of the bytes
-pub last-within : (b : ℕ) (bs : List ℕ) (n : ℕ) → last_pipe_behind b bs ≡ Some n → n < length bs
+pub last-within : (b : ℕ) (bs : List ℕ) (n : ℕ) → last_pipe_after b bs ≡ Some n → n < length bs
 last-within b [] n h = absurd cc
 last-within b (c ∷ cs) n h =
-    elim (last-cases (is_pipe c && not (b == backslash)) (last_pipe_behind c cs) n h) as (λ _. n < length (c ∷ cs)) [
+    elim (last-cases (is_pipe c && not (b == backslash)) (last_pipe_after c cs) n h) as (λ _. n < length (c ∷ cs)) [
       | inl here ↦ (let at = here.2 in omega arith)
       | inr more ↦ (let at = more.2 in let rest = last-within c cs more.0 more.1 in omega arith)
     ]
 
 -- no pipe follows the last one
-pub pipes-to-last : (b : ℕ) (bs : List ℕ) (n : ℕ) → last_pipe_behind b bs ≡ Some n → pipes_behind b (take (n + 1) bs) ≡ pipes_behind b bs
+pub pipes-to-last : (b : ℕ) (bs : List ℕ) (n : ℕ) → last_pipe_after b bs ≡ Some n → pipes_after b (take (n + 1) bs) ≡ pipes_after b bs
 pipes-to-last b [] n h = absurd cc
 pipes-to-last b (c ∷ cs) n h =
     let t : Bool = is_pipe c && not (b == backslash) in
-    elim (last-cases t (last_pipe_behind c cs) n h) as (λ _. pipes_behind b (take (n + 1) (c ∷ cs)) ≡ pipes_behind b (c ∷ cs)) [
-      | inl here ↦ ap (λ k. pipes_behind b (take (k + 1) (c ∷ cs))) here.2 ∙ ap (λ k. (if t then 1 else 0) + k) (sym (pipes-none c cs here.0))
+    elim (last-cases t (last_pipe_after c cs) n h) as (λ _. pipes_after b (take (n + 1) (c ∷ cs)) ≡ pipes_after b (c ∷ cs)) [
+      | inl here ↦ ap (λ k. pipes_after b (take (k + 1) (c ∷ cs))) here.2 ∙ ap (λ k. (if t then 1 else 0) + k) (sym (pipes-none c cs here.0))
       | inr more ↦ (
           let at = more.2 in
           let e : n + 1 ≡ suc (more.0 + 1) = omega arith in
-          ap (λ k. pipes_behind b (take k (c ∷ cs))) e ∙ ap (λ k. (if t then 1 else 0) + k) (pipes-to-last c cs more.0 more.1))
+          ap (λ k. pipes_after b (take k (c ∷ cs))) e ∙ ap (λ k. (if t then 1 else 0) + k) (pipes-to-last c cs more.0 more.1))
     ]
 
 -- bytes without a pipe have no last pipe
-pub last-none : (b : ℕ) (bs : List ℕ) → length bs ≡ position_or_len is_pipe bs → last_pipe_behind b bs ≡ None
+pub last-none : (b : ℕ) (bs : List ℕ) → length bs ≡ position_or_len is_pipe bs → last_pipe_after b bs ≡ None
 last-none b [] h = refl
 last-none b (c ∷ cs) h = grind (arith, last-none c cs)
 
 -- a row with one more byte, which is a pipe that counts, or not
 pub step-open : (row : List ℕ) (i b x pipes found more end : ℕ)
     → i < length row → x ≡ get_or row i 0 → more ≡ pipes + 1 → end ≡ i + 1 → (is_pipe (get_or row i 0) && not (b == backslash)) ≡ true
-    → pipes + pipes_behind b (drop i row) ≡ pipes_behind 0 row → end_behind i found b (drop i row) ≡ end_behind 0 0 0 row
-    → (more + pipes_behind x (drop (i + 1) row) ≡ pipes_behind 0 row) × (end_behind (i + 1) end x (drop (i + 1) row) ≡ end_behind 0 0 0 row)
+    → pipes + pipes_after b (drop i row) ≡ pipes_after 0 row → end_past i found b (drop i row) ≡ end_past 0 0 0 row
+    → (more + pipes_after x (drop (i + 1) row) ≡ pipes_after 0 row) × (end_past (i + 1) end x (drop (i + 1) row) ≡ end_past 0 0 0 row)
 step-open row i b x pipes found more end l xe me ee t p q =
     let y : ℕ = get_or row i 0 in
     let left : List ℕ = drop (i + 1) row in
     let one = one_if (is_pipe y && not (b == backslash)) t in
     let counted = pipes-at row i b y l refl in
-    let same : pipes_behind x left ≡ pipes_behind y left = ap (λ u. pipes_behind u left) xe in (
+    let same : pipes_after x left ≡ pipes_after y left = ap (λ u. pipes_after u left) xe in (
       omega arith,
-      ap (λ u. end_behind (i + 1) u x left) ee ∙ ap (λ u. end_behind (i + 1) (i + 1) u left) xe
-          ∙ sym (ap (λ u. end_behind (i + 1) (if u then i + 1 else found) y left) t) ∙ sym (ending-at row i found b y l refl) ∙ q,
+      ap (λ u. end_past (i + 1) u x left) ee ∙ ap (λ u. end_past (i + 1) (i + 1) u left) xe
+          ∙ sym (ap (λ u. end_past (i + 1) (if u then i + 1 else found) y left) t) ∙ sym (ending-at row i found b y l refl) ∙ q,
     )
 
 pub step-other : (row : List ℕ) (i b x pipes found more end : ℕ)
     → i < length row → x ≡ get_or row i 0 → more ≡ pipes → end ≡ found → (is_pipe (get_or row i 0) && not (b == backslash)) ≡ false
-    → pipes + pipes_behind b (drop i row) ≡ pipes_behind 0 row → end_behind i found b (drop i row) ≡ end_behind 0 0 0 row
-    → (more + pipes_behind x (drop (i + 1) row) ≡ pipes_behind 0 row) × (end_behind (i + 1) end x (drop (i + 1) row) ≡ end_behind 0 0 0 row)
+    → pipes + pipes_after b (drop i row) ≡ pipes_after 0 row → end_past i found b (drop i row) ≡ end_past 0 0 0 row
+    → (more + pipes_after x (drop (i + 1) row) ≡ pipes_after 0 row) × (end_past (i + 1) end x (drop (i + 1) row) ≡ end_past 0 0 0 row)
 step-other row i b x pipes found more end l xe me ee t p q =
     let y : ℕ = get_or row i 0 in
     let left : List ℕ = drop (i + 1) row in
     let none = none_if (is_pipe y && not (b == backslash)) t in
     let counted = pipes-at row i b y l refl in
-    let same : pipes_behind x left ≡ pipes_behind y left = ap (λ u. pipes_behind u left) xe in (
+    let same : pipes_after x left ≡ pipes_after y left = ap (λ u. pipes_after u left) xe in (
       omega arith,
-      ap (λ u. end_behind (i + 1) u x left) ee ∙ ap (λ u. end_behind (i + 1) found u left) xe
-          ∙ sym (ap (λ u. end_behind (i + 1) (if u then i + 1 else found) y left) t) ∙ sym (ending-at row i found b y l refl) ∙ q,
+      ap (λ u. end_past (i + 1) u x left) ee ∙ ap (λ u. end_past (i + 1) found u left) xe
+          ∙ sym (ap (λ u. end_past (i + 1) (if u then i + 1 else found) y left) t) ∙ sym (ending-at row i found b y l refl) ∙ q,
     )
 
-pub pipes-first : (row : List ℕ) (i b : ℕ) → i < length row → (is_pipe (get_or row i 0) && not (b == backslash)) ≡ true → 1 ≤ pipes_behind b (drop i row)
+pub pipes-first : (row : List ℕ) (i b : ℕ) → i < length row → (is_pipe (get_or row i 0) && not (b == backslash)) ≡ true → 1 ≤ pipes_after b (drop i row)
 pipes-first row i b l t =
     let y : ℕ = get_or row i 0 in
     let one = one_if (is_pipe y && not (b == backslash)) t in
@@ -135,9 +135,9 @@ pipes-first row i b l t =
     omega arith
 
 -- the end of the row
-pub pipes-end : (row : List ℕ) (i b pipes : ℕ) → length row ≤ i → pipes + pipes_behind b (drop i row) ≡ pipes_behind 0 row → pipes ≡ pipes_of row
+pub pipes-end : (row : List ℕ) (i b pipes : ℕ) → length row ≤ i → pipes + pipes_after b (drop i row) ≡ pipes_after 0 row → pipes ≡ pipes_of row
 pipes-end row i b pipes l h =
-    let none : pipes_behind b (drop i row) ≡ 0 = ap (pipes_behind b) (drop_all i row l) in
+    let none : pipes_after b (drop i row) ≡ 0 = ap (pipes_after b) (drop_all i row l) in
     omega arith
 
 from_start : (o : Option ℕ) → option_map_or (λ last. 0 + last + 1) o 0 ≡ option_map_or (λ last. last + 1) o 0
@@ -145,8 +145,8 @@ from_start None = refl
 from_start (Some k) = omega arith
 
 pub ending-end : (row : List ℕ) (i b found : ℕ)
-    → length row ≤ i → end_behind i found b (drop i row) ≡ end_behind 0 0 0 row → found ≡ option_map_or (λ last. last + 1) (last_pipe_behind 0 row) 0
-ending-end row i b found l h = sym (ap (end_behind i found b) (drop_all i row l)) ∙ h ∙ from_start (last_pipe_behind 0 row)
+    → length row ≤ i → end_past i found b (drop i row) ≡ end_past 0 0 0 row → found ≡ option_map_or (λ last. last + 1) (last_pipe_after 0 row) 0
+ending-end row i b found l h = sym (ap (end_past i found b) (drop_all i row l)) ∙ h ∙ from_start (last_pipe_after 0 row)
 
 -- the last pipe, from the offset after it
 pub end-none : (o : Option ℕ) (end : ℕ) → end ≡ option_map_or (λ last. last + 1) o 0 → end ≡ 0 → o ≡ None
@@ -158,18 +158,18 @@ end-some None end e h = absurd (h e)
 end-some (Some k) end e h = let same : k ≡ end - 1 = omega arith in ap Some same
 
 -- the columns of a line without a pipe, and of one with a pipe
-pub head-none : (bs : List ℕ) → last_pipe_behind 0 (take_while is_content bs) ≡ None → head_columns bs ≡ 0
+pub head-none : (bs : List ℕ) → last_pipe_after 0 (take_while is_content bs) ≡ None → head_columns bs ≡ 0
 unfolding head_columns
 head-none bs h = ap (λ o. option_map_or (header_columns bs) o 0) h
 
-pub head-some : (bs : List ℕ) (n : ℕ) → last_pipe_behind 0 (take_while is_content bs) ≡ Some n → head_columns bs ≡ header_columns bs n
+pub head-some : (bs : List ℕ) (n : ℕ) → last_pipe_after 0 (take_while is_content bs) ≡ Some n → head_columns bs ≡ header_columns bs n
 unfolding head_columns
 head-some bs n h = ap (λ o. option_map_or (header_columns bs) o 0) h
 
 line_len-content : (bs : List ℕ) → length (take_while is_content bs) ≡ prefix_len is_content bs
 line_len-content bs = length-prefix_len is_content bs
 
-pub last-in-line : (bs : List ℕ) (n : ℕ) → last_pipe_behind 0 (take_while is_content bs) ≡ Some n → n < prefix_len is_content bs
+pub last-in-line : (bs : List ℕ) (n : ℕ) → last_pipe_after 0 (take_while is_content bs) ≡ Some n → n < prefix_len is_content bs
 last-in-line bs n h =
     let long = line_len-content bs in
     let within = last-within 0 (take_while is_content bs) n h in
@@ -177,46 +177,46 @@ last-in-line bs n h =
 
 -- the pipes of a line are those up to its last one
 pub pipes-of-line : (bs : List ℕ) (n : ℕ)
-    → last_pipe_behind 0 (take_while is_content bs) ≡ Some n → pipes_of (take (n + 1) bs) ≡ pipes_of (take_while is_content bs)
+    → last_pipe_after 0 (take_while is_content bs) ≡ Some n → pipes_of (take (n + 1) bs) ≡ pipes_of (take_while is_content bs)
 pipes-of-line bs n h =
     let within = last-in-line bs n h in
     let few : n + 1 ≤ prefix_len is_content bs = omega arith in
-    ap (pipes_behind 0) (sym (take-take (n + 1) (prefix_len is_content bs) bs few)) ∙ pipes-to-last 0 (take_while is_content bs) n h
+    ap (pipes_after 0) (sym (take-take (n + 1) (prefix_len is_content bs) bs few)) ∙ pipes-to-last 0 (take_while is_content bs) n h
 
 -- the number of columns of a line, from its pipes
 pub head-by-pipes : (bs : List ℕ) (n : ℕ)
-    → last_pipe_behind 0 (take_while is_content bs) ≡ Some n → head_columns bs ≡ columns_by_pipes (pipes_of (take_while is_content bs)) bs n
+    → last_pipe_after 0 (take_while is_content bs) ≡ Some n → head_columns bs ≡ columns_by_pipes (pipes_of (take_while is_content bs)) bs n
 head-by-pipes bs n h = head-some bs n h ∙ ap (λ k. columns_by_pipes k bs n) (pipes-of-line bs n h)
 
-no_last : (bs : List ℕ) (o : Option ℕ) → last_pipe_behind 0 bs ≡ o → pipes_of bs ≡ 0 → o ≡ None
+no_last : (bs : List ℕ) (o : Option ℕ) → last_pipe_after 0 bs ≡ o → pipes_of bs ≡ 0 → o ≡ None
 no_last bs None e h = refl
 no_last bs (Some n) e h = let one = pipes-some 0 bs n e in absurd (omega arith)
 
 pub head-without-pipes : (bs : List ℕ) → pipes_of (take_while is_content bs) ≡ 0 → head_columns bs ≡ 0
-head-without-pipes bs h = head-none bs (no_last (take_while is_content bs) (last_pipe_behind 0 (take_while is_content bs)) refl h)
+head-without-pipes bs h = head-none bs (no_last (take_while is_content bs) (last_pipe_after 0 (take_while is_content bs)) refl h)
 
 -- a line whose pipes were counted
 pub head-unmarked : (bs row : List ℕ) (n : ℕ) → row ≡ take_while is_content bs → n ≡ position_or_len is_pipe row → n ≡ length row → 0 ≡ head_columns bs
-head-unmarked bs row n e at all = sym (head-none bs (ap (last_pipe_behind 0) (sym e) ∙ last-none 0 row (sym all ∙ at)))
+head-unmarked bs row n e at all = sym (head-none bs (ap (last_pipe_after 0) (sym e) ∙ last-none 0 row (sym all ∙ at)))
 
 pub head-escaped : (bs row : List ℕ) (end : ℕ)
-    → row ≡ take_while is_content bs → end ≡ option_map_or (λ last. last + 1) (last_pipe_behind 0 row) 0 → end ≡ 0 → 0 ≡ head_columns bs
-head-escaped bs row end e at none = sym (head-none bs (ap (last_pipe_behind 0) (sym e) ∙ end-none (last_pipe_behind 0 row) end at none))
+    → row ≡ take_while is_content bs → end ≡ option_map_or (λ last. last + 1) (last_pipe_after 0 row) 0 → end ≡ 0 → 0 ≡ head_columns bs
+head-escaped bs row end e at none = sym (head-none bs (ap (last_pipe_after 0) (sym e) ∙ end-none (last_pipe_after 0 row) end at none))
 
 -- the last pipe of such a line, from the offset after it
-pub last-found : (bs row : List ℕ) (end : ℕ) → row ≡ take_while is_content bs → end ≡ option_map_or (λ last. last + 1) (last_pipe_behind 0 row) 0 → ¬ (end ≡ 0)
-    → last_pipe_behind 0 (take_while is_content bs) ≡ Some (end - 1)
-last-found bs row end e at some = ap (last_pipe_behind 0) (sym e) ∙ end-some (last_pipe_behind 0 row) end at some
+pub last-found : (bs row : List ℕ) (end : ℕ) → row ≡ take_while is_content bs → end ≡ option_map_or (λ last. last + 1) (last_pipe_after 0 row) 0 → ¬ (end ≡ 0)
+    → last_pipe_after 0 (take_while is_content bs) ≡ Some (end - 1)
+last-found bs row end e at some = ap (last_pipe_after 0) (sym e) ∙ end-some (last_pipe_after 0 row) end at some
 
 pub counted-some : (bs row : List ℕ) (pipes last : ℕ)
-    → row ≡ take_while is_content bs → pipes ≡ pipes_of row → last_pipe_behind 0 (take_while is_content bs) ≡ Some last → 1 ≤ pipes
+    → row ≡ take_while is_content bs → pipes ≡ pipes_of row → last_pipe_after 0 (take_while is_content bs) ≡ Some last → 1 ≤ pipes
 counted-some bs row pipes last e p h =
     let some = pipes-some 0 (take_while is_content bs) last h in
-    let same : pipes_of row ≡ pipes_of (take_while is_content bs) = ap (pipes_behind 0) e in
+    let same : pipes_of row ≡ pipes_of (take_while is_content bs) = ap (pipes_after 0) e in
     omega arith
 
 pub counted-to-last : (bs row : List ℕ) (pipes last : ℕ) → row ≡ take_while is_content bs → pipes ≡ pipes_of row
-    → last_pipe_behind 0 (take_while is_content bs) ≡ Some last → pipes ≡ pipes_of (take (last - 0 + 1) bs)
+    → last_pipe_after 0 (take_while is_content bs) ≡ Some last → pipes ≡ pipes_of (take (last - 0 + 1) bs)
 counted-to-last bs row pipes last e p h =
     let here : last + 1 ≡ last - 0 + 1 = omega arith in
-    p ∙ ap (pipes_behind 0) e ∙ sym (pipes-of-line bs last h) ∙ ap (λ k. pipes_of (take k bs)) here
+    p ∙ ap (pipes_after 0) e ∙ sym (pipes-of-line bs last h) ∙ ap (λ k. pipes_of (take k bs)) here

@@ -9,7 +9,7 @@ use Rattle.std.proofs.lemmas.List.Sums.{position_or_len_is, fails_before_first}
 use Rattle.std.proofs.lemmas.List.Splits.{slice_split_none, slice_split_first}
 use Rattle.memchr.specs.Find.{IsFirstByte}
 use Rattle.first_pass_items.specs.declared.item.Alignment.{Alignment}
-use Rattle.first_pass_table_scan.specs.TableHead.{is_pipe, delimiter_cell, each_of, delimiter_cells, pipes_behind}
+use Rattle.first_pass_table_scan.specs.TableHead.{is_pipe, delimiter_cell, each_of, delimiter_cells, pipes_after}
 
 -- the results of a search for a byte
 pub first_none : (test : ℕ → Bool) (bs : List ℕ) → IsFirstByte test bs None → length bs ≡ position_or_len test bs
@@ -72,6 +72,6 @@ pub found-last : (bs : List ℕ) (n : ℕ) (xs : List Alignment) (x : Alignment)
 found-last bs n xs x e l h = sym (ap (found_before xs) (cells-last bs n (Some x) e l h))
 
 -- at most as many pipes as bytes
-pub pipes-fit : (b : ℕ) (bs : List ℕ) → pipes_behind b bs ≤ length bs
+pub pipes-fit : (b : ℕ) (bs : List ℕ) → pipes_after b bs ≤ length bs
 pipes-fit b [] = omega arith
 pipes-fit b (c ∷ cs) = grind (arith, pipes-fit c cs)

@@ -72,13 +72,13 @@ unfoldable pub table_head : List ℕ → ℕ × List Alignment
 table_head bs = option_map_or (λ columns. (line_len bs, columns)) (delimiter_row bs) (0, [])
 
 -- the number of pipes not directly after a backslash in bytes that follow the byte b (GFM 4.10)
-abbrev pub pipes_behind : ℕ → List ℕ → ℕ
-pipes_behind b [] = 0
-pipes_behind b (c ∷ cs) = (if is_pipe c && not (b == backslash) then 1 else 0) + pipes_behind c cs
+abbrev pub pipes_after : ℕ → List ℕ → ℕ
+pipes_after b [] = 0
+pipes_after b (c ∷ cs) = (if is_pipe c && not (b == backslash) then 1 else 0) + pipes_after c cs
 
 -- the number of pipes not directly after a backslash (GFM 4.10)
 abbrev pub pipes_of : List ℕ → ℕ
-pipes_of bs = pipes_behind 0 bs
+pipes_of bs = pipes_after 0 bs
 
 -- The number of columns of a header row, from the number of its pipes and the place of the last one. A pipe that
 -- begins the row after white space does not count. One more column counts if the rest of the line after the last pipe
@@ -93,15 +93,15 @@ header_columns bs last = columns_by_pipes (pipes_of (take (last + 1) bs)) bs las
 
 -- the place of the last pipe not directly after a backslash in bytes that follow the byte b, if there is one
 -- (GFM 4.10)
-abbrev pub last_pipe_behind : ℕ → List ℕ → Option ℕ
-last_pipe_behind b [] = None
-last_pipe_behind b (c ∷ cs) =
-    option_map_or (λ k. Some (k + 1)) (last_pipe_behind c cs) (if is_pipe c && not (b == backslash) then Some 0 else None)
+abbrev pub last_pipe_after : ℕ → List ℕ → Option ℕ
+last_pipe_after b [] = None
+last_pipe_after b (c ∷ cs) =
+    option_map_or (λ k. Some (k + 1)) (last_pipe_after c cs) (if is_pipe c && not (b == backslash) then Some 0 else None)
 
 -- the number of columns of the line that begins here, as a header row; 0 if it has no pipe except after backslashes
 -- (GFM 4.10)
 unfoldable pub head_columns : List ℕ → ℕ
-head_columns bs = option_map_or (header_columns bs) (last_pipe_behind 0 (take_while is_content bs)) 0
+head_columns bs = option_map_or (header_columns bs) (last_pipe_after 0 (take_while is_content bs)) 0
 
 -- the alignments of the rest of a line, if it is a delimiter row after an indentation of at most three columns
 -- (GFM 4.10)

@@ -78,10 +78,10 @@ fn is_hyphens(bytes: &[u8]) -> bool
 }
 
 // The alignment of a column, from the colons before and after its hyphens.
-fn alignment(before: bool, behind: bool) -> Alignment
-    ensures { result ≡ alignment_by before behind }
+fn alignment(before: bool, following: bool) -> Alignment
+    ensures { result ≡ alignment_by before following }
 {
-    match (before, behind) {
+    match (before, following) {
         (false, false) => Alignment::None,
         (true, false) => Alignment::Left,
         (true, true) => Alignment::Center,
@@ -96,9 +96,9 @@ fn scan_delimiter_cell(bytes: &[u8]) -> Option<Alignment>
 {
     let cell = stripped(bytes);
     let tail = without_first(cell, b':');
-    let behind = ends(tail, b':');
+    let following = ends(tail, b':');
     if is_hyphens(without_last(tail, b':')) {
-        Some(alignment(tail.len() < cell.len(), behind))
+        Some(alignment(tail.len() < cell.len(), following))
     } else {
         None
     }

@@ -6,7 +6,7 @@ ghost use Rattle.std.specs.List.{take_while};
 ghost use Rattle.std.specs.Prelude.{◌≡◌, ℕ, ◌+◌, ◌==◌, ◌&&◌, ◌||◌, not, Some, IfOk};
 ghost use Rattle.first_pass_items.specs.Bytes.{hyphen, colon, backslash, pipe};
 ghost use Rattle.first_pass_lines.specs.Lines.{begins, is_content};
-ghost use Rattle.first_pass_table_scan.specs.TableHead.{is_pipe, head_columns, columns_by_pipes, delimiter_row_of, last_pipe_behind, pipes_of};
+ghost use Rattle.first_pass_table_scan.specs.TableHead.{is_pipe, head_columns, columns_by_pipes, delimiter_row_of, last_pipe_after, pipes_of};
 
 use crate::table_scan::{cell_len, count_header_cols, scan_table_head};
 use first_pass_items::item::Alignment;
@@ -42,7 +42,7 @@ fn is_open_pipe(before: u8, byte: u8) -> bool
 // The number of pipes of the row that are not directly after a backslash, and the offset after the last, or 0.
 fn count_pipes(row: &[u8]) -> (usize, usize)
     ensures pipes { result.0 ≡ pipes_of row.now }
-    ensures end { result.1 ≡ option_map_or (λ last. last + 1) (last_pipe_behind 0 row.now) 0 }
+    ensures end { result.1 ≡ option_map_or (λ last. last + 1) (last_pipe_after 0 row.now) 0 }
 {
     let mut pipes = 0;
     let mut end = 0;
@@ -92,6 +92,6 @@ pub fn scan_delimiter_row(
 /// column counts if the rest of the line after the last pipe is not blank. GFM 4.10.
 pub fn law_of_head_columns(bytes: &[u8])
     ensures none { pipes_of (take_while is_content bytes.now) ≡ 0 → head_columns bytes.now ≡ 0 }
-    ensures some { (last : ℕ) → last_pipe_behind 0 (take_while is_content bytes.now) ≡ Some last
+    ensures some { (last : ℕ) → last_pipe_after 0 (take_while is_content bytes.now) ≡ Some last
         → head_columns bytes.now ≡ columns_by_pipes (pipes_of (take_while is_content bytes.now)) bytes.now last }
 {}

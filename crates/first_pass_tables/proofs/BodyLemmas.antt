@@ -70,8 +70,8 @@ unfolding CountedRows
 row_more d path table at row more within next_is has is rest =
     let t : Taken = taking (row_block TableRow table.columns row.start row.cells row.row_end ++ more.items) more.left in
     let lines : List Place = line_place at (drop at d.text) ∷ lines_from d.text row.row_end in
-    let behind = counted d path (with_row table row) (lines_from d.text row.row_end) more rest in
-    let all : AreRows d path table lines t = are_rows d path table lines t (inr (row, has, inr (is, more, behind, refl))) in
+    let following = counted d path (with_row table row) (lines_from d.text row.row_end) more rest in
+    let all : AreRows d path table lines t = are_rows d path table lines t (inr (row, has, inr (is, more, following, refl))) in
     subst (λ lines. AreRows d path table lines t) (sym (lines_at-line d.text at within ∙ ap (λ n. line_place at (drop at d.text) ∷ lines_from d.text n)
     (sym next_is))) all
 

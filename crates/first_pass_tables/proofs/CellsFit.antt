@@ -106,9 +106,9 @@ white_boundary text at utf8 boundary =
     let place : at + (0 + prefix_len is_white (drop at text)) ≡ at + prefix_len is_white (drop at text) = omega arith in
     subst (IsCharBoundary text) place (white_keeps text (line_place at (drop at text)) utf8 (line_is_place text at boundary)).boundary
 
-start_behind : (text : List ℕ) (at : ℕ) (t : Bool) → (slice_index text at == pipe) ≡ t → at ≤ cell_start text at
-start_behind text at true here = let begins : cell_start text at ≡ at + 1 = ap (λ (t : Bool). if t then at + 1 else at) here in omega arith
-start_behind text at false here = let begins : cell_start text at ≡ at = ap (λ (t : Bool). if t then at + 1 else at) here in omega arith
+start_after : (text : List ℕ) (at : ℕ) (t : Bool) → (slice_index text at == pipe) ≡ t → at ≤ cell_start text at
+start_after text at true here = let begins : cell_start text at ≡ at + 1 = ap (λ (t : Bool). if t then at + 1 else at) here in omega arith
+start_after text at false here = let begins : cell_start text at ≡ at = ap (λ (t : Bool). if t then at + 1 else at) here in omega arith
 
 -- A cell, from the offset at which the search for it begins, is between that and its end, and has at most two nodes
 -- for each byte there.
@@ -127,7 +127,7 @@ one_cell d p tokens stop utf8 boundary on cell =
     let text = text_within d.text at boundary.0 in
     let starts = start_boundary d.text at (slice_index d.text at == pipe) refl utf8 boundary in
     let begins = white_boundary d.text (cell_start d.text at) utf8 starts in
-    let behind = start_behind d.text at (slice_index d.text at == pipe) refl in
+    let following = start_after d.text at (slice_index d.text at == pipe) refl in
     let e = cell_ends text.1 cell in
     let from : cell_text d.text at ≤ stop = e.from in
     let ends = cell_end_place text.1 cell in
@@ -142,7 +142,7 @@ one_cell d p tokens stop utf8 boundary on cell =
       within = e.within;
       ends = ends;
       between = between-block d.text at stop x (leaves tokens)
-          (record { behind = behind; order = omega arith; before = omega arith; starts = starts; ends = ends })
+          (record { following = following; order = omega arith; before = omega arith; starts = starts; ends = ends })
           (leaves_between d.text x.start stop tokens order);
       few = omega arith;
     }
@@ -157,7 +157,7 @@ kept_none text from to h = (let none = own_at_most None [] in record { between =
 
 kept_more : (d : Document) (at next stop : ℕ) (cell more : List (ℕ × Item)) → OneCell d at next cell → next ≤ stop → KeptCells d.text next stop more
     → KeptCells d.text at stop (cell ++ more)
-kept_more d at next stop cell more one behind rest =
+kept_more d at next stop cell more one following rest =
     let own = own_join None cell more in
     let some = one.few in
     let others = rest.few in
@@ -172,9 +172,9 @@ kept_cells d (suc columns) p [] to utf8 boundary are = kept_none d.text p.at to.
 kept_cells d (suc columns) p (cell ∷ cells) to utf8 boundary (on, tokens, next, is, same, more) =
     let one = one_cell d p tokens next.at utf8 boundary on is in
     let rest = kept_cells d columns next cells to utf8 one.ends more in
-    let behind = (cells_end d next cells to one.within more).0 in
+    let following = (cells_end d next cells to one.within more).0 in
     subst (λ (c : List (ℕ × Item)). KeptCells d.text p.at to.at (c ++ side_by_side (take columns cells))) (sym same)
-    (kept_more d p.at next.at to.at (cell_block (cell_start d.text p.at) next.at tokens) (side_by_side (take columns cells)) one behind rest)
+    (kept_more d p.at next.at to.at (cell_block (cell_start d.text p.at) next.at tokens) (side_by_side (take columns cells)) one following rest)
 
 -- a row that has a cell has a byte
 pub some_cells : (d : Document) (p : Spot) (cells : List (List (ℕ × Item))) (to : Spot) → IsUtf8 d.text → IsCharBoundary d.text p.at
@@ -184,8 +184,8 @@ some_cells d p [] to utf8 boundary are some = absurd (omega arith)
 some_cells d p (cell ∷ cells) to utf8 boundary (on, tokens, next, is, same, more) some =
     let one = one_cell d p tokens next.at utf8 boundary on is in
     let later = one.later in
-    let behind = cells_end d next cells to one.within more in
-    omega (arith, behind.0)
+    let following = cells_end d next cells to one.within more in
+    omega (arith, following.0)
 
 -- A row ends at a character boundary.
 pub row_boundary : (d : Document) (p : Spot) (cells : List (List (ℕ × Item))) (to : Spot) → IsUtf8 d.text → IsCharBoundary d.text p.at
@@ -200,7 +200,7 @@ empty_between text at zero boundary = between-none text at at (omega arith)
 empty_between text at (suc n) boundary =
     between-join text at at at (cell_block at at []) (side_by_side (replicate n (cell_block at at [])))
     (between-block text at at (record { start = at; «end» = at; body = TableCell }) []
-    (record { behind = omega arith; order = omega arith; before = omega arith; starts = boundary; ends = boundary }) (between-none text at at (omega arith)))
+    (record { following = omega arith; order = omega arith; before = omega arith; starts = boundary; ends = boundary }) (between-none text at at (omega arith)))
     (empty_between text at n boundary)
 
 empty_at : (at n : ℕ) → AreCellsAt at (side_by_side (replicate n (cell_block at at [])))
@@ -234,6 +234,6 @@ row_fits d body columns p cells to utf8 boundary are =
     let some = kept.few in
     record {
       between = between-block d.text start stop x (row_cells columns cells stop)
-          (record { behind = omega arith; order = order; before = omega arith; starts = boundary; ends = ends }) inside;
+          (record { following = omega arith; order = order; before = omega arith; starts = boundary; ends = ends }) inside;
       few = omega arith;
     }

@@ -18,7 +18,7 @@ end_before ds more d i h =
     let a = length-append ds (d ∷ more) in
     let r = prefix_len_is (λ e. nat_lt (get_or es i 0) e) (drop (i + 1) es) (length ds - (i + 1)) 0 (omega arith)
     (λ k l.
-    let b = h.behind (i + 1 + k) (omega arith) (omega arith) in
+    let b = h.following (i + 1 + k) (omega arith) (omega arith) in
     let c = get_or_append_left ds (d ∷ more) 0 (i + 1 + k) (omega arith) in
     let t : nat_lt (get_or es i 0) (get_or es (i + 1 + k) 0) ≡ true = grind (arith, nat_tests, at, b, c) in
     ap (nat_lt (get_or es i 0)) (get_or-drop (i + 1) es k 0) ∙ t)

@@ -98,7 +98,7 @@ further d at cell text stop tokens false here begins order within none is =
     let ends = cell_ends within is in
     let from : text.at ≤ stop.at = ends.from in
     elim (cases_lt at text.at) [
-      | inl behind ↦ (omega arith, ends.within)
+      | inl following ↦ (omega arith, ends.within)
       | inr same ↦
           let place : text.at ≡ at = omega arith in
           let later : text.at < stop.at = ends.later (not_empty d text none (ap (λ (k : ℕ). slice_index d.text k == pipe) place ∙ here)) in

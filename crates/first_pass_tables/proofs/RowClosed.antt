@@ -80,11 +80,11 @@ module _ (d : Document) (columns : ℕ) (start stop : Spot) (count missing : ℕ
       refl opened_is nodes_are spine_is spine_of_row refl refl
 
 -- the numbers of a row's cells and of the missing ones decide whether it is kept
-pub same_test : (behind : Bool) (columns most count missing : ℕ) (cells : List (List (ℕ × Item))) → count ≡ length cells → missing ≡ filled columns cells
-    → ((not behind || nat_lt 0 count) && nat_le missing most) ≡ keeps_row behind columns most cells
-same_test behind columns most count missing cells count_is missing_is =
-    ap (λ (n : ℕ). (not behind || nat_lt 0 n) && nat_le missing most) count_is
-    ∙ ap (λ (n : ℕ). (not behind || nat_lt 0 (length cells)) && nat_le n most) missing_is
+pub same_test : (following : Bool) (columns most count missing : ℕ) (cells : List (List (ℕ × Item))) → count ≡ length cells → missing ≡ filled columns cells
+    → ((not following || nat_lt 0 count) && nat_le missing most) ≡ keeps_row following columns most cells
+same_test following columns most count missing cells count_is missing_is =
+    ap (λ (n : ℕ). (not following || nat_lt 0 n) && nat_le missing most) count_is
+    ∙ ap (λ (n : ℕ). (not following || nat_lt 0 (length cells)) && nat_le n most) missing_is
 
 same_spine : (s v w : List TreeIndex) (i j : TreeIndex) → s ≡ i ∷ v → s ≡ j ∷ w → w ≡ v
 same_spine s v w i j a b = cc
@@ -93,12 +93,12 @@ no_spine : (s v : List TreeIndex) (i : TreeIndex) → s ≡ i ∷ v → s ≡ []
 no_spine s v i a b = cc
 
 -- the row is closed, and about to be dropped
-pub row_behind : (d : Document) (columns : ℕ) (start : Spot) (body : ItemBody) (old opened read back : Forest Item) (answer : Spot × ℕ) (r : Option TreeIndex)
+pub row_after : (d : Document) (columns : ℕ) (start : Spot) (body : ItemBody) (old opened read back : Forest Item) (answer : Spot × ℕ) (r : Option TreeIndex)
     → opened ≡ opened_block old start.at body → AppendsCells d columns start opened read answer
     → MatchOption r ((read.spine ≡ []) × (back ≡ read)) (λ ix. (read.spine ≡ ix ∷ back.spine) × (back ≡ popped read ix back.spine)) → HasMore old back
-row_behind d columns start body old opened read back answer None opened_is adds h =
+row_after d columns start body old opened read back answer None opened_is adds h =
     absurd (no_spine read.spine old.spine (row_place old) (adds.spine ∙ ap (λ (f : Forest Item). f.spine) opened_is) h.0)
-row_behind d columns start body old opened read back answer (Some ix) opened_is adds h =
+row_after d columns start body old opened read back answer (Some ix) opened_is adds h =
     let x = begun_item start.at body in
     let rest = at_depth (length opened.spine + 1) (side_by_side (take columns adds.cells)) in
     record {

@@ -17,7 +17,7 @@ use Rattle.first_pass_grammar.specs.Leaves.{Document, document}
 use Rattle.first_pass_grammar.specs.Tables.{cell_start, AreCells, side_by_side}
 use Rattle.first_pass_open.specs.OpenBlock.{IsJustPushed}
 use Rattle.first_pass_tables.specs.declared.row.CellsRead.{CellsRead}
-use Rattle.first_pass_tables.specs.Appends.{IsOpenNode, without_behind, without_children, AppendsCells}
+use Rattle.first_pass_tables.specs.Appends.{IsOpenNode, without_after, without_children, AppendsCells}
 use Rattle.first_pass_tables.specs.Reading.{AreAppended, AreAllAppended, AppendsSome}
 use Rattle.first_pass_tables.proofs.DropLemmas.{kept_back, childless_back}
 
@@ -31,7 +31,7 @@ current_child {T} f c h is =
     record {
       within = omega (arith, w, l.within);
       depth = l.depth;
-      behind = last-order ds _ _ _ _ o l (omega arith);
+      following = last-order ds _ _ _ _ o l (omega arith);
     }
 
 -- the trees are alike, except for further nodes in the second one; the first of these is a child of the innermost
@@ -50,14 +50,14 @@ child_by f g (Some c) is h more = child-kept f g ((length f.spine + 1, more.x) �
 pub current_is_child : (f g : Forest Item) → IsForest f → HasMore f g → IfSome f.current (λ ix. IsChild g ix)
 current_is_child f g h more = child_by f g f.current refl h more
 
-dropped_by : (f g : Forest Item) (o : Option TreeIndex) → f.current ≡ o → IsForest f → IsOpenNode f → HasMore f g → without_behind g o ≡ f
+dropped_by : (f g : Forest Item) (o : Option TreeIndex) → f.current ≡ o → IsForest f → IsOpenNode f → HasMore f g → without_after g o ≡ f
 dropped_by f g None is h n more =
     let here : slice_get g.spine 0 ≡ Some n.place = ap (λ (s : List TreeIndex). slice_get s 0) (more.spine ∙ n.innermost) in
     ap (without_children g) here ∙ childless_back f g n.place ((length f.spine + 1, more.x) ∷ more.rest) is (n.childless is) more.nodes more.spine
 dropped_by f g (Some c) is h n more = kept_back f g c more.x more.rest h is more.nodes more.spine
 
 -- the nodes after the current node are dropped: the tree is as before
-pub dropped : (f g : Forest Item) → IsForest f → IsOpenNode f → HasMore f g → without_behind g f.current ≡ f
+pub dropped : (f g : Forest Item) → IsForest f → IsOpenNode f → HasMore f g → without_after g f.current ≡ f
 dropped f g h n more = dropped_by f g f.current refl h n more
 
 -- the cells of a row that has some begin with the item of a cell
@@ -128,7 +128,7 @@ none_more d at stop count f g empty all =
     (none_by (length f.spine + 1) f g all.cells (omega arith) all.nodes, all.spine)
 
 -- the nodes that were appended after it are dropped
-pub same_dropped : (f g new : Forest Item) → IsForest f → IsOpenNode f → HasMore f g → new ≡ without_behind g f.current → HaveSame new f
+pub same_dropped : (f g new : Forest Item) → IsForest f → IsOpenNode f → HasMore f g → new ≡ without_after g f.current → HaveSame new f
 same_dropped f g new h n more is =
     let back = is ∙ dropped f g h n more in
     (ap (λ (t : Forest Item). t.nodes) back, ap (λ (t : Forest Item). t.spine) back)

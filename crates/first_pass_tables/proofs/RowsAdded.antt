@@ -30,10 +30,10 @@ use Rattle.first_pass_tables.proofs.CellsFit.{OneRow, between-order, between-joi
 use Rattle.first_pass_tables.proofs.RowsFit.{row_place, RowsBetween, rows_fit}
 
 -- a row fits at any place after an offset before it
-row_fits_behind : (d : Document) (body : ItemBody) (columns : ℕ) (p : Spot) (cells : List (List (ℕ × Item))) (to : Spot) (w : Within) (from : ℕ)
+row_fits_after : (d : Document) (body : ItemBody) (columns : ℕ) (p : Spot) (cells : List (List (ℕ × Item))) (to : Spot) (w : Within) (from : ℕ)
     → IsUtf8 d.text
     → IsCharBoundary d.text p.at → AreCells d p cells to → from ≤ p.at → FitsBetween d.text w from to.at (row_block body columns p.at cells to.at)
-row_fits_behind d body columns p cells to w from utf8 boundary are low =
+row_fits_after d body columns p cells to w from utf8 boundary are low =
     let start : ℕ = p.at in
     let stop : ℕ = to.at in
     let block : List (ℕ × Item) = row_block body columns start cells stop in
@@ -55,7 +55,7 @@ row_between d columns start old new (Some (stop, ix)) utf8 boundary r from low =
       items = block;
       tree_is = a.1;
       fits = subst (λ (n : ℕ). FitsBetween d.text (within_top old.tree) from n block) (sym a.3)
-          (row_fits_behind d TableRow columns (spot start old.braces) r.cells (spot r.row_end r.after) (within_top old.tree) from utf8 boundary r.are_cells
+          (row_fits_after d TableRow columns (spot start old.braces) r.cells (spot r.row_end r.after) (within_top old.tree) from utf8 boundary r.are_cells
           low);
     }
 
@@ -89,16 +89,17 @@ line_row_none d columns n old new answer (inl (none, nothing, same)) is = ap (λ
 line_row_none d columns n old new answer (inr (start, begins, r)) is = row_none d columns start old new answer r is
 
 -- a header row and the rows after it, if the header row has a byte or there are none after it
-both_between : (text : List ℕ) (from start mid behind next : ℕ) (head body : List (ℕ × Item)) → from ≤ start → mid ≤ behind → (start < mid) ⊎ (next ≤ start)
-    → OneRow text start mid head → RowsBetween text behind next body → FitsBetween text Elsewhere from next (head ++ body)
-both_between text from start mid behind next head body low apart some row rows =
+both_between : (text : List ℕ) (from start mid following next : ℕ) (head body : List (ℕ × Item))
+    → from ≤ start → mid ≤ following → (start < mid) ⊎ (next ≤ start)
+    → OneRow text start mid head → RowsBetween text following next body → FitsBetween text Elsewhere from next (head ++ body)
+both_between text from start mid following next head body low apart some row rows =
     let header = between-order text start mid head row.between in
-    let others = between-order text behind next body rows.between in
+    let others = between-order text following next body rows.between in
     let join = own_join None head body in
     let few_row = row.few in
     let few_rows = rows.few in
     let kids = between-join text from mid next head body (between-wider text from start mid mid head low (omega arith) row.between)
-    (between-wider text mid behind next next body apart (omega arith) rows.between) in
+    (between-wider text mid following next next body apart (omega arith) rows.between) in
     (kids.0, kids.1, kids.2, λ room. elim some [ inl more ↦ omega arith | inr none ↦ omega arith ])
 
 -- The rows of a table are between an offset before its header row and the first line that is no row, if those of its
@@ -106,7 +107,7 @@ both_between text from start mid behind next head body low apart some row rows =
 pub rows_between : (d : Document) (columns head_start body_start next from : ℕ) (old new : Forest Item) → IsUtf8 d.text → IsCharBoundary d.text head_start
     → IsCharBoundary d.text body_start → AppendsRows d columns head_start body_start old new next → from ≤ head_start
     → line_end_at d.text head_start ≤ body_start → ClosesBetween d.text from next old new
-rows_between d columns head_start body_start next from old new utf8 head_begins body_begins r low behind =
+rows_between d columns head_start body_start next from old new utf8 head_begins body_begins r low following =
     let text = d.text in
     let head : List (ℕ × Item) = row_block TableHead columns head_start r.cells r.head_end in
     let ends : r.head_end ≡ line_end_at text head_start =

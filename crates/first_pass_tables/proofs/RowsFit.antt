@@ -31,7 +31,7 @@ pub record RowPlace (text : List ℕ) (n start : ℕ) : Type 0 where
   pub start_is : start ≡ offset place
   pub is : IsPlaceOf text place
   pub ends : line_end place ≡ n + line_len (drop n text)
-  pub behind : n ≤ start
+  pub following : n ≤ start
 
 uninterrupted : (t : Bool) (m start : ℕ) → (if t then None else Some m) ≡ Some start → m ≡ start
 uninterrupted true m start h = absurd (none-some start h)
@@ -52,7 +52,7 @@ row_by text c n start (Some r) utf8 boundary e h =
       start_is = sym same;
       is = all_keep text n r utf8 k.0;
       ends = columns_line_end (indent r) (place_at n r) ∙ k.1 ∙ line_start_end text n;
-      behind = omega arith;
+      following = omega arith;
     }
 
 pub row_place : (text : List ℕ) (c : Context) (n start : ℕ) → IsUtf8 text → IsCharBoundary text n
@@ -85,7 +85,7 @@ no_rows text n lines t within is e =
 one_more_row : (d : Document) (columns n : ℕ) (begin : Spot) (cells : List (List (ℕ × Item))) («end» : Spot) (to : ℕ) (more : List (ℕ × Item)) → IsUtf8 d.text
     → IsCharBoundary d.text begin.at → AreCells d begin cells «end» → n ≤ begin.at → 0 < length cells → RowsBetween d.text «end».at to more
     → RowsBetween d.text n to (row_block TableRow columns begin.at cells «end».at ++ more)
-one_more_row d columns n begin cells ended to more utf8 boundary are behind some rest =
+one_more_row d columns n begin cells ended to more utf8 boundary are following some rest =
     let start : ℕ = begin.at in
     let stop : ℕ = ended.at in
     let row = row_fits d TableRow columns begin cells ended utf8 boundary are in
@@ -96,7 +96,7 @@ one_more_row d columns n begin cells ended to more utf8 boundary are behind some
     let own_row = row.few in
     let own_rest = rest.few in
     record {
-      between = between-join d.text n stop to block more (between-wider d.text n start stop stop block behind (omega arith) row.between) rest.between;
+      between = between-join d.text n stop to block more (between-wider d.text n start stop stop block following (omega arith) row.between) rest.between;
       few = omega arith;
     }
 
@@ -123,7 +123,7 @@ counted_fit d path table (line ∷ lines) n t utf8 boundary is (inr (row, has, i
     (first.1 ∙ ap (lines_from d.text) (sym ends)) rest in
     let some = ltb-true 0 (length cells) (and_parts (nat_lt 0 (length cells)) (nat_le (filled table.columns cells) table.room) kept).0 in
     subst (λ (z : Taken). RowsBetween d.text n (start_of (length d.text) z.left) z.items) (sym e)
-    (one_more_row d table.columns n begin cells ended (start_of (length d.text) more.left) more.items utf8 starts are p.behind some further)
+    (one_more_row d table.columns n begin cells ended (start_of (length d.text) more.left) more.items utf8 starts are p.following some further)
 
 pub rows_fit : (d : Document) (path : List Container) (table : TableSoFar) (lines : List Place) (n : ℕ) (t : Taken) → IsUtf8 d.text
     → IsCharBoundary d.text n → lines ≡ lines_from d.text n → AreRows d path table lines t

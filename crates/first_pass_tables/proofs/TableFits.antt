@@ -26,20 +26,21 @@ others : (text : List ℕ) (n : ℕ) → n < length text → drop 1 (lines_from 
 others text n within = ap (λ (lines : List Place). drop 1 lines) (lines_at-line text n within)
 
 -- a block of a header row, which ends before the delimiter row, and of rows after that one
-block_between : (text : List ℕ) (from start mid behind next : ℕ) (x : Item) (head body : List (ℕ × Item)) → x.start ≡ start → x.«end» ≡ next
-    → from ≤ start → mid < behind → IsCharBoundary text start → IsCharBoundary text next → OneRow text start mid head → RowsBetween text behind next body
+block_between : (text : List ℕ) (from start mid following next : ℕ) (x : Item) (head body : List (ℕ × Item)) → x.start ≡ start → x.«end» ≡ next
+    → from ≤ start → mid < following → IsCharBoundary text start → IsCharBoundary text next → OneRow text start mid head → RowsBetween text following next body
     → FitsBetween text Elsewhere from next (block_of x (head ++ body))
-block_between text from start mid behind next x head body starts_is ends_is low apart starts ends row rows =
+block_between text from start mid following next x head body starts_is ends_is low apart starts ends row rows =
     let header = between-order text start mid head row.between in
-    let others = between-order text behind next body rows.between in
+    let others = between-order text following next body rows.between in
     let own = own_block x (head ++ body) in
     let join = own_join None head body in
     let few_row = row.few in
     let few_rows = rows.few in
-    let kids = between-join text start mid next head body row.between (between-wider text mid behind next next body (omega arith) (omega arith) rows.between) in
+    let kids = between-join text start mid next head body row.between
+    (between-wider text mid following next next body (omega arith) (omega arith) rows.between) in
     let block = between-block text from next x (head ++ body)
     (record {
-      behind = omega arith;
+      following = omega arith;
       order = omega arith;
       before = omega arith;
       starts = subst (IsCharBoundary text) (sym starts_is) starts;
@@ -58,7 +59,7 @@ pub table_fits : (d : Document) (path : List Container) (p : Place) (alignments 
 table_fits d path p alignments next items w from utf8 place further ends table low =
     let start : ℕ = offset p in
     let mid : ℕ = line_end_at d.text start in
-    let behind : ℕ = line_end_at d.text mid in
+    let following : ℕ = line_end_at d.text mid in
     let columns : ℕ = length alignments in
     let head_end : table.head_end ≡ mid =
     row_ends_its_line d (spot start no_braces) table.cells (spot table.head_end table.after) place.within table.are_cells in
@@ -66,12 +67,12 @@ table_fits d path p alignments next items w from utf8 place further ends table l
     let size = line_len-within d.text mid further in
     let some = size.0 in
     let mid_boundary = line_end_boundary d.text start utf8 place.boundary (omega arith) in
-    let behind_boundary = line_end_boundary d.text mid utf8 mid_boundary further in
+    let after_boundary = line_end_boundary d.text mid utf8 mid_boundary further in
     let stop : start_of (length d.text) (lines_from d.text next) ≡ next = start_of-lines d.text next ends.0 in
-    let rows = rows_fit d path (table_so_far columns (most_filled - filled columns table.cells) table.after) (drop 1 (lines_from d.text mid)) behind
-    (taking table.body (lines_from d.text next)) utf8 behind_boundary (others d.text mid further) table.are_rows in
+    let rows = rows_fit d path (table_so_far columns (most_filled - filled columns table.cells) table.after) (drop 1 (lines_from d.text mid)) following
+    (taking table.body (lines_from d.text next)) utf8 after_boundary (others d.text mid further) table.are_rows in
     let x : Item = record { start = start; «end» = start_of (length d.text) (lines_from d.text next); body = Table table.index } in
-    let block = block_between d.text from start table.head_end behind next x (row_block TableHead columns start table.cells table.head_end) table.body
+    let block = block_between d.text from start table.head_end following next x (row_block TableHead columns start table.cells table.head_end) table.body
     refl stop low (omega arith) place.boundary ends head
-    (subst (λ (k : ℕ). RowsBetween d.text behind k table.body) stop rows) in
+    (subst (λ (k : ℕ). RowsBetween d.text following k table.body) stop rows) in
     between-any d.text w from next items (subst (FitsBetween d.text Elsewhere from next) (sym table.items_are) block)

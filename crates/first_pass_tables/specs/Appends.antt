@@ -40,9 +40,9 @@ without_children f (Some ix) = childless f ix
 
 -- the tree without everything after a child of the innermost open node, or without all descendants of that node
 -- (this project)
-abbrev pub without_behind : Forest Item → Option TreeIndex → Forest Item
-without_behind f None = without_children f (slice_get f.spine 0)
-without_behind f (Some ix) = kept_after f ix
+abbrev pub without_after : Forest Item → Option TreeIndex → Forest Item
+without_after f None = without_children f (slice_get f.spine 0)
+without_after f (Some ix) = kept_after f ix
 
 -- the tree with these nodes appended below the innermost open node (this project)
 abbrev pub with_below : Forest Item → List (ℕ × Item) → Forest Item
@@ -67,7 +67,7 @@ pub record IsOpenNode (f : Forest Item) : Type 0 where
 -- A row with these cells is kept if it has one or is the first in its table. It may not need more filled cells than
 -- are allowed (GFM 4.10, and this project).
 abbrev pub keeps_row : Bool → ℕ → ℕ → List (List (ℕ × Item)) → Bool
-keeps_row behind columns most cells = (not behind || nat_lt 0 (length cells)) && nat_le (filled columns cells) most
+keeps_row following columns most cells = (not following || nat_lt 0 (length cells)) && nat_le (filled columns cells) most
 
 -- a tree with an open table, the number of cells filled into its rows so far, and the brace contexts after the part
 -- that was read (this project)

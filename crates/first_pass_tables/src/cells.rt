@@ -7,7 +7,7 @@ ghost use Rattle.first_pass_tokens.specs.TreeTokens.{chained};
 ghost use Rattle.first_pass_names.specs.TableEntries.{names_of, AddsTexts, NamesMore};
 ghost use Rattle.first_pass_grammar.specs.Leaves.{document};
 ghost use Rattle.first_pass_grammar.specs.Tables.{cell_start};
-ghost use Rattle.first_pass_tables.specs.Appends.{AddsCell, empty_cell, without_behind};
+ghost use Rattle.first_pass_tables.specs.Appends.{AddsCell, empty_cell, without_after};
 
 use first_pass_items::item::{Item, ItemBody};
 use first_pass_lines::lines::begins;
@@ -75,9 +75,9 @@ pub fn append_table_cell(
 }
 
 /// Drops everything after a child of the innermost open node; without a child, all descendants of that node.
-pub fn drop_behind(tree: &mut Tree<Item>, last: Option<TreeIndex>)
+pub fn drop_beyond(tree: &mut Tree<Item>, last: Option<TreeIndex>)
     requires { IfSome last (λ ix. IsChild tree.old ix) }
-    ensures { tree.new ≡ without_behind tree.old last }
+    ensures { tree.new ≡ without_after tree.old last }
 {
     match last {
         Some(ix) => tree.drop_after(ix),

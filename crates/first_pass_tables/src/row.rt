@@ -10,7 +10,7 @@ ghost use Rattle.first_pass_open.specs.Between.{AddsBetween};
 ghost use Rattle.first_pass_tables.specs.Appends.{AppendsCells, AddsHead, IsOpenNode, open_table, ReadsRow};
 ghost use Rattle.first_pass_tables.specs.Reading.{AppendsSome};
 
-use crate::cells::{CellStart, append_table_cell, cell_start, drop_behind, fill_row};
+use crate::cells::{CellStart, append_table_cell, cell_start, drop_beyond, fill_row};
 use first_pass_items::item::{Item, ItemBody};
 use first_pass_lines::lines::{scan_eol, scan_whitespace_no_nl};
 use first_pass_lines::places::rest_of;
@@ -128,7 +128,7 @@ fn append_cells(
     };
     let excess = append_some_cells(source, tree, allocs, braces, others)?;
     if excess.count > 0 {
-        drop_behind(tree, last);
+        drop_beyond(tree, last);
     }
     Ok((excess.at, kept.count + excess.count))
 }
@@ -162,11 +162,11 @@ pub fn append_head_row(
 
 // Whether a row with `count` cells is kept: it has one, or no row is before it in its table, and no more are missing
 // than may be filled in.
-fn is_kept(behind: bool, count: usize, missing: usize, most: usize) -> bool
-    ensures value { result ≡ ((not behind || nat_lt 0 count) && nat_le missing most) }
+fn is_kept(following: bool, count: usize, missing: usize, most: usize) -> bool
+    ensures value { result ≡ ((not following || nat_lt 0 count) && nat_le missing most) }
     ensures few { IsTrue result → missing ≤ most }
 {
-    (!behind || count > 0) && missing <= most
+    (!following || count > 0) && missing <= most
 }
 
 /// Appends the row that begins at `wanted.start`, after the container prefixes of its line, to the innermost open
@@ -202,7 +202,7 @@ pub fn parse_table_row_inner(
     let most = MAX_AUTOCOMPLETED_CELLS.saturating_sub(table.missing_empty_cells);
     if !is_kept(before.is_some(), count, missing, most) {
         tree.pop();
-        drop_behind(tree, before);
+        drop_beyond(tree, before);
         return Ok(None);
     }
     fill_row(tree, end, missing)?;

@@ -79,9 +79,9 @@ some_if false o block e = absurd cc
 pub block_within : (bs : List ℕ) (block : Braces) → attribute_block bs ≡ Some block → (block.opening + 1 ≤ block.closing) × (block.closing < length bs)
 block_within bs block e =
     let is = block-found bs block e in
-    let a = length-append is.front (left_brace ∷ (is.inside ++ right_brace ∷ is.behind)) in
-    let b = length-append is.inside (right_brace ∷ is.behind) in
-    let whole : length bs ≡ length (is.front ++ left_brace ∷ (is.inside ++ right_brace ∷ is.behind)) = ap length is.parts in
+    let a = length-append is.front (left_brace ∷ (is.inside ++ right_brace ∷ is.following)) in
+    let b = length-append is.inside (right_brace ∷ is.following) in
+    let whole : length bs ≡ length (is.front ++ left_brace ∷ (is.inside ++ right_brace ∷ is.following)) = ap length is.parts in
     (omega (arith, is.opens, is.closes), omega (arith, is.opens, is.closes))
 
 pub braces_within : (options : Options) (bs : List ℕ) (block : Braces)
@@ -259,16 +259,16 @@ end_some f t (y ∷ ys) start ix x bare is some item =
     ap (λ (w : Item). w.«end») same ∙ e
 
 -- a block begins with its brace
-behind_front : (front : List ℕ) (b : ℕ) (more : List ℕ) → get_or (front ++ b ∷ more) (length front) 0 ≡ b
-behind_front [] b more = refl
-behind_front (x ∷ front) b more = behind_front front b more
+past_front : (front : List ℕ) (b : ℕ) (more : List ℕ) → get_or (front ++ b ∷ more) (length front) 0 ≡ b
+past_front [] b more = refl
+past_front (x ∷ front) b more = past_front front b more
 
 pub opens_with : (options : Options) (bs : List ℕ) (block : Braces) → heading_braces options bs ≡ Some block → get_or bs block.opening 0 ≡ left_brace
 unfolding heading_braces
 opens_with options bs block e =
     let is = block-found bs block (some_if (has options heading_attributes) (attribute_block bs) block e) in
     ap (λ n. get_or bs n 0) is.opens ∙ ap (λ xs. get_or xs (length is.front) 0) is.parts
-    ∙ behind_front is.front left_brace (is.inside ++ right_brace ∷ is.behind)
+    ∙ past_front is.front left_brace (is.inside ++ right_brace ∷ is.following)
 
 -- the text from which a heading's line is read, and the bytes before its block
 

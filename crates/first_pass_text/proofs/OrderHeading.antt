@@ -317,11 +317,11 @@ heading_in_order d start index chain end_of_line utf8 boundary h =
 -- A thematic break fits in its line.
 pub rule_fits : (text : List ℕ) (from ix size : ℕ) (old new : Forest Item)
     → new ≡ added old (rule_block ix size) → from ≤ ix → IsCharBoundary text ix → IsCharBoundary text (ix + size) → AddsBetween text from (ix + size) old new
-rule_fits text from ix size old new tree_is behind starts ends = record {
+rule_fits text from ix size old new tree_is following starts ends = record {
   items = rule_block ix size;
   tree_is = tree_is;
   fits = block_fits text (within_top old) from (ix + size) (record { start = ix; «end» = ix + size; body = Rule }) []
-      (record { behind = behind; order = omega arith; before = omega arith; starts = starts; ends = ends }) (omega arith) (λ some. omega arith);
+      (record { following = following; order = omega arith; before = omega arith; starts = starts; ends = ends }) (omega arith) (λ some. omega arith);
 }
 
 -- The text of an ATX heading begins at a character boundary.
@@ -331,9 +331,9 @@ heading_text_boundary text start level u b h =
     let n : ℕ = level_number level in
     let p : Place = line_place start (drop start text) in
     let signs : n ≡ prefix_len is_number_sign (drop start text) = (atx_level-signs (drop start text) level h).0 in
-    let behind : IsPlaceOf text (moved_bytes n p) =
+    let following : IsPlaceOf text (moved_bytes n p) =
     subst (λ k. IsPlaceOf text (moved_bytes k p)) (sym signs) (signs_keep text p u (line_is_place text start b)) in
-    let at = (white_keeps text (moved_bytes n p) u behind).boundary in
+    let at = (white_keeps text (moved_bytes n p) u following).boundary in
     let rest = ap (prefix_len is_white) (drop-drop n start text) in
     let same : offset (moved_bytes (prefix_len is_white (drop n (drop start text))) (moved_bytes n p)) ≡ heading_text_at text start n = omega arith in
     subst (IsCharBoundary text) same at
@@ -347,7 +347,7 @@ pub heading_fits : (text : List ℕ) (options : Options) (names : Names) (start 
     → IsUtf8 text → IsCharBoundary text start
     → atx_level (drop start text) ≡ Some level → AddsHeading (document text options names) start level old new next → (from : ℕ) → from ≤ start
     → AddsBetween text from next old new
-heading_fits text options names start level old new next u b is h from behind =
+heading_fits text options names start level old new next u b is h from following =
     let text_at : ℕ = heading_text_at text start (level_number level) in
     let ends : IsCharBoundary text next = subst (IsCharBoundary text) (sym h.end_is) (line_stops text start u b) in
     let fits = heading_in_order (document text options names) text_at h.index h.chain next u (heading_text_boundary text start level u b is)
@@ -358,6 +358,6 @@ heading_fits text options names start level old new next u b is h from behind =
       items = heading_block start next level h.index h.chain;
       tree_is = h.tree_is;
       fits = block_fits text (within_top old) from next (record { start = start; «end» = next; body = HeadingBody level h.index }) h.chain
-          (record { behind = behind; order = omega arith; before = omega arith; starts = b; ends = ends })
+          (record { following = following; order = omega arith; before = omega arith; starts = b; ends = ends })
           (order_from text start text_at next h.chain fits.0 (omega arith)) (λ some. omega arith);
     }

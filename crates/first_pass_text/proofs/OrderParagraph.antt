@@ -14,7 +14,7 @@ use Rattle.first_pass_tokens.proofs.InOrder.{AreInOrder, HaveBytes}
 use Rattle.first_pass_tokens.proofs.BytesLemmas.{bytes_adds, bytes_closed, bytes_append, line_has_bytes}
 use Rattle.first_pass_tokens.proofs.Escapes.{EscapesStand, escapes_adds, escapes_append, line_escapes, cut_escaped, cut_has_bytes}
 use Rattle.first_pass_tokens.proofs.LineLemmas.{ends_line}
-use Rattle.first_pass_tokens.proofs.OrderLemmas.{StandsBehind, LineInOrder, line_in_order, order_to, order_from, order_append, order_adds, order_closed}
+use Rattle.first_pass_tokens.proofs.OrderLemmas.{StandsAfter, LineInOrder, line_in_order, order_to, order_from, order_append, order_adds, order_closed}
 use Rattle.first_pass_grammar.specs.declared.kind.Container.{Container}
 use Rattle.first_pass_grammar.specs.Containers.{at_rest, front}
 use Rattle.first_pass_grammar.specs.Kinds.{unindented}
@@ -46,11 +46,11 @@ break_unescaped _ h = refl
 
 -- a chain with the break after it
 chain_break : (text : List ℕ) (from at start next : ℕ) (break : Option Item) (chain : List Item)
-    → ChainStands text from at chain → at ≤ next → IfSome break (StandsBehind text at next)
+    → ChainStands text from at chain → at ≤ next → IfSome break (StandsAfter text at next)
     → IfSome break (IsBreak start next) → ChainStands text from next (add_break break chain)
-chain_break text from at start next None chain h later behind is = (order_to text from at next chain h.0 later, h.1, h.2)
-chain_break text from at start next (Some x) chain h later behind is = (
-  order_append text from at next chain (x ∷ []) h.0 (behind.from, behind.order, behind.starts, behind.ends, omega (arith, behind.to)),
+chain_break text from at start next None chain h later following is = (order_to text from at next chain h.0 later, h.1, h.2)
+chain_break text from at start next (Some x) chain h later following is = (
+  order_append text from at next chain (x ∷ []) h.0 (following.from, following.order, following.starts, following.ends, omega (arith, following.to)),
   escapes_append text from chain x h.1 (break_unescaped x.body is.kind),
   bytes_append chain (x ∷ []) h.2 (is.before, tt),
 )
@@ -72,7 +72,7 @@ record OneLine (d : Document) (from ix : ℕ) (chain tokens : List Item) (answer
   within : answer.0 ≤ length d.text
   place : answer.0 ≡ line_end_at d.text ix
   ends : IsCharBoundary d.text answer.0
-  break_fits : IfSome answer.1 (StandsBehind d.text stop answer.0)
+  break_fits : IfSome answer.1 (StandsAfter d.text stop answer.0)
   broken : IfSome answer.1 (IsBreak ix answer.0)
 
 one_line : (d : Document) (from ix : ℕ) (b after : MathBraces) (chain tokens : List Item) (answer : ℕ × Option Item)
@@ -102,7 +102,7 @@ pub record TextInOrder (d : Document) (start : ℕ) (t : TextLines) : Type 0 whe
   pub escapes : EscapesStand d.text start t.chain
   pub bytes : HaveBytes t.chain
   pub before : stop ≤ start_of (length d.text) t.left
-  pub break_fits : IfSome t.break (StandsBehind d.text stop (start_of (length d.text) t.left))
+  pub break_fits : IfSome t.break (StandsAfter d.text stop (start_of (length d.text) t.left))
   pub left_at : ℕ
   pub left_is : t.left ≡ lines_from d.text left_at
   pub left_within : left_at ≤ length d.text
@@ -111,8 +111,8 @@ pub record TextInOrder (d : Document) (start : ℕ) (t : TextLines) : Type 0 whe
 text_stops : (d : Document) (from ix : ℕ) (chain tokens : List Item) (answer : ℕ × Option Item) (left : List Place) (t : TextLines)
     → OneLine d from ix chain tokens answer
     → left ≡ lines_from d.text answer.0 → t ≡ text_lines (add_tokens chain tokens) answer.1 left → TextInOrder d from t
-text_stops d from ix chain tokens answer left t l behind e =
-    let there : start_of (length d.text) left ≡ answer.0 = ap (start_of (length d.text)) behind ∙ start_of-lines d.text answer.0 l.within in
+text_stops d from ix chain tokens answer left t l following e =
+    let there : start_of (length d.text) left ≡ answer.0 = ap (start_of (length d.text)) following ∙ start_of-lines d.text answer.0 l.within in
     let before : l.stop ≤ start_of (length d.text) left = omega (arith, l.before) in
     subst (TextInOrder d from) (sym e) (record {
       stop = l.stop;
@@ -120,9 +120,9 @@ text_stops d from ix chain tokens answer left t l behind e =
       escapes = l.stands.1;
       bytes = l.stands.2;
       before = before;
-      break_fits = subst (λ to. IfSome answer.1 (StandsBehind d.text l.stop to)) (sym there) l.break_fits;
+      break_fits = subst (λ to. IfSome answer.1 (StandsAfter d.text l.stop to)) (sym there) l.break_fits;
       left_at = answer.0;
-      left_is = behind;
+      left_is = following;
       left_within = l.within;
     })
 

@@ -45,7 +45,7 @@ use Rattle.first_pass_grammar.specs.Names.{Names}
 use Rattle.first_pass_grammar.proofs.MoreNames.{extends_none}
 use Rattle.first_pass_text.proofs.AttributeEnds.{length_between, braces_within}
 use Rattle.first_pass_text.proofs.OrderParagraph.{TextInOrder, text_is_in_order, cut_text_in_order, chain_end_place, text_later}
-use Rattle.first_pass_text.proofs.ParagraphLemmas.{closed_behind}
+use Rattle.first_pass_text.proofs.ParagraphLemmas.{closed_past}
 use Rattle.first_pass_text.proofs.PlainTexts.{children_by}
 
 few_marked : (marker : Option Item) (chain : List Item) → length (marker_items marker ++ chain) ≤ suc (length chain)
@@ -83,7 +83,7 @@ kids_fit text w from start next None chain h stands inside =
     (stands, row_of-fits text (below w from (text_extent start next)) start next chain h)
 kids_fit text w from start next (Some m) chain h stands inside =
     let b : IsBetween text from start (extent_of m) = stands.1 in (
-      omega (arith, b.behind, b.order, b.before),
+      omega (arith, b.following, b.order, b.before),
       subst (λ v. Fits text (below v from (text_extent start next)) start next (row_of (m ∷ chain))) (sym inside)
           (inr (stands, b.order, row_of-fits text Elsewhere start next chain h)),
     )
@@ -105,7 +105,7 @@ block_between text w from start next body marker chain extent starts ends h byte
     let order = order_bound text start next chain h in
     let kids_row = row_of (marker_items marker ++ chain) in
     let fits : Fits text w from next (Node (text_extent start next) kids_row Empty) =
-    inl (record { behind = kids.0; order = order; before = omega arith; starts = starts; ends = ends }, kids.1, omega arith) in (
+    inl (record { following = kids.0; order = order; before = omega arith; starts = starts; ends = ends }, kids.1, omega arith) in (
       Node (extent_of (text_node start next body)) kids_row Empty,
       block_laid start next body (marker_items marker ++ chain),
       subst (λ x. Fits text w from next (Node x kids_row Empty)) (sym extent) fits,
@@ -159,8 +159,8 @@ brace_first options bs block =
     (λ b e.
     let is = block-found bs block e in
     ap (λ (xs : List ℕ). get_or xs block.opening 0) is.parts
-    ∙ ap (λ (k : ℕ). get_or (is.front ++ left_brace ∷ (is.inside ++ right_brace ∷ is.behind)) k 0) is.opens
-    ∙ get_or-append_seam is.front left_brace (is.inside ++ right_brace ∷ is.behind) 0)
+    ∙ ap (λ (k : ℕ). get_or (is.front ++ left_brace ∷ (is.inside ++ right_brace ∷ is.following)) k 0) is.opens
+    ∙ get_or-append_seam is.front left_brace (is.inside ++ right_brace ∷ is.following) 0)
     (λ b e. absurd (none-some block e))
 
 -- the bytes that are cut off begin with that brace, or with white space
@@ -212,7 +212,7 @@ cut_marker e m chain before whole =
     cond-true _ _ _ (lt-ltb m.start e before) ∙ ap (λ (x : Item). x ∷ cut e chain) (cond-false _ _ _ (le-ltb e m.«end» whole))
 
 cut_empty : (e : ℕ) (m : Item) (chain : List Item) → e ≤ m.start → is_escaped m.body ≡ false → cut e (m ∷ chain) ≡ []
-cut_empty e m chain behind plain = cond-false _ _ _ (le-ltb m.start e behind) ∙ cond-false _ _ _ (and_left (is_escaped m.body) (m.start == e) plain)
+cut_empty e m chain following plain = cond-false _ _ _ (le-ltb m.start e following) ∙ cond-false _ _ _ (and_left (is_escaped m.body) (m.start == e) plain)
 
 module _ (d : Document) (w : Within) (from start : ℕ) (l : TextLines) (h : TextInOrder d start l) (low : from ≤ start) where
   abbrev next_start : ℕ
@@ -246,16 +246,16 @@ module _ (d : Document) (w : Within) (from start : ℕ) (l : TextLines) (h : Tex
             record {
               lead = Some m;
               chain = close_break l.break (cut e l.chain);
-              is = ap (close_break l.break) (cut_marker e m l.chain before (omega (arith, b.before))) ∙ closed_behind m l.break (cut e l.chain) plain.0;
+              is = ap (close_break l.break) (cut_marker e m l.chain before (omega (arith, b.before))) ∙ closed_past m l.break (cut e l.chain) plain.0;
               order = c.0;
               bytes = c.1;
               stands = stands;
               inside = inside;
             }
-        | inr behind ↦ record {
+        | inr following ↦ record {
           lead = None;
           chain = close_break l.break [];
-          is = ap (close_break l.break) (cut_empty e m l.chain behind plain.1);
+          is = ap (close_break l.break) (cut_empty e m l.chain following plain.1);
           order = order_closed d.text start h.stop next_start l.break [] (omega arith) h.before h.break_fits;
           bytes = bytes_closed l.break [] tt;
           stands = low;
@@ -309,7 +309,7 @@ ended_between d w from start marker l items next (Some underline) starts ends la
 -- the text is after an offset before its marker
 low_start : (text : List ℕ) (from start : ℕ) (marker : Option Item) → StandsBefore text from start marker → from ≤ start
 low_start text from start None stands = stands
-low_start text from start (Some m) stands = let b : IsBetween text from start (extent_of m) = stands.1 in omega (arith, b.behind, b.order, b.before)
+low_start text from start (Some m) stands = let b : IsBetween text from start (extent_of m) = stands.1 in omega (arith, b.following, b.order, b.before)
 
 pub plain_fits : (text : List ℕ) (options : Options) (names : Names) (start : ℕ) (marker : Option Item) (old new : Forest Item) (next : ℕ)
     → AddsPlainText (document text options names) start marker old new next

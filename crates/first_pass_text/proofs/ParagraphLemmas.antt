@@ -173,21 +173,21 @@ with_closed_break-chained f chain None apart = refl
 with_closed_break-chained f chain (Some x) apart = closed_by (is_backslash_break x.body) f chain x refl apart
 
 -- a token that is no text stays first, whatever follows it
-token_behind : (m y : Item) (chain : List Item) → is_text m.body ≡ false → add_token (m ∷ chain) y ≡ m ∷ add_token chain y
-token_behind m y [] plain =
+token_after : (m y : Item) (chain : List Item) → is_text m.body ≡ false → add_token (m ∷ chain) y ≡ m ∷ add_token chain y
+token_after m y [] plain =
     cond-false _ _ _ (and_right (is_text y.body) (is_text m.body && (m.«end» == y.start)) (and_left (is_text m.body) (m.«end» == y.start) plain))
-token_behind m y (z ∷ zs) plain = refl
+token_after m y (z ∷ zs) plain = refl
 
 closed_if : (t : Bool) (m : Item) (s : ℕ) (chain : List Item) → is_text m.body ≡ false
     → (if t then add_text s (s + 1) false (m ∷ chain) else m ∷ chain) ≡ m ∷ (if t then add_text s (s + 1) false chain else chain)
 closed_if true m s chain plain =
-    add_text-some s (s + 1) false (m ∷ chain) (omega arith) ∙ token_behind m (text_token s (s + 1) false) chain plain
+    add_text-some s (s + 1) false (m ∷ chain) (omega arith) ∙ token_after m (text_token s (s + 1) false) chain plain
     ∙ ap (λ (c : List Item). m ∷ c) (sym (add_text-some s (s + 1) false chain (omega arith)))
 closed_if false m s chain plain = refl
 
-pub closed_behind : (m : Item) (break : Option Item) (chain : List Item) → is_text m.body ≡ false → close_break break (m ∷ chain) ≡ m ∷ close_break break chain
-closed_behind m None chain plain = refl
-closed_behind m (Some x) chain plain = closed_if (is_backslash_break x.body) m x.start chain plain
+pub closed_past : (m : Item) (break : Option Item) (chain : List Item) → is_text m.body ≡ false → close_break break (m ∷ chain) ≡ m ∷ close_break break chain
+closed_past m None chain plain = refl
+closed_past m (Some x) chain plain = closed_if (is_backslash_break x.body) m x.start chain plain
 
 -- before the first line
 pub so_far_start : (d : Document) (start : ℕ) (old : Forest Item) → IsCharBoundary d.text start → LinesSoFar d start old old (spot start no_braces)

@@ -23,7 +23,7 @@ use Rattle.first_pass_grammar.specs.Completion.{lines_from}
 use Rattle.first_pass_open.specs.Path.{path_of}
 use Rattle.first_pass_open.specs.Between.{line_end_at}
 use Rattle.first_pass_text.specs.Appends.{AddsPlainText, with_closed_break, AppendsLines}
-use Rattle.first_pass_text.proofs.ParagraphLemmas.{underline_there, underline_within, with_closed_break-chained, closed_behind, path_of-paragraph}
+use Rattle.first_pass_text.proofs.ParagraphLemmas.{underline_there, underline_within, with_closed_break-chained, closed_past, path_of-paragraph}
 use Rattle.std.proofs.lemmas.Option.{same_Some}
 use Rattle.first_pass_tree.specs.declared.tree_index.TreeIndex.{TreeIndex}
 use Rattle.first_pass_tokens.specs.Braces.{no_braces}
@@ -53,7 +53,7 @@ some_underline level (Some underline) h = (underline.0, ap (λ z. Some (underlin
 closed_marked : (marker line_break : Option Item) (chain : List Item) → IfSome marker (λ y. is_text y.body ≡ false)
     → close_break line_break (marker_items marker ++ chain) ≡ marker_items marker ++ close_break line_break chain
 closed_marked None line_break chain plain = refl
-closed_marked (Some m) line_break chain plain = closed_behind m line_break chain plain
+closed_marked (Some m) line_break chain plain = closed_past m line_break chain plain
 
 -- the children of a heading are the same under any names
 children_renamed : (text : List ℕ) (options : Options) (m n : Names) (start : ℕ) (marker : Option Item) (l : TextLines)
@@ -113,7 +113,7 @@ module _ (text : List ℕ) (options : Options) (names : Names) (start n : ℕ) (
   heading_added level index next said next_is ends named tree_is =
       let (size, some) = some_underline level (underline_first (path_of options old) (lines_from text n)) said in
       let within = underline_within (path_of options old) text n (size, level) (sym (underline_there (path_of options old) text n) ∙ some) in
-      let behind : drop 1 (lines_from text n) ≡ lines_from text next =
+      let following : drop 1 (lines_from text n) ≡ lines_from text next =
       ap (λ (ls : List Place). drop 1 ls) (lines_at-line text n within) ∙ ap (lines_from text) (sym next_is) in
       let kids : List Item = heading_children (document text options no_names) start marker lines in
       let t : Taken = taking (heading_block start next level index kids) (lines_from text next) in
@@ -123,7 +123,7 @@ module _ (text : List ℕ) (options : Options) (names : Names) (start n : ℕ) (
             let d = document text options more in
             let same : t ≡ underlined_text d start marker level index lines =
             ap (λ k. taking (heading_block start k level index kids) (lines_from text next)) (sym (start_of-lines text next ends.0))
-            ∙ ap (λ (ls : List Place). taking (heading_block start (start_of (length text) ls) level index kids) ls) (sym behind)
+            ∙ ap (λ (ls : List Place). taking (heading_block start (start_of (length text) ls) level index kids) ls) (sym following)
             ∙ ap (λ ks. taking (heading_block start (start_of (length text) (drop 1 lines.left)) level index ks) (drop 1 lines.left))
             (children_renamed text options no_names more start marker lines) in (
               lines,

@@ -114,9 +114,9 @@ pub fn parse_paragraph<'a>(
     };
     make_heading(source, tree, allocs, node_ix, underlined)?;
     append_last_backslash(tree, end.line_break)?;
-    let behind = next_line(source.text.as_bytes(), end.next);
-    close_block(tree, behind);
-    Ok(behind)
+    let following = next_line(source.text.as_bytes(), end.next);
+    close_block(tree, following);
+    Ok(following)
 }
 
 // Appends the chain of the text that begins at `start` to the innermost open node, except the break after its last

@@ -16,7 +16,7 @@ pub fn parse_hrule(tree: &mut Tree<Item>, hrule_size: usize, ix: usize) -> Resul
     ensures block { OnOk result (tree.new ≡ added tree.old (rule_block ix hrule_size)) }
     ensures fits { OnOk result ((text : List ℕ) (from : ℕ) → from ≤ ix → IsCharBoundary text ix
         → IsCharBoundary text (ix + hrule_size) → AddsBetween text from (ix + hrule_size) tree.old tree.new) }
-    ensures behind { IfOk result (λ next. next ≡ ix + hrule_size) }
+    ensures following { IfOk result (λ next. next ≡ ix + hrule_size) }
 {
     let end = ix + hrule_size;
     tree.append(Item {

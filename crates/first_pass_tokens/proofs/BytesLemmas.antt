@@ -32,7 +32,7 @@ bytes_add [] y some h = (some, tt)
 bytes_add (x ∷ []) y some h =
     cond_both (touches x y) (record x { «end» = y.«end» } ∷ []) (x ∷ y ∷ []) HaveBytes
     (λ b.
-    let behind =
+    let following =
     eqb-true x.«end» y.start (and_parts (is_text x.body) (x.«end» == y.start) (and_parts (is_text y.body) (is_text x.body && (x.«end» == y.start)) b).1).1 in
     (omega (arith, h.0), tt))
     (λ b. (h.0, (some, tt)))

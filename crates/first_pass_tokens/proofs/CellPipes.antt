@@ -91,8 +91,8 @@ module _ (s : Inline) (row : s.row ≡ true) (on : has s.options tables ≡ true
   pipes_from texts at b (p ∷ ps) to are k low high pipe =
       elim (cases_lt k (at + size p)) [
         | inl inside ↦ pipe_in texts b at p are.0 are.1 k low inside pipe
-        | inr behind ↦
-            let rest = pipes_from texts (at + size p) (braces_after (found_at s at) b) ps to are.2 k behind high pipe in (omega (arith, rest.0), rest.1)
+        | inr following ↦
+            let rest = pipes_from texts (at + size p) (braces_after (found_at s at) b) ps to are.2 k following high pipe in (omega (arith, rest.0), rest.1)
       ]
 
   -- the pipes of a cell

@@ -61,16 +61,16 @@ add_text-joined from mid to escaped chain first order =
     ]
 
 -- a chain in which no token touches another
-apart_behind : (x z : Item) (zs : List Item) (t : Item) → touches x z ≡ false → AreApart (add_token (z ∷ zs) t) → AreApart (x ∷ add_token (z ∷ zs) t)
-apart_behind x z [] t apart =
+apart_past : (x z : Item) (zs : List Item) (t : Item) → touches x z ≡ false → AreApart (add_token (z ∷ zs) t) → AreApart (x ∷ add_token (z ∷ zs) t)
+apart_past x z [] t apart =
     cond_both (touches z t) (record z { «end» = t.«end» } ∷ []) (z ∷ t ∷ [])
     (λ (ys : List Item). AreApart ys → AreApart (x ∷ ys)) (λ b h. (apart, tt)) (λ b h. (apart, h))
-apart_behind x z (w ∷ ws) t apart = λ h. (apart, h)
+apart_past x z (w ∷ ws) t apart = λ h. (apart, h)
 
 pub add_token-apart : (chain : List Item) (t : Item) → AreApart chain → AreApart (add_token chain t)
 add_token-apart [] t h = tt
 add_token-apart (x ∷ []) t h = cond_both (touches x t) (record x { «end» = t.«end» } ∷ []) (x ∷ t ∷ []) AreApart (λ b. tt) (λ b. (b, tt))
-add_token-apart (x ∷ z ∷ zs) t h = apart_behind x z zs t h.0 (add_token-apart (z ∷ zs) t h.1)
+add_token-apart (x ∷ z ∷ zs) t h = apart_past x z zs t h.0 (add_token-apart (z ∷ zs) t h.1)
 
 pub add_tokens-apart : (chain tokens : List Item) → AreApart chain → AreApart (add_tokens chain tokens)
 add_tokens-apart chain [] h = h
@@ -82,21 +82,21 @@ add_text-apart from to escaped chain h =
     (λ b. add_token-apart chain (text_token from to escaped) h) (λ b. h)
 
 -- a token that does not touch the last one is appended to the chain
-add_token-behind : (front : List Item) (x y : Item) → touches x y ≡ false → add_token (front ++ x ∷ []) y ≡ (front ++ x ∷ []) ++ y ∷ []
-add_token-behind [] x y apart = cond-false _ _ _ apart
-add_token-behind (p ∷ []) x y apart = ap (λ (ys : List Item). p ∷ ys) (add_token-behind [] x y apart)
-add_token-behind (p ∷ q ∷ qs) x y apart = ap (λ (ys : List Item). p ∷ ys) (add_token-behind (q ∷ qs) x y apart)
+add_token-following : (front : List Item) (x y : Item) → touches x y ≡ false → add_token (front ++ x ∷ []) y ≡ (front ++ x ∷ []) ++ y ∷ []
+add_token-following [] x y apart = cond-false _ _ _ apart
+add_token-following (p ∷ []) x y apart = ap (λ (ys : List Item). p ∷ ys) (add_token-following [] x y apart)
+add_token-following (p ∷ q ∷ qs) x y apart = ap (λ (ys : List Item). p ∷ ys) (add_token-following (q ∷ qs) x y apart)
 
-add_tokens-behind : (front : List Item) (x : Item) (xs : List Item) → AreApart (x ∷ xs) → add_tokens (front ++ x ∷ []) xs ≡ front ++ x ∷ xs
-add_tokens-behind front x [] h = refl
-add_tokens-behind front x (y ∷ ys) h =
-    ap (λ (chain : List Item). add_tokens chain ys) (add_token-behind front x y h.0) ∙ add_tokens-behind (front ++ x ∷ []) y ys h.1
+add_tokens-following : (front : List Item) (x : Item) (xs : List Item) → AreApart (x ∷ xs) → add_tokens (front ++ x ∷ []) xs ≡ front ++ x ∷ xs
+add_tokens-following front x [] h = refl
+add_tokens-following front x (y ∷ ys) h =
+    ap (λ (chain : List Item). add_tokens chain ys) (add_token-following front x y h.0) ∙ add_tokens-following (front ++ x ∷ []) y ys h.1
     ∙ append_assoc front (x ∷ []) (y ∷ ys)
 
 -- tokens of which none touches the one before it, appended to the empty chain
 pub add_tokens-none : (tokens : List Item) → AreApart tokens → add_tokens [] tokens ≡ tokens
 add_tokens-none [] h = refl
-add_tokens-none (x ∷ xs) h = add_tokens-behind [] x xs h
+add_tokens-none (x ∷ xs) h = add_tokens-following [] x xs h
 
 -- a token that is no text is appended to the chain
 
@@ -122,13 +122,13 @@ ends_moved : (at e next : ℕ) (o : Option Item)
 ends_moved at e next None h same = absurd (false≢true h)
 ends_moved at e next (Some x) h same = and_from _ _ (and_parts _ _ h).0 same
 
-slice_get-behind : (xs : List (ℕ × Item)) (y : ℕ × Item) → slice_get (xs ++ y ∷ []) (length xs) ≡ Some y
-slice_get-behind [] y = refl
-slice_get-behind (x ∷ xs) y = slice_get-behind xs y
+slice_get-following : (xs : List (ℕ × Item)) (y : ℕ × Item) → slice_get (xs ++ y ∷ []) (length xs) ≡ Some y
+slice_get-following [] y = refl
+slice_get-following (x ∷ xs) y = slice_get-following xs y
 
 -- texts that can be joined to a node that was just appended
 joins_appended : (f : Forest Item) (y : Item) (at : ℕ) → joins_at (appended f y) at (appended f y).current ≡ (is_text y.body && (y.«end» == at))
-joins_appended f y at = ap (λ (o : Option (ℕ × Item)). ends_text_at at (option_map (λ n. n.1) o)) (slice_get-behind f.nodes (length f.spine + 1, y))
+joins_appended f y at = ap (λ (o : Option (ℕ × Item)). ends_text_at at (option_map (λ n. n.1) o)) (slice_get-following f.nodes (length f.spine + 1, y))
 
 touches_appended : (f : Forest Item) (y x : Item) → (is_text x.body && joins_at (appended f y) x.start (appended f y).current) ≡ touches y x
 touches_appended f y x = ap (λ (b : Bool). is_text x.body && b) (joins_appended f y x.start)
@@ -205,17 +205,17 @@ pub joins_none-appended : (f : Forest Item) (x : Item) → is_text x.body ≡ fa
 joins_none-appended f x plain at = joins_appended f x at ∙ and_left _ _ plain
 
 -- a token after a chain that is not empty
-pub with_token-behind : (f : Forest Item) (y : Item) (ys : List Item) (x : Item) → with_token (chained f (y ∷ ys)) x ≡ chained f (add_token (y ∷ ys) x)
-with_token-behind f y [] x =
+pub with_token-following : (f : Forest Item) (y : Item) (ys : List Item) (x : Item) → with_token (chained f (y ∷ ys)) x ≡ chained f (add_token (y ∷ ys) x)
+with_token-following f y [] x =
     elim (cases_Bool (touches y x)) [
       | inl joins ↦ joined_last f y x joins ∙ ap (chained f) (sym (cond-true _ _ _ joins))
       | inr apart ↦ cond-false _ _ _ (touches_appended f y x ∙ apart) ∙ ap (chained f) (sym (cond-false _ _ _ apart))
     ]
-with_token-behind f y (z ∷ zs) x = with_token-behind (appended f y) z zs x
+with_token-following f y (z ∷ zs) x = with_token-following (appended f y) z zs x
 
 pub with_token-chained : (f : Forest Item) (chain : List Item) (x : Item) → JoinsNone f → with_token (chained f chain) x ≡ chained f (add_token chain x)
 with_token-chained f [] x none = cond-false _ _ _ (and_right _ _ (none x.start))
-with_token-chained f (y ∷ ys) x none = with_token-behind f y ys x
+with_token-chained f (y ∷ ys) x none = with_token-following f y ys x
 
 pub with_tokens-chained : (f : Forest Item) (chain tokens : List Item)
     → JoinsNone f → with_tokens (chained f chain) tokens ≡ chained f (add_tokens chain tokens)
@@ -297,11 +297,11 @@ leaf_depth d [] k within = absurd (omega arith)
 leaf_depth d (x ∷ xs) zero within = omega arith
 leaf_depth d (x ∷ xs) (suc k) within = leaf_depth d xs k (omega arith)
 
-behind_depth : (ns : List (ℕ × Item)) (d : ℕ) (chain : List Item) (k : ℕ)
+after_depth : (ns : List (ℕ × Item)) (d : ℕ) (chain : List Item) (k : ℕ)
     → length ns ≤ k → k < length (ns ++ at_depth d (leaves chain)) → slice_index (depths (ns ++ at_depth d (leaves chain))) k ≡ d
-behind_depth [] d chain k low high = leaf_depth d chain k high
-behind_depth (n ∷ ns) d chain zero low high = absurd (omega arith)
-behind_depth (n ∷ ns) d chain (suc k) low high = behind_depth ns d chain k (omega arith) (omega arith)
+after_depth [] d chain k low high = leaf_depth d chain k high
+after_depth (n ∷ ns) d chain zero low high = absurd (omega arith)
+after_depth (n ∷ ns) d chain (suc k) low high = after_depth ns d chain k (omega arith) (omega arith)
 
 -- the children are leaves, if the innermost open node was the last node
 pub has_leaves-chained : (f : Forest Item) (chain : List Item) → open_place f.spine + 1 ≡ length f.nodes → HasLeaves (chained f chain)
@@ -310,7 +310,7 @@ has_leaves-chained f chain last k low high =
     let spine = chained-spine f chain in
     let low' : length f.nodes ≤ k = omega (arith, low, last, ap open_place spine) in
     let high' : k < length (f.nodes ++ at_depth (length f.spine + 1) (leaves chain)) = omega (arith, high, ap length nodes) in
-    ap (λ (ns : List (ℕ × Item)). slice_index (depths ns) k) nodes ∙ behind_depth f.nodes (length f.spine + 1) chain k low' high'
+    ap (λ (ns : List (ℕ × Item)). slice_index (depths ns) k) nodes ∙ after_depth f.nodes (length f.spine + 1) chain k low' high'
     ∙ ap (λ (is : List TreeIndex). length is + 1) (sym spine)
 
 -- a cut
@@ -321,12 +321,12 @@ cut_tokens-leaves e d (x ∷ xs) =
     ∙ elim (cases_Bool (nat_lt x.start e)) [
       | inl before ↦ cond-true _ _ _ before ∙ ap (λ (ns : List (ℕ × Item)). (d + 0, cut_item e x) ∷ ns) (cut_tokens-leaves e d xs)
           ∙ ap (λ (c : List Item). at_depth d (leaves c)) (sym (cond-true _ _ _ before))
-      | inr behind ↦ cond-false _ _ _ behind
+      | inr following ↦ cond-false _ _ _ following
           ∙ elim (cases_Bool (is_escaped x.body && (x.start == e))) [
             | inl escaped ↦ cond-true _ _ _ escaped ∙ ap (λ (c : List Item). at_depth d (leaves c)) (sym (cond-true _ _ _ escaped))
             | inr other ↦ cond-false _ _ _ other ∙ ap (λ (c : List Item). at_depth d (leaves c)) (sym (cond-false _ _ _ other))
           ]
-          ∙ ap (λ (c : List Item). at_depth d (leaves c)) (sym (cond-false _ _ _ behind))
+          ∙ ap (λ (c : List Item). at_depth d (leaves c)) (sym (cond-false _ _ _ following))
     ]
 
 last_at : (ds : List ℕ) (d n k : ℕ) → n ≡ suc k → slice_index ds k ≡ d → last_before ds d n ≡ k

@@ -21,13 +21,13 @@ use Rattle.first_pass_tokens.proofs.LineLemmas.{piece_of}
 use Rattle.first_pass_tokens.proofs.OrderLemmas.{order_add}
 
 -- an escaped text begins after an offset, and directly after a backslash
-abbrev pub EscapeBehind : List ℕ → ℕ → Item → Type 0
-EscapeBehind text from x = is_escaped x.body ≡ true → (from < x.start) × (slice_index text (x.start - 1) ≡ backslash)
+abbrev pub EscapeAfter : List ℕ → ℕ → Item → Type 0
+EscapeAfter text from x = is_escaped x.body ≡ true → (from < x.start) × (slice_index text (x.start - 1) ≡ backslash)
 
 -- each escaped text of a chain is directly after a backslash that no token has
 abbrev pub EscapesStand : List ℕ → ℕ → List Item → Type 0
 EscapesStand text from [] = Unit {0}
-EscapesStand text from (x ∷ xs) = EscapeBehind text from x × EscapesStand text x.«end» xs
+EscapesStand text from (x ∷ xs) = EscapeAfter text from x × EscapesStand text x.«end» xs
 
 -- the last token of a chain from an offset on ends at another offset or before it
 abbrev EndsBy : ℕ → ℕ → List Item → Type 0
@@ -71,20 +71,20 @@ ends_piece from stop at (Token dropped n body) chain h = ends_add from (at + (dr
 ends_piece from stop at (Run n opens closes) chain h = ends_run from at n opens closes chain h
 
 -- a token is appended
-pub escapes_add : (text : List ℕ) (from mid : ℕ) (chain : List Item) (y : Item) → EndsBy from mid chain → EscapesStand text from chain → EscapeBehind text mid y
+pub escapes_add : (text : List ℕ) (from mid : ℕ) (chain : List Item) (y : Item) → EndsBy from mid chain → EscapesStand text from chain → EscapeAfter text mid y
     → EscapesStand text from (add_token chain y)
-escapes_add text from mid [] y h k behind = (λ e. (omega (arith, (behind e).0), (behind e).1), tt)
-escapes_add text from mid (x ∷ []) y h k behind =
+escapes_add text from mid [] y h k following = (λ e. (omega (arith, (following e).0), (following e).1), tt)
+escapes_add text from mid (x ∷ []) y h k following =
     cond_both (touches x y) (record x { «end» = y.«end» } ∷ []) (x ∷ y ∷ []) (EscapesStand text from)
     (λ b. (k.0, tt))
-    (λ b. (k.0, (λ e. (omega (arith, (behind e).0), (behind e).1), tt)))
-escapes_add text from mid (x ∷ z ∷ zs) y h k behind = (k.0, escapes_add text x.«end» mid (z ∷ zs) y h k.1 behind)
+    (λ b. (k.0, (λ e. (omega (arith, (following e).0), (following e).1), tt)))
+escapes_add text from mid (x ∷ z ∷ zs) y h k following = (k.0, escapes_add text x.«end» mid (z ∷ zs) y h k.1 following)
 
 escapes_text : (text : List ℕ) (from mid a b : ℕ) (escaped : Bool) (chain : List Item) → EndsBy from mid chain → EscapesStand text from chain
-    → EscapeBehind text mid (text_token a b escaped) → EscapesStand text from (add_text a b escaped chain)
-escapes_text text from mid a b escaped chain h k behind =
+    → EscapeAfter text mid (text_token a b escaped) → EscapesStand text from (add_text a b escaped chain)
+escapes_text text from mid a b escaped chain h k following =
     cond_both (nat_lt a b) (add_token chain (text_token a b escaped)) chain (EscapesStand text from)
-    (λ some. escapes_add text from mid chain (text_token a b escaped) h k behind) (λ none. k)
+    (λ some. escapes_add text from mid chain (text_token a b escaped) h k following) (λ none. k)
 
 -- the tokens of a text are joined to a chain
 pub escapes_adds : (text : List ℕ) (from mid to : ℕ) (chain tokens : List Item)
@@ -156,14 +156,14 @@ cut_beyond text from to e (x ∷ xs) past h =
     cond-false _ _ _ (le-ltb x.start e (omega arith)) ∙ cond-false _ _ _ (and_right (is_escaped x.body) (x.start == e) (ne_eqb x.start e (λ same. omega arith)))
 
 -- the backslash of an escaped text that is cut off, or nothing
-abbrev left_behind : ℕ → Item → List Item
-left_behind e x = if is_escaped x.body && (x.start == e) then text_token (e - 1) e false ∷ [] else []
+abbrev left_after : ℕ → Item → List Item
+left_after e x = if is_escaped x.body && (x.start == e) then text_token (e - 1) e false ∷ [] else []
 
-cut_at_first : (e : ℕ) (x : Item) (xs : List Item) → e ≤ x.start → cut e (x ∷ xs) ≡ left_behind e x
-cut_at_first e x xs behind = cond-false _ _ _ (le-ltb x.start e behind)
+cut_at_first : (e : ℕ) (x : Item) (xs : List Item) → e ≤ x.start → cut e (x ∷ xs) ≡ left_after e x
+cut_at_first e x xs following = cond-false _ _ _ (le-ltb x.start e following)
 
 backslash_in_order : (text : List ℕ) (from e : ℕ) (x : Item)
-    → EscapeBehind text from x → IsCharBoundary text e → from ≤ e → AreInOrder text from e (left_behind e x)
+    → EscapeAfter text from x → IsCharBoundary text e → from ≤ e → AreInOrder text from e (left_after e x)
 backslash_in_order text from e x stands at order =
     cond_both (is_escaped x.body && (x.start == e)) (text_token (e - 1) e false ∷ []) [] (AreInOrder text from e)
     (λ b.
@@ -192,14 +192,14 @@ cut_escaped text from to e (x ∷ xs) h k at order =
                 let kept : cut_item e x ≡ x = cond-false _ _ _ (le-ltb e x.«end» whole) in
                 subst (λ y. AreInOrder text from e (y ∷ cut e xs)) (sym kept) (h.0, h.1, h.2, h.3, cut_escaped text x.«end» to e xs h.4 k.1 at whole)
           ])
-      | inr behind ↦ subst (AreInOrder text from e) (sym (cut_at_first e x xs behind)) (backslash_in_order text from e x k.0 at order)
+      | inr following ↦ subst (AreInOrder text from e) (sym (cut_at_first e x xs following)) (backslash_in_order text from e x k.0 at order)
     ]
 
 -- Each token of a chain has a byte after a cut.
 pub cut_has_bytes : (text : List ℕ) (from e : ℕ) (chain : List Item) → HaveBytes chain → EscapesStand text from chain → HaveBytes (cut e chain)
 cut_has_bytes text from e [] h k = tt
 cut_has_bytes text from e (x ∷ xs) h k =
-    cond_both (nat_lt x.start e) (cut_item e x ∷ cut e xs) (left_behind e x) HaveBytes
+    cond_both (nat_lt x.start e) (cut_item e x ∷ cut e xs) (left_after e x) HaveBytes
     (λ b.
     let before = ltb-true x.start e b in (
       cond_both (nat_lt e x.«end») (record x { «end» = e }) x (λ (y : Item). y.start < y.«end») (λ c. before) (λ c. h.0),

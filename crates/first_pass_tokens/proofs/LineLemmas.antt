@@ -122,7 +122,7 @@ content_from texts s at b (p ∷ ps) to within h =
     record {
       order = omega (arith, rest.order);
       within = rest.within;
-      plain = λ k low high. elim (cases_lt k (at + size p)) [ inl inside ↦ first.plain k low inside | inr behind ↦ rest.plain k behind high ];
+      plain = λ k low high. elim (cases_lt k (at + size p)) [ inl inside ↦ first.plain k low inside | inr following ↦ rest.plain k following high ];
     }
 
 pub content_of : {texts : List CowStr} {s : Inline} {ps : List Piece} {to : Spot} → s.start ≤ length s.text → IsDivision texts s ps to
@@ -205,7 +205,7 @@ line_place s end plain c ended =
     let place : s.start + (end - s.start) ≡ end = omega arith in
     let rest : drop (prefix_len is_content (drop s.start s.text)) (drop s.start s.text) ≡ drop end s.text =
     ap (λ (k : ℕ). drop k (drop s.start s.text)) n ∙ drop-drop (end - s.start) s.start s.text ∙ ap (λ (k : ℕ). drop k s.text) place in
-    let behind : unwrap_or (eol_len (drop (prefix_len is_content (drop s.start s.text)) (drop s.start s.text))) 0 ≡ line_end_len s end =
+    let following : unwrap_or (eol_len (drop (prefix_len is_content (drop s.start s.text)) (drop s.start s.text))) 0 ≡ line_end_len s end =
     ap (λ (bs : List ℕ). unwrap_or (eol_len bs) 0) rest ∙ line_end_at s end plain ended in
     omega arith
 

@@ -92,9 +92,9 @@ spare_add text [] y none h = (none, tt)
 spare_add text (x ∷ []) y none h =
     cond_both (touches x y) (record x { «end» = y.«end» } ∷ []) (x ∷ y ∷ []) (TextsHaveNoBackquote text)
     (λ b. let joined = and_parts (is_text y.body) (is_text x.body && (x.«end» == y.start)) b in
-    let behind = and_parts (is_text x.body) (x.«end» == y.start) joined.1 in
-    let same = eqb-true x.«end» y.start behind.1 in
-    ((λ is k low high. elim (cases_lt k x.«end») [ inl first ↦ h.0 behind.0 k low first | inr later ↦ none joined.0 k (omega arith) high ]), tt))
+    let following = and_parts (is_text x.body) (x.«end» == y.start) joined.1 in
+    let same = eqb-true x.«end» y.start following.1 in
+    ((λ is k low high. elim (cases_lt k x.«end») [ inl first ↦ h.0 following.0 k low first | inr later ↦ none joined.0 k (omega arith) high ]), tt))
     (λ b. (h.0, (none, tt)))
 spare_add text (x ∷ z ∷ zs) y none h = (h.0, spare_add text (z ∷ zs) y none h.1)
 

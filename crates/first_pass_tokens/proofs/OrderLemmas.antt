@@ -51,12 +51,13 @@ order_append text from mid to (x ∷ xs) ys h k = (h.0, h.1, h.2, h.3, order_app
 -- a token is appended
 pub order_add : (text : List ℕ) (from mid : ℕ) (chain : List Item) (y : Item) → AreInOrder text from mid chain → mid ≤ y.start → y.start ≤ y.«end»
     → IsCharBoundary text y.start → IsCharBoundary text y.«end» → AreInOrder text from y.«end» (add_token chain y)
-order_add text from mid [] y h behind order starts ends = (omega arith, order, starts, ends, omega arith)
-order_add text from mid (x ∷ []) y h behind order starts ends =
+order_add text from mid [] y h following order starts ends = (omega arith, order, starts, ends, omega arith)
+order_add text from mid (x ∷ []) y h following order starts ends =
     cond_both (touches x y) (record x { «end» = y.«end» } ∷ []) (x ∷ y ∷ []) (AreInOrder text from y.«end»)
     (λ b. (h.0, omega (arith, h.1, h.4), h.2, ends, omega arith))
     (λ b. (h.0, h.1, h.2, h.3, (omega (arith, h.4), order, starts, ends, omega arith)))
-order_add text from mid (x ∷ z ∷ zs) y h behind order starts ends = (h.0, h.1, h.2, h.3, order_add text x.«end» mid (z ∷ zs) y h.4 behind order starts ends)
+order_add text from mid (x ∷ z ∷ zs) y h following order starts ends =
+    (h.0, h.1, h.2, h.3, order_add text x.«end» mid (z ∷ zs) y h.4 following order starts ends)
 
 -- tokens in order are appended
 pub order_adds : (text : List ℕ) (from mid to : ℕ) (chain tokens : List Item)
@@ -67,9 +68,9 @@ order_adds text from mid to chain (x ∷ xs) h k = order_adds text from x.«end�
 -- a text is appended, or nothing
 pub order_text : (text : List ℕ) (from mid a b : ℕ) (escaped : Bool) (chain : List Item)
     → AreInOrder text from mid chain → mid ≤ a → a ≤ b → IsCharBoundary text a → IsCharBoundary text b → AreInOrder text from b (add_text a b escaped chain)
-order_text text from mid a b escaped chain h behind order starts ends =
+order_text text from mid a b escaped chain h following order starts ends =
     cond_both (nat_lt a b) (add_token chain (text_token a b escaped)) chain (AreInOrder text from b)
-    (λ some. order_add text from mid chain (text_token a b escaped) h behind order starts ends)
+    (λ some. order_add text from mid chain (text_token a b escaped) h following order starts ends)
     (λ none. order_to text from mid b chain h (omega arith))
 
 -- a chain in order, the pending text that grows after it, and pieces; texts end at an offset
@@ -78,8 +79,8 @@ module _ (s : Inline) (utf8 : IsUtf8 s.text) (stop : ℕ) (to : Spot) (from : �
   place_before : (at : ℕ) → IsVisible (slice_index s.text at) → IsCharBoundary s.text at
   place_before at h = IsCharBoundary-before_ascii s.text at (at_byte s.text at (omega (arith, h.0))) (omega (arith, h.1))
 
-  place_behind : (at : ℕ) → 0 < at → IsVisible (slice_index s.text (at - 1)) → IsCharBoundary s.text at
-  place_behind at some h =
+  place_past : (at : ℕ) → 0 < at → IsVisible (slice_index s.text (at - 1)) → IsCharBoundary s.text at
+  place_past at some h =
       let same : at - 1 + 1 ≡ at = omega arith in
       subst (IsCharBoundary s.text) same (IsCharBoundary-after_ascii s.text (at - 1) utf8 (at_byte s.text (at - 1) (omega (arith, h.0))) (omega (arith, h.1)))
 
@@ -94,7 +95,7 @@ module _ (s : Inline) (utf8 : IsUtf8 s.text) (stop : ℕ) (to : Spot) (from : �
         omega arith,
         omega arith,
         place_before at here,
-        place_behind (at + 1) (omega arith) (subst (λ (k : ℕ). IsVisible (slice_index s.text k)) (sym back) here),
+        place_past (at + 1) (omega arith) (subst (λ (k : ℕ). IsVisible (slice_index s.text k)) (sym back) here),
         subst (λ (e : ℕ). AreInOrder s.text (at + 1) e (run_tokens (at + 1) n opens closes)) past
             (run_in_order (at + 1) n opens closes (λ k low high. bytes k (omega arith) (omega arith))),
       )
@@ -116,26 +117,26 @@ module _ (s : Inline) (utf8 : IsUtf8 s.text) (stop : ℕ) (to : Spot) (from : �
   pieces_in_order texts at b (Begins dropped mark_next ∷ ps) begin escaped chain pieces low upto mark ahead starts h =
       let facts : IsEscape s.text at dropped = piece_of texts b s at (Begins dropped mark_next) pieces.0 pieces.1 in
       let here = place_before at (facts.bytes at (omega arith) (omega arith)) in
-      let behind = place_before (at + dropped) (facts.bytes (at + dropped) (omega arith) (omega arith)) in
+      let following = place_before (at + dropped) (facts.bytes (at + dropped) (omega arith) (omega arith)) in
       let reach = pieces_reach texts s (at + (dropped + 1)) (braces_after (found_at s at) b) ps to pieces.2 in
       let backslash = facts.backslashes (at + dropped - 1) (omega (arith, facts.some)) (omega (arith, facts.some)) in
-      let before : at + dropped ≤ stop = last_text.behind (at + dropped) (omega arith) (omega arith)
+      let before : at + dropped ≤ stop = last_text.following (at + dropped) (omega arith) (omega arith)
       (inr (omega (arith, facts.some), ap is_white backslash, inl (omega arith))) in
       let cut : min at stop ≡ at = omega arith in
       pieces_in_order texts (at + (dropped + 1)) (braces_after (found_at s at) b) ps (at + dropped) mark_next
       (add_text begin (min at stop) escaped chain) pieces.2
-      (omega arith) (omega arith) (inl (omega arith)) before behind
+      (omega arith) (omega arith) (inl (omega arith)) before following
       (rw cut (order_to s.text from at (at + dropped) (add_text begin at escaped chain)
       (order_text s.text from begin begin at escaped chain h (omega arith) upto starts here) (omega arith)))
   pieces_in_order texts at b (Token dropped n body ∷ ps) begin escaped chain pieces low upto mark ahead starts h =
       let facts : IsMarkup s.text at dropped n body = piece_of texts b s at (Token dropped n body) pieces.0 pieces.1 in
       let reach = pieces_reach texts s (at + (dropped + n)) (braces_after (found_at s at) b) ps to pieces.2 in
       let byte = facts.bytes (at + dropped + n - 1) (omega (arith, facts.some)) (omega (arith, facts.some)) in
-      let before : at + dropped + n ≤ stop = last_text.behind (at + dropped + n) (omega arith) (omega arith)
+      let before : at + dropped + n ≤ stop = last_text.following (at + dropped + n) (omega arith) (omega arith)
       (inr (omega (arith, facts.some), visible_solid (slice_index s.text (at + dropped + n - 1)) byte, inr facts.last)) in
       let here = place_before at (facts.bytes at (omega arith) (omega (arith, facts.some))) in
       let first = place_before (at + dropped) (facts.bytes (at + dropped) (omega arith) (omega (arith, facts.some))) in
-      let last = place_behind (at + dropped + n) (omega (arith, facts.some)) byte in
+      let last = place_past (at + dropped + n) (omega (arith, facts.some)) byte in
       let cut : min at stop ≡ at = omega arith in
       let more = add_token (add_text begin at escaped chain) (token (at + dropped) n body) in
       let none = add_text-none (at + dropped + n) (min (at + (dropped + n)) stop) false more (omega arith) in
@@ -149,14 +150,14 @@ module _ (s : Inline) (utf8 : IsUtf8 s.text) (stop : ℕ) (to : Spot) (from : �
       let reach = pieces_reach texts s (at + n) (braces_after (found_at s at) b) ps to pieces.2 in
       let byte = facts.bytes (at + n - 1) (omega (arith, facts.some)) (omega (arith, facts.some)) in
       let same = facts.same (at + n - 1) (omega (arith, facts.some)) (omega (arith, facts.some)) in
-      let before : at + n ≤ stop = last_text.behind (at + n) (omega arith) (omega arith)
+      let before : at + n ≤ stop = last_text.following (at + n) (omega arith) (omega arith)
       (inr (
         omega (arith, facts.some),
         visible_solid (slice_index s.text (at + n - 1)) byte,
         inr (ap (λ (b : ℕ). b == 92) same ∙ (delimiter_other _ facts.delimiter).0),
       )) in
       let here = place_before at (facts.bytes at (omega arith) (omega (arith, facts.some))) in
-      let last = place_behind (at + n) (omega (arith, facts.some)) byte in
+      let last = place_past (at + n) (omega (arith, facts.some)) byte in
       let cut : min at stop ≡ at = omega arith in
       let more = add_tokens (add_text begin at escaped chain) (run_tokens at n opens closes) in
       let none = add_text-none (at + n) (min (at + n) stop) false more (omega arith) in
@@ -272,7 +273,7 @@ text_end_place s end order within boundary =
     (λ other. blanks_by s end (blanks_at_end s end) refl order within boundary)
 
 -- A break after a text that ends at an offset, up to the end of its line; if a backslash makes it, that is one byte.
-pub record StandsBehind (text : List ℕ) (at next : ℕ) (x : Item) : Type 0 where
+pub record StandsAfter (text : List ℕ) (at next : ℕ) (x : Item) : Type 0 where
   pub from : at ≤ x.start
   pub order : x.start ≤ x.«end»
   pub to : x.«end» ≡ next
@@ -283,29 +284,29 @@ pub record StandsBehind (text : List ℕ) (at next : ℕ) (x : Item) : Type 0 wh
 break_by : (s : Inline) (end next : ℕ) (breaks : Bool)
     → breaks_by_backslash s end ≡ breaks → s.start ≤ end → end ≤ length s.text → end ≤ next → IsCharBoundary s.text end → IsCharBoundary s.text next
     → IsCharBoundary s.text (if breaks then end - 1 else end - blanks_at_end s end)
-    → StandsBehind s.text (if breaks then end - 1 else end - blanks_at_end s end) next (break_of end next breaks (blanks_at_end s end))
+    → StandsAfter s.text (if breaks then end - 1 else end - blanks_at_end s end) next (break_of end next breaks (blanks_at_end s end))
 break_by s end next true is order within later boundary ends starts =
     let last = backslash_last s end order within is in
-    let behind : end - 1 + 1 ≡ end = omega (arith, last.1) in
+    let following : end - 1 + 1 ≡ end = omega (arith, last.1) in
     record {
       from = omega arith;
       order = omega arith;
       to = refl;
       starts = starts;
       ends = ends;
-      backslash = λ b. (omega arith, rw behind boundary);
+      backslash = λ b. (omega arith, rw following boundary);
     }
 break_by s end next false is order within later boundary ends starts =
-    cond_both (nat_le 2 (blanks_at_end s end)) _ _ (StandsBehind s.text (end - blanks_at_end s end) next)
+    cond_both (nat_le 2 (blanks_at_end s end)) _ _ (StandsAfter s.text (end - blanks_at_end s end) next)
     (λ hard. record { from = omega arith; order = omega arith; to = refl; starts = starts; ends = ends; backslash = λ b. absurd (false≢true b) })
     (λ soft. record { from = omega arith; order = later; to = refl; starts = boundary; ends = ends; backslash = λ b. absurd (false≢true b) })
 
 break_stands : (s : Inline) (end next : ℕ) → next ≡ end + line_end_len s end → s.start ≤ end → end ≤ length s.text → IsCharBoundary s.text end
-    → IsCharBoundary s.text next → IfSome (line_break s end) (StandsBehind s.text (text_end s end) next)
+    → IsCharBoundary s.text next → IfSome (line_break s end) (StandsAfter s.text (text_end s end) next)
 unfolding line_break text_end
 break_stands s end next is order within boundary ends =
-    cond_both (nat_le (length s.text) end) None _ (λ (o : Option Item). IfSome o (StandsBehind s.text (text_end s end) next)) (λ b. tt)
-    (λ b. subst (λ n. StandsBehind s.text (text_end s end) next (break_of end n (breaks_by_backslash s end) (blanks_at_end s end))) is
+    cond_both (nat_le (length s.text) end) None _ (λ (o : Option Item). IfSome o (StandsAfter s.text (text_end s end) next)) (λ b. tt)
+    (λ b. subst (λ n. StandsAfter s.text (text_end s end) next (break_of end n (breaks_by_backslash s end) (blanks_at_end s end))) is
     (break_by s end next (breaks_by_backslash s end) refl order within (omega arith) boundary ends (text_end_place s end order within boundary).1))
 
 -- a line ends between two characters
@@ -325,7 +326,7 @@ pub record LineInOrder (s : Inline) (stop : ℕ) (tokens : List Item) (answer : 
   pub tokens_fit : AreInOrder s.text s.start stop tokens
   pub before : stop ≤ answer.0
   pub ends : IsCharBoundary s.text answer.0
-  pub break_fits : IfSome answer.1 (StandsBehind s.text stop answer.0)
+  pub break_fits : IfSome answer.1 (StandsAfter s.text stop answer.0)
 
 -- the tokens of a content whose texts stop at an offset
 content_in_order : (texts : List CowStr) (s : Inline) (pieces : List Piece) (to : Spot) (stop : ℕ)
@@ -373,19 +374,19 @@ line_in_order {texts} {s} {tokens} {answer} {after} utf8 boundary within line =
           (content_in_order texts s line.pieces (spot end after) (text_end s end) utf8 boundary line.division.divided last_text place);
       before = omega arith;
       ends = next;
-      break_fits = subst (λ (o : Option Item). IfSome o (StandsBehind s.text (text_end s end) answer.0)) (sym break_is)
+      break_fits = subst (λ (o : Option Item). IfSome o (StandsAfter s.text (text_end s end) answer.0)) (sym break_is)
           (break_stands s end answer.0 answer_is c.order c.within finish next);
     }
 
 -- a chain before the break of the last line, closed
 pub order_closed : (text : List ℕ) (from at next : ℕ) (break : Option Item) (chain : List Item)
-    → AreInOrder text from at chain → at ≤ next → IfSome break (StandsBehind text at next) → AreInOrder text from next (close_break break chain)
-order_closed text from at next None chain h later behind = order_to text from at next chain h later
-order_closed text from at next (Some x) chain h later behind =
+    → AreInOrder text from at chain → at ≤ next → IfSome break (StandsAfter text at next) → AreInOrder text from next (close_break break chain)
+order_closed text from at next None chain h later following = order_to text from at next chain h later
+order_closed text from at next (Some x) chain h later following =
     cond_both (is_backslash_break x.body) (add_text x.start (x.start + 1) false chain) chain (AreInOrder text from next)
-    (λ b. let shown = behind.backslash b in
+    (λ b. let shown = following.backslash b in
     order_to text from (x.start + 1) next (add_text x.start (x.start + 1) false chain)
-    (order_text text from at x.start (x.start + 1) false chain h behind.from (omega arith) behind.starts shown.1) shown.0)
+    (order_text text from at x.start (x.start + 1) false chain h following.from (omega arith) following.starts shown.1) shown.0)
     (λ b. order_to text from at next chain h later)
 
 -- the chain of a single line

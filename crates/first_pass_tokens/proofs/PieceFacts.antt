@@ -127,10 +127,10 @@ module _ (text : List ℕ) (at : ℕ) where
       ]
 
   three_visible : IsVisible (slice_index text at) → IsVisible (slice_index text (at + 1)) → IsVisible (slice_index text (at + 2)) → AreVisible text at 3
-  three_visible here next behind k low high =
+  three_visible here next following k low high =
       elim (cases_lt k (at + 2)) [
         | inl before ↦ two_visible here next k low before
-        | inr later ↦ let same : at + 2 ≡ k = omega arith in subst (λ (x : ℕ). IsVisible (slice_index text x)) same behind
+        | inr later ↦ let same : at + 2 ≡ k = omega arith in subst (λ (x : ℕ). IsVisible (slice_index text x)) same following
       ]
 
   -- one backslash, and two
@@ -234,7 +234,7 @@ module _ (text : List ℕ) (at : ℕ) where
   backquotes is some = record {
     some = some;
     each = λ k low high. run_same k low high ∙ is;
-    behind = ap (λ (b : ℕ). slice_index text (at + run_at text at) == b) (sym is) ∙ run_stops (omega (arith, is));
+    following = ap (λ (b : ℕ). slice_index text (at + run_at text at) == b) (sym is) ∙ run_stops (omega (arith, is));
   }
 
   run_facts : slice_index text at ≡ 96 → 0 < run_at text at → (n : ℕ) → n ≡ run_at text at → IsMarkup text at 0 n (MaybeCode n false)

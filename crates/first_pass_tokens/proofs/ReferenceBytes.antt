@@ -12,7 +12,7 @@ use Rattle.std.proofs.lemmas.List.Sums.{prefix_len_passes}
 use Rattle.std.proofs.lemmas.Option.{some_pair_parts}
 use Rattle.first_pass_lines.specs.Lines.{begins}
 use Rattle.first_pass_entities.specs.Entities.{referred, number_at, numeric_at, name_at, entity_at}
-use Rattle.first_pass_entities.proofs.EntityFacts.{behind_some}
+use Rattle.first_pass_entities.proofs.EntityFacts.{after_some}
 
 -- a byte that a reference may have
 abbrev pub is_reference_byte : ℕ → Bool
@@ -89,11 +89,11 @@ name_bytes bs n c e = name_by _ bs n c _ refl e
 numeric_by : (t u : Bool) (bs : List ℕ) (n c : ℕ) → begins 120 bs ≡ t → begins 88 bs ≡ u → numeric_at bs ≡ Some (n, c) → n ≤ prefix_len is_reference_byte bs
 unfolding numeric_at
 numeric_by true u bs n c h h' e =
-    let b = behind_some 1 n c _ (rw h at e) in
+    let b = after_some 1 n c _ (rw h at e) in
     subst (λ (k : ℕ). k ≤ prefix_len is_reference_byte bs) (sym b.2)
     (one_more 120 b.0 bs h refl (number_bytes is_ascii_hexdigit hexdigit_byte 16 6 (drop 1 bs) b.0 c b.1))
 numeric_by false true bs n c h h' e =
-    let b = behind_some 1 n c _ (rw (h, h') at e) in
+    let b = after_some 1 n c _ (rw (h, h') at e) in
     subst (λ (k : ℕ). k ≤ prefix_len is_reference_byte bs) (sym b.2)
     (one_more 88 b.0 bs h' refl (number_bytes is_ascii_hexdigit hexdigit_byte 16 6 (drop 1 bs) b.0 c b.1))
 numeric_by false false bs n c h h' e = number_bytes is_ascii_digit digit_byte 10 7 bs n c (rw (h, h') at e)
@@ -102,13 +102,13 @@ entity_by : (t u : Bool) (bs : List ℕ) (n c : ℕ) → begins 38 bs ≡ t → 
     → (0 < n) × (n ≤ prefix_len is_reference_byte bs)
 unfolding entity_at
 entity_by true true bs n c h h' e =
-    let a = behind_some 1 n c _ (rw (h, h') at e) in
-    let b = behind_some 1 a.0 c _ a.1 in
+    let a = after_some 1 n c _ (rw (h, h') at e) in
+    let b = after_some 1 a.0 c _ a.1 in
     let rest = numeric_by _ _ (drop 1 (drop 1 bs)) b.0 c refl refl b.1 in
     let inner = subst (λ (k : ℕ). k ≤ prefix_len is_reference_byte (drop 1 bs)) (sym b.2) (one_more 35 b.0 (drop 1 bs) h' refl rest) in
     (omega (arith, a.2), subst (λ (k : ℕ). k ≤ prefix_len is_reference_byte bs) (sym a.2) (one_more 38 a.0 bs h refl inner))
 entity_by true false bs n c h h' e =
-    let a = behind_some 1 n c _ (rw (h, h') at e) in
+    let a = after_some 1 n c _ (rw (h, h') at e) in
     (omega (arith, a.2), subst (λ (k : ℕ). k ≤ prefix_len is_reference_byte bs) (sym a.2) (one_more 38 a.0 bs h refl (name_bytes (drop 1 bs) a.0 c a.1)))
 entity_by false u bs n c h h' e = (let z : None ≡ Some (both n c) = rw h at e in cc)
 

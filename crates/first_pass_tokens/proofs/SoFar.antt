@@ -270,13 +270,14 @@ text_end_within z end = cond_both (breaks_by_backslash z end) (end - 1) (end - b
 -- an offset at which the last text of a content may end: a pending text begins there or before
 pub record IsTextEnd (z : Inline) (end stop : ℕ) : Type 0 where
   pub short : stop ≤ end
-  pub behind : (begin : ℕ) → z.start ≤ begin → begin ≤ end → BeginsText z.text z.start begin end → begin ≤ stop
+  pub following : (begin : ℕ) → z.start ≤ begin → begin ≤ end → BeginsText z.text z.start begin end → begin ≤ stop
 
 pub line_text_end : (z : Inline) (end : ℕ) → end ≤ length z.text → IsTextEnd z end (text_end z end)
-line_text_end z end within = record { short = text_end_within z end; behind = λ begin low high begins. begins_before_break z begin end low high within begins }
+line_text_end z end within =
+    record { short = text_end_within z end; following = λ begin low high begins. begins_before_break z begin end low high within begins }
 
 pub cell_text_end : (z : Inline) (end : ℕ) → end ≤ length z.text → IsTextEnd z end (end - blanks_at_end z end)
-cell_text_end z end within = record { short = omega arith; behind = λ begin low high begins. begins_before_white z begin end low high within begins }
+cell_text_end z end within = record { short = omega arith; following = λ begin low high begins. begins_before_white z begin end low high within begins }
 
 -- The content is read up to a place, and its tokens up to there are in the tree, except for a pending text.
 pub record IsRead (texts : List CowStr) (z : Inline) (old tree : Forest Item) (pending : HeldText) (to : Spot) : Type 0 where
@@ -369,8 +370,8 @@ read_all z old tree pending to r ended =
     record {
       pieces = s.pieces;
       division = record { divided = s.divided; ended = ended };
-      before_break = (line_text_end z end s.within).behind pending.begin s.from s.upto s.begins;
-      before_white = (cell_text_end z end s.within).behind pending.begin s.from s.upto s.begins;
+      before_break = (line_text_end z end s.within).following pending.begin s.from s.upto s.begins;
+      before_white = (cell_text_end z end s.within).following pending.begin s.from s.upto s.begins;
       appended = λ stop ahead inside.
           let here : min end stop ≡ stop = omega arith in
           ap (λ (f : Forest Item). with_text f pending.begin stop pending.escaped) r.tree_is

@@ -13,7 +13,7 @@ use Rattle.first_pass_tokens.specs.Pieces.{is_delimiter, is_quote, run_at}
 pub record AreBackquotes (text : List ℕ) (start n : ℕ) : Type 0 where
   pub some : 0 < n
   pub each : (k : ℕ) → start ≤ k → k < start + n → slice_index text k ≡ backquote
-  pub behind : (slice_index text (start + n) == backquote) ≡ false
+  pub following : (slice_index text (start + n) == backquote) ≡ false
 
 -- the character for n equal bytes in a row: a horizontal ellipsis for three full stops, an en dash for two hyphens,
 -- an em dash for three (this project)

@@ -90,7 +90,7 @@ run_in s at size = record {
   delimiter = slice_index s.text at;
   size = size;
   in_row = s.row;
-  behind_pipe = ends_with_pipe (slice_range s.text s.start at);
+  after_pipe = ends_with_pipe (slice_range s.text s.start at);
   before = char_before s at;
   after = first_char (drop (at + size) s.whole);
 }

@@ -276,7 +276,7 @@ fn run_in(text: &[u8], content: Content<'_>, at: usize) -> DelimiterRun
     DelimiterRun {
         delimiter: text[at],
         in_row: content.row,
-        behind_pipe: ends_with_pipe(&text[content.start..at]),
+        after_pipe: ends_with_pipe(&text[content.start..at]),
         before: char_before(content, at),
         after: first_char(&content.whole[at + size..]),
         size,

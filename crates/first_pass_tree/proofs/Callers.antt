@@ -21,7 +21,7 @@ child-kept {T = T} f g more ix n s h =
           ∙ get_or_append_left (depths f.nodes) (depths more) 0 ix.0 (omega (arith, h.within, w))
           ∙ h.depth
           ∙ ap (λ (v : List TreeIndex). length v + 1) (sym s);
-      behind = subst (λ (v : List TreeIndex). open_place v < ix.0) (sym s) h.behind;
+      following = subst (λ (v : List TreeIndex). open_place v < ix.0) (sym s) h.following;
     }
 
 -- the children so far, and one more block

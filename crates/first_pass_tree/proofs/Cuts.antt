@@ -79,13 +79,13 @@ last_child-is ns is pre path =
     ⊎_elim
     (λ q.
     let t : nat_lt p (length ns) ≡ true = grind (arith, nat_tests) in
-    let low = o.behind p (omega arith) (omega arith) in
+    let low = o.following p (omega arith) (omega arith) in
     let high = pre (open_place is) (omega arith) in
-    let i = last_before-is ds d p (length ns) q (omega (arith, o.depth)) (λ k a b. let w = o.behind k (omega arith) (omega arith) in omega arith) in
+    let i = last_before-is ds d p (length ns) q (omega (arith, o.depth)) (λ k a b. let w = o.following k (omega arith) (omega arith) in omega arith) in
     let r : IsLastAt ds d (last_before ds d (length ns)) = record {
       within = omega (arith, i.within);
       depth = i.depth;
-      behind = λ k a b. i.behind k a (omega arith);
+      following = λ k a b. i.following k a (omega arith);
     } in
     subst (λ (b : Bool). IfSome {T = TreeIndex} (if b then Some (record { 0 = last_before ds d (length ns) }) else None) (λ c. IsLastAt ds d c.0)) (sym t) r)
     (λ q.
@@ -162,7 +162,7 @@ cut_siblings-single f e p h ep t =
     let one : length f.nodes ≡ suc p = omega (arith, single-length e (drop p f.nodes) t, length-drop p f.nodes, o.within) in
     let at = ap (λ k. get_or ds k 0) ep in
     let deep : get_or ds p 0 ≡ d =
-    omega (arith, at, o.depth, o.behind p (omega arith) (omega arith), h.preorder (open_place f.spine) (omega arith)) in
+    omega (arith, at, o.depth, o.following p (omega arith) (omega arith), h.preorder (open_place f.spine) (omega arith)) in
     let z : p + 0 ≡ p = omega arith in
     let here = ap (λ xs. get_or xs 0 0) (drop-depths f.nodes p) ∙ get_or-drop p ds 0 0 ∙ ap (λ k. get_or ds k 0) z in
     let same = single-uncut e d (drop p f.nodes) t (omega arith) in

@@ -13,14 +13,14 @@ pub last-append : (ds : List ℕ) (d e i : ℕ) → IsLastAt ds d i → d < e �
 last-append ds d e i h l = record {
   within = grind (arith, length_push ds e, h.within);
   depth = get_or_append_left ds (e ∷ []) 0 i h.within ∙ h.depth;
-  behind = λ k p q. grind (arith, places, length_push, get_or_push, h.behind k p);
+  following = λ k p q. grind (arith, places, length_push, get_or_push, h.following k p);
 }
 
 pub last-push : (ds : List ℕ) (e : ℕ) → IsLastAt (ds ++ e ∷ []) e (length ds)
 last-push ds e = record {
   within = omega (arith, length_push ds e);
   depth = get_or_push ds e 0 (length ds) refl;
-  behind = λ k p q. absurd (omega (arith, length_push ds e));
+  following = λ k p q. absurd (omega (arith, length_push ds e));
 }
 
 pub path-append : (ds : List ℕ) (is : List TreeIndex) (e : ℕ) → length is < e → IsOpenPath ds is → IsOpenPath (ds ++ e ∷ []) is
@@ -30,20 +30,20 @@ path-append ds (i ∷ is) e l h = (last-append ds _ e _ h.0 (omega arith), path-
 -- the last node is at least as deep as the innermost open node
 pub path-last_depth : (ds : List ℕ) (is : List TreeIndex) → IsOpenPath ds is → (0 < length ds) × (length is ≤ get_or ds (length ds - 1) 0)
 path-last_depth ds [] h = (omega (arith, h.within), omega arith)
-path-last_depth ds (i ∷ is) h = (omega (arith, h.0.within), grind (arith, h.0.within, h.0.depth, h.0.behind (length ds - 1)))
+path-last_depth ds (i ∷ is) h = (omega (arith, h.0.within), grind (arith, h.0.within, h.0.depth, h.0.following (length ds - 1)))
 
 pub preorder-append : (ds : List ℕ) (e : ℕ) → IsPreorder ds → 0 < length ds → e ≤ get_or ds (length ds - 1) 0 + 1 → IsPreorder (ds ++ e ∷ [])
 preorder-append ds e h p l = λ k q. grind (arith, places, length_push, get_or_push, h k)
 
 -- of the last places of two depths, that of the greater depth comes later
 pub last-order : (ds : List ℕ) (d e i j : ℕ) → IsLastAt ds d i → IsLastAt ds e j → d < e → i < j
-last-order ds d e i j h g l = grind (arith, h.depth, g.depth, g.behind i, h.within, g.within)
+last-order ds d e i j h g l = grind (arith, h.depth, g.depth, g.following i, h.within, g.within)
 
 pub last-take : (ds : List ℕ) (d i n : ℕ) → IsLastAt ds d i → i < n → n ≤ length ds → IsLastAt (take n ds) d i
 last-take ds d i n h l m = record {
   within = omega (arith, length-take-le n ds m);
   depth = get_or-take n ds i 0 l ∙ h.depth;
-  behind = λ k p q. grind (arith, places, length-take-le n ds m, get_or-take, h.behind k p);
+  following = λ k p q. grind (arith, places, length-take-le n ds m, get_or-take, h.following k p);
 }
 
 pub path-take : (ds : List ℕ) (is : List TreeIndex) (d i n : ℕ)
@@ -63,7 +63,7 @@ path-take_open ds (i ∷ is) n l m h = (last-take ds _ _ n h.0 l m, path-take ds
 -- the innermost open node is the last of its depth
 pub open-last : (ds : List ℕ) (is : List TreeIndex) → IsOpenPath ds is → IsLastAt ds (length is) (open_place is)
 open-last ds [] h = h
-open-last ds (i ∷ is) h = record { within = h.0.within; depth = grind (arith, h.0.depth); behind = λ k p q. grind (arith, h.0.behind k p q) }
+open-last ds (i ∷ is) h = record { within = h.0.within; depth = grind (arith, h.0.depth); following = λ k p q. grind (arith, h.0.following k p q) }
 
 -- the depth at a place is at most the place
 pub depth-small : (ds : List ℕ) → IsPreorder ds → get_or ds 0 0 ≡ 0 → (k : ℕ) → k < length ds → get_or ds k 0 ≤ k

@@ -205,11 +205,11 @@ kept_after-is f ix g h =
     let t = sym (take-map (λ n. n.0) p f.nodes) in
     record {
       preorder = subst IsPreorder (sym t) (preorder-take ds p v h.preorder);
-      opened = subst (λ (v : List ℕ). IsOpenPath v f.spine) (sym t) (path-take_open ds f.spine p (omega (arith, g.behind)) v h.opened);
+      opened = subst (λ (v : List ℕ). IsOpenPath v f.spine) (sym t) (path-take_open ds f.spine p (omega (arith, g.following)) v h.opened);
       at_current = subst (λ (v : List ℕ). IsLastAt v (length f.spine + 1) ix.0) (sym t) (record {
         within = omega (arith, length-take-le p ds v);
         depth = get_or-take p ds ix.0 0 w ∙ g.depth;
-        behind = λ k a b.
+        following = λ k a b.
             let n : k < p = omega (arith, length-take-le p ds v) in
             let y = before-end ds ix.0 k a n in
             let r = get_or-take p ds k 0 n in
@@ -297,8 +297,9 @@ wrap-below : (ds : List ℕ) (p e k : ℕ) (es : List ℕ) → p ≤ length ds �
 wrap-below ds p e k es m l =
     let n = length-take-le p ds m in get_or_append_left (take p ds) (e ∷ es) 0 k (omega arith) ∙ get_or-take p ds k 0 l
 
-wrap-behind : (ds : List ℕ) (p e j : ℕ) → p + j < length ds → get_or (take p ds ++ e ∷ map (λ d. d + 1) (drop p ds)) (suc (p + j)) 0 ≡ get_or ds (p + j) 0 + 1
-wrap-behind ds p e j l =
+wrap-following : (ds : List ℕ) (p e j : ℕ) → p + j < length ds
+    → get_or (take p ds ++ e ∷ map (λ d. d + 1) (drop p ds)) (suc (p + j)) 0 ≡ get_or ds (p + j) 0 + 1
+wrap-following ds p e j l =
     let n = length-take-le p ds (omega arith) in
     let r = get_or-append_right (take p ds) (e ∷ map (λ d. d + 1) (drop p ds)) p (suc (p + j)) 0 n (omega arith) in
     let z : suc (p + j) - p ≡ suc j = omega arith in
@@ -314,17 +315,17 @@ last-wrap : (ds : List ℕ) (d i p e : ℕ) → IsLastAt ds d i → i < p → p 
 last-wrap ds d i p e h l m q = record {
   within = omega (arith, wrap-length ds p e m, h.within);
   depth = wrap-below ds p e i _ m l ∙ h.depth;
-  behind = λ k a b.
+  following = λ k a b.
       ⊎_elim
-      (λ x. rw (wrap-below ds p e k _ m x) (h.behind k a (omega (arith, wrap-length ds p e m))))
+      (λ x. rw (wrap-below ds p e k _ m x) (h.following k a (omega (arith, wrap-length ds p e m))))
       (λ x. ⊎_elim
       (λ y.
       let j = k - suc p in
       let z : k ≡ suc (p + j) = omega arith in
       let w : p + j < length ds = omega (arith, wrap-length ds p e m) in
-      let v = h.behind (p + j) (omega arith) w in
+      let v = h.following (p + j) (omega arith) w in
       let g : get_or (take p ds ++ e ∷ map (λ d. d + 1) (drop p ds)) k 0 ≡ get_or ds (p + j) 0 + 1 =
-      ap (λ k. get_or (take p ds ++ e ∷ map (λ d. d + 1) (drop p ds)) k 0) z ∙ wrap-behind ds p e j w in
+      ap (λ k. get_or (take p ds ++ e ∷ map (λ d. d + 1) (drop p ds)) k 0) z ∙ wrap-following ds p e j w in
       omega arith)
       (λ y.
       let z : k ≡ p = omega arith in
@@ -370,7 +371,7 @@ preorder-wrap ds p e h z m q = λ k a.
     let j = k - p in
     let n : k + 1 ≡ suc (p + j) = omega arith in
     let w : p + j < length ds = omega arith in
-    let g : get_or es (k + 1) 0 ≡ get_or ds (p + j) 0 + 1 = ap (λ i. get_or es i 0) n ∙ wrap-behind ds p e j w in
+    let g : get_or es (k + 1) 0 ≡ get_or ds (p + j) 0 + 1 = ap (λ i. get_or es i 0) n ∙ wrap-following ds p e j w in
     ⊎_elim
     (λ r.
     let u : k ≡ p = omega arith in
@@ -385,7 +386,7 @@ preorder-wrap ds p e h z m q = λ k a.
     let o : p + j ≡ p + i + 1 = omega arith in
     let s = h (p + i) (omega arith) in
     let t = ap (λ i. get_or ds i 0) o in
-    let f : get_or es k 0 ≡ get_or ds (p + i) 0 + 1 = ap (λ i. get_or es i 0) u ∙ wrap-behind ds p e i (omega arith) in
+    let f : get_or es k 0 ≡ get_or ds (p + i) 0 + 1 = ap (λ i. get_or es i 0) u ∙ wrap-following ds p e i (omega arith) in
     omega arith)
     (cases_lt k (p + 1)))
     (cases_lt k p))
@@ -440,7 +441,7 @@ last-end ns d i h =
     let w = h.within in
     let r = prefix_len_is (λ e. nat_lt (get_or ds i 0) e) (drop (i + 1) ds) (length (drop (i + 1) ds)) 0 (omega arith)
     (λ k l.
-    let b = h.behind (i + 1 + k) (omega arith) (omega arith) in
+    let b = h.following (i + 1 + k) (omega arith) (omega arith) in
     let t : nat_lt (get_or ds i 0) (get_or ds (i + 1 + k) 0) ≡ true = grind (arith, nat_tests, h.depth, b) in
     ap (nat_lt (get_or ds i 0)) (get_or-drop (i + 1) ds k 0) ∙ t)
     (λ l. absurd (omega arith)) in

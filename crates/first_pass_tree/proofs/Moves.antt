@@ -33,11 +33,11 @@ lower-before [] (suc e) k l = refl
 lower-before (n ∷ ns) (suc e) zero l = refl
 lower-before (n ∷ ns) (suc e) (suc k) l = lower-before ns e k (omega arith)
 
-lower-behind : {T : Type 0} (ns : List (ℕ × T)) (e k : ℕ) → e ≤ k → get_or (depths (map_from shallower e ns)) k 0 ≡ get_or (depths ns) k 0 - 1
-lower-behind ns zero k l = lower-map ns k
-lower-behind [] (suc e) k l = omega arith
-lower-behind (n ∷ ns) (suc e) zero l = absurd (omega arith)
-lower-behind (n ∷ ns) (suc e) (suc k) l = lower-behind ns e k (omega arith)
+lower-following : {T : Type 0} (ns : List (ℕ × T)) (e k : ℕ) → e ≤ k → get_or (depths (map_from shallower e ns)) k 0 ≡ get_or (depths ns) k 0 - 1
+lower-following ns zero k l = lower-map ns k
+lower-following [] (suc e) k l = omega arith
+lower-following (n ∷ ns) (suc e) zero l = absurd (omega arith)
+lower-following (n ∷ ns) (suc e) (suc k) l = lower-following ns e k (omega arith)
 
 lower-length : {T : Type 0} (ns : List (ℕ × T)) (e : ℕ) → length (depths (map_from shallower e ns)) ≡ length (depths ns)
 lower-length ns zero = length-map (map shallower ns) (λ n. n.0) ∙ length-map ns shallower ∙ sym (length-map ns (λ n. n.0))
@@ -51,11 +51,11 @@ last-lower : {T : Type 0} (ns : List (ℕ × T)) (d i e m : ℕ) → IsLastAt (d
 last-lower ns d i e m h l q b = record {
   within = omega (arith, lower-length ns e, h.within);
   depth = lower-before ns e i l ∙ h.depth;
-  behind = λ k a c.
+  following = λ k a c.
       let w : k < length (depths ns) = omega (arith, lower-length ns e) in
       ⊎_elim
-      (λ x. rw (lower-before ns e k x) (h.behind k a w))
-      (λ x. let r = lower-behind ns e k x in let s = b k x w in omega arith)
+      (λ x. rw (lower-before ns e k x) (h.following k a w))
+      (λ x. let r = lower-following ns e k x in let s = b k x w in omega arith)
       (cases_lt k e);
 }
 
@@ -78,15 +78,15 @@ preorder-lower ns e m z h q r b = λ k a.
     (λ y.
     let n : k + 1 ≡ e = omega arith in
     let j : k ≡ e - 1 = omega arith in
-    let s = lower-behind ns e (k + 1) x in
+    let s = lower-following ns e (k + 1) x in
     let t = lower-before ns e k y in
     let u = q (omega arith) in
     let v = ap (λ i. get_or (depths ns) i 0) n in
     let o = ap (λ i. get_or (depths ns) i 0) j in
     omega arith)
     (λ y.
-    let s = lower-behind ns e (k + 1) x in
-    let t = lower-behind ns e k y in
+    let s = lower-following ns e (k + 1) x in
+    let t = lower-following ns e k y in
     let u = b k y (omega arith) in
     omega arith)
     (cases_lt k e))
@@ -95,7 +95,7 @@ preorder-lower ns e m z h q r b = λ k a.
 pub record IsLastBefore (ds : List ℕ) (d n r : ℕ) : Type 0 where
   pub within : r < n
   pub depth : get_or ds r 0 ≡ d
-  pub behind : (k : ℕ) → r < k → k < n → d < get_or ds k 0
+  pub following : (k : ℕ) → r < k → k < n → d < get_or ds k 0
 
 -- the last place of a depth, if one place has it and every later depth is at least that
 pub last_before-is : (ds : List ℕ) (d p n : ℕ)
@@ -105,7 +105,7 @@ last_before-is ds d p (suc n) l e h =
     ⊎_elim
     (λ q.
     let t : eqb (get_or ds n 0) d ≡ true = grind (arith, nat_tests) in
-    let r : IsLastBefore ds d (suc n) n = record { within = omega arith; depth = q; behind = λ k a b. absurd (omega arith) } in
+    let r : IsLastBefore ds d (suc n) n = record { within = omega arith; depth = q; following = λ k a b. absurd (omega arith) } in
     subst (λ (b : Bool). IsLastBefore ds d (suc n) (cond b n (last_before ds d n))) (sym t) r)
     (λ q.
     let t : eqb (get_or ds n 0) d ≡ false = grind (arith, nat_tests) in
@@ -115,8 +115,8 @@ last_before-is ds d p (suc n) l e h =
     let r : IsLastBefore ds d (suc n) (last_before ds d n) = record {
       within = omega (arith, i.within);
       depth = i.depth;
-      behind = λ k a b.
-          ⊎_elim (λ y. let j = ap (λ i. get_or ds i 0) y in let o = h n (omega arith) (omega arith) in omega arith) (λ y. i.behind k a (omega arith))
+      following = λ k a b.
+          ⊎_elim (λ y. let j = ap (λ i. get_or ds i 0) y in let o = h n (omega arith) (omega arith) in omega arith) (λ y. i.following k a (omega arith))
           (cases_eq k n);
     } in
     subst (λ (b : Bool). IsLastBefore ds d (suc n) (cond b n (last_before ds d n))) (sym t) r)
@@ -131,7 +131,7 @@ before-place : (ds : List ℕ) (d c e : ℕ) → IsLastAt ds d c → c < e → e
 before-place ds d c e h l w =
     ⊎_elim
     (λ x. let u = ap (λ i. get_or ds i 0) x in omega (arith, h.depth))
-    (λ x. let u = h.behind (e - 1) (omega arith) (omega arith) in omega arith)
+    (λ x. let u = h.following (e - 1) (omega arith) (omega arith) in omega arith)
     (cases_eq c (e - 1))
 
 -- a current node before one place is before each later place
@@ -150,20 +150,20 @@ moved_from-is f e g h =
     let m = length-map f.nodes (λ n. n.0) in
     let o = last-order ds _ _ _ c.0 (open-last ds f.spine h.opened) lc (omega arith) in
     let v : e ≤ length ds = omega (arith, g.within) in
-    let b = λ (k : ℕ) (x : e ≤ k) (y : k < length ds). lc.behind k (omega arith) y in
+    let b = λ (k : ℕ) (x : e ≤ k) (y : k < length ds). lc.following k (omega arith) y in
     let q : e < length ds → get_or ds e 0 ≤ length f.spine + 2 = λ x. g.depth (omega arith) in
     let z = before-place ds (length f.spine + 1) c.0 e lc w v in
     let n = lower-length f.nodes e in
     let len = length-map ns (λ n. n.0) in
     let i = last_before-is (depths ns) (length f.spine + 1) c.0 (length ns) (omega (arith, lc.within)) (lower-before f.nodes e c.0 w ∙ lc.depth)
     (λ k x y. ⊎_elim
-    (λ a. let j = lower-before f.nodes e k a in let u = lc.behind k x (omega arith) in omega arith)
-    (λ a. let j = lower-behind f.nodes e k a in let u = lc.behind k x (omega arith) in omega arith)
+    (λ a. let j = lower-before f.nodes e k a in let u = lc.following k x (omega arith) in omega arith)
+    (λ a. let j = lower-following f.nodes e k a in let u = lc.following k x (omega arith) in omega arith)
     (cases_lt k e)) in
     record {
       preorder = preorder-lower f.nodes e (length f.spine + 2) (omega arith) h.preorder q (omega arith) (λ k x y. let u = b k x y in omega arith);
       opened = path-lower f.nodes f.spine e (length f.spine) (omega arith) (omega arith) (λ k x y. let u = b k x y in omega arith) h.opened;
-      at_current = record { within = omega (arith, i.within); depth = i.depth; behind = λ k x y. i.behind k x (omega arith) };
+      at_current = record { within = omega (arith, i.within); depth = i.depth; following = λ k x y. i.following k x (omega arith) };
     }
 
 abbrev at_place : ℕ → TreeIndex

@@ -68,7 +68,7 @@ ended_last-are ds place past (e ∷ o ∷ es) s h = outer_by (e.place == place) 
 pub subtrees-ended : (ds : List ℕ) (n place past : ℕ) (es fs : List Subtree) → fs ≡ ended place past es → IsSubtree ds place past
     → AreSubtrees ds n es → AreSubtrees ds past fs
 subtrees-ended ds n place past es fs e s h =
-    let w = s.behind in
+    let w = s.following in
     let f = subtrees-up_to ds (place + 1) past _ (omega arith) (first-are ds n (place + 1) es h) in
     subst (AreSubtrees ds past) (sym e) (ended_last-are ds place past _ s f)
 
@@ -97,7 +97,7 @@ pub subtrees-added : (ds : List ℕ) (n place : ℕ) (es fs : List Subtree) → 
 subtrees-added ds n place es fs e l h =
     subst (AreSubtrees ds n) (sym e) (
       omega arith,
-      record { behind = omega arith; deeper = λ k a b. absurd (omega arith) },
+      record { following = omega arith; deeper = λ k a b. absurd (omega arith) },
       subtrees-up_to ds place (place + 1) _ (omega arith) (first-are ds n place es h),
     )
 
@@ -147,8 +147,8 @@ last-subtree : {T : Type 0} (ns : List (ℕ × T)) (d i : ℕ) → IsLastAt (dep
 last-subtree ns d i h =
     let m = length-map ns (λ n. n.0) in
     record {
-      behind = omega (arith, h.within, m);
-      deeper = λ k a b. subst (λ v. v < slice_index (depths ns) k) (sym h.depth) (h.behind k a (omega (arith, m, b)));
+      following = omega (arith, h.within, m);
+      deeper = λ k a b. subst (λ v. v < slice_index (depths ns) k) (sym h.depth) (h.following k a (omega (arith, m, b)));
     }
 
 -- the current node, with all nodes after it
@@ -160,14 +160,15 @@ current-subtree f ix e h =
 
 -- the same without the last nodes
 pub fewer-subtree : (ds : List ℕ) (place past end : ℕ) → place < past → past ≤ end → IsSubtree ds place end → IsSubtree ds place past
-fewer-subtree ds place past end l m h = record { behind = l; deeper = λ k a b. h.deeper k a (omega arith) }
+fewer-subtree ds place past end l m h = record { following = l; deeper = λ k a b. h.deeper k a (omega arith) }
 
 -- only the depths before the ends of the subtrees count
 subtrees-kept : (ds es : List ℕ) (n : ℕ) (xs : List Subtree) → ((k : ℕ) → k < n → get_or es k 0 ≡ get_or ds k 0) → AreSubtrees ds n xs → AreSubtrees es n xs
 subtrees-kept ds es n [] s h = tt
 subtrees-kept ds es n (e ∷ xs) s h = (
   h.0,
-  record { behind = h.1.behind; deeper = λ k a b. (let w = h.0 in let i = h.1.behind in rw (s e.place (omega arith), s k (omega arith)) (h.1.deeper k a b)) },
+  record { following = h.1.following; deeper = λ k a b.
+      (let w = h.0 in let i = h.1.following in rw (s e.place (omega arith), s k (omega arith)) (h.1.deeper k a b)) },
   subtrees-kept ds es e.past xs (λ k a. let w = h.0 in s k (omega arith)) h.2,
 )
 

@@ -179,7 +179,7 @@ tightening_next old now next depth from to at k l deep b s h e =
 
 -- the walk back over all nodes below a list: the paragraphs from a place on are tight
 pub record IsTightFrom (f : Forest Item) (list depth at : ℕ) (g : Forest Item) : Type 0 where
-  pub behind : list < at
+  pub following : list < at
   pub within : at ≤ end_of (depths f.nodes) list
   pub tight : g ≡ tight_from f depth at
 
@@ -195,7 +195,7 @@ walk_begins f list depth at l d e =
     (λ a. tight_end depth at f.nodes (omega arith))
     (cases_lt at (length ds)) in
     record {
-      behind = omega arith;
+      following = omega arith;
       within = omega arith;
       tight = ap (λ (ns : List (ℕ × Item)). record f { nodes = ns }) (sym n);
     }
@@ -217,7 +217,7 @@ walk_deeper f g list depth at k d h a b =
 -- the nodes after an inner list are tight too
 pub walk_over : (f g : Forest Item) (list depth at past : ℕ)
     → IsTightFrom f list depth at g → list < past → past ≤ at → (h : Forest Item) → h ≡ tight_from f depth past → IsTightFrom f list depth past h
-walk_over f g list depth at past from a b h t = record { behind = a; within = (let w = from.within in omega arith); tight = t }
+walk_over f g list depth at past from a b h t = record { following = a; within = (let w = from.within in omega arith); tight = t }
 
 -- a step over an inner list, from the nodes after it to its place
 pub walk_next : (f g h next : Forest Item) (list depth at place past : ℕ)
@@ -232,7 +232,7 @@ walk_next f g h next list depth at place past l d from a b c over t e =
     let deep : depth < slice_index (depths f.nodes) place =
     subst (λ (ds : List ℕ). depth < slice_index ds place) s (walk_deeper f g list depth at place d from a (omega arith)) in
     record {
-      behind = a;
+      following = a;
       within = omega arith;
       tight = e
           ∙ ap (λ (v : Forest Item). with_tight_node v depth (record { 0 = place })) t

@@ -43,7 +43,7 @@ module _ {T : Type 0} where
 pub record IsLastAt (ds : List ℕ) (d : ℕ) (i : ℕ) : Type 0 where
   pub within : i < length ds
   pub depth : slice_index ds i ≡ d
-  pub behind : (k : ℕ) → i < k → k < length ds → d < slice_index ds k
+  pub following : (k : ℕ) → i < k → k < length ds → d < slice_index ds k
 
 -- the open nodes, innermost first, are each the last of their depth, and so is the root
 abbrev pub IsOpenPath : List ℕ → List TreeIndex → Type 0
@@ -124,7 +124,7 @@ module _ {T : Type 0} where
   pub record IsChild (f : Forest T) (ix : TreeIndex) : Type 0 where
     pub within : ix.0 < length f.nodes
     pub depth : slice_index (depths f.nodes) ix.0 ≡ length f.spine + 1
-    pub behind : open_place f.spine < ix.0
+    pub following : open_place f.spine < ix.0
 
   -- the forest with only the first n nodes
   abbrev pub cut_to : Forest T → ℕ → Forest T

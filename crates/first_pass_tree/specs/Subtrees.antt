@@ -5,7 +5,7 @@ use Rattle.first_pass_tree.specs.Forest.{Forest, IsForest, depths}
 
 -- the nodes after a place, up to another, are descendants of the node at that place
 pub record IsSubtree (ds : List ℕ) (place : ℕ) (past : ℕ) : Type 0 where
-  pub behind : place < past
+  pub following : place < past
   pub deeper : (k : ℕ) → place < k → k < past → slice_index ds place < slice_index ds k
 
 -- The records, last first, are subtrees of a tree with these depths. None ends after the one recorded next, and the

@@ -10,7 +10,7 @@ fn rest_of(alloc: Global, given: &[&str]) -> Result<String, AllocError> {
     pieces.extend_from_slice(given)?;
     remove_pieces(alloc, &mut pieces, |text: &str| {
         Ok(match text.split_once('>') {
-            Some((_, behind)) => behind.contains('-'),
+            Some((_, following)) => following.contains('-'),
             None => false,
         })
     })?;

@@ -148,11 +148,11 @@ fn ends_in_an_empty_item(alloc: Global) -> Result<(usize, usize), AllocError> {
     let text = "-\n  a\n\n\nb";
     let mut pass = FirstPass::new(alloc, text, Options::empty())?;
     pass.parse_block(0)?;
-    let behind = pass.parse_paragraph(4, None)?;
-    if behind >= text.len() {
-        return Ok((behind, behind));
+    let following = pass.parse_paragraph(4, None)?;
+    if following >= text.len() {
+        return Ok((following, following));
     }
-    Ok((behind, pass.parse_block(behind)?))
+    Ok((following, pass.parse_block(following)?))
 }
 
 fn rule_end(alloc: Global) -> Result<usize, AllocError> {

@@ -19,8 +19,8 @@ pub struct Case<'t> {
 
 /// Reads a case from its lines.
 pub fn read_case(alloc: Global, group: &str) -> Result<Case<'_>, AllocError> {
-    let (after, behind) = read_after(group);
-    let (head, below) = behind.split_once('\n').unwrap_or((behind, ""));
+    let (after, following) = read_after(group);
+    let (head, below) = following.split_once('\n').unwrap_or((following, ""));
     let (call, rest) = head.split_once(' ').unwrap_or((head, ""));
     let mut case = Case {
         after,
@@ -41,7 +41,7 @@ pub fn read_case(alloc: Global, group: &str) -> Result<Case<'_>, AllocError> {
 /// The number in the first line, if it has one, and the lines after it.
 fn read_after(group: &str) -> (Option<usize>, &str) {
     match group.strip_prefix("after ") {
-        Some(behind) => match behind.split_once('\n') {
+        Some(following) => match following.split_once('\n') {
             Some((number, lines)) => (number.parse::<usize>().ok(), lines),
             None => (None, ""),
         },

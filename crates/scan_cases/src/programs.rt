@@ -53,10 +53,10 @@ fn append_timing(alloc: Global, text: &str, answer: &mut Answer) -> Result<(), A
 }
 
 fn read_timing(text: &str) -> Option<(usize, Timing)> {
-    let (bytes, behind) = text.split_once(' ')?;
-    let (nodes, behind) = behind.split_once(' ')?;
-    let (runs, behind) = behind.split_once(' ')?;
-    let (nanos, first) = behind.split_once(' ')?;
+    let (bytes, following) = text.split_once(' ')?;
+    let (nodes, following) = following.split_once(' ')?;
+    let (runs, following) = following.split_once(' ')?;
+    let (nanos, first) = following.split_once(' ')?;
     let timing = Timing {
         nodes: nodes.parse::<usize>().ok()?,
         runs: runs.parse::<u32>().ok()?,

@@ -67,8 +67,8 @@ fn compare_line(
 
 /// Reads a line.
 fn read_case(line: &str) -> Option<Case<'_>> {
-    let (front, behind) = line.split_once(" ‹")?;
-    let (shown, want) = behind.split_once("› ")?;
+    let (front, following) = line.split_once(" ‹")?;
+    let (shown, want) = following.split_once("› ")?;
     let (call, words) = front.split_once(' ').unwrap_or((front, ""));
     Some(Case {
         call,

@@ -13,5 +13,5 @@ returns-in-Some-clause-between c =
     let ends : closing < length heading = grind (arith, common_steps) in
     let opens : slice_index heading opening ≡ left_brace = grind (arith, common_steps) in
     let closes : slice_index heading closing ≡ right_brace = grind (arith, common_steps) in
-    let behind = IsCharBoundary-before_ascii heading closing ends (omega (arith, closes)) in
-    λ utf8. (IsCharBoundary-after_ascii heading opening utf8 within (omega (arith, opens)), behind)
+    let following = IsCharBoundary-before_ascii heading closing ends (omega (arith, closes)) in
+    λ utf8. (IsCharBoundary-after_ascii heading opening utf8 within (omega (arith, opens)), following)

@@ -6,7 +6,7 @@ use Rattle.first_pass_lines.specs.Rest.{Rest, after_columns}
 use Rattle.first_pass_lines.specs.Places.{Place, place_at, offset}
 use Rattle.first_pass_grammar.specs.Containers.{prefix}
 use Rattle.first_pass_grammar.specs.Kinds.{item_at, definition_marker_at, is_blank_rest, quote_start}
-use Rattle.first_pass_grammar.specs.Openers.{Start as ContainerStart, item_start, definition_start, quote_begun, task_behind, tag_behind, after_quote}
+use Rattle.first_pass_grammar.specs.Openers.{Start as ContainerStart, item_start, definition_start, quote_begun, task_after, tag_after, after_quote}
 use Rattle.first_pass_grammar.specs.declared.kind.Container.TheVariants.{BlockQuote}
 use Rattle.first_pass_grammar.proofs.OpenerFacts.{marker_where, start_item, start_definition, start_quote, start_none}
 use Rattle.first_pass_open.proofs.PlaceLemmas.{item_keeps, quote_absent}
@@ -38,7 +38,7 @@ returns-in-Some c =
     let p : Place = place_at c.place.inside.line c.place.inside.rest in
     let options = c.args.source.now.options in
     let marker = c.in-Some.marker in
-    let task : Option Item × Rest = task_behind options c.place.inside.line c.scan_item.new.line_start in
+    let task : Option Item × Rest = task_after options c.place.inside.line c.scan_item.new.line_start in
     let start : ℕ → AfterMarker → Option Start = λ n after. Some (record { opener = ItemOpener marker; start = n; after = after }) in
     let over : c.is_some-is_over.result ≡ is_blank_rest task.1 =
     c.is_some-is_over.ensures ∙ ap is_some c.scan_blank_line.ensures.value
@@ -59,18 +59,18 @@ returns-in-Some-scan_definition c =
     let p : Place = place_at c.place.inside.line c.place.inside.rest in
     let options = c.args.source.now.options in
     let indent = c.in-Some-scan_definition.indent in
-    let behind : Rest = c.scan_definition.new.line_start in
+    let following : Rest = c.scan_definition.new.line_start in
     let item =
     item_absent (item_at c.place.inside.rest) c.scan_item.result c.place.inside.rest c.scan_item.new.line_start c.in_default.is c.scan_item.ensures in
-    let marker : marker_where c.args.may_define p ≡ Some (indent, behind) =
+    let marker : marker_where c.args.may_define p ≡ Some (indent, following) =
     ap (λ (t : Bool). if t then definition_marker_at p.rest else None) c.if-may_define.true ∙ ap definition_marker_at (sym item.1)
-    ∙ definition_found _ c.scan_definition.result indent c.scan_item.new.line_start behind c.in-Some-scan_definition.is c.scan_definition.ensures in
+    ∙ definition_found _ c.scan_definition.result indent c.scan_item.new.line_start following c.in-Some-scan_definition.is c.scan_definition.ensures in
     let start : ℕ → AfterMarker → Option Start = λ n after. Some (record { opener = DefinitionOpener indent; start = n; after = after }) in
     let over = c.is_some-is_over-in-Some-scan_definition.ensures ∙ ap is_some c.scan_blank_line-in-Some-scan_definition.ensures.value
     ∙ ap (λ (bs : List ℕ). is_some (blank_len bs)) c.left-in-Some-scan_definition.ensures in
     let after = c.item_after-in-Some-scan_definition.ensures ∙ ap (item_after None) over in
-    rw (← c.place.view_is) (matches _ _ _ _ (start_definition options c.args.may_define p (indent, behind) item.0 marker) (
-      tells (definition_start p (indent, behind)) _ _
+    rw (← c.place.view_is) (matches _ _ _ _ (start_definition options c.args.may_define p (indent, following) item.0 marker) (
+      tells (definition_start p (indent, following)) _ _
           (ap (λ (n : ℕ). start n c.item_after-in-Some-scan_definition.result) (c.offset-before.ensures ∙ ap offset (sym c.place.view_is))
           ∙ ap (start (offset p)) after)
           (record { opener = refl; start = refl; after = refl }),
@@ -118,7 +118,7 @@ returns c =
     c.scan_quote.ensures in
     let start : Option BlockQuoteKind → ℕ → AfterMarker → Option Start = λ kind n after. Some (record { opener = Quote kind; start = n; after = after }) in
     rw (← c.place.view_is) (matches _ _ _ _ (start_quote options c.args.may_define p inside item.0 none.0 quote.0) (
-      tells (quote_begun p (tag_behind options inside) inside) _ _ (
+      tells (quote_begun p (tag_after options inside) inside) _ _ (
           ap (start c.scan_tag-tag.result (here.line + c.in_ok-quote.quote)) c.after_quote.ensures
           ∙ ap (λ (n : ℕ). start c.scan_tag-tag.result (here.line + n) (after_quote c.scan_tag-tag.result)) quote.1
           ∙ ap (λ (q : Place). start c.scan_tag-tag.result (q.line + (after_columns 3 p.rest).taken) (after_quote c.scan_tag-tag.result)) none.1

@@ -51,7 +51,7 @@ loop-ix-preserved c =
     let next = c.read_blank_lines-ix.result in
     let more_lines = c.read_blank_lines-ix.ensures in
     let before : Reading = pass.reading in
-    let behind : Reading = new.reading in
+    let following : Reading = new.reading in
     let same_text : new.source.text.now ≡ c.args.text.now = ap (λ (z : Source). z.text.now) e.source ∙ i.same_text in
     let same_options : new.source.options ≡ c.args.options = ap (λ (z : Source). z.options) e.source ∙ i.same_options in
     record {
@@ -59,15 +59,15 @@ loop-ix-preserved c =
       same_options = same_options;
       boundary = subst (λ t. IsCharBoundary t next) same_text more_lines.boundary;
       ready = λ names more.
-          subst (λ (z : List ℕ × Options). Ready (document z.0 z.1 names) (tables_of new.allocs) behind (lines_from z.0 mid)
-          → Ready (document z.0 z.1 names) (tables_of new.allocs) behind (lines_from z.0 next)) (both_same same_text same_options)
+          subst (λ (z : List ℕ × Options). Ready (document z.0 z.1 names) (tables_of new.allocs) following (lines_from z.0 mid)
+          → Ready (document z.0 z.1 names) (tables_of new.allocs) following (lines_from z.0 next)) (both_same same_text same_options)
           (more_lines.read.ready names (tables_of new.allocs))
           (subst (λ (z : List ℕ × Options). Ready (document z.0 z.1 names) (tables_of pass.allocs) before (lines_from z.0 c.loop-ix.ix)
-          → Ready (document z.0 z.1 names) (tables_of new.allocs) behind (lines_from z.0 mid)) (both_same i.same_text i.same_options) (e.ready names more)
+          → Ready (document z.0 z.1 names) (tables_of new.allocs) following (lines_from z.0 mid)) (both_same i.same_text i.same_options) (e.ready names more)
           (i.ready names (extends_both names (names_of new.allocs) (names_of pass.allocs) more e.names)));
-      order = subst (λ (z : List ℕ × Options). IsReadFrom z.1 z.0 behind mid → IsReadFrom z.1 z.0 behind next)
+      order = subst (λ (z : List ℕ × Options). IsReadFrom z.1 z.0 following mid → IsReadFrom z.1 z.0 following next)
           (both_same same_text same_options) more_lines.read.order
-          (subst (λ (z : List ℕ × Options). IsReadFrom z.1 z.0 before c.loop-ix.ix → IsReadFrom z.1 z.0 behind mid)
+          (subst (λ (z : List ℕ × Options). IsReadFrom z.1 z.0 before c.loop-ix.ix → IsReadFrom z.1 z.0 following mid)
           (both_same i.same_text i.same_options) e.order i.order);
       named = e.named i.named;
       written = subst (λ t. TablesAreWritten t pass.allocs → TablesAreWritten t new.allocs) i.same_text e.written i.written;

@@ -3,7 +3,7 @@ use Rattle.first_pass_items.specs.CowText.{text_of}
 use Rattle.first_pass_entities.specs.Texts.{Borrows}
 use Rattle.std.proofs.lemmas.Result.{on_err_weaker}
 use Rattle.first_pass_lines.specs.Places.{line_rest}
-use Rattle.first_pass_links.proofs.Footnotes.{behind_mark}
+use Rattle.first_pass_links.proofs.Footnotes.{after_mark}
 use Rattle.first_pass_tree.specs.Forest.{in_table}
 use Rattle.first_pass_grammar.specs.Footnotes.{footnote_prefix, label_bytes}
 use Rattle.first_pass_open.specs.Path.{context_of}
@@ -27,11 +27,11 @@ returns-clause-err c =
     subst (λ (xs : List ℕ). OnErr c.scan_footnote_head.result (FootnoteAsks around (in_table c.args.tree.now.nodes c.args.tree.now.spine) xs))
     c.range_from.ensures.value
     (on_err_weaker c.scan_footnote_head.result (λ f. footnote_asks around (footnote_prefix around) _ _ bs _ c.is_in_table-in_table.ensures f.0
-    (f.1 (footnote_prefix around) (λ behind answer at b e p.
-    let there = place_from text behind.now bs c.args.start at c.requires c.range_from.ensures.value b e in
+    (f.1 (footnote_prefix around) (λ following answer at b e p.
+    let there = place_from text following.now bs c.args.start at c.requires c.range_from.ensures.value b e in
     let u = there.0 in let v = there.1 in search rules))
-    (λ at s. let mark = behind_mark bs c.range_from.utf8 f.0 in
-    let inside = place_from bs s.behind.now (drop 2 bs) 2 (at + 1) mark refl s.boundary s.behind_is in
-    let there = place_from text s.behind.now bs c.args.start (2 + (at + 1)) c.requires c.range_from.ensures.value inside.0 inside.1 in
-    let u = there.0 in let v = there.1 in let p = s.errs in (search rules, ap (λ xs. line_may_head around (line_rest xs)) (sym s.behind_is) ∙ search rules)))
+    (λ at s. let mark = after_mark bs c.range_from.utf8 f.0 in
+    let inside = place_from bs s.following.now (drop 2 bs) 2 (at + 1) mark refl s.boundary s.past_is in
+    let there = place_from text s.following.now bs c.args.start (2 + (at + 1)) c.requires c.range_from.ensures.value inside.0 inside.1 in
+    let u = there.0 in let v = there.1 in let p = s.errs in (search rules, ap (λ xs. line_may_head around (line_rest xs)) (sym s.past_is) ∙ search rules)))
     c.scan_footnote_head.ensures.err)

@@ -13,7 +13,7 @@ use Rattle.first_pass_definitions.proofs.label.parse_refdef_label.Goals as goal
 pub returns-clause-fits : goal.returns-clause-fits
 returns-clause-fits c =
     label_fits c.scan_link_label_rest.result c.args.source.now.text.now c.range_from.result.now c.args.start c.requires c.range_from.ensures.value
-    c.scan_link_label_rest.ensures.within c.scan_link_label_rest.ensures.behind
+    c.scan_link_label_rest.ensures.within c.scan_link_label_rest.ensures.following
 
 pub returns-clause-err : goal.returns-clause-err
 returns-clause-err c =
@@ -23,10 +23,10 @@ returns-clause-err c =
     subst (λ (xs : List ℕ). OnErr c.scan_link_label_rest.result (LabelAsks around (in_table c.args.tree.now.nodes c.args.tree.now.spine) xs))
     c.range_from.ensures.value
     (on_err_weaker c.scan_link_label_rest.result (λ f. label_asks around (prefix_crossed true around) _ _ bs _ c.is_in_table-in_table.ensures
-    (f (prefix_crossed true around) (λ behind answer at b e p.
-    let there = place_from text behind.now bs c.args.start at c.requires c.range_from.ensures.value b e in
+    (f (prefix_crossed true around) (λ following answer at b e p.
+    let there = place_from text following.now bs c.args.start at c.requires c.range_from.ensures.value b e in
     let u = there.0 in let v = there.1 in search rules))
     (λ at s.
-    let there = place_from text s.behind.now bs c.args.start (at + 1) c.requires c.range_from.ensures.value s.boundary s.behind_is in
-    ap (λ xs. line_may_head around (line_rest xs)) (sym s.behind_is) ∙ (let u = there.0 in let v = there.1 in let p = s.errs in search rules)))
+    let there = place_from text s.following.now bs c.args.start (at + 1) c.requires c.range_from.ensures.value s.boundary s.past_is in
+    ap (λ xs. line_may_head around (line_rest xs)) (sym s.past_is) ∙ (let u = there.0 in let v = there.1 in let p = s.errs in search rules)))
     c.scan_link_label_rest.ensures.err)

@@ -2,7 +2,7 @@ use Rattle.std.proofs.Common.{◌≡◌, ℕ, ◌+◌, true, false, List, drop, 
 use Rattle.std.specs.List.{prefix_len}
 use Rattle.first_pass_lines.specs.Lines.{is_white, eol_len, at_line_end}
 use Rattle.first_pass_open.specs.Path.{context_of}
-use Rattle.first_pass_definitions.proofs.Spaces.{white_behind, eol_behind, place_white, space_plain, space_stops, space_over}
+use Rattle.first_pass_definitions.proofs.Spaces.{white_past, eol_after, place_white, space_plain, space_stops, space_over}
 use Rattle.first_pass_definitions.proofs.space.scan_refdef_space.Goals as goal
 use Rattle.first_pass_definitions.proofs.space.scan_refdef_space.Goals.{After-scan_eol, After-is_some}
 
@@ -32,7 +32,7 @@ module _ (g : After-scan_eol) where
   unfolding text
   white_place =
       subst (λ n. IsCharBoundary g.args.source.now.text.now (g.args.start + n)) (sym white_is)
-      (white_behind g.args.source.now.text.now g.args.start is_text g.requires)
+      (white_past g.args.source.now.text.now g.args.start is_text g.requires)
 
 pub returns-in_default-clause-value : goal.returns-in_default-clause-value
 unfolding text
@@ -49,7 +49,7 @@ pub scan_line_crossed-requires : goal.scan_line_crossed-requires
 unfolding text
 scan_line_crossed-requires c =
     let at = (goal.at.scan_line_crossed-requires c).After-scan_eol in
-    eol_behind c.args.source.now.text.now _ c.in-Some.line_end (is_text at) (white_place at) (sym (eol_is at) ∙ c.in-Some.is)
+    eol_after c.args.source.now.text.now _ c.in-Some.line_end (is_text at) (white_place at) (sym (eol_is at) ∙ c.in-Some.is)
 
 pub returns-in_default-2-clause-value : goal.returns-in_default-2-clause-value
 unfolding text
@@ -61,9 +61,9 @@ returns-in_default-2-clause-value c =
     (sym c.in_default-2.is ∙ c.in_ok-rest.ensures.value)
 
 module _ (g : After-is_some) where
-  behind_is : g.scan_whitespace_no_nl-2.result ≡ prefix_len is_white (drop (g.args.start + g.scan_whitespace_no_nl.result + g.in-Some.line_end +
+  past_is : g.scan_whitespace_no_nl-2.result ≡ prefix_len is_white (drop (g.args.start + g.scan_whitespace_no_nl.result + g.in-Some.line_end +
       g.in-Some-2.rest.taken) g.args.source.now.text.now)
-  behind_is =
+  past_is =
       of_text (prefix_len is_white) g.args.source.now.text.now _ _ _ _ g.scan_whitespace_no_nl-2.ensures.value g.rest_of-3.ensures.value
       g.as_bytes-bytes.ensures.value
       ∙ ap (λ k. prefix_len is_white (drop (g.args.start + g.scan_whitespace_no_nl.result + g.in-Some.line_end + k) g.args.source.now.text.now))
@@ -84,7 +84,7 @@ returns-then-is_some-clause-value c =
     space_over true (context_of c.args.source.now.options c.args.tree.now) c.args.source.now.text.now c.args.start c.scan_whitespace_no_nl.result
     c.in-Some.line_end
     c.scan_whitespace_no_nl-2.result c.in-Some-2.rest
-    (white_is at) (sym (eol_is at) ∙ c.in-Some.is) (sym c.in-Some-2.is ∙ c.in_ok-rest.ensures.value) (behind_is last)
+    (white_is at) (sym (eol_is at) ∙ c.in-Some.is) (sym c.in-Some-2.is ∙ c.in_ok-rest.ensures.value) (past_is last)
     (sym (ends_is last) ∙ sym c.is_some.ensures ∙ c.if-is_some.true)
 
 pub returns-clause-value : goal.returns-clause-value
@@ -96,7 +96,7 @@ returns-clause-value c =
     ∙ space_over false (context_of c.args.source.now.options c.args.tree.now) c.args.source.now.text.now c.args.start c.scan_whitespace_no_nl.result
     c.in-Some.line_end
     c.scan_whitespace_no_nl-2.result c.in-Some-2.rest
-    (white_is at) (sym (eol_is at) ∙ c.in-Some.is) (sym c.in-Some-2.is ∙ c.in_ok-rest.ensures.value) (behind_is last)
+    (white_is at) (sym (eol_is at) ∙ c.in-Some.is) (sym c.in-Some-2.is ∙ c.in_ok-rest.ensures.value) (past_is last)
     (sym (ends_is last) ∙ sym c.is_some.ensures ∙ c.if-is_some.false)
 
 pub returns-clause-place : goal.returns-clause-place
@@ -107,4 +107,4 @@ returns-clause-place c =
     let place = rw c.in-Some-2.is at c.in_ok-rest.ensures.place in
     subst (λ k. IsCharBoundary c.args.source.now.text.now (c.args.start + c.scan_whitespace_no_nl.result + c.in-Some.line_end + k +
     c.scan_whitespace_no_nl-2.result)) (sym c.bytes_scanned.ensures)
-    (place_white c.args.source.now.text.now _ c.scan_whitespace_no_nl-2.result c.in-Some-2.rest (is_text at) place (behind_is last))
+    (place_white c.args.source.now.text.now _ c.scan_whitespace_no_nl-2.result c.in-Some-2.rest (is_text at) place (past_is last))

@@ -2,7 +2,7 @@ use Rattle.std.proofs.Common.{◌≡◌, ℕ, ◌+◌, List, slice_get, Some, re
 use Rattle.std.specs.Option.{option_and_then, option_map}
 use Rattle.first_pass_grammar.specs.Definitions.{title_end, title_text, title_prefix}
 use Rattle.first_pass_open.specs.Path.{context_of}
-use Rattle.first_pass_definitions.proofs.Titles.{title_none, title_some, behind_first, answer_none, answer_some}
+use Rattle.first_pass_definitions.proofs.Titles.{title_none, title_some, after_first, answer_none, answer_some}
 use Rattle.first_pass_definitions.proofs.Places.{rest_further}
 use Rattle.first_pass_definitions.proofs.title.scan_refdef_title.Goals as goal
 use Rattle.first_pass_definitions.proofs.title.scan_refdef_title.Goals.{In-Some}
@@ -18,12 +18,12 @@ first_is : (c : In-Some) → Some c.in-Some.close ≡ option_and_then title_end 
 first_is c = c.in-Some.ensures.value ∙ ap (λ xs. option_and_then title_end (slice_get xs 0)) c.as_bytes-bytes.ensures.value
 
 pub range_from-requires : goal.range_from-requires
-range_from-requires c = λ h. behind_first c.args.text.now c.in-Some.close c.utf8.text (first_is c)
+range_from-requires c = λ h. after_first c.args.text.now c.in-Some.close c.utf8.text (first_is c)
 
 pub scan_title_text-requires-clause-rest : goal.scan_title_text-requires-clause-rest
 scan_title_text-requires-clause-rest c =
     rest_further c.args.source.now.text.now c.args.text.now c.range_from.result.now 1 c.requires c.range_from.ensures.value
-    (behind_first c.args.text.now c.in-Some.close c.utf8.text (first_is (goal.at.scan_title_text-requires-clause-rest c).In-Some))
+    (after_first c.args.text.now c.in-Some.close c.utf8.text (first_is (goal.at.scan_title_text-requires-clause-rest c).In-Some))
 
 pub returns-in-Some-2-clause-value : goal.returns-in-Some-2-clause-value
 returns-in-Some-2-clause-value c =

@@ -1,8 +1,8 @@
 use Rattle.std.proofs.Common.{◌≡◌, ℕ, ◌+◌, List, drop, None, IsCharBoundary, sym, ap, subst, ◌∙◌}
 use Rattle.std.proofs.lemmas.List.{drop-drop}
 use Rattle.first_pass_lines.specs.Lines.{eol_len, blank_len}
-use Rattle.first_pass_links.proofs.Labels.{place_behind}
-use Rattle.first_pass_definitions.proofs.Spaces.{eol_behind}
+use Rattle.first_pass_links.proofs.Labels.{place_past}
+use Rattle.first_pass_definitions.proofs.Spaces.{eol_after}
 use Rattle.first_pass_definitions.proofs.Places.{rest_further, no_feed, some_left, later_by}
 use Rattle.first_pass_definitions.proofs.title.scan_title_break.Goals as goal
 use Rattle.first_pass_definitions.proofs.title.scan_title_break.Goals.{After-rest_of-2}
@@ -10,7 +10,7 @@ use Rattle.first_pass_definitions.proofs.title.scan_title_break.Goals.{After-res
 -- after the line ending
 line_place : (c : After-rest_of-2) → IsCharBoundary c.args.bytes.now (c.args.at + c.in-Some.line_end)
 line_place c =
-    eol_behind c.args.bytes.now c.args.at c.in-Some.line_end c.requires.utf8 c.requires.at
+    eol_after c.args.bytes.now c.args.at c.in-Some.line_end c.requires.utf8 c.requires.at
     (ap eol_len (sym c.rest_of.ensures.value) ∙ sym c.scan_eol.ensures.value ∙ c.in-Some.is)
 
 pub scan_title_prefix-requires : goal.scan_title_prefix-requires
@@ -36,6 +36,6 @@ returns-in-Some-2-clause-place c =
     (rw c.in-Some-2.is at c.in_ok-prefix.ensures.text)) in (
       later_by c.args.bytes.now c.args.at c.in-Some.line_end c.in-Some-2.prefix left (ap eol_len (sym c.rest_of.ensures.value) ∙ sym
           c.scan_eol.ensures.value ∙ c.in-Some.is),
-      place_behind c.args.bytes.now (c.args.at + c.in-Some.line_end) c.in-Some-2.prefix b.0
+      place_past c.args.bytes.now (c.args.at + c.in-Some.line_end) c.in-Some-2.prefix b.0
           (subst (λ xs. IsCharBoundary xs c.in-Some-2.prefix) c.rest_of-2.ensures.value place),
     )

@@ -12,7 +12,7 @@ use Rattle.first_pass_definitions.specs.Reading.{stops_title, goes_on_at}
 use Rattle.std.specs.Option.{option_map_or}
 use Rattle.first_pass_lines.specs.Places.{line_rest}
 use Rattle.first_pass_kinds.specs.Memory.{line_may_head}
-use Rattle.first_pass_definitions.proofs.Titles.{behind_nothing, whole_title, stop_place, title_found, no_title, title_further, any_last, closes-low}
+use Rattle.first_pass_definitions.proofs.Titles.{after_nothing, whole_title, stop_place, title_found, no_title, title_further, any_last, closes-low}
 use Rattle.first_pass_definitions.proofs.Asks.{goes_asks, meets_asks, none_or_some, on_err}
 use Rattle.first_pass_definitions.proofs.title.scan_title_text.Goals as goal
 use Rattle.first_pass_definitions.proofs.title.scan_title_text.Goals.{After-begins}
@@ -25,7 +25,7 @@ loop-bytes-init c =
       lines = λ l. absurd (omega arith);
       asked = λ l. absurd (omega arith);
       title = rw c.new-written.ensures.bytes
-          (behind_nothing _ ∙ whole_title (title_prefix (context_of c.args.source.now.options c.args.tree.now)) c.args.close c.args.text.now);
+          (after_nothing _ ∙ whole_title (title_prefix (context_of c.args.source.now.options c.args.tree.now)) c.args.close c.args.text.now);
     }
 
 -- the offset at which the line stops

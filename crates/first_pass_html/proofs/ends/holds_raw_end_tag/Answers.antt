@@ -11,11 +11,11 @@ next : (bytes rest : List ℕ) (from before : ℕ) (t : Bool) → rest ≡ drop 
     → holds_raw_end_tag bytes ≡ (t || holds_raw_end_tag (drop (from + (before + 1)) bytes))
 next bytes rest from before t rest_is found is none =
     let one : suc before ≡ before + 1 = omega arith in
-    let behind : drop (suc before) rest ≡ drop (from + (before + 1)) bytes =
+    let following : drop (suc before) rest ≡ drop (from + (before + 1)) bytes =
     ap (λ k. drop k rest) one ∙ ap (drop (before + 1)) rest_is ∙ drop-drop (before + 1) from bytes in
     none ∙ ap holds_raw_end_tag (sym rest_is)
-    ∙ next_held rest before t found.0.high found.0.before found.1 (ap (λ bs. begins_raw_end_tag (60 ∷ bs)) behind ∙ is)
-    ∙ ap (λ bs. t || holds_raw_end_tag bs) behind
+    ∙ next_held rest before t found.0.high found.0.before found.1 (ap (λ bs. begins_raw_end_tag (60 ∷ bs)) following ∙ is)
+    ∙ ap (λ bs. t || holds_raw_end_tag bs) following
 
 pub returns-then-ends_raw_text : goal.returns-then-ends_raw_text
 returns-then-ends_raw_text c =

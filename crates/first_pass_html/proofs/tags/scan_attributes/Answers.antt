@@ -12,8 +12,8 @@ loop-len-preserved c =
     record {
       within = omega (arith, c.in-Some.ensures.within.1, c.rest_of.ensures.whole);
       front = front_more bytes c.loop-len.at c.in-Some.len c.loop-len.invariant.front counted;
-      all = λ behind r. rw (sym (drop-drop c.in-Some.len c.loop-len.at bytes))
-          (step (drop c.loop-len.at bytes) behind c.in-Some.len (c.loop-len.invariant.all behind r) counted);
+      all = λ following r. rw (sym (drop-drop c.in-Some.len c.loop-len.at bytes))
+          (step (drop c.loop-len.at bytes) following c.in-Some.len (c.loop-len.invariant.all following r) counted);
     }
 
 pub returns-clause-value : goal.returns-clause-value
@@ -25,5 +25,5 @@ returns-clause-value c =
       attributes = front.0;
       parts = front.1;
       are_attributes = front.2;
-      all = λ behind r. last (drop c.loop-len.at bytes) behind (c.loop-len.invariant.all behind r) none;
+      all = λ following r. last (drop c.loop-len.at bytes) following (c.loop-len.invariant.all following r) none;
     }

@@ -10,7 +10,7 @@ abbrev pub invariant-loop-len : goal.invariant-loop-len
 invariant-loop-len l = record {
   within : l.at ≤ length l.bytes;
   front : (attributes : List (List ℕ)) × (take l.at l.bytes ≡ concat attributes) × AreAttributes attributes;
-  all : (behind : List ℕ) → IsTagRest l.bytes behind → IsTagRest (drop l.at l.bytes) behind;
+  all : (following : List ℕ) → IsTagRest l.bytes following → IsTagRest (drop l.at l.bytes) following;
 }
 
 abbrev pub decreases-loop-len : goal.decreases-loop-len

@@ -13,8 +13,8 @@ returns-in_err-end-clause-none c =
     let bytes : List ℕ = c.args.bytes.now in
     let n : ℕ = c.in_ok-name.name in
     let a : ℕ = c.scan_attributes-attributes.result in
-    let past = subst (λ (xs : List ℕ). IsPastAttributes xs a) c.rest_of-behind.ensures.value c.scan_attributes-attributes.ensures.value in
-    let left : c.rest_of.result.now ≡ drop a (drop n bytes) = c.rest_of.ensures.value ∙ ap (drop a) c.rest_of-behind.ensures.value in
+    let past = subst (λ (xs : List ℕ). IsPastAttributes xs a) c.rest_of-following.ensures.value c.scan_attributes-attributes.ensures.value in
+    let left : c.rest_of.result.now ≡ drop a (drop n bytes) = c.rest_of.ensures.value ∙ ap (drop a) c.rest_of-following.ensures.value in
     rw c.from_residual-in_err-end.ensures
     (opening_needs_end bytes n a (sym c.in_ok-name.ensures.value) past (ap open_end_len (sym left) ∙ sym c.in_err-end.ensures.value))
 
@@ -24,10 +24,10 @@ returns-clause-found c =
     let n : ℕ = c.in_ok-name.name in
     let a : ℕ = c.scan_attributes-attributes.result in
     let k : ℕ = c.in_ok-end.end in
-    let behind = c.rest_of-behind.ensures.value in
-    let past = subst (λ (xs : List ℕ). IsPastAttributes xs a) behind c.scan_attributes-attributes.ensures.value in
-    let within = subst (λ (xs : List ℕ). a ≤ length xs) behind c.scan_attributes-attributes.ensures.within in
-    let left : c.rest_of.result.now ≡ drop a (drop n bytes) = c.rest_of.ensures.value ∙ ap (drop a) behind in
+    let following = c.rest_of-following.ensures.value in
+    let past = subst (λ (xs : List ℕ). IsPastAttributes xs a) following c.scan_attributes-attributes.ensures.value in
+    let within = subst (λ (xs : List ℕ). a ≤ length xs) following c.scan_attributes-attributes.ensures.within in
+    let left : c.rest_of.result.now ≡ drop a (drop n bytes) = c.rest_of.ensures.value ∙ ap (drop a) following in
     let ends = subst (λ (xs : List ℕ). k ≤ length xs) left c.in_ok-end.ensures.within in
     opening_found bytes n a k (sym c.in_ok-name.ensures.value) c.in_ok-name.ensures.within (sym c.if-is_raw_name.ensures.value) past within
     (ap open_end_len (sym left) ∙ sym c.in_ok-end.ensures.value) ends

@@ -20,7 +20,7 @@ pub returns-then-run-lt-LANES-clause-value : goal.returns-then-run-lt-LANES-clau
 returns-then-run-lt-LANES-clause-value c =
     let run = c.content_run-run.ensures in
     sym (prefix_len_is is_content c.args.bytes.now _ 0 (omega arith)
-    (λ k l. elim (cases_lt k c.loop-from.from) [ inl passed ↦ c.loop-from.invariant.none k passed | inr behind ↦ run.1 k behind l ])
+    (λ k l. elim (cases_lt k c.loop-from.from) [ inl passed ↦ c.loop-from.invariant.none k passed | inr following ↦ run.1 k following l ])
     (λ l. run.2 (omega arith)))
 
 pub returns-clause-value : goal.returns-clause-value

@@ -13,8 +13,8 @@ range-requires-clause-start_boundary c =
     ∙ c.if-begins.true) in
     λ h. IsCharBoundary-after_ascii c.args.text.now c.args.start_ix c.utf8.text s.0 (omega (arith, s.1))
 
-pub returns-then-begins-2-clause-behind : goal.returns-then-begins-2-clause-behind
-returns-then-begins-2-clause-behind c =
+pub returns-then-begins-2-clause-following : goal.returns-then-begins-2-clause-following
+returns-then-begins-2-clause-following c =
     let text = c.args.text.now in
     let n : ℕ = c.scan_brackets-len.result in
     let bytes = c.rest_of-bytes.ensures.value ∙ ap (drop c.args.start_ix) c.as_bytes.ensures.value in

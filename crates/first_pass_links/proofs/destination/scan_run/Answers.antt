@@ -17,7 +17,7 @@ returns-then-closes_none-clause-value c =
 pub returns-then-nesting-deepest-clause-value : goal.returns-then-nesting-deepest-clause-value
 returns-then-nesting-deepest-clause-value c =
     let deep = c.if-nesting-deepest.true in
-    let behind = c.nesting_behind-nesting.ensures.value in
+    let following = c.nesting_after-nesting.ensures.value in
     let e = run_deep c.args.deepest c.loop-at.nesting c.args.bytes.now c.loop-at.at c.loop-at-test.true (sym c.ends_run.ensures ∙ c.if-not-ends_run.true)
     (sym c.closes_none.ensures ∙ c.if-closes_none.false) c.loop-at.invariant.shallow (omega arith) in
     sym (sym c.loop-at.invariant.passed ∙ ap (longer c.loop-at.at) e)
@@ -26,7 +26,7 @@ pub loop-at-preserved : goal.loop-at-preserved
 loop-at-preserved c =
     let bs = c.args.bytes.now in
     let shallow = c.if-nesting-deepest.false in
-    let behind = c.nesting_behind-nesting.ensures.value in
+    let following = c.nesting_after-nesting.ensures.value in
     let e = c.unit_len-at.ensures.value ∙ ap (λ xs. if begins_escape xs then 2 else 1) c.rest_of.ensures.value in
     let u = run_unit c.args.deepest c.loop-at.nesting bs c.loop-at.at c.unit_len-at.result c.loop-at-test.true e
     (sym c.ends_run.ensures ∙ c.if-not-ends_run.true) (sym c.closes_none.ensures ∙ c.if-closes_none.false) (omega arith)
@@ -34,19 +34,19 @@ loop-at-preserved c =
     let within = c.unit_len-at.ensures.within in
     let whole = c.rest_of.ensures.whole in
     let few = c.loop-at.invariant.nested in
-    let small = c.nesting_behind-nesting.ensures.small in
+    let small = c.nesting_after-nesting.ensures.small in
     let some = c.unit_len-at.ensures.some in
     let next = c.loop-at.at + c.unit_len-at.result in
     let r = c.plain_run-at.result in
     let far = c.plain_run-at.ensures.within in
     let left = ap length c.rest_of-in-loop-at.ensures.value ∙ length-drop next bs in
     let plain = are_plain bs _ next r c.rest_of-in-loop-at.ensures.value c.plain_run-at.ensures.plain in
-    let p = run_plain c.args.deepest c.nesting_behind-nesting.result bs next r (omega arith) plain shallow in
+    let p = run_plain c.args.deepest c.nesting_after-nesting.result bs next r (omega arith) plain shallow in
     record {
       within = omega arith;
       nested = omega arith;
       shallow = shallow;
-      passed = p ∙ ap (λ n. longer next (run_len c.args.deepest n 0 (drop next bs))) behind ∙ u ∙ c.loop-at.invariant.passed;
+      passed = p ∙ ap (λ n. longer next (run_len c.args.deepest n 0 (drop next bs))) following ∙ u ∙ c.loop-at.invariant.passed;
     }
 
 -- after the loop the run has ended

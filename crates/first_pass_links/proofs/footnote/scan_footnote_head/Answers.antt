@@ -3,7 +3,7 @@ use Rattle.std.specs.Str.{IsCharBoundary}
 use Rattle.first_pass_lines.specs.Lines.{begins}
 use Rattle.first_pass_links.specs.Footnotes.{begins_footnote}
 use Rattle.first_pass_links.specs.Labels.{label_at, CanErr}
-use Rattle.first_pass_links.proofs.Footnotes.{IsAnswer, behind_mark, further, no_mark, no_label, head_by, behind_colon}
+use Rattle.first_pass_links.proofs.Footnotes.{IsAnswer, after_mark, further, no_mark, no_label, head_by, after_colon}
 use Rattle.first_pass_links.proofs.Rewritten.{on_err}
 use Rattle.first_pass_links.proofs.footnote.scan_footnote_head.Goals as goal
 use Rattle.first_pass_links.proofs.footnote.scan_footnote_head.Goals.{Else-not-begins_footnote, In_default, After-begins}
@@ -19,23 +19,23 @@ mark_is : (g : _) (c : Else-not-begins_footnote g) → begins_footnote c.args.te
 mark_is g c = ap begins_footnote (sym c.as_bytes-bytes.ensures.value) ∙ sym c.begins_footnote.ensures ∙ c.if-not-begins_footnote.false
 
 mark_place : (g : _) (c : Else-not-begins_footnote g) → IsCharBoundary c.args.text.now 2
-mark_place g c = behind_mark c.args.text.now c.utf8.text (mark_is g c)
+mark_place g c = after_mark c.args.text.now c.utf8.text (mark_is g c)
 
 pub range_from-requires : goal.range_from-requires
 range_from-requires g c = λ h. mark_place g c
 
 pub scan_link_label_rest-requires-clause-places : goal.scan_link_label_rest-requires-clause-places
-scan_link_label_rest-requires-clause-places g c = λ behind n at b e.
-    let there = further c.args.text.now behind.now c.range_from.result.now at
+scan_link_label_rest-requires-clause-places g c = λ following n at b e.
+    let there = further c.args.text.now following.now c.range_from.result.now at
     (mark_place g (goal.at.scan_link_label_rest-requires-clause-places g c).Else-not-begins_footnote) c.range_from.ensures.value b e in
-    c.requires.places behind n (2 + at) there.0 there.1
+    c.requires.places following n (2 + at) there.0 there.1
 
 pub returns-in_default-clause-value : goal.returns-in_default-clause-value
 returns-in_default-clause-value g c = λ prefix a.
     let before = (goal.at.returns-in_default-clause-value g c).Else-not-begins_footnote in
-    let k = rw c.in_default.is at c.in_ok-len.ensures.value prefix (λ behind answer at b e.
-    let there = further c.args.text.now behind.now c.range_from.result.now at (mark_place g before) c.range_from.ensures.value b e in
-    a behind answer (2 + at) there.0 there.1) in
+    let k = rw c.in_default.is at c.in_ok-len.ensures.value prefix (λ following answer at b e.
+    let there = further c.args.text.now following.now c.range_from.result.now at (mark_place g before) c.range_from.ensures.value b e in
+    a following answer (2 + at) there.0 there.1) in
     let e = no_label prefix c.args.is_in_table c.args.text.now (mark_is g before)
     (subst (λ xs. IsAnswer (label_at prefix c.args.is_in_table xs) None) c.range_from.ensures.value k) in
     rw e refl
@@ -48,9 +48,9 @@ colon_is g c =
 pub returns-then-not-begins-clause-value : goal.returns-then-not-begins-clause-value
 returns-then-not-begins-clause-value g c = λ prefix a.
     let before = (goal.at.returns-then-not-begins-clause-value g c).Else-not-begins_footnote in
-    let k = rw c.in-Some.is at c.in_ok-len.ensures.value prefix (λ behind answer at b e.
-    let there = further c.args.text.now behind.now c.range_from.result.now at (mark_place g before) c.range_from.ensures.value b e in
-    a behind answer (2 + at) there.0 there.1) in
+    let k = rw c.in-Some.is at c.in_ok-len.ensures.value prefix (λ following answer at b e.
+    let there = further c.args.text.now following.now c.range_from.result.now at (mark_place g before) c.range_from.ensures.value b e in
+    a following answer (2 + at) there.0 there.1) in
     head_by false prefix c.args.is_in_table c.args.text.now c.in-Some.len c.in-Some.label (mark_is g before)
     (subst (λ xs. IsAnswer (label_at prefix c.args.is_in_table xs) (Some (c.in-Some.len, c.in-Some.label))) c.range_from.ensures.value k)
     (colon_is g (goal.at.returns-then-not-begins-clause-value g c).After-begins ∙ c.if-not-begins.true)
@@ -58,9 +58,9 @@ returns-then-not-begins-clause-value g c = λ prefix a.
 pub returns-clause-value : goal.returns-clause-value
 returns-clause-value g c = λ prefix a.
     let before = (goal.at.returns-clause-value g c).Else-not-begins_footnote in
-    let k = rw c.in-Some.is at c.in_ok-len.ensures.value prefix (λ behind answer at b e.
-    let there = further c.args.text.now behind.now c.range_from.result.now at (mark_place g before) c.range_from.ensures.value b e in
-    a behind answer (2 + at) there.0 there.1) in
+    let k = rw c.in-Some.is at c.in_ok-len.ensures.value prefix (λ following answer at b e.
+    let there = further c.args.text.now following.now c.range_from.result.now at (mark_place g before) c.range_from.ensures.value b e in
+    a following answer (2 + at) there.0 there.1) in
     head_by true prefix c.args.is_in_table c.args.text.now c.in-Some.len c.in-Some.label (mark_is g before)
     (subst (λ xs. IsAnswer (label_at prefix c.args.is_in_table xs) (Some (c.in-Some.len, c.in-Some.label))) c.range_from.ensures.value k)
     (colon_is g (goal.at.returns-clause-value g c).After-begins ∙ c.if-not-begins.false)
@@ -68,7 +68,7 @@ returns-clause-value g c = λ prefix a.
 pub returns-clause-fits : goal.returns-clause-fits
 returns-clause-fits g c =
     let within = (rw c.in-Some.is at c.in_ok-len.ensures.within).0 in
-    (omega arith, behind_colon c.args.text.now c.in-Some.len c.utf8.text (colon_is g (goal.at.returns-clause-fits g c).After-begins ∙ c.if-not-begins.false))
+    (omega arith, after_colon c.args.text.now c.in-Some.len c.utf8.text (colon_is g (goal.at.returns-clause-fits g c).After-begins ∙ c.if-not-begins.false))
 
 pub returns-in_err-len-clause-err : goal.returns-in_err-len-clause-err
 returns-in_err-len-clause-err g c =
@@ -77,7 +77,7 @@ returns-in_err-len-clause-err g c =
       mark_is g before,
       λ prefix a.
           subst (λ xs. CanErr prefix c.args.is_in_table xs (λ b r. g.F.Fn.post c.args.linebreak_handler (b, tt) r)) c.range_from.ensures.value
-          (c.in_err-len.ensures.err prefix (λ behind answer at b e.
-          let there = further c.args.text.now behind.now c.range_from.result.now at (mark_place g before) c.range_from.ensures.value b e in
-          a behind answer (2 + at) there.0 there.1)),
+          (c.in_err-len.ensures.err prefix (λ following answer at b e.
+          let there = further c.args.text.now following.now c.range_from.result.now at (mark_place g before) c.range_from.ensures.value b e in
+          a following answer (2 + at) there.0 there.1)),
     )

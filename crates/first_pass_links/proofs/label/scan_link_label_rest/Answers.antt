@@ -5,7 +5,7 @@ use Rattle.std.proofs.lemmas.Str.{IsCharBoundary-start, IsCharBoundary-after_asc
 use Rattle.first_pass_links.specs.Labels.{is_bracket, label_at}
 use Rattle.first_pass_links.specs.Units.{part, left_at, IsRead, Reads, StopsByError, IsBlankRest}
 use Rattle.first_pass_links.proofs.Parts.{read_none, part-none}
-use Rattle.first_pass_links.proofs.Labels.{too_long, blank_stops, end_stops, open_stops, blank_label, closed, known_as, label_behind, nothing_known}
+use Rattle.first_pass_links.proofs.Labels.{too_long, blank_stops, end_stops, open_stops, blank_label, closed, known_as, label_after, nothing_known}
 use Rattle.first_pass_links.proofs.Labels.{unit_known}
 use Rattle.first_pass_links.proofs.Labels.{closing_bracket}
 use Rattle.first_pass_links.proofs.Rewritten.{on_err, track_none, track_unit, track_written, track_stop}
@@ -15,7 +15,7 @@ use Rattle.first_pass_links.proofs.label.scan_link_label_rest.Goals.{then-loop-a
 
 pub scan_unit-requires-clause-places : goal.scan_unit-requires-clause-places
 scan_unit-requires-clause-places g c =
-    λ behind n at b e. c.requires.places behind n at (subst (λ xs. IsCharBoundary xs at) c.as_bytes-bytes.ensures.value b)
+    λ following n at b e. c.requires.places following n at (subst (λ xs. IsCharBoundary xs at) c.as_bytes-bytes.ensures.value b)
     (e ∙ ap (drop at) c.as_bytes-bytes.ensures.value)
 
 pub loop-at-init : goal.loop-at-init
@@ -25,7 +25,7 @@ loop-at-init g c =
     record {
       read = subst (λ bs. IsRead text bs 0 0) (sym c.new-written.ensures.bytes) (read_none text (IsCharBoundary-start text c.utf8.text));
       few = omega arith;
-      label = λ h a. ap (λ bs. label_behind c.args.is_in_table (known_as 0 false bs) (left_at h text 0)) e ∙ nothing_known c.args.is_in_table h text;
+      label = λ h a. ap (λ bs. label_after c.args.is_in_table (known_as 0 false bs) (left_at h text 0)) e ∙ nothing_known c.args.is_in_table h text;
       tracked = λ h a. track_none h c.args.is_in_table text (0 ≡ 0) refl;
     }
 
@@ -39,17 +39,17 @@ loop-at-preserved g c =
       few = c.if-characters-gt-MOST_CHARACTERS.false;
       label = λ h a.
           let r : Reads h c.args.is_in_table text c.loop-at.at unit =
-          subst (λ xs. Reads h c.args.is_in_table xs c.loop-at.at unit) c.as_bytes-bytes.ensures.value (reads h (λ behind answer at b e.
-          a behind answer at (subst (λ xs. IsCharBoundary xs at) c.as_bytes-bytes.ensures.value b) (e ∙ ap (drop at) c.as_bytes-bytes.ensures.value))) in
+          subst (λ xs. Reads h c.args.is_in_table xs c.loop-at.at unit) c.as_bytes-bytes.ensures.value (reads h (λ following answer at b e.
+          a following answer at (subst (λ xs. IsCharBoundary xs at) c.as_bytes-bytes.ensures.value b) (e ∙ ap (drop at) c.as_bytes-bytes.ensures.value))) in
           ap (λ bs.
-          label_behind c.args.is_in_table (known_as (c.loop-at.characters + unit.characters) (c.loop-at.solid || unit.solid) bs) (left_at h text unit.next))
+          label_after c.args.is_in_table (known_as (c.loop-at.characters + unit.characters) (c.loop-at.solid || unit.solid) bs) (left_at h text unit.next))
           c.in_ok-from.ensures.bytes
           ∙ sym (unit_known h c.args.is_in_table text c.loop-at.at unit _ r)
           ∙ c.loop-at.invariant.label h a;
       tracked = λ h a.
           let r : Reads h c.args.is_in_table text c.loop-at.at unit =
-          subst (λ xs. Reads h c.args.is_in_table xs c.loop-at.at unit) c.as_bytes-bytes.ensures.value (reads h (λ behind answer at b e.
-          a behind answer at (subst (λ xs. IsCharBoundary xs at) c.as_bytes-bytes.ensures.value b) (e ∙ ap (drop at) c.as_bytes-bytes.ensures.value))) in
+          subst (λ xs. Reads h c.args.is_in_table xs c.loop-at.at unit) c.as_bytes-bytes.ensures.value (reads h (λ following answer at b e.
+          a following answer at (subst (λ xs. IsCharBoundary xs at) c.as_bytes-bytes.ensures.value b) (e ∙ ap (drop at) c.as_bytes-bytes.ensures.value))) in
           track_unit h c.args.is_in_table text c.loop-at.at unit (c.loop-at.from ≡ 0) (c.in_ok-from.from ≡ 0) (c.loop-at.invariant.tracked h a) r
           (λ e z. c.in_ok-from.ensures.same e ∙ z);
     }
@@ -58,8 +58,8 @@ pub returns-in_default-clause-value : goal.returns-in_default-clause-value
 returns-in_default-clause-value g c =
     λ h a.
     let r : IsBlankRest h c.args.text.now c.loop-at.at =
-    subst (λ xs. IsBlankRest h xs c.loop-at.at) c.as_bytes-bytes.ensures.value (c.in_ok-unit.ensures.none c.in_default.is h (λ behind answer at b e.
-    a behind answer at (subst (λ xs. IsCharBoundary xs at) c.as_bytes-bytes.ensures.value b) (e ∙ ap (drop at) c.as_bytes-bytes.ensures.value))) in
+    subst (λ xs. IsBlankRest h xs c.loop-at.at) c.as_bytes-bytes.ensures.value (c.in_ok-unit.ensures.none c.in_default.is h (λ following answer at b e.
+    a following answer at (subst (λ xs. IsCharBoundary xs at) c.as_bytes-bytes.ensures.value b) (e ∙ ap (drop at) c.as_bytes-bytes.ensures.value))) in
     let e : label_at h c.args.is_in_table c.args.text.now ≡ None =
     sym (c.loop-at.invariant.label h a) ∙ blank_stops h c.args.is_in_table c.args.text.now c.loop-at.at r _ in
     rw e refl
@@ -69,8 +69,8 @@ returns-then-characters-gt-MOST_CHARACTERS-clause-value g c =
     let reads = rw c.in-Some.is at c.in_ok-unit.ensures.reads in
     λ h a.
     let r : Reads h c.args.is_in_table c.args.text.now c.loop-at.at c.in-Some.unit =
-    subst (λ xs. Reads h c.args.is_in_table xs c.loop-at.at c.in-Some.unit) c.as_bytes-bytes.ensures.value (reads h (λ behind answer at b e.
-    a behind answer at (subst (λ xs. IsCharBoundary xs at) c.as_bytes-bytes.ensures.value b) (e ∙ ap (drop at) c.as_bytes-bytes.ensures.value))) in
+    subst (λ xs. Reads h c.args.is_in_table xs c.loop-at.at c.in-Some.unit) c.as_bytes-bytes.ensures.value (reads h (λ following answer at b e.
+    a following answer at (subst (λ xs. IsCharBoundary xs at) c.as_bytes-bytes.ensures.value b) (e ∙ ap (drop at) c.as_bytes-bytes.ensures.value))) in
     let e : label_at h c.args.is_in_table c.args.text.now ≡ None =
     sym (c.loop-at.invariant.label h a) ∙ unit_known h c.args.is_in_table c.args.text.now c.loop-at.at c.in-Some.unit _ r
     ∙ too_long c.args.is_in_table _ (left_at h c.args.text.now c.in-Some.unit.next) c.if-characters-gt-MOST_CHARACTERS.true in
@@ -123,8 +123,8 @@ returns-clause-value g c =
     in
     rw e (refl, c.in_ok-finish.ensures.value)
 
-pub returns-clause-behind : goal.returns-clause-behind
-returns-clause-behind g c =
+pub returns-clause-following : goal.returns-clause-following
+returns-clause-following g c =
     let b = c.as_bytes-bytes.ensures.value in
     let l = ap length b in
     let within : c.loop-at.at < length c.args.text.now = omega (arith, c.if-at-bytes.false) in
@@ -151,8 +151,8 @@ returns-in_err-from-clause-err g c =
     let reads = rw c.in-Some.is at c.in_ok-unit.ensures.reads in
     on_err c.from_residual-in_err-from.result (λ h a.
     let r : Reads h c.args.is_in_table text c.loop-at.at unit =
-    subst (λ xs. Reads h c.args.is_in_table xs c.loop-at.at unit) c.as_bytes-bytes.ensures.value (reads h (λ behind answer at b e.
-    a behind answer at (subst (λ xs. IsCharBoundary xs at) c.as_bytes-bytes.ensures.value b) (e ∙ ap (drop at) c.as_bytes-bytes.ensures.value))) in
+    subst (λ xs. Reads h c.args.is_in_table xs c.loop-at.at unit) c.as_bytes-bytes.ensures.value (reads h (λ following answer at b e.
+    a following answer at (subst (λ xs. IsCharBoundary xs at) c.as_bytes-bytes.ensures.value b) (e ∙ ap (drop at) c.as_bytes-bytes.ensures.value))) in
     let k =
     track_unit h c.args.is_in_table text c.loop-at.at unit (c.loop-at.from ≡ 0) ⊥ (c.loop-at.invariant.tracked h a) r (λ e z. c.in_err-from.ensures.err e) in
     inl (track_written h c.args.is_in_table text unit.next ⊥ k (λ z. z)))

@@ -2,7 +2,7 @@ use Rattle.std.proofs.Common.{◌≡◌, ◌≤◌, ◌-◌, ◌++◌, ℕ, List
 use Rattle.std.specs.String.{string_bytes}
 use Rattle.first_pass_links.specs.Labels.{AnswersWith, label_at}
 use Rattle.first_pass_links.specs.Units.{part, left_at, IsRead}
-use Rattle.first_pass_links.proofs.Labels.{known_as, label_behind}
+use Rattle.first_pass_links.proofs.Labels.{known_as, label_after}
 use Rattle.first_pass_links.proofs.Rewritten.{IsTracked}
 use Rattle.first_pass_links.proofs.label.scan_link_label_rest.Given as goal
 
@@ -12,7 +12,7 @@ invariant-loop-at g l = record {
   read : IsRead l.text (string_bytes l.written) l.from l.at;
   few : l.characters ≤ 999;
   label : (prefix : List ℕ → Option ℕ) → AnswersWith l.text prefix (goal.F-post g l.linebreak_handler)
-      → label_behind l.is_in_table (known_as l.characters l.solid (string_bytes l.written ++ part l.text l.from l.at)) (left_at prefix l.text l.at)
+      → label_after l.is_in_table (known_as l.characters l.solid (string_bytes l.written ++ part l.text l.from l.at)) (left_at prefix l.text l.at)
       ≡ label_at prefix l.is_in_table l.text;
   tracked : (prefix : List ℕ → Option ℕ)
       → AnswersWith l.text prefix (goal.F-post g l.linebreak_handler) → IsTracked prefix l.is_in_table l.text l.at (l.from ≡ 0);

@@ -2,38 +2,38 @@ use Rattle.std.proofs.Common.{◌≡◌, ◌<◌, ℕ, List, true, length, slice
 use Rattle.std.specs.Str.{IsCharBoundary}
 use Rattle.std.proofs.lemmas.Str.{IsCharBoundary-after_ascii, IsUtf8-drop}
 use Rattle.first_pass_lines.specs.Lines.{ends_line, is_ascii_white}
-use Rattle.first_pass_links.proofs.Labels.{left-byte, left-end, left-stop, white_is_ascii, place_behind}
+use Rattle.first_pass_links.proofs.Labels.{left-byte, left-end, left-stop, white_is_ascii, place_past}
 use Rattle.first_pass_links.proofs.Rewritten.{on_err}
 use Rattle.first_pass_links.proofs.label.scan_space_byte.Goals as goal
-use Rattle.first_pass_links.proofs.label.scan_space_byte.Goals.{After-rest_of-behind, In-Some}
+use Rattle.first_pass_links.proofs.label.scan_space_byte.Goals.{After-rest_of-following, In-Some}
 use Rattle.first_pass_links.proofs.label.scan_space_byte.Given.{Over}
 
 -- after a byte of white space
-behind_white : (text : List ℕ) (at : ℕ) → IsUtf8 text → at < length text → is_ascii_white (slice_index text at) ≡ true → IsCharBoundary text (at + 1)
-behind_white text at u l w = IsCharBoundary-after_ascii text at u l (white_is_ascii _ w).0
+after_white : (text : List ℕ) (at : ℕ) → IsUtf8 text → at < length text → is_ascii_white (slice_index text at) ≡ true → IsCharBoundary text (at + 1)
+after_white text at u l w = IsCharBoundary-after_ascii text at u l (white_is_ascii _ w).0
 
 -- after the byte
-after : (g : Over) (c : After-rest_of-behind g) → IsCharBoundary c.args.bytes.now (c.args.at + 1)
+after : (g : Over) (c : After-rest_of-following g) → IsCharBoundary c.args.bytes.now (c.args.at + 1)
 after g c = IsCharBoundary-after_ascii c.args.bytes.now c.args.at c.requires.text c.requires.within (white_is_ascii _ c.requires.white).0
 
 pub returns-then-not-ends_line-clause-some : goal.returns-then-not-ends_line-clause-some
-returns-then-not-ends_line-clause-some g c = (omega arith, after g (goal.at.returns-then-not-ends_line-clause-some g c).After-rest_of-behind)
+returns-then-not-ends_line-clause-some g c = (omega arith, after g (goal.at.returns-then-not-ends_line-clause-some g c).After-rest_of-following)
 
 pub returns-then-not-ends_line-clause-reads : goal.returns-then-not-ends_line-clause-reads
 returns-then-not-ends_line-clause-reads g c =
     λ h a. left-byte h c.args.bytes.now c.args.at c.requires.within
-    (ap (ends_line (get_or c.args.bytes.now c.args.at 0)) (sym c.rest_of-behind.ensures.value) ∙ sym c.ends_line.ensures ∙ c.if-not-ends_line.true)
+    (ap (ends_line (get_or c.args.bytes.now c.args.at 0)) (sym c.rest_of-following.ensures.value) ∙ sym c.ends_line.ensures ∙ c.if-not-ends_line.true)
 
 -- the prefix is a part of the bytes after the line ending
 prefix_place : (g : Over) (c : In-Some g) → IsCharBoundary c.args.bytes.now (c.args.at + 1 + c.in-Some.prefix)
 prefix_place g c =
-    let e = c.rest_of-behind.ensures.value in
+    let e = c.rest_of-following.ensures.value in
     let b : IsCharBoundary c.args.bytes.now (c.args.at + 1) =
     IsCharBoundary-after_ascii c.args.bytes.now c.args.at c.requires.text c.requires.within (white_is_ascii _ c.requires.white).0 in
-    let u : IsUtf8 c.rest_of-behind.result.now = subst IsUtf8 (sym e) (IsUtf8-drop c.args.bytes.now (c.args.at + 1) c.requires.text b) in
-    place_behind c.args.bytes.now (c.args.at + 1) c.in-Some.prefix b.0
-    (subst (λ xs. IsCharBoundary xs c.in-Some.prefix) e (c.requires.places c.rest_of-behind.result c.in-Some.prefix (c.args.at + 1) b e
-    (subst (λ o. g.F.Fn.post c.args.linebreak_handler.now (c.rest_of-behind.result, tt) (Ok o)) c.in-Some.is c.in_ok-prefix.ensures) u))
+    let u : IsUtf8 c.rest_of-following.result.now = subst IsUtf8 (sym e) (IsUtf8-drop c.args.bytes.now (c.args.at + 1) c.requires.text b) in
+    place_past c.args.bytes.now (c.args.at + 1) c.in-Some.prefix b.0
+    (subst (λ xs. IsCharBoundary xs c.in-Some.prefix) e (c.requires.places c.rest_of-following.result c.in-Some.prefix (c.args.at + 1) b e
+    (subst (λ o. g.F.Fn.post c.args.linebreak_handler.now (c.rest_of-following.result, tt) (Ok o)) c.in-Some.is c.in_ok-prefix.ensures) u))
 
 pub overflow_add-result-in-Some-2 : goal.overflow_add-result-in-Some-2
 overflow_add-result-in-Some-2 g c = let p = (prefix_place g (goal.at.overflow_add-result-in-Some-2 g c).In-Some).0 in omega arith
@@ -44,27 +44,27 @@ returns-in-Some-clause-some g c = (omega arith, prefix_place g (goal.at.returns-
 pub returns-in-Some-clause-reads : goal.returns-in-Some-clause-reads
 returns-in-Some-clause-reads g c =
     λ h a. left-end h c.args.bytes.now c.args.at c.in-Some.prefix c.requires.within
-    (ap (ends_line (get_or c.args.bytes.now c.args.at 0)) (sym c.rest_of-behind.ensures.value) ∙ sym c.ends_line.ensures ∙ c.if-not-ends_line.false)
-    (ap h (sym c.rest_of-behind.ensures.value) ∙ a c.rest_of-behind.result c.in_ok-prefix.field-0 (c.args.at + 1)
-    (behind_white c.args.bytes.now c.args.at c.requires.text c.requires.within c.requires.white) c.rest_of-behind.ensures.value c.in_ok-prefix.ensures
+    (ap (ends_line (get_or c.args.bytes.now c.args.at 0)) (sym c.rest_of-following.ensures.value) ∙ sym c.ends_line.ensures ∙ c.if-not-ends_line.false)
+    (ap h (sym c.rest_of-following.ensures.value) ∙ a c.rest_of-following.result c.in_ok-prefix.field-0 (c.args.at + 1)
+    (after_white c.args.bytes.now c.args.at c.requires.text c.requires.within c.requires.white) c.rest_of-following.ensures.value c.in_ok-prefix.ensures
     ∙ c.in-Some.is)
 
 pub returns-in-None-clause-none : goal.returns-in-None-clause-none
 returns-in-None-clause-none g c =
     λ e h a. left-stop h c.args.bytes.now c.args.at c.requires.within
-    (ap (ends_line (get_or c.args.bytes.now c.args.at 0)) (sym c.rest_of-behind.ensures.value) ∙ sym c.ends_line.ensures ∙ c.if-not-ends_line.false)
-    (ap h (sym c.rest_of-behind.ensures.value) ∙ a c.rest_of-behind.result c.in_ok-prefix.field-0 (c.args.at + 1)
-    (behind_white c.args.bytes.now c.args.at c.requires.text c.requires.within c.requires.white) c.rest_of-behind.ensures.value c.in_ok-prefix.ensures
+    (ap (ends_line (get_or c.args.bytes.now c.args.at 0)) (sym c.rest_of-following.ensures.value) ∙ sym c.ends_line.ensures ∙ c.if-not-ends_line.false)
+    (ap h (sym c.rest_of-following.ensures.value) ∙ a c.rest_of-following.result c.in_ok-prefix.field-0 (c.args.at + 1)
+    (after_white c.args.bytes.now c.args.at c.requires.text c.requires.within c.requires.white) c.rest_of-following.ensures.value c.in_ok-prefix.ensures
     ∙ c.in-None.is)
 
 -- the handler fails
 pub returns-in_err-prefix-clause-err : goal.returns-in_err-prefix-clause-err
 returns-in_err-prefix-clause-err g c = on_err c.from_residual.result (record {
   within = c.requires.within;
-  line_end = ap (ends_line (get_or c.args.bytes.now c.args.at 0)) (sym c.rest_of-behind.ensures.value) ∙ sym c.ends_line.ensures ∙ c.if-not-ends_line.false;
-  boundary = behind_white c.args.bytes.now c.args.at c.requires.text c.requires.within c.requires.white;
-  behind = c.rest_of-behind.result;
-  behind_is = c.rest_of-behind.ensures.value;
+  line_end = ap (ends_line (get_or c.args.bytes.now c.args.at 0)) (sym c.rest_of-following.ensures.value) ∙ sym c.ends_line.ensures ∙ c.if-not-ends_line.false;
+  boundary = after_white c.args.bytes.now c.args.at c.requires.text c.requires.within c.requires.white;
+  following = c.rest_of-following.result;
+  past_is = c.rest_of-following.ensures.value;
   error = c.in_err-prefix.field-0.0;
   errs = c.in_err-prefix.ensures;
 })

@@ -3,21 +3,21 @@ use Rattle.first_pass_links.proofs.Labels.{run_more, run_blank}
 use Rattle.first_pass_links.proofs.label.scan_white_run.Goals as goal
 
 -- after one space, the rest of the run begins at the next offset
-first_is : (bytes : List ℕ) (at next behind n : ℕ)
-    → (slice_index bytes next ≡ 32 → behind ≡ next + 1) → (n ≡ 0 → next ≡ at) → n + 1 ≡ 1 → slice_index bytes at ≡ 32 → behind ≡ at + 1
-first_is bytes at next behind n f started one white =
+first_is : (bytes : List ℕ) (at next following n : ℕ)
+    → (slice_index bytes next ≡ 32 → following ≡ next + 1) → (n ≡ 0 → next ≡ at) → n + 1 ≡ 1 → slice_index bytes at ≡ 32 → following ≡ at + 1
+first_is bytes at next following n f started one white =
     let e = started (omega arith) in
     f (ap (slice_index bytes) e ∙ white) ∙ ap (λ k. k + 1) e
 
 pub returns-in_default-clause-none : goal.returns-in_default-clause-none
 returns-in_default-clause-none g c =
     λ e h a. run_blank h c.args.bytes.now c.args.at c.loop-next.next c.loop-next.characters (c.loop-next.invariant.run h a)
-    (c.in_ok-behind.ensures.none c.in_default.is h a)
+    (c.in_ok-following.ensures.none c.in_default.is h a)
 
 pub loop-next-preserved : goal.loop-next-preserved
 loop-next-preserved g c =
-    let some = rw c.in-Some.is at c.in_ok-behind.ensures.some in
-    let reads = rw c.in-Some.is at c.in_ok-behind.ensures.reads in
+    let some = rw c.in-Some.is at c.in_ok-following.ensures.some in
+    let reads = rw c.in-Some.is at c.in_ok-following.ensures.reads in
     let from = c.loop-next.invariant.from in
     let few = c.loop-next.invariant.few in
     let later = some.0 in
@@ -26,9 +26,9 @@ loop-next-preserved g c =
       within = some.1.0;
       boundary = some.1;
       few = omega arith;
-      lone = λ one white. first_is c.args.bytes.now c.args.at c.loop-next.next c.in-Some.behind c.loop-next.characters
-          (rw c.in-Some.is at c.in_ok-behind.ensures.space) c.loop-next.invariant.started one white;
+      lone = λ one white. first_is c.args.bytes.now c.args.at c.loop-next.next c.in-Some.following c.loop-next.characters
+          (rw c.in-Some.is at c.in_ok-following.ensures.space) c.loop-next.invariant.started one white;
       started = λ z. absurd (omega arith);
-      run = λ h a. run_more h c.args.bytes.now c.args.at c.loop-next.next c.in-Some.behind c.loop-next.characters (c.loop-next.invariant.run h a) (reads h a)
+      run = λ h a. run_more h c.args.bytes.now c.args.at c.loop-next.next c.in-Some.following c.loop-next.characters (c.loop-next.invariant.run h a) (reads h a)
           (sym c.is_ascii_white.ensures ∙ c.if-is_ascii_white.true);
     }

@@ -4,7 +4,7 @@ use Rattle.first_pass_names.specs.TableEntries.{names_of}
 use Rattle.first_pass_open.proofs.PathLemmas.{open_are_in}
 use Rattle.first_pass_names.proofs.NameLemmas.{extends_none, extends_both}
 use Rattle.first_pass_raw.specs.RawBlocks.{range_of}
-use Rattle.first_pass_raw.proofs.ExtentLemmas.{lines_start, line_read, behind_path, within_line, extent_from, goes_by, read_end, read_left, read_stops}
+use Rattle.first_pass_raw.proofs.ExtentLemmas.{lines_start, line_read, after_path, within_line, extent_from, goes_by, read_end, read_left, read_stops}
 use Rattle.first_pass_raw.proofs.ExtentLemmas.{read_closes, read_last, read_more, line_as, lines_quotes}
 use Rattle.first_pass_raw.proofs.extent.read_lines.Goals as goal
 
@@ -38,7 +38,7 @@ judge-verdict-requires-clause-next g c =
     let line = line_read c.args.source.now.text.now c.as_bytes.result.now c.loop-ix.ix _ c.scan_continued_past.ensures.utf8 c.loop-ix.invariant.boundary
     c.loop-ix-test.true
     c.as_bytes.ensures.value c.next_line-next.ensures.value in
-    sym (behind_path c.args.source.now.text.now (path_of c.args.source.now.options c.loop-ix.tree) c.loop-ix.ix _ c.in-Some.line_start
+    sym (after_path c.args.source.now.text.now (path_of c.args.source.now.options c.loop-ix.tree) c.loop-ix.ix _ c.in-Some.line_start
     c.scan_continued_past.ensures.utf8 line (sym c.in-Some.ensures.value))
 
 pub judge-verdict-requires-clause-boundary : goal.judge-verdict-requires-clause-boundary

@@ -8,7 +8,7 @@ use Rattle.first_pass_open.specs.OpenBlock.{opened_block}
 use Rattle.first_pass_open.specs.Path.{path_of, has_quote_after}
 use Rattle.first_pass_names.specs.TableEntries.{names_of}
 use Rattle.first_pass_names.proofs.NameLemmas.{extends_both}
-use Rattle.first_pass_raw.specs.RawBlocks.{AppendsRaw, behind_line_at}
+use Rattle.first_pass_raw.specs.RawBlocks.{AppendsRaw, after_line_at}
 use Rattle.first_pass_raw.proofs.IndentedLemmas.{first_at, first_is, first_boundary, so_far_first, so_far_next, so_far_stop, kept_child, next_read, next_rest}
 use Rattle.first_pass_raw.proofs.IndentedLemmas.{next_quotes}
 use Rattle.first_pass_raw.proofs.IndentedLemmas.{opened_last, just_opened, code_open, code_added}
@@ -56,7 +56,7 @@ lines-preserved c =
     i.boundary goes
     c.in-Some.ensures.place c.bytes_scanned.ensures c.in_ok-next-2.ensures.«end» in
     let later : c.lines.next < c.in_ok-next-2.next = read.1 in
-    let from : behind_line_at text c.args.start_ix ≤ c.lines.next = i.from in
+    let from : after_line_at text c.args.start_ix ≤ c.lines.next = i.from in
     record {
       boundary = read.2;
       from = omega arith;
@@ -86,8 +86,8 @@ lines-smaller c =
     let within : c.in_ok-next-2.next ≤ length text = c.in_ok-next-2.ensures.within in
     omega arith
 
-pub cut_behind-requires : goal.cut_behind-requires
-cut_behind-requires c =
+pub cut_after-requires : goal.cut_after-requires
+cut_after-requires c =
     let text = c.args.source.now.text.now in
     let opened : Forest Item = opened_block c.args.tree.now c.args.start_ix IndentCodeBlock in
     let first = c.lines.invariant.read (first_at text c.args.start_ix c.args.remaining_space) (first_is text c.args.start_ix c.args.remaining_space) refl in
@@ -101,8 +101,8 @@ close_block-requires c =
     let first = c.lines.invariant.read (first_at text c.args.start_ix c.args.remaining_space) (first_is text c.args.start_ix c.args.remaining_space) refl in
     let stops = sym (next_rest _ _ _ _ _ _ _ _ _ c.indented_line.result first forest c.indented_line.ensures.value) ∙ c.in_default.is in
     let all = so_far_stop _ _ _ _ _ _ _ _ _
-    (opened_last opened (just_opened c.args.tree.now opened c.args.start_ix refl)) first c.cut_behind.new.tree stops c.cut_behind.ensures in
-    code_open _ _ _ _ c.args.tree.now opened c.cut_behind.new.tree c.args.start_ix _ _ _ refl all
+    (opened_last opened (just_opened c.args.tree.now opened c.args.start_ix refl)) first c.cut_after.new.tree stops c.cut_after.ensures in
+    code_open _ _ _ _ c.args.tree.now opened c.cut_after.new.tree c.args.start_ix _ _ _ refl all
 
 pub returns-clause-block : goal.returns-clause-block
 returns-clause-block c p at o =
@@ -111,6 +111,6 @@ returns-clause-block c p at o =
     let s = c.lines.invariant.read p at o in
     let stops = sym (next_rest _ _ _ _ _ _ _ _ _ c.indented_line.result s forest c.indented_line.ensures.value) ∙ c.in_default.is in
     let all = so_far_stop _ _ _ _ _ _ _ _ _
-    (opened_last opened (just_opened c.args.tree.now opened c.args.start_ix refl)) s c.cut_behind.new.tree stops c.cut_behind.ensures in
-    code_added _ _ _ p c.args.tree.now opened c.cut_behind.new.tree c.args.start_ix _ _ _ refl all c.close_block.new.tree c.is_forest.ensures at.offset_is
+    (opened_last opened (just_opened c.args.tree.now opened c.args.start_ix refl)) s c.cut_after.new.tree stops c.cut_after.ensures in
+    code_added _ _ _ p c.args.tree.now opened c.cut_after.new.tree c.args.start_ix _ _ _ refl all c.close_block.new.tree c.is_forest.ensures at.offset_is
     c.close_block.ensures.tree

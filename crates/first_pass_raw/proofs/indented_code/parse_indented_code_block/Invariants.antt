@@ -4,7 +4,7 @@ use Rattle.first_pass_lines.specs.Places.{Place}
 use Rattle.first_pass_grammar.specs.Names.{Extends}
 use Rattle.first_pass_open.specs.OpenBlock.{opened_block}
 use Rattle.first_pass_names.specs.TableEntries.{entries, names_of}
-use Rattle.first_pass_raw.specs.RawBlocks.{IsPlaceAt, behind_line_at}
+use Rattle.first_pass_raw.specs.RawBlocks.{IsPlaceAt, after_line_at}
 use Rattle.first_pass_raw.proofs.IndentedLemmas.{IndentedSoFar}
 use Rattle.first_pass_raw.proofs.indented_code.parse_indented_code_block.Given as goal
 
@@ -12,7 +12,7 @@ use Rattle.first_pass_raw.proofs.indented_code.parse_indented_code_block.Given a
 abbrev pub invariant-lines : goal.invariant-lines
 invariant-lines l = record {
   boundary : IsCharBoundary l.source.text.now l.next;
-  from : behind_line_at l.source.text.now l.start_ix ≤ l.next;
+  from : after_line_at l.source.text.now l.start_ix ≤ l.next;
   named : Extends (names_of l.allocs) (names_of l.fn.allocs);
   same_entries : entries l.allocs ≡ entries l.fn.allocs;
   read : (p : Place) → IsPlaceAt l.source.text.now l.start_ix p → p.rest.owed ≡ l.remaining_space

@@ -2,7 +2,7 @@ use Rattle.std.proofs.Common.{◌≡◌, ℕ, ◌-◌, List, take, Some, sym, ap
 use Rattle.std.specs.List.{take_while}
 use Rattle.std.proofs.lemmas.List.Sums.{prefix_len-le-length}
 use Rattle.first_pass_lines.specs.Lines.{is_content}
-use Rattle.first_pass_table_scan.specs.TableHead.{last_pipe_behind, header_columns}
+use Rattle.first_pass_table_scan.specs.TableHead.{last_pipe_after, header_columns}
 use Rattle.first_pass_table_scan.proofs.HeaderRows.{head-unmarked, head-escaped, head-some, last-found, last-in-line, counted-some, counted-to-last}
 use Rattle.first_pass_table_scan.proofs.table_start.scan_head_columns.Goals as goal
 
@@ -18,7 +18,7 @@ returns-then-end-eq0 c =
     head-escaped bs (take c.content_len.result bs) c.count_pipes-pipes.result.1
     (ap (λ n. take n bs) c.content_len.ensures.value) c.count_pipes-pipes.ensures.end c.if-end-eq0.true
 
-last-pipe : (c : goal.Else-end-eq0) → last_pipe_behind 0 (take_while is_content c.args.bytes.now) ≡ Some (c.count_pipes-pipes.result.1 - 1)
+last-pipe : (c : goal.Else-end-eq0) → last_pipe_after 0 (take_while is_content c.args.bytes.now) ≡ Some (c.count_pipes-pipes.result.1 - 1)
 last-pipe c =
     let bs : List ℕ = c.args.bytes.now in
     last-found bs (take c.content_len.result bs) c.count_pipes-pipes.result.1

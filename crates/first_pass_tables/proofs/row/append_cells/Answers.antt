@@ -6,13 +6,13 @@ use Rattle.first_pass_names.specs.TableEntries.{names_of}
 use Rattle.first_pass_tokens.specs.LineTokens.{Spot, spot}
 use Rattle.first_pass_grammar.specs.Leaves.{document}
 use Rattle.first_pass_names.proofs.NameLemmas.{extends_both, texts_both}
-use Rattle.first_pass_tables.specs.Appends.{without_behind}
+use Rattle.first_pass_tables.specs.Appends.{without_after}
 use Rattle.first_pass_tables.proofs.RowDrops.{HaveSame, has_more, none_more, current_is_child, same_dropped, still_open_node, first_kept, ended_within}
 use Rattle.first_pass_tables.proofs.row.append_cells.Goals as goal
 use Rattle.first_pass_tables.proofs.row.append_cells.Goals.{then-excess-gt0, else-excess-gt0}
 
-pub drop_behind-requires : goal.drop_behind-requires
-drop_behind-requires c =
+pub drop_beyond-requires : goal.drop_beyond-requires
+drop_beyond-requires c =
     let d = document c.args.source.now.text.now c.args.source.now.options (names_of c.append_some_cells-2.new.allocs) in
     let tree = c.append_some_cells.new.tree in
     let over = c.append_some_cells-2.new.tree in
@@ -46,7 +46,7 @@ returns-clause-cells c =
       | then-excess-gt0 w ↦
           let some = w.if-excess-gt0.true in
           same_dropped tree over new c.is_forest.ensures node (has_more d mid stop excess.count tree over (omega arith) all)
-          (w.tree-is ∙ w.drop_behind.ensures ∙ ap (without_behind over) c.cur-last.ensures)
+          (w.tree-is ∙ w.drop_beyond.ensures ∙ ap (without_after over) c.cur-last.ensures)
       | else-excess-gt0 w ↦
           let none = w.if-excess-gt0.false in
           let same = none_more d mid stop excess.count tree over (omega arith) all in

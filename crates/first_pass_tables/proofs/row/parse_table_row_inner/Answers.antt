@@ -7,16 +7,16 @@ use Rattle.first_pass_names.specs.TableEntries.{names_of}
 use Rattle.first_pass_tokens.specs.LineTokens.{spot}
 use Rattle.first_pass_grammar.specs.Leaves.{document}
 use Rattle.first_pass_grammar.specs.Tables.{most_filled}
-use Rattle.first_pass_tables.specs.Appends.{keeps_row, open_table, without_behind}
+use Rattle.first_pass_tables.specs.Appends.{keeps_row, open_table, without_after}
 use Rattle.first_pass_tables.proofs.RowDrops.{current_is_child, dropped}
-use Rattle.first_pass_tables.proofs.RowClosed.{row_place, row_opened, row_is_open, row_closed, same_test, row_behind, row_read}
+use Rattle.first_pass_tables.proofs.RowClosed.{row_place, row_opened, row_is_open, row_closed, same_test, row_after, row_read}
 use Rattle.first_pass_tables.proofs.RowsAdded.{row_between}
 use Rattle.first_pass_tables.proofs.row.parse_table_row_inner.Goals as goal
 
 -- the test of a row, with the number of cells that may be filled in
-kept_by : (kept behind : Bool) (count missing some : ℕ) {most : ℕ} → kept ≡ ((not behind || nat_lt 0 count) && nat_le missing some) → some ≡ most
-    → kept ≡ ((not behind || nat_lt 0 count) && nat_le missing most)
-kept_by kept behind count missing some value same = value ∙ ap (λ n. (not behind || nat_lt 0 count) && nat_le missing n) same
+kept_by : (kept following : Bool) (count missing some : ℕ) {most : ℕ} → kept ≡ ((not following || nat_lt 0 count) && nat_le missing some) → some ≡ most
+    → kept ≡ ((not following || nat_lt 0 count) && nat_le missing most)
+kept_by kept following count missing some value same = value ∙ ap (λ n. (not following || nat_lt 0 count) && nat_le missing n) same
 
 pub append_cells-requires-clause-fresh : goal.append_cells-requires-clause-fresh
 append_cells-requires-clause-fresh c =
@@ -29,12 +29,12 @@ close_block-requires c =
     TableRow c.args.tree.now c.open_block.new.tree c.append_cells.new.tree c.fill_row.new.tree c.in_ok-open_block.ensures.tree c.in_ok-end.ensures.cells
     c.saturating_sub-missing.ensures c.in_ok-fill_row.ensures
 
-pub drop_behind-requires : goal.drop_behind-requires
-drop_behind-requires c =
+pub drop_beyond-requires : goal.drop_beyond-requires
+drop_beyond-requires c =
     let d = document c.args.source.now.text.now c.args.source.now.options (names_of c.append_cells.new.allocs) in
     let old = c.args.tree.now in
     let back = c.pop.new.self in
-    let more = row_behind d c.args.wanted.most (spot c.args.wanted.start c.args.table.now.braces) TableRow old c.open_block.new.tree c.append_cells.new.tree
+    let more = row_after d c.args.wanted.most (spot c.args.wanted.start c.args.table.now.braces) TableRow old c.open_block.new.tree c.append_cells.new.tree
     back
     (spot c.in_ok-end.end c.append_cells.new.braces, c.in_ok-end.count) c.pop.result
     c.in_ok-open_block.ensures.tree c.in_ok-end.ensures.cells c.pop.ensures in
@@ -47,12 +47,12 @@ returns-then-not-is_kept-clause-row c =
     let back = c.pop.new.self in
     let adds = c.in_ok-end.ensures.cells in
     let most = most_filled - c.args.table.now.missing_empty_cells in
-    let more = row_behind d c.args.wanted.most (spot c.args.wanted.start c.args.table.now.braces) TableRow old c.open_block.new.tree c.append_cells.new.tree
+    let more = row_after d c.args.wanted.most (spot c.args.wanted.start c.args.table.now.braces) TableRow old c.open_block.new.tree c.append_cells.new.tree
     back
     (spot c.in_ok-end.end c.append_cells.new.braces, c.in_ok-end.count) c.pop.result
     c.in_ok-open_block.ensures.tree adds c.pop.ensures in
     let missing_is = c.saturating_sub-missing.ensures ∙ ap (λ (n : ℕ). c.args.wanted.most - n) adds.count in
-    let behind : c.is_some.result ≡ is_some old.current = c.is_some.ensures ∙ ap (λ (o : Option TreeIndex). is_some o) c.cur-before.ensures in
+    let following : c.is_some.result ≡ is_some old.current = c.is_some.ensures ∙ ap (λ (o : Option TreeIndex). is_some o) c.cur-before.ensures in
     let test = same_test c.is_some.result c.args.wanted.most most c.in_ok-end.count c.saturating_sub-missing.result adds.cells adds.count missing_is in
     let kept = kept_by c.is_kept.result c.is_some.result c.in_ok-end.count c.saturating_sub-missing.result c.saturating_sub-most.result
     c.is_kept.ensures.value c.saturating_sub-most.ensures in
@@ -62,9 +62,9 @@ returns-then-not-is_kept-clause-row c =
       after = c.append_cells.new.braces;
       are_cells = adds.are_cells;
       adds = (
-        ap (λ (t : Bool). keeps_row t c.args.wanted.most most adds.cells) (sym behind) ∙ sym test ∙ sym kept ∙ c.if-not-is_kept.true,
+        ap (λ (t : Bool). keeps_row t c.args.wanted.most most adds.cells) (sym following) ∙ sym test ∙ sym kept ∙ c.if-not-is_kept.true,
         ap (λ (f : Forest Item). open_table f c.args.table.now.missing_empty_cells c.append_cells.new.braces)
-            (c.drop_behind.ensures ∙ ap (without_behind back) c.cur-before.ensures ∙ dropped old back c.is_forest.ensures c.requires.open more),
+            (c.drop_beyond.ensures ∙ ap (without_after back) c.cur-before.ensures ∙ dropped old back c.is_forest.ensures c.requires.open more),
       );
     }
 
@@ -75,7 +75,7 @@ returns-clause-row c =
     let adds = c.in_ok-end.ensures.cells in
     let most = most_filled - c.args.table.now.missing_empty_cells in
     let missing_is = c.saturating_sub-missing.ensures ∙ ap (λ (n : ℕ). c.args.wanted.most - n) adds.count in
-    let behind : c.is_some.result ≡ is_some old.current = c.is_some.ensures ∙ ap (λ (o : Option TreeIndex). is_some o) c.cur-before.ensures in
+    let following : c.is_some.result ≡ is_some old.current = c.is_some.ensures ∙ ap (λ (o : Option TreeIndex). is_some o) c.cur-before.ensures in
     let test = same_test c.is_some.result c.args.wanted.most most c.in_ok-end.count c.saturating_sub-missing.result adds.cells adds.count missing_is in
     let kept = kept_by c.is_kept.result c.is_some.result c.in_ok-end.count c.saturating_sub-missing.result c.saturating_sub-most.result
     c.is_kept.ensures.value c.saturating_sub-most.ensures in
@@ -83,7 +83,7 @@ returns-clause-row c =
     (open_table c.close_block.new.tree (c.args.table.now.missing_empty_cells + c.saturating_sub-missing.result) c.append_cells.new.braces) adds.cells
     c.cur.result
     c.map.result adds.are_cells
-    (ap (λ (t : Bool). keeps_row t c.args.wanted.most most adds.cells) (sym behind) ∙ sym test ∙ sym kept ∙ c.if-not-is_kept.false)
+    (ap (λ (t : Bool). keeps_row t c.args.wanted.most most adds.cells) (sym following) ∙ sym test ∙ sym kept ∙ c.if-not-is_kept.false)
     (row_closed d c.args.wanted.most (spot c.args.wanted.start c.args.table.now.braces) (spot c.in_ok-end.end c.append_cells.new.braces) c.in_ok-end.count
     c.saturating_sub-missing.result TableRow old
     c.open_block.new.tree c.append_cells.new.tree c.fill_row.new.tree c.in_ok-open_block.ensures.tree adds c.saturating_sub-missing.ensures

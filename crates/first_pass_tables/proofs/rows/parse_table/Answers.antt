@@ -23,10 +23,10 @@ returns-clause-rows c =
     c.in_ok-append_head_row.ensures.head) c.in_ok-next.ensures.body c.close_block.ensures.tree
 
 pub returns-clause-fits : goal.returns-clause-fits
-returns-clause-fits c = λ from low behind.
+returns-clause-fits c = λ from low following.
     rows_between (document c.args.source.now.text.now c.args.source.now.options (names_of c.append_body.new.allocs)) c.args.rows.columns c.args.rows.head_start
     c.args.rows.body_start c.in_ok-next.next from c.args.tree.now
-    c.close_block.new.tree c.in_ok-next.ensures.utf8 c.requires.head c.requires.body (returns-clause-rows c) low behind
+    c.close_block.new.tree c.in_ok-next.ensures.utf8 c.requires.head c.requires.body (returns-clause-rows c) low following
 
 pub returns-clause-whole : goal.returns-clause-whole
 returns-clause-whole c =

@@ -11,7 +11,7 @@ returns-clause-fits c = λ from low.
     let place = row_place text (context_of c.args.source.now.options c.args.tree.now) c.args.wanted.start c.in-Some.at c.scan_row_text.ensures.utf8
     c.requires.boundary
     (sym c.scan_row_text.ensures.value ∙ c.in-Some.is) in
-    let behind = place.behind in
+    let following = place.following in
     let begins = subst (λ (o : Option ℕ). IfSome o (λ n. IsCharBoundary text n)) c.in-Some.is c.scan_row_text.ensures.place in
     c.in_ok-row.ensures.fits begins from (omega arith)
 

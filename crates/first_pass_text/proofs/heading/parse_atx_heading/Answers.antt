@@ -83,11 +83,11 @@ returns-clause-block c =
     }
 
 pub returns-clause-fits : goal.returns-clause-fits
-returns-clause-fits c from behind starts =
+returns-clause-fits c from following starts =
     let u = subst IsUtf8 c.as_bytes.ensures.value c.as_bytes.ensures.utf8 in
     heading_fits c.args.source.now.text.now c.args.source.now.options
     (names_of c.heading_text.new.allocs) c.args.start c.args.atx_level c.args.tree.now c.close_block.new.tree c.line_end_of-end.result u starts
-    c.requires.heading (returns-clause-block c) from behind
+    c.requires.heading (returns-clause-block c) from following
 
 pub returns-clause-more : goal.returns-clause-more
 returns-clause-more c =

@@ -68,13 +68,14 @@ returns-clause-block c =
     closed_heading t (names_of c.make_heading.new.allocs) c.in_ok-make_heading.ensures.more.names c.in-Some.level c.is_by_backslash.result
     c.make_heading.new.tree c.append_last_backslash-2.new.tree
     c.is_by_backslash.ensures c.in_ok-make_heading.ensures.heading c.in_ok-append_last_backslash-2.ensures
-    c.close_block-2.new.tree c.next_line-behind.result (sym c.in-Some.is)
-    (c.next_line-behind.ensures.value ∙ ap (λ t. next + line_len (drop next t)) c.as_bytes.ensures.value) c.in_ok-end.ensures.utf8 c.close_block-2.ensures.tree
+    c.close_block-2.new.tree c.next_line-following.result (sym c.in-Some.is)
+    (c.next_line-following.ensures.value ∙ ap (λ t. next + line_len (drop next t)) c.as_bytes.ensures.value)
+    c.in_ok-end.ensures.utf8 c.close_block-2.ensures.tree
 
 pub returns-clause-fits : goal.returns-clause-fits
 returns-clause-fits c =
     plain_fits c.args.source.now.text.now c.args.source.now.options
-    (names_of c.make_heading.new.allocs) c.args.start_ix c.args.tasklist_marker c.args.tree.now c.close_block-2.new.tree c.next_line-behind.result
+    (names_of c.make_heading.new.allocs) c.args.start_ix c.args.tasklist_marker c.args.tree.now c.close_block-2.new.tree c.next_line-following.result
     (returns-clause-block c) c.in_ok-end.ensures.utf8 c.requires.boundary
 
 pub returns-clause-more : goal.returns-clause-more

@@ -3,8 +3,8 @@ use Rattle.std.specs.Str.{IsCharBoundary}
 use Rattle.std.proofs.lemmas.Str.{IsCharBoundary-after_ascii}
 use Rattle.scan_cases.proofs.links.quoted_label.Goals as goal
 
-behind_space : (bs : List ℕ) (n : ℕ) → IsUtf8 bs → (n ≡ 2) × (1 < length bs) × (slice_index bs 1 ≡ 32) → IsCharBoundary bs n
-behind_space bs n u h = rw h.0 (IsCharBoundary-after_ascii bs 1 u h.1 (omega (arith, h.2)))
+after_space : (bs : List ℕ) (n : ℕ) → IsUtf8 bs → (n ≡ 2) × (1 < length bs) × (slice_index bs 1 ≡ 32) → IsCharBoundary bs n
+after_space bs n u h = rw h.0 (IsCharBoundary-after_ascii bs 1 u h.1 (omega (arith, h.2)))
 
 pub scan_link_label_rest-requires-clause-places : goal.scan_link_label_rest-requires-clause-places
-scan_link_label_rest-requires-clause-places c = λ behind n at b e p u. behind_space behind.now n u (search rules)
+scan_link_label_rest-requires-clause-places c = λ following n at b e p u. after_space following.now n u (search rules)

@@ -28,7 +28,7 @@ returns c =
       block = e.block;
       fits = e.fits text;
       order = λ at low begins ends o.
-          subst (IsOrderedAt text new) (sym e.behind)
+          subst (IsOrderedAt text new) (sym e.following)
           (block_ordered text old new at c.args.ix (c.args.ix + c.args.hrule_size) o low (λ from before. e.fits text from before begins ends) ends.0 refl);
-      behind = e.behind;
+      following = e.following;
     }

@@ -6,7 +6,7 @@ use Rattle.first_pass_lines.specs.Places.{Place, offset}
 use Rattle.first_pass_grammar.specs.Completion.{lines_from}
 use Rattle.first_pass_open.specs.Between.{AddsBetween}
 use Rattle.first_pass_open.specs.Path.{path_of}
-use Rattle.first_pass_raw.specs.RawBlocks.{behind_line_at, html_to_blank, AddsRaw, IsPlaceAt}
+use Rattle.first_pass_raw.specs.RawBlocks.{after_line_at, html_to_blank, AddsRaw, IsPlaceAt}
 use Rattle.first_pass_lists.specs.declared.reading.Reading.{Reading}
 use Rattle.first_pass_names.specs.TableEntries.{names_of}
 use Rattle.first_pass_names.proofs.NameLemmas.{extends_none}
@@ -54,7 +54,7 @@ returns-clause-leaf c =
       order = λ at low o.
           ordered_stopped options text new (path_of options old.tree) (html_to_blank text (path_of options old.tree) p) c.in_ok-next.next
           e.boundary.1 refl path
-          (html_stops (length text) (path_of options old.tree) p (lines_from text (behind_line_at text (offset p)))) block.left_is
+          (html_stops (length text) (path_of options old.tree) p (lines_from text (after_line_at text (offset p)))) block.left_is
           (block_ordered text old new at c.args.start_ix _ o low (fits p i) ends.0 refl);
       few = λ from low apart.
           to_blank_few text options names old.tree new.tree c.args.start_ix c.in_ok-next.next e.utf8 c.requires.boundary e.boundary.1.0

@@ -26,9 +26,9 @@ returns c =
       texts = e.texts;
       reading = refl;
       rows = e.rows;
-      order = λ at low behind o.
-          rows_ordered text old new at c.in_ok-next.next c.requires.open.0 c.requires.open.1 e.rows.boundary (e.fits at low behind) o;
-      few = λ from low behind apart.
-          rows_count text old new from c.in_ok-next.next c.requires.open.0 c.requires.open.1 (e.fits from low behind) apart;
+      order = λ at low following o.
+          rows_ordered text old new at c.in_ok-next.next c.requires.open.0 c.requires.open.1 e.rows.boundary (e.fits at low following) o;
+      few = λ from low following apart.
+          rows_count text old new from c.in_ok-next.next c.requires.open.0 c.requires.open.1 (e.fits from low following) apart;
       whole = e.whole;
     }

@@ -3,7 +3,7 @@ use Rattle.first_pass_lines.specs.Lines.{is_blank_line, line_len}
 use Rattle.first_pass_lines.specs.Rest.{Rest, after_columns}
 use Rattle.first_pass_lines.specs.Places.{Place, offset, moved_columns}
 use Rattle.first_pass_lines.proofs.PlaceFacts.{columns_keep, columns_line_end, columns_shorter}
-use Rattle.first_pass_raw.specs.RawBlocks.{behind_line_at}
+use Rattle.first_pass_raw.specs.RawBlocks.{after_line_at}
 use Rattle.first_pass_open.proofs.PlaceLemmas.{read_to}
 use Rattle.first_pass_ready.proofs.EnterLemmas.{blank_columns}
 use Rattle.first_pass_blocks.proofs.OrderSteps.{offset_later}
@@ -52,7 +52,7 @@ returns c =
     let there = read_to (after_columns 4) _ p _ _ c.offset.ensures c.scan_space_upto.ensures.rest c.place.view_is in
     let owed = c.remaining_space-owed.ensures.value ∙ ap (λ (r : Rest). r.owed) c.scan_space_upto.ensures.rest
     ∙ ap (λ (z : Place). (after_columns 4 z.rest).owed) c.place.view_is in
-    let ends = ap (behind_line_at text) there ∙ ap (λ bs. offset q + line_len bs) (sym i.left) ∙ columns_line_end 4 p in
+    let ends = ap (after_line_at text) there ∙ ap (λ bs. offset q + line_len bs) (sym i.left) ∙ columns_line_end 4 p in
     let low = offset_later text p.line p.rest q.rest f.place i (columns_shorter 4 p.rest) in
     let later = e.boundary.0 in
     let begins = subst (IsCharBoundary text) (sym there) i.boundary in

@@ -51,6 +51,6 @@ returns-in-Some-2 c =
     c.in_ok-parse_footnote.ensures.head in
     let r = read (goal.at.returns-in-Some-2 c).In-Some-2 in
     let source = c.parse_footnote.ensures.source in
-    let behind = subst (λ (z : Source). IsAfterHead z (c.in-Some.start + c.in-Some-2.size) c.place_behind_head.result) source c.place_behind_head.ensures in
-    note_opened self new c.args.place.now c.place_behind_head.result c.in-Some.start c.in-Some-2.size f.0 c.requires.utf8 c.requires.place c.is_forest.ensures
-    c.requires.no_empty source (sym c.footnote_mark.ensures.value ∙ c.in-Some.is) f.1 f.2.0 f.2.1 r.0 behind
+    let following = subst (λ (z : Source). IsAfterHead z (c.in-Some.start + c.in-Some-2.size) c.place_after_head.result) source c.place_after_head.ensures in
+    note_opened self new c.args.place.now c.place_after_head.result c.in-Some.start c.in-Some-2.size f.0 c.requires.utf8 c.requires.place c.is_forest.ensures
+    c.requires.no_empty source (sym c.footnote_mark.ensures.value ∙ c.in-Some.is) f.1 f.2.0 f.2.1 r.0 following

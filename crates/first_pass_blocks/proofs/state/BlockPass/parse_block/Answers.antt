@@ -120,8 +120,8 @@ parse_tagged-requires-clause-boundary c =
     let over = c.args.self.now.source in
     let e = c.in_ok-open_containers.ensures in
     let q : Place = c.open_containers.new.place in
-    subst (λ (z : Source). IsCharBoundary z.text.now c.line_over-behind.result) (sym e.opened.source)
-    (subst (IsCharBoundary over.text.now) (sym c.line_over-behind.ensures) (place_end over.text.now q c.enter_line.ensures.utf8 e.place.0))
+    subst (λ (z : Source). IsCharBoundary z.text.now c.line_over-following.result) (sym e.opened.source)
+    (subst (IsCharBoundary over.text.now) (sym c.line_over-following.ensures) (place_end over.text.now q c.enter_line.ensures.utf8 e.place.0))
 
 pub parse_tagged-requires-clause-no_empty : goal.parse_tagged-requires-clause-no_empty
 parse_tagged-requires-clause-no_empty c =
@@ -133,12 +133,12 @@ returns-in_ok-next-in-TagAlone c =
     let start = c.args.start_ix in
     let q : Place = c.open_containers.new.place in
     let mid : BlockPass = c.open_containers.new.self in
-    let stop : ℕ = c.line_over-behind.result in
+    let stop : ℕ = c.line_over-following.result in
     let next = c.in_ok-next-in-TagAlone.next in
     let at : In_ok-open_containers = (goal.at.returns-in_ok-next-in-TagAlone c).In_ok-open_containers in
     let e = c.in_ok-open_containers.ensures in
     let o = opened at _ _ TagAlone refl refl refl e.after e.opened c.in-TagAlone.is in
-    let is = c.line_over-behind.ensures in
+    let is = c.line_over-following.ensures in
     let ends = o.ends in
     let steps = subst (λ (n : ℕ). PassesTo over start c.args.self.now mid (LineAt start) (TaggedAt n)) (sym is) o.steps in
     let r = subst (λ (z : Source). ReadsBlockOf z mid c.parse_tagged.new.self stop (TaggedAt stop) next) e.opened.source c.in_ok-next-in-TagAlone.ensures in

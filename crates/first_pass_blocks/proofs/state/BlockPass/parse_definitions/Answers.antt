@@ -17,7 +17,7 @@ use Rattle.first_pass_blocks.specs.Written.{TablesAreWritten}
 use Rattle.first_pass_blocks.specs.Views.{context_in}
 use Rattle.first_pass_blocks.specs.declared.state.BlockPass.{BlockPass}
 use Rattle.first_pass_blocks.proofs.RunLemmas.{run_begun, run_flows, run_ends, run_goes_on, defined_none, text_at}
-use Rattle.first_pass_blocks.proofs.DefinitionLemmas.{behind_boundary, none_here, found_here, one_more, stops_by, goes_by, stops_at, rest_at}
+use Rattle.first_pass_blocks.proofs.DefinitionLemmas.{after_boundary, none_here, found_here, one_more, stops_by, goes_by, stops_at, rest_at}
 use Rattle.first_pass_blocks.proofs.DefinitionLemmas.{line_is_there, answered}
 use Rattle.first_pass_blocks.proofs.state.BlockPass.parse_definitions.Goals as goal
 use Rattle.first_pass_blocks.proofs.state.BlockPass.parse_definitions.Goals.{After-rest_of}
@@ -139,7 +139,7 @@ loop-size-preserved c =
     let said = answered (context_in now) around c.rest_of.result.now (drop next text) c.in_ok-rest.rest path_is rest_is f.value in
     let goes = goes_by (stops_at around (drop next text)) (rest_at around (drop next text)) c.in-Some-rest.rest c.in_ok-rest.rest said c.in-Some-rest.is in
     let within = line_is_there text around next goes.0 in
-    let begins : IsCharBoundary text next = subst (IsCharBoundary text) (sym next_is) (behind_boundary text (at + size) c.requires.utf8 ends) in
+    let begins : IsCharBoundary text next = subst (IsCharBoundary text) (sym next_is) (after_boundary text (at + size) c.requires.utf8 ends) in
     let there = (text_place text next around.path c.requires.utf8 begins).0 in
     let here : offset (text_at text around.path next) ≡ next + c.bytes_scanned.result =
     ap (λ (z : Rest). next + z.taken) (sym goes.1) ∙ ap (λ n. next + n) (sym c.bytes_scanned.ensures) in

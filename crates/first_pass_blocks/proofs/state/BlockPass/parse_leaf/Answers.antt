@@ -8,6 +8,6 @@ pub offset-requires : goal.offset-requires
 offset-requires c =
     let p = c.args.place in
     let i = all_keep c.args.self.now.source.text.now p.line p.rest c.requires.utf8 c.requires.place in
-    let e = ap offset (c.kind_at-columns.ensures.place ∙ ap unindented c.copy-behind.ensures) in
+    let e = ap offset (c.kind_at-columns.ensures.place ∙ ap unindented c.copy-following.ensures) in
     let short = c.is_short.ensures in
     omega (arith, i.within, e)

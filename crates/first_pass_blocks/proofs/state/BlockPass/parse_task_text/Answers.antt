@@ -59,7 +59,7 @@ returns c =
     let later = e.block.later in
     let fits : (from : ℕ) → StandsBefore text from (offset p) (Some c.args.marker) → AddsBetween text from next old.tree tree =
     λ from stands. let b = stands.1 in let before = b.before in
-    e.fits c.requires.after.2 from (stands.0, record { behind = b.behind; order = b.order; before = omega arith; starts = b.starts; ends = b.ends }) in
+    e.fits c.requires.after.2 from (stands.0, record { following = b.following; order = b.order; before = omega arith; starts = b.starts; ends = b.ends }) in
     record {
       source = refl;
       names = e.more.names;

@@ -8,11 +8,11 @@ use Rattle.first_pass_flat.proofs.definitions.NamedDefinitions.append_footnote.G
 pub returns : goal.returns
 returns c =
     let none = sym (append-nil c.append_text.new.names.items) in
-    let behind = c.len-behind.ensures ∙ c.append_text.new.names.ok.0 in
+    let following = c.len-following.ensures ∙ c.append_text.new.names.ok.0 in
     let entry = label_entry (text_of c.args.label.now) in
     definition_one _ _ _
     (c.in_ok-append_record.ensures
     ∙ ap (λ r. c.args.self.now.definitions.items ++ r ∷ [])
     (definition_record c.args.self.now.names.items _ _ _ [] [] entry _ _ _ _ _ _ _ c.in_ok-label.ensures.start c.in_ok-label.ensures.count c.label.ensures
-    c.in_ok-label.ensures.names behind refl refl none behind refl refl refl))
+    c.in_ok-label.ensures.names following refl refl none following refl refl refl))
     (three_appended _ _ _ _ _ [] [] entry c.in_ok-label.ensures.names c.label.ensures none refl none refl)

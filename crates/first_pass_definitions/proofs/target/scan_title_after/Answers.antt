@@ -7,7 +7,7 @@ use Rattle.first_pass_grammar.specs.Definitions.{title_at}
 use Rattle.first_pass_open.specs.Path.{context_of}
 use Rattle.first_pass_definitions.proofs.Targets.{IsTitleRead, read_to, title_read}
 use Rattle.first_pass_definitions.proofs.Asks.{title_crowded}
-use Rattle.first_pass_definitions.proofs.target.scan_title_behind.Goals as goal
+use Rattle.first_pass_definitions.proofs.target.scan_title_after.Goals as goal
 
 pub returns-clause-value : goal.returns-clause-value
 returns-clause-value c =

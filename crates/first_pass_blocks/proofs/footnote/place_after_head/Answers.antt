@@ -5,8 +5,8 @@ use Rattle.first_pass_lines.proofs.PlaceFacts.{line_is_place}
 use Rattle.first_pass_grammar.specs.Completion.{lines_from}
 use Rattle.first_pass_blocks.specs.FootnoteHeads.{head_end}
 use Rattle.first_pass_blocks.proofs.HeadLemmas.{ContinuesAt, continues}
-use Rattle.first_pass_blocks.proofs.footnote.place_behind_head.Goals as goal
-use Rattle.first_pass_blocks.proofs.footnote.place_behind_head.Goals.{After-new}
+use Rattle.first_pass_blocks.proofs.footnote.place_after_head.Goals as goal
+use Rattle.first_pass_blocks.proofs.footnote.place_after_head.Goals.{After-new}
 
 -- blocks continue at the place that was found
 there : (c : After-new) → ContinuesAt (gfm_footnotes c.args.source.now.options) c.args.source.now.text.now c.args.end (c.args.end + c.skipped_rest.result)

@@ -2,8 +2,8 @@ use Rattle.std.proofs.Common.{◌≡◌, drop, is_some, sym, ap, ◌∙◌}
 use Rattle.first_pass_lines.specs.Lines.{blank_len}
 use Rattle.first_pass_open.specs.Path.{context_of}
 use Rattle.first_pass_definitions.proofs.Targets.{titled, alone, not_alone}
-use Rattle.first_pass_definitions.proofs.target.scan_behind_destination.Goals as goal
-use Rattle.first_pass_definitions.proofs.target.scan_behind_destination.Goals.{After-is_some}
+use Rattle.first_pass_definitions.proofs.target.scan_after_destination.Goals as goal
+use Rattle.first_pass_definitions.proofs.target.scan_after_destination.Goals.{After-is_some}
 
 pub returns-in-Some-clause-value : goal.returns-in-Some-clause-value
 returns-in-Some-clause-value c =

@@ -1,14 +1,14 @@
 use Rattle.std.proofs.Common.{◌≡◌, ◌+◌, drop, IsUtf8, refl, sym, ap, subst, ◌∙◌, arith}
 use Rattle.first_pass_lines.specs.Lines.{begins}
 use Rattle.first_pass_open.specs.Path.{context_of}
-use Rattle.first_pass_definitions.proofs.Targets.{no_label, no_colon, no_target, is_reference, behind_byte}
+use Rattle.first_pass_definitions.proofs.Targets.{no_label, no_colon, no_target, is_reference, after_byte}
 use Rattle.first_pass_definitions.proofs.Asks.{on_err, ask_label, ask_target, ask_key}
-use Rattle.first_pass_definitions.proofs.reference.parse_behind_bracket.Goals as goal
-use Rattle.first_pass_definitions.proofs.reference.parse_behind_bracket.Goals.{After-begins}
+use Rattle.first_pass_definitions.proofs.reference.parse_after_bracket.Goals as goal
+use Rattle.first_pass_definitions.proofs.reference.parse_after_bracket.Goals.{After-begins}
 
 pub parse_refdef_label-requires : goal.parse_refdef_label-requires
 parse_refdef_label-requires c =
-    behind_byte 91 c.args.source.now.text.now c.args.start (omega arith) (subst IsUtf8 c.as_bytes-bytes.ensures.value c.as_bytes-bytes.ensures.utf8)
+    after_byte 91 c.args.source.now.text.now c.args.start (omega arith) (subst IsUtf8 c.as_bytes-bytes.ensures.value c.as_bytes-bytes.ensures.utf8)
     c.requires.bracket
 
 -- whether a colon is after the label
@@ -34,7 +34,7 @@ returns-then-not-begins-clause-value c =
 
 pub scan_refdef-requires : goal.scan_refdef-requires
 scan_refdef-requires c =
-    behind_byte 58 c.args.source.now.text.now (c.args.start + 1 + c.in-Some.label_len) (omega arith)
+    after_byte 58 c.args.source.now.text.now (c.args.start + 1 + c.in-Some.label_len) (omega arith)
     (subst IsUtf8 c.as_bytes-bytes.ensures.value c.as_bytes-bytes.ensures.utf8)
     (colon_is (goal.at.scan_refdef-requires c).After-begins ∙ c.if-not-begins.false)
 
