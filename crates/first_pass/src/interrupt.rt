@@ -78,7 +78,7 @@ fn is_in_text(tree: &Tree<Item>) -> bool
     let Some(ix) = tree.peek_up() else {
         return false;
     };
-    tree.is_forest();
+    tree.recall_forest();
     matches!(
         tree[ix].body,
         ItemBody::Paragraph | ItemBody::TightParagraph | ItemBody::MaybeDefinitionListTitle

@@ -78,7 +78,7 @@ impl<'a> FirstPass<'a> {
         ensures { IfOk result (λ next. AddsRule self.old self.new ix hrule_size next) }
     {
         let pass = &mut self.pass;
-        pass.source.is_short();
+        pass.source.recall_length();
         let next = rule::parse_hrule(&mut pass.reading.tree, hrule_size, ix)?;
         pass.reading.empty_item = None;
         Ok(next)

@@ -71,7 +71,7 @@ impl<'a> FirstPass<'a> {
         ensures within { IfOk result (λ answer. answer.0 ≤ length (text_upto (source_text self.old) end)) }
     {
         let pass = &mut self.pass;
-        pass.reading.tree.is_forest();
+        pass.reading.tree.recall_forest();
         let source = &pass.source;
         let content = Content {
             options: source.options,
@@ -96,7 +96,7 @@ impl<'a> FirstPass<'a> {
         ensures tokens { IfOk result (λ stop. AppendsTokens self.old self.new start end stop) }
     {
         let pass = &mut self.pass;
-        pass.reading.tree.is_forest();
+        pass.reading.tree.recall_forest();
         let source = &pass.source;
         let content = Content {
             options: source.options,

@@ -76,8 +76,8 @@ impl<'a> FirstPass<'a> {
         ensures bytes { OnOk result (AppendsBytes self.old self.new start end) }
     {
         let pass = &mut self.pass;
-        pass.reading.tree.is_forest();
-        pass.source.is_short();
+        pass.reading.tree.recall_forest();
+        pass.source.recall_length();
         let line = RawLine {
             kind,
             owed: remaining_space,
@@ -248,7 +248,7 @@ impl<'a> FirstPass<'a> {
         ensures leaf { IfOk result (λ next. AddsHtmlToBlank self.old self.new start_ix next) }
     {
         let pass = &mut self.pass;
-        pass.reading.tree.is_forest();
+        pass.reading.tree.recall_forest();
         let start = HtmlStart {
             at: start_ix,
             columns: remaining_space.max(indent),

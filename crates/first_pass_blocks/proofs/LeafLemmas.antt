@@ -29,7 +29,7 @@ use Rattle.first_pass_grammar.specs.Leaves.{Document, document, around, IsHeadin
 use Rattle.first_pass_grammar.specs.Blocks.{BlankLine, LeafBlock, Block, run_block, flowing_block, block_at, leaf_block}
 use Rattle.first_pass_grammar.specs.Openers.{start_at}
 use Rattle.first_pass_grammar.specs.Skeleton.{OpensBeyond, OpensRun, Line, Inside, At, ALeafAlone, TextOf, IsFirst, Opening, OpensLeaf, OpensText, OpensAs}
-use Rattle.first_pass_grammar.specs.Skeleton.{OpensBlockAt, OpensBy, Opens, Level, going, may_define as may_begin}
+use Rattle.first_pass_grammar.specs.Skeleton.{OpensBlockAt, OpensBy, Opens, Level, next_block, may_define as may_begin}
 use Rattle.first_pass_grammar.specs.Tables.{taking}
 use Rattle.first_pass_grammar.specs.Texts.{IsText}
 use Rattle.first_pass_grammar.specs.Footnotes.{footnote_head_at}
@@ -214,7 +214,7 @@ lazy_read : (d : Document) (defined : Tables) (r : Reading) (p : Place) (lines l
     → (begins_paragraph block.items ≡ true → AreEachNode ShowsNothing block.items)
     → OpensBlockAt d (path_of d.options r.tree) p lines (OpensLeaf (Block block) Line left) → r.empty_item ≡ None → ReadyLazy d defined r p lines
     → IsRead d defined (list_finished at r).tree block left
-unfolding going
+unfolding next_block
 lazy_read d defined r p lines left at block shows opens none lazy =
     let f : Forest Item = r.tree in
     let ready = lazy.ready in
@@ -290,7 +290,7 @@ kind_blank_is r b kind is = ap (blank_read_by r) is
 -- a blank line at the place of a leaf
 pub ready_blank_leaf : (d : Document) (defined : Tables) (r : Reading) (p : Place) (lines : List Place)
     → IsKind d.options p.rest Blank → r.empty_item ≡ None → ReadyLeaf d defined r p lines → Ready d defined (blank_read r) lines
-unfolding blank_read OpensAs going
+unfolding blank_read OpensAs next_block
 ready_blank_leaf d defined r p lines kind none (inl (bare, no_start, ready)) =
     ready_blank d defined r p lines (kind_says d.options p.rest Blank kind) none ready
 ready_blank_leaf d defined r p lines kind none (inr lazy) =
@@ -429,7 +429,7 @@ pub ready_text : (d : Document) (defined : Tables) (r : Reading) (new : Forest I
     → is_task_marker marker.body ≡ true → at ≡ offset (unindented p) → IsPlaceOf d.text (unindented p)
     → IsTextAt d (path_of d.options r.tree) at (Some marker) items next → new ≡ added r.tree items → r.empty_item ≡ None
     → ReadyText d defined r marker p (lines_from d.text (line_end p)) → Ready d defined (remembered new r.empty_item r.blank) (lines_from d.text next)
-unfolding going
+unfolding next_block
 ready_text d defined r new p at next marker items mark at_is place is new_is none text =
     let ready = text.ready in
     let f : Forest Item = r.tree in

@@ -88,8 +88,8 @@ module _ (d : Document) (defined : Tables) (r : Reading) (lines : List Place) (e
   top_is =
       let c = columns_are (body_at r.tree.nodes empty.place.0) empty.columns empty.item in (c.0, c.1 ∙ ap (λ z. Some z) (sym (item_is c.0 empty.columns c.2)))
 
-  goes_on : (from : From) → CanGoOn (path_of d.options r.tree) from
-  goes_on from = item_goes_on d.options r.tree empty.place empty.outer top_is.0 empty.columns from empty.spine top_is.1
+  continues : (from : From) → CanGoOn (path_of d.options r.tree) from
+  continues from = item_goes_on d.options r.tree empty.place empty.outer top_is.0 empty.columns from empty.spine top_is.1
 
   pub zero_is : emptied_top r.tree ≡ with_body_at r.tree empty.place (item_body top_is.0 0)
   zero_is =
@@ -112,7 +112,7 @@ module _ (d : Document) (defined : Tables) (r : Reading) (lines : List Place) (e
   in_item : (blank : Bool)
       → ((more : Names) → Extends more d.names → ReadyInItem (document d.text d.options more) defined r.tree e lines blank)
       → CompletedInItem d defined r.tree e lines blank
-  in_item true ready = completed_at d defined r.tree true (Blanks e) lines (goes_on (Blanks e)) ready
+  in_item true ready = completed_at d defined r.tree true (Blanks e) lines (continues (Blanks e)) ready
   in_item false ready = before_line (next_is_blank (path_of d.options r.tree) lines) ready
 
 ready_with : (d : Document) (defined : Tables) (r : Reading) (lines : List Place) (o : Option ℕ)

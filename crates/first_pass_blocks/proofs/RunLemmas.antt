@@ -124,7 +124,7 @@ run_begun text around nested p tables i = record {
   ends = omega arith;
   definitions = [];
   defined = λ open_none. sym (told_none tables);
-  goes_on = λ open_none more beyond run. run;
+  continues = λ open_none more beyond run. run;
 }
 
 -- the definition at a place, by its entry
@@ -188,9 +188,9 @@ run_goes_on text around nested p q e next before mid now u at within goes r one 
       ends = omega arith;
       definitions = r.definitions ++ x ∷ [];
       defined = λ plain. told_more before mid now r.definitions x (r.defined plain) (one.defined plain);
-      goes_on = λ plain further beyond run.
+      continues = λ plain further beyond run.
           subst (λ z. IsRun around p (lines_from text (line_end p)) z beyond) (sym (append_assoc r.definitions (x ∷ []) further))
-          (r.goes_on plain (x ∷ further) beyond (
+          (r.continues plain (x ∷ further) beyond (
             one.here plain,
             inr (line, left, lines, goes, subst (λ n. IsRun around (text_at text around.path next) (lines_from text n) further beyond) there.1 run),
           ));
@@ -225,7 +225,7 @@ run_ends text around nested p q e line next before mid now at here ends r one =
       says = (here, omega arith, subst (IsCharBoundary text) (sym at) one.boundary);
       definitions = r.definitions ++ x ∷ [];
       defined = λ plain. told_more before mid now r.definitions x (r.defined plain) (one.defined plain);
-      run = λ plain. r.goes_on plain (x ∷ []) (Ended q (lines_from text next))
+      run = λ plain. r.continues plain (x ∷ []) (Ended q (lines_from text next))
           (one.here plain, inl (ap (ends_run around) lines ∙ run_ends_by around text next ends, refl, ap (Ended q) (sym lines)));
     }
 
@@ -243,5 +243,5 @@ run_flows text around nested p q at before now here none r = record {
   definitions = r.definitions;
   defined = r.defined;
   run = λ plain. subst (λ z. IsRun around p (lines_from text (line_end p)) z (FlowsOn q (lines_from text (line_end q)))) (append-nil r.definitions)
-      (r.goes_on plain [] (FlowsOn q (lines_from text (line_end q))) (none plain, refl));
+      (r.continues plain [] (FlowsOn q (lines_from text (line_end q))) (none plain, refl));
 }

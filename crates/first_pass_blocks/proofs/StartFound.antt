@@ -13,16 +13,16 @@ use Rattle.first_pass_open.proofs.PlaceLemmas.{quote_taken}
 use Rattle.first_pass_blocks.specs.declared.openers.Start.{Start as ToldStart}
 use Rattle.first_pass_blocks.specs.declared.openers.Opener.{Opener}
 use Rattle.first_pass_blocks.specs.declared.openers.Opener.TheVariants.{Quote, Item as ItemOpener, Definition as DefinitionOpener}
-use Rattle.first_pass_blocks.specs.Starts.{marker_of, TellsOpener, TellsStart}
+use Rattle.first_pass_blocks.specs.Starts.{marker_of, OpenerMatches, StartMatches}
 use Rattle.first_pass_grammar.specs.Blocks.{Opener as ContainerOpener, QuoteMarker, ItemMarker, FootnoteMarker, DefinitionMarker}
 use Rattle.first_pass_grammar.specs.declared.kind.AfterMarker.{AfterMarker}
 
 -- the result of the call that finds the container at a place
 pub start_found : (o : Option Start) (found : Option ToldStart) (t : ToldStart) (old new : Place) → found ≡ Some t
-    → MatchOption o ((found ≡ None) × (new ≡ old)) (λ s. IsSomeAnd found (TellsStart s) × (new ≡ at_rest old s.rest))
-    → (s : Start) × (o ≡ Some s) × TellsStart s t × (new ≡ at_rest old s.rest)
+    → MatchOption o ((found ≡ None) × (new ≡ old)) (λ s. IsSomeAnd found (StartMatches s) × (new ≡ at_rest old s.rest))
+    → (s : Start) × (o ≡ Some s) × StartMatches s t × (new ≡ at_rest old s.rest)
 start_found None found t old new e h = (let z : None ≡ Some t = sym h.0 ∙ e in cc)
-start_found (Some s) found t old new e h = (s, refl, subst (λ f. IsSomeAnd f (TellsStart s)) e h.0, h.1)
+start_found (Some s) found t old new e h = (s, refl, subst (λ f. IsSomeAnd f (StartMatches s)) e h.0, h.1)
 
 -- the pass's opener for a container; any opener for a footnote definition, for which the pass has none
 abbrev pub opener_told : ContainerOpener → Opener
@@ -34,22 +34,22 @@ opener_told (DefinitionMarker columns) = DefinitionOpener columns
 abbrev pub start_told : Start → ToldStart
 start_told s = record { opener = opener_told s.head.opener; start = s.head.start; after = s.after }
 
-opener_is : (o : ContainerOpener) (t : Opener) → TellsOpener o t → t ≡ opener_told o
+opener_is : (o : ContainerOpener) (t : Opener) → OpenerMatches o t → t ≡ opener_told o
 opener_is (QuoteMarker kind) t h = h
 opener_is (ItemMarker byte number columns) t h = h
 opener_is (FootnoteMarker columns index label) t h = absurd h
 opener_is (DefinitionMarker columns) t h = h
 
-pub start_is : (s : Start) (t : ToldStart) → TellsStart s t → t ≡ start_told s
+pub start_is : (s : Start) (t : ToldStart) → StartMatches s t → t ≡ start_told s
 start_is s t h =
     let told : Opener → ℕ → AfterMarker → ToldStart = λ opener start after. record { opener = opener; start = start; after = after } in
     ap (λ (o : Opener). told o t.start t.after) (opener_is s.head.opener t.opener h.opener)
     ∙ ap (λ (n : ℕ). told (opener_told s.head.opener) n t.after) h.start ∙ ap (told (opener_told s.head.opener) s.head.start) h.after
 
 pub start_missing : (o : Option Start) (found : Option ToldStart) (old new : Place) → found ≡ None
-    → MatchOption o ((found ≡ None) × (new ≡ old)) (λ s. IsSomeAnd found (TellsStart s) × (new ≡ at_rest old s.rest)) → (o ≡ None) × (new ≡ old)
+    → MatchOption o ((found ≡ None) × (new ≡ old)) (λ s. IsSomeAnd found (StartMatches s) × (new ≡ at_rest old s.rest)) → (o ≡ None) × (new ≡ old)
 start_missing None found old new e h = (refl, h.1)
-start_missing (Some s) found old new e h = absurd (subst (λ f. IsSomeAnd f (TellsStart s)) e h.0)
+start_missing (Some s) found old new e h = absurd (subst (λ f. IsSomeAnd f (StartMatches s)) e h.0)
 
 pub matches : {A : Type 0} (N : Type 0) (P : A → Type 0) (o : Option A) (s : A) → o ≡ Some s → P s → MatchOption o N P
 matches N P o s is h = subst (λ x. MatchOption x N P) (sym is) h

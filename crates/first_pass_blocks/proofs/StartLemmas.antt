@@ -39,7 +39,7 @@ use Rattle.first_pass_lists.specs.Closing.{definition_begun}
 use Rattle.first_pass_lists.specs.declared.reading.Reading.{Reading}
 use Rattle.first_pass_blocks.specs.Positions.{Position, InLine, LeafAt, IsInLine, OrderedUpTo, ReadsTo, may_define}
 use Rattle.first_pass_order.specs.Ordered.{IsReadTo}
-use Rattle.first_pass_blocks.specs.Starts.{TellsStart, start_opened, after_at, IsAfter}
+use Rattle.first_pass_blocks.specs.Starts.{StartMatches, start_opened, after_at, IsAfter}
 use Rattle.first_pass_blocks.proofs.StartFound.{start_told, start_is}
 use Rattle.first_pass_ready.specs.State.{ReadyAt}
 use Rattle.first_pass_lists.proofs.NoEmptyItem.{list_finished_none, list_continued_none}
@@ -385,7 +385,7 @@ module _ (source : Source) (r : Reading) (p : Place) (utf8 : IsUtf8 source.text.
 
   -- the same in terms of the calls that open it
   pub opened_start : (s : Start) (new : Place) (t : ToldStart) (q : Reading) → start_at source.options may p ≡ Some s
-      → TellsStart s t
+      → StartMatches s t
       → new ≡ at_rest p s.rest → q ≡ start_opened new.line t (line_end new) r
       → IsAfter t.after q × (length new.rest.left < length p.rest.left) × IsInLine text p.line (line_end p) new
       × ReadsTo source line r q (InLine p) (after_at new (line_end p) t.after)

@@ -25,7 +25,7 @@ pub record RunSoFar (text : List ℕ) (around : Context) (nested : Bool) (p q : 
   pub ends : line_end p ≤ line_end q
   pub definitions : List LinkEntry
   pub defined : nested ≡ false → now ≡ told before definitions
-  pub goes_on : nested ≡ false → (more : List LinkEntry) (beyond : Beyond)
+  pub continues : nested ≡ false → (more : List LinkEntry) (beyond : Beyond)
       → IsRun around q (lines_from text (line_end q)) more beyond → IsRun around p (lines_from text (line_end p)) (definitions ++ more) beyond
 
 -- what follows the definitions, given the place of the last of them or of the paragraph text after them

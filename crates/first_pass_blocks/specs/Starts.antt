@@ -29,15 +29,15 @@ marker_of m = record { byte = m.0; number = m.1; indent = m.2 }
 
 -- the pass's opener matches the grammar's; the pass has none for footnote definitions, which it opens separately
 -- (this project)
-abbrev pub TellsOpener : ContainerOpener → Opener → Type 0
-TellsOpener (QuoteMarker kind) o = o ≡ Quote kind
-TellsOpener (ItemMarker byte number columns) o = o ≡ ItemOpener (marker_of (byte, number, columns))
-TellsOpener (FootnoteMarker columns index label) o = ⊥
-TellsOpener (DefinitionMarker columns) o = o ≡ DefinitionOpener columns
+abbrev pub OpenerMatches : ContainerOpener → Opener → Type 0
+OpenerMatches (QuoteMarker kind) o = o ≡ Quote kind
+OpenerMatches (ItemMarker byte number columns) o = o ≡ ItemOpener (marker_of (byte, number, columns))
+OpenerMatches (FootnoteMarker columns index label) o = ⊥
+OpenerMatches (DefinitionMarker columns) o = o ≡ DefinitionOpener columns
 
 -- the start of a container in terms of the pass matches the grammar's (this project)
-pub record TellsStart (s : ContainerStart) (t : Start) : Type 0 where
-  pub opener : TellsOpener s.head.opener t.opener
+pub record StartMatches (s : ContainerStart) (t : Start) : Type 0 where
+  pub opener : OpenerMatches s.head.opener t.opener
   pub start : t.start ≡ s.head.start
   pub after : t.after ≡ s.after
 

@@ -33,7 +33,7 @@ pub(crate) fn close_containers(reading: &mut Reading, kept: usize, ix: usize)
     ensures kept { ClosesAt reading.old reading.new kept ix }
 {
     while kept < reading.tree.spine_len() {
-        reading.tree.is_forest();
+        reading.tree.recall_forest();
         reading.pop(ix);
     }
 }
@@ -145,7 +145,7 @@ impl<'a> BlockPass<'a> {
     {
         loop {
             if !self.open_footnote(place)? {
-                self.reading.tree.is_forest();
+                self.reading.tree.recall_forest();
                 let may_define = may_define(&self.source, &self.reading);
                 let Some(start) = start_at(&self.source, place, may_define) else {
                     return Ok(AfterMarker::OnLine);
@@ -208,6 +208,6 @@ pub(crate) fn line_over<'a>(source: &Source<'a>, place: &Place<'a>) -> usize
     requires { IsPlaceOf source.now.text.now place.now }
     ensures { result ≡ line_end place.now }
 {
-    source.is_short();
+    source.recall_length();
     next_line(source.text.as_bytes(), place.offset())
 }

@@ -72,7 +72,7 @@ impl<'a> BlockPass<'a> {
             (in_table (tree_of self.old).nodes (tree_of self.old).spine) p (tables_of (allocs_of self.old))
             (tables_of (allocs_of self.new)) following) }
     {
-        self.source.is_short();
+        self.source.recall_length();
         let mut line = line;
         let mut at = at;
         while let Some((size, label, definition)) = parse_refdef_total(

@@ -29,8 +29,8 @@ impl<'a> BlockPass<'a> {
         requires no_empty { (reading_of self.old).empty_item ≡ None }
         ensures { IfOk result (λ opens. TriesFootnote self.old self.new place.old place.new opens) }
     {
-        self.source.is_short();
-        self.reading.tree.is_forest();
+        self.source.recall_length();
+        self.reading.tree.recall_forest();
         let Some(start) = footnote_mark(&self.source, place) else {
             return Ok(false);
         };
@@ -78,7 +78,7 @@ fn footnote_mark<'a>(source: &Source<'a>, place: &Place<'a>) -> Option<usize>
     ensures value { result ≡ footnote_mark_at source.now.options place.now }
     ensures boundary { IfSome result (λ at. IsCharBoundary source.now.text.now at) }
 {
-    source.is_short();
+    source.recall_length();
     if !source.options.contains(Options::ENABLE_FOOTNOTES) {
         return None;
     }

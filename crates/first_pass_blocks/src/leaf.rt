@@ -72,7 +72,7 @@ impl<'a> BlockPass<'a> {
         requires { (columns : ℕ) × (at : ℕ) × IsFoundIn self.old place IndentedCode columns at }
         ensures { IfOk result (λ next. AddsLeaf self.old self.new place.entry (marked_kind IndentedCode) next) }
     {
-        self.source.is_short();
+        self.source.recall_length();
         let mut place = place;
         place.rest.scan_space_upto(4);
         let owed = place.rest.remaining_space();
@@ -125,7 +125,7 @@ impl<'a> BlockPass<'a> {
         ensures { IfOk result (λ next. (p : Place) (columns : ℕ) → IsFoundIn self.old p (ThematicBreak size) columns at
             → AddsLeaf self.old self.new p (marked_kind (ThematicBreak size)) next) }
     {
-        self.source.is_short();
+        self.source.recall_length();
         let next = parse_hrule(&mut self.reading.tree, size, at)?;
         Ok(next)
     }

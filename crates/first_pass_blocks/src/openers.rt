@@ -5,7 +5,7 @@ ghost use Rattle.first_pass_lines.specs.Places.{IsPlaceOf};
 ghost use Rattle.first_pass_grammar.specs.Containers.{at_rest};
 ghost use Rattle.first_pass_grammar.specs.Kinds.{item_at, definition_marker_at};
 ghost use Rattle.first_pass_grammar.specs.Openers.{task_after, tag_after, after_quote, start_at};
-ghost use Rattle.first_pass_blocks.specs.Starts.{marker_of, item_after, TellsStart};
+ghost use Rattle.first_pass_blocks.specs.Starts.{marker_of, item_after, StartMatches};
 
 use bitflags::Flags;
 use first_pass_grammar::AfterMarker;
@@ -52,9 +52,9 @@ pub(crate) fn start_at<'a>(
     requires place { IsPlaceOf source.now.text.now place.old }
     ensures { MatchOption (start_at source.now.options may_define place.old)
         ((result ≡ None) × (place.new ≡ place.old))
-        (λ s. IsSomeAnd result (TellsStart s) × (place.new ≡ at_rest place.old s.rest)) }
+        (λ s. IsSomeAnd result (StartMatches s) × (place.new ≡ at_rest place.old s.rest)) }
 {
-    source.is_short();
+    source.recall_length();
     let before = place.offset();
     if let Some(marker) = scan_item(&mut place.rest) {
         let task = scan_task(source, place);
@@ -130,7 +130,7 @@ fn scan_task<'a>(source: &Source<'a>, place: &mut Place<'a>) -> Option<Item>
     if !source.options.contains(Options::ENABLE_TASKLISTS) {
         return None;
     }
-    source.is_short();
+    source.recall_length();
     let start = place.offset();
     let checked = place.rest.scan_task_list_marker()?;
     Some(Item {

@@ -141,7 +141,7 @@ impl<'a> BlockPass<'a> {
         ensures { IfOk result (λ next.
             ReadsBlock self.old self.new (line_end place.entry) (TaskAt place.entry marker) next) }
     {
-        self.source.is_short();
+        self.source.recall_length();
         let mut place = place;
         scan_indentation(&mut place.rest);
         let next = parse_paragraph(
@@ -162,7 +162,7 @@ impl<'a> BlockPass<'a> {
         requires no_empty { (reading_of self.old).empty_item ≡ None }
         ensures { IfOk result (λ next. ReadsLeaf self.old self.new place.entry next) }
     {
-        self.source.is_short();
+        self.source.recall_length();
         let mut following = place.copy();
         let (found, columns) = kind_at(&self.source, &mut following, &mut self.metadata_ends);
         let next = self.parse_kind(place, found, columns, following.offset())?;
@@ -185,7 +185,7 @@ impl<'a> BlockPass<'a> {
         requires found { IsFoundAt (source_options self.old) place found columns at }
         ensures { IfOk result (λ next. ReadsLeaf self.old self.new place.entry next) }
     {
-        self.reading.tree.is_forest();
+        self.reading.tree.recall_forest();
         match found {
             Found::Blank => {
                 self.reading.read_blank_line();
@@ -197,7 +197,7 @@ impl<'a> BlockPass<'a> {
             }
             Found::HtmlToBlank => {
                 self.reading.finish_list(place.line);
-                self.reading.tree.is_forest();
+                self.reading.tree.recall_forest();
                 let next = parse_html_block_type_6_or_7(
                     &self.source,
                     &mut self.reading.tree,
@@ -224,7 +224,7 @@ impl<'a> BlockPass<'a> {
         requires at { at ≡ offset (unindented place) }
         ensures { IfOk result (λ next. ReadsLeaf self.old self.new place.entry next) }
     {
-        self.reading.tree.is_forest();
+        self.reading.tree.recall_forest();
         match self.parse_definitions(place.line, at)? {
             RunEnd::NextLine(line, next) => {
                 self.reading.finish_list(line);

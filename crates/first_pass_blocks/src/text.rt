@@ -44,7 +44,7 @@ fn append_table(
     ensures fits { IfOk result (λ next. (from : ℕ) → from ≤ start
         → AddsBetween source.now.text.now from next tree.old tree.new) }
 {
-    tree.is_forest();
+    tree.recall_forest();
     let rows = TableRows {
         columns: table.alignments.len(),
         head_start: start,

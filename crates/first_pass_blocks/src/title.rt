@@ -18,7 +18,7 @@ fn current_end(tree: &Tree<Item>) -> usize
     let Some(ix) = tree.cur() else {
         return 0;
     };
-    tree.is_forest();
+    tree.recall_forest();
     tree[ix].end
 }
 
@@ -29,7 +29,7 @@ fn is_paragraph_last(tree: &Tree<Item>) -> bool
     let Some(ix) = tree.cur() else {
         return false;
     };
-    tree.is_forest();
+    tree.recall_forest();
     matches!(tree[ix].body, ItemBody::Paragraph)
 }
 
@@ -50,7 +50,7 @@ impl<'a> BlockPass<'a> {
             text,
             None,
         )?;
-        self.reading.tree.is_forest();
+        self.reading.tree.recall_forest();
         if is_paragraph_last(&self.reading.tree) {
             self.reading.keep_possible_title(end);
         } else {

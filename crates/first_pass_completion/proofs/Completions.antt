@@ -15,7 +15,7 @@ use Rattle.first_pass_grammar.specs.Blocks.{LeafBlock, BlankLine, Block, block_a
 use Rattle.first_pass_grammar.specs.Before.{LastOther, LastParagraph, Before, last_container, list_is_open, after_blank, after_block}
 use Rattle.first_pass_grammar.specs.Before.{is_paragraph_body, begins_paragraph, is_run, last_after_run, last_block, before_end}
 use Rattle.first_pass_grammar.specs.Skeleton.{From, Line, Inside, Blanks, At, TextOf, MarkAlone, after_marker, Opening, OpensLeaf, OpensText, Opens}
-use Rattle.first_pass_grammar.specs.Skeleton.{level, Left, InLine, Ends, ends_old_footnote, going, onward, after_first, end_of_left, end_before, IsFirst}
+use Rattle.first_pass_grammar.specs.Skeleton.{level, Left, InLine, Ends, ends_old_footnote, next_block, onward, after_first, end_of_left, end_before, IsFirst}
 use Rattle.first_pass_grammar.specs.Skeleton.{IsSequence}
 use Rattle.first_pass_grammar.specs.Kinds.{Paragraph, unindented, is_blank_rest}
 use Rattle.first_pass_grammar.specs.Rows.{ItemsOf, Rows, any_gap, rows_of}
@@ -177,7 +177,7 @@ pub completes-text : (d : Document) (defined : Tables) (closed : Closed) (frames
     → CompletesAt d defined (tail closed false) frames nodes os (At p (TextOf marker)) lines
     → CompletesAt d (told defined b.definitions) (tail (closed_after (length nodes) b closed) b.gap) frames (nodes ++ block_items (suc (length os)) false b) os
     Line left
-unfolding going
+unfolding next_block
 completes-text d defined closed frames nodes os marker p lines left b plain other opens c =
     completes-leaf d defined closed frames nodes os (At p (TextOf marker)) lines left b plain (λ path mid. refl) other
     (record { place = p; following = lines; begins = refl; opens = opens }) c
@@ -192,7 +192,7 @@ pub completes-mark : (d : Document) (defined : Tables) (closed : Closed) (frames
     → IsPlain frames → is_paragraph_body marker.body ≡ false
     → CompletesAt d defined (tail closed false) frames nodes os (At p (MarkAlone marker blanks)) lines
     → CompletesAt d defined fresh frames (nodes ++ (suc (length os), marker) ∷ []) os (after_marker blanks) lines
-unfolding with_links going
+unfolding with_links next_block
 completes-mark d defined closed frames nodes os marker p blanks lines plain other c =
     let deep : suc (length os) + 0 ≡ suc (length os) = omega arith in
     let b : LeafBlock = block_at Paragraph p ((0, marker) ∷ []) false in
@@ -272,7 +272,7 @@ completes-only_blank d defined t c frames nodes os e line p lines other is blank
 -- At the end of the text, if nothing is open, the nodes are the forest.
 pub completes-end : (d : Document) (defined : Tables) (t : Tail) (nodes : List (ℕ × Item))
     → CompletesAt d defined t [] nodes [] Line [] → Derives d nodes defined
-unfolding Finish IsSequence going rows_of items_of definitions_first definitions_of footnotes_of with_links with_labels
+unfolding Finish IsSequence next_block rows_of items_of definitions_first definitions_of footnotes_of with_links with_labels
 completes-end d defined t nodes c =
     finish_derives _ _ _ _ _ _ _ _ c nodes defined
     (Nil, refl, sym ((beside_all 1 (length d.text) nodes t.closed End refl).0 ∙ append-nil nodes), refl)
@@ -293,7 +293,7 @@ closed_last (Definition columns) (InDefinitions loose ∷ frames) e stands = ref
 -- the innermost container, after it is closed
 pop_step : (d : Document) (defined : Tables) (c : Container) (frames : List Frame) (t : Tail) (nodes : List (ℕ × Item)) (o : ℕ) (os : List ℕ) (from : From)
     (lines : List Place) (left : Left) (forest : List (ℕ × Item)) (tables : Tables)
-    → StandsIn c frames → going d.options (lvl (InContainer c ∷ frames) t) from lines ≡ Ends left
+    → StandsIn c frames → next_block d.options (lvl (InContainer c ∷ frames) t) from lines ≡ Ends left
     → (let e : ℕ = end_before (length d.text) (containers_of frames) from left in
     FinishesAt d defined (tail (closed_as c e) t.run) frames (ended nodes o e) os (onward left).0 (onward left).1 forest tables)
     → FinishesAt d defined t (InContainer c ∷ frames) nodes (o ∷ os) from lines forest tables
@@ -313,7 +313,7 @@ pop_step d defined c frames t nodes o os from lines left forest tables stands en
 -- the innermost container is closed
 pub completes-pop : (d : Document) (defined : Tables) (t : Tail) (c : Container) (frames : List Frame) (nodes : List (ℕ × Item)) (o : ℕ) (os : List ℕ)
     (from : From) (lines : List Place) (left : Left)
-    → going d.options (lvl (InContainer c ∷ frames) t) from lines ≡ Ends left
+    → next_block d.options (lvl (InContainer c ∷ frames) t) from lines ≡ Ends left
     → CompletesAt d defined t (InContainer c ∷ frames) nodes (o ∷ os) from lines
     → (let e : ℕ = end_before (length d.text) (containers_of frames) from left in
     CompletesAt d defined (tail (closed_as c e) t.run) frames (ended nodes o e) os (onward left).0 (onward left).1)

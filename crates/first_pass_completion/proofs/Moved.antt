@@ -19,7 +19,7 @@ use Rattle.first_pass_grammar.specs.Rows.{leaf_row, gap_before, row_of, containe
 use Rattle.first_pass_grammar.specs.Openers.{Start, definition_head, definition_start, after_item, start_at}
 use Rattle.first_pass_grammar.specs.Skeleton.{From, Inside, Opening, OpensLeaf, OpensNode, OpensBy, OpensFootnote, Opens, level, may_define, opening_by}
 use Rattle.first_pass_grammar.specs.Skeleton.{opening_of}
-use Rattle.first_pass_grammar.specs.Skeleton.{next_is_blank, Level, Left, Begins, Ends, going, IsFirst, IsSequence}
+use Rattle.first_pass_grammar.specs.Skeleton.{next_is_blank, Level, Left, Begins, Ends, next_block, IsFirst, IsSequence}
 use Rattle.first_pass_grammar.proofs.Alike.{opener_alone, head_alone, AlikeOpening}
 use Rattle.first_pass_completion.proofs.Extending.{StaysAt}
 use Rattle.first_pass_completion.proofs.FlatBlocks.{FlatBlock, OwnParagraph, opened_own}
@@ -222,7 +222,7 @@ FirstHas P (Then leaf next) = (there : From) × (left : List Place) × P (OpensL
 FirstHas P (Node head e kids next) = (inside : From) × (following : List Place) × P (OpensNode head inside following)
 
 some_block : (d : Document) (l : Level) (p : Place) (lines : List Place) (left : Left) → StaysAt d l.path p
-    → going d.options l (Inside p) lines ≡ Ends left → ⊥
+    → next_block d.options l (Inside p) lines ≡ Ends left → ⊥
 some_block d l p lines left stays ends = let both : Begins p lines ≡ Ends left = sym (begins_inside d.options l p lines stays) ∙ ends in cc
 
 flat_leaf : (d : Document) (l : Level) (p : Place) (lines : List Place) (leaf : Leaf) (there : From) (left : List Place)

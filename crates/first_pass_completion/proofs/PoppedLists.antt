@@ -10,7 +10,7 @@ use Rattle.first_pass_grammar.specs.Footnotes.{ends_footnote}
 use Rattle.first_pass_grammar.specs.Leaves.{Document, around}
 use Rattle.first_pass_grammar.specs.Before.{Last, LastParagraph, LastItem, LastDefinition, Before}
 use Rattle.first_pass_grammar.specs.Before.{before_end}
-use Rattle.first_pass_grammar.specs.Skeleton.{From, Line, Inside, level, Left, Lines, InLine, Ends, going, blanks_alone}
+use Rattle.first_pass_grammar.specs.Skeleton.{From, Line, Inside, level, Left, Lines, InLine, Ends, next_block, blanks_alone}
 use Rattle.first_pass_grammar.specs.Skeleton.{end_of_left, IsSequence}
 use Rattle.first_pass_grammar.specs.Kinds.{unindented}
 use Rattle.first_pass_grammar.specs.Rows.{Joins, ItemsOf, DefinitionsTo, End, any_gap, is_loose}
@@ -35,7 +35,7 @@ last_in (DefinitionsTo e) blanks = LastDefinition blanks
 -- A list that may continue is closed before the end of the container around it.
 shut_step : (d : Document) (defined : Tables) (frames : List Frame) (list : Pending) (t : Tail) (last : Last) (run : Bool) (nodes nodes' : List (ℕ × Item))
     (os : List ℕ) (from : From) (lines : List Place) (left : Left) (forest : List (ℕ × Item)) (tables : Tables)
-    → IsPlain frames → t.run ≡ run → ((before : Before) → going d.options (level (containers_of frames) before) from lines ≡ Ends left)
+    → IsPlain frames → t.run ≡ run → ((before : Before) → next_block d.options (level (containers_of frames) before) from lines ≡ Ends left)
     → ((e : ℕ) → (blanks_alone from ≡ None → e ≡ end_of_left (length d.text) [] None left)
     → rendered (suc (length os)) e nodes list End ≡ rendered (suc (length os)) e nodes' (NoList t.closed) End)
     → any_gap (rows_beyond list End) ≡ any_gap (rows_beyond (NoList t.closed) End)
@@ -62,7 +62,7 @@ shut_step d defined frames list t last run nodes nodes' os from lines left fores
 
 pop_list_step : (d : Document) (defined : Tables) (frames : List Frame) (list : Joins) (loose run blanks : Bool) (nodes : List (ℕ × Item)) (o : ℕ)
     (os : List ℕ) (from : From) (lines : List Place) (left : Left) (forest : List (ℕ × Item)) (tables : Tables)
-    → IsPlain frames → blanks_alone from ≡ None → ((before : Before) → going d.options (level (containers_of frames) before) from lines ≡ Ends left)
+    → IsPlain frames → blanks_alone from ≡ None → ((before : Before) → next_block d.options (level (containers_of frames) before) from lines ≡ Ends left)
     → FinishesAt d defined (tail OtherClosed run) frames
     (list_closed nodes o (suc (suc (suc (length os)))) loose (end_of_left (length d.text) [] None left)) os from lines forest tables
     → Finish d defined (OneList o list loose) (stands_after (last_in list blanks) run) frames nodes os from lines forest tables
@@ -75,7 +75,7 @@ pop_list_step d defined frames list loose run blanks nodes o os from lines left 
 
 pop_title_step : (d : Document) (defined : Tables) (frames : List Frame) (loose run : Bool) (nodes : List (ℕ × Item)) (o at e : ℕ)
     (os : List ℕ) (from : From) (lines : List Place) (left : Left) (forest : List (ℕ × Item)) (tables : Tables)
-    → IsPlain frames → ((before : Before) → going d.options (level (containers_of frames) before) from lines ≡ Ends left)
+    → IsPlain frames → ((before : Before) → next_block d.options (level (containers_of frames) before) from lines ≡ Ends left)
     → FinishesAt d defined (tail (ParagraphAt at) run) frames (title_left (list_closed nodes o (suc (suc (suc (length os)))) loose e) at) os from lines
     forest tables
     → Finish d defined (OneTitle o at e loose) (stands_after (LastParagraph true) run) frames nodes os from lines forest tables
@@ -98,7 +98,7 @@ title_below nodes o os depth loose e at below =
 -- a list is closed with the container around it, wherever that ends
 completes-pop_any : (d : Document) (defined : Tables) (t : Tail) (byte : ℕ) (loose : Bool) (frames : List Frame) (nodes : List (ℕ × Item)) (o : ℕ)
     (os : List ℕ) (from : From) (lines : List Place) (left : Left)
-    → blanks_alone from ≡ None → ((before : Before) → going d.options (level (containers_of frames) before) from lines ≡ Ends left)
+    → blanks_alone from ≡ None → ((before : Before) → next_block d.options (level (containers_of frames) before) from lines ≡ Ends left)
     → CompletesAt d defined t (InList byte loose ∷ frames) nodes (o ∷ os) from lines
     → CompletesAt d defined (tail OtherClosed t.run) frames
     (list_closed nodes o (suc (suc (suc (length os)))) loose (end_of_left (length d.text) [] None left)) os from lines
@@ -112,7 +112,7 @@ completes-pop_any d defined t byte loose frames nodes o os from lines left none 
 
 completes-pop_definitions_any : (d : Document) (defined : Tables) (e : ℕ) (blanks run loose : Bool) (frames : List Frame) (nodes : List (ℕ × Item)) (o : ℕ)
     (os : List ℕ) (from : From) (lines : List Place) (left : Left)
-    → blanks_alone from ≡ None → ((before : Before) → going d.options (level (containers_of frames) before) from lines ≡ Ends left)
+    → blanks_alone from ≡ None → ((before : Before) → next_block d.options (level (containers_of frames) before) from lines ≡ Ends left)
     → CompletesAt d defined (tail (DefinitionClosed e blanks) run) (InDefinitions loose ∷ frames) nodes (o ∷ os) from lines
     → CompletesAt d defined (tail OtherClosed run) frames
     (list_closed nodes o (suc (suc (suc (length os)))) loose (end_of_left (length d.text) [] None left)) os from lines
@@ -126,7 +126,7 @@ completes-pop_definitions_any d defined e blanks run loose frames nodes o os fro
 
 completes-pop_title_any : (d : Document) (defined : Tables) (e at : ℕ) (run loose : Bool) (frames : List Frame) (nodes : List (ℕ × Item)) (o : ℕ)
     (os : List ℕ) (from : From) (lines : List Place) (left : Left)
-    → ((before : Before) → going d.options (level (containers_of frames) before) from lines ≡ Ends left)
+    → ((before : Before) → next_block d.options (level (containers_of frames) before) from lines ≡ Ends left)
     → CompletesAt d defined (tail (TitleAt e at) run) (InDefinitions loose ∷ frames) nodes (o ∷ os) from lines
     → CompletesAt d defined (tail (ParagraphAt at) run) frames (title_left (list_closed nodes o (suc (suc (suc (length os)))) loose e) at) os from lines
 unfolding Finish

@@ -301,10 +301,10 @@ goes_on_by false true true prefix close at n e b (x ∷ bs) c h k l f =
     subst (GoesOn prefix close at n (b ∷ x ∷ bs)) i (λ p q. rw d (rw y (fed_title close (at + 1) _ _ c (fed_both prefix at n bs p))))
 goes_on_by false false v prefix close at n e b bs c h k l f = cc
 
-goes_on : (prefix : List ℕ → Option ℕ) (close at n e : ℕ) (bs : List ℕ) → ClosesTitle close → eol_len bs ≡ Some e → 0 < length bs
+continues : (prefix : List ℕ → Option ℕ) (close at n e : ℕ) (bs : List ℕ) → ClosesTitle close → eol_len bs ≡ Some e → 0 < length bs
     → GoesOn prefix close at n bs e
-goes_on prefix close at n e [] c h l = absurd (omega arith)
-goes_on prefix close at n e (b ∷ bs) c h l = goes_on_by (b == 10) (b == 13) (begins 10 bs) prefix close at n e b bs c refl refl refl h
+continues prefix close at n e [] c h l = absurd (omega arith)
+continues prefix close at n e (b ∷ bs) c h l = goes_on_by (b == 10) (b == 13) (begins 10 bs) prefix close at n e b bs c refl refl refl h
 
 -- the title does not continue
 abbrev StopsThere : (List ℕ → Option ℕ) → ℕ → ℕ → List ℕ → ℕ → Type 0
@@ -446,7 +446,7 @@ some_by_break o None prefix close at next e text c l h p k g = cc
 some_by_break o (Some n) prefix close at next e text c l h p k g =
     let i : at + e + n ≡ next = cc in
     let d : drop n (drop e (drop at text)) ≡ drop (at + e + n) text = ap (drop n) (drop-drop e at text) ∙ drop-drop n (at + e) text in
-    let a = goes_on prefix close at n e (drop at text) c h l (ap prefix (drop-drop e at text) ∙ p)
+    let a = continues prefix close at n e (drop at text) c h l (ap prefix (drop-drop e at text) ∙ p)
     (ap (begins 10) d ∙ ap (λ k. begins 10 (drop k text)) i ∙ g) in
     a ∙ ap (λ xs. after_text (10 ∷ []) (title_of close (left_of prefix (at + e + n) xs))) d
     ∙ ap (λ k. after_text (10 ∷ []) (title_of close (left_of prefix k (drop k text)))) i

@@ -73,7 +73,7 @@ fn parse_after_bracket<'a>(
     ensures err { OnErr result (ReferenceAsks (in_table tree.now.nodes tree.now.spine)
         (context_of source.now.options tree.now) (drop start source.now.text.now)) }
 {
-    source.is_short();
+    source.recall_length();
     let bytes = source.text.as_bytes();
     let Some((label_len, label)) = parse_refdef_label(source, tree, start + 1)? else {
         return Ok(None);

@@ -34,7 +34,7 @@ pub fn scan_refdef_space(
     ensures err { OnErr result (space_asks (context_of source.now.options tree.now)
         (drop start source.now.text.now) ≡ true) }
 {
-    source.is_short();
+    source.recall_length();
     let bytes = source.text.as_bytes();
     let end = start + scan_whitespace_no_nl(rest_of(bytes, start));
     let Some(line_end) = scan_eol(rest_of(bytes, end)) else {

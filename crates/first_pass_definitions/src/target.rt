@@ -55,7 +55,7 @@ pub fn scan_refdef<'a>(
     ensures err { OnErr result (TargetAsks (in_table tree.now.nodes tree.now.spine)
         (context_of source.now.options tree.now) (drop start source.now.text.now)) }
 {
-    source.is_short();
+    source.recall_length();
     let Some((dest_start, _)) = scan_refdef_space(source, tree, start)? else {
         return Ok(None);
     };
@@ -117,7 +117,7 @@ fn scan_title_after<'a>(
     ensures err { OnErr result (after_asks (context_of source.now.options tree.now)
         (drop at source.now.text.now) ≡ true) }
 {
-    source.is_short();
+    source.recall_length();
     let Some((start, _)) = scan_refdef_space(source, tree, at)? else {
         return Ok(None);
     };

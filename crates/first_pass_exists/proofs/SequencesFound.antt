@@ -7,7 +7,8 @@ use Rattle.first_pass_grammar.specs.Names.{Names, Extends}
 use Rattle.first_pass_grammar.specs.Leaves.{document}
 use Rattle.first_pass_grammar.specs.Blocks.{Leaf, Head, opened, Skeleton, Nil, Then, Node}
 use Rattle.first_pass_grammar.specs.Skeleton.{From, Line, Blanks, At, Anything, ALeafAlone, TextOf, MarkAlone, Opening, OpensLeaf, OpensNode, OpensAt}
-use Rattle.first_pass_grammar.specs.Skeleton.{Level, level, level_in, level_after_leaf, level_after, Left, Lines, InLine, Going, Begins, Ends, going, onward}
+use Rattle.first_pass_grammar.specs.Skeleton.{Level, level, level_in, level_after_leaf, level_after, Left, Lines, InLine, NextBlock, Begins, Ends}
+use Rattle.first_pass_grammar.specs.Skeleton.{next_block, onward}
 use Rattle.first_pass_grammar.specs.Skeleton.{after_first, blanks_alone, end_before, IsFirst, IsSequence}
 use Rattle.first_pass_grammar.proofs.Goings.{BeginsAt, LeavesAt, begins_at, leaves_at, all_taken_at}
 use Rattle.first_pass_grammar.proofs.MoreNames.{extends_none, extends_both}
@@ -170,7 +171,7 @@ module _ (text : List ℕ) (options : Options) where
   leads_at names l (Blanks e) p lines = leads_any text options names l p lines
   leads_at names l (At q may) p lines = leads_if text options names l may p lines
 
-  first_block : (names : Names) (l : Level) (from : From) (lines following : List Place) (p : Place) → going options l from lines ≡ Begins p following
+  first_block : (names : Names) (l : Level) (from : From) (lines following : List Place) (p : Place) → next_block options l from lines ≡ Begins p following
       → Others (length p.rest.left) following → SequenceFrom text options names l from lines
   first_block names l from lines following p is others =
       let leads : Leads names (length p.rest.left) following (λ later o. IsFirst (document text options later) l from lines o) =
@@ -179,7 +180,7 @@ module _ (text : List ℕ) (options : Options) where
       leads.opens leads.shrinks others
 
   -- a sequence without blocks
-  no_block : (names : Names) (l : Level) (from : From) (lines : List Place) (left : Left) → going options l from lines ≡ Ends left
+  no_block : (names : Names) (l : Level) (from : From) (lines : List Place) (left : Left) → next_block options l from lines ≡ Ends left
       → SequenceFrom text options names l from lines
   unfolding IsSequence
   no_block names l from lines left is = record {
@@ -189,7 +190,7 @@ module _ (text : List ℕ) (options : Options) where
     extends = extends_none names;
     is = λ later x. is;
     shorter = no_more l.path from lines left (leaves_at options l from lines left is);
-    ends = λ top h. all_taken_at options l.before from lines left (subst (λ p. going options (level p l.before) from lines ≡ Ends left) top is) h;
+    ends = λ top h. all_taken_at options l.before from lines left (subst (λ p. next_block options (level p l.before) from lines ≡ Ends left) top is) h;
   }
 
   -- blocks, by how much of the text is left
@@ -208,7 +209,7 @@ module _ (text : List ℕ) (options : Options) where
   others_at n k path (At q may) lines following p (is, same) within near fewer nearer names l there left (few, inr fewest) =
       let m = ap length same in fewer names l there left (omega arith)
 
-  goes : (n k : ℕ) (names : Names) (l : Level) (from : From) (lines : List Place) (g : Going) → going options l from lines ≡ g
+  goes : (n k : ℕ) (names : Names) (l : Level) (from : From) (lines : List Place) (g : NextBlock) → next_block options l from lines ≡ g
       → length lines ≤ n → reach from ≤ k → Fewer n → Nearer n k → SequenceFrom text options names l from lines
   goes n k names l from lines (Ends left) is within near fewer nearer = no_block names l from lines left is
   goes n k names l from lines (Begins p following) is within near fewer nearer =
@@ -217,7 +218,7 @@ module _ (text : List ℕ) (options : Options) where
 
   nearer_by : (n k : ℕ) → Fewer n → Nearer n k → Nearer n (suc k)
   nearer_by n k fewer nearer names l from lines within near =
-      goes n k names l from lines (going options l from lines) refl within (omega arith) fewer nearer
+      goes n k names l from lines (next_block options l from lines) refl within (omega arith) fewer nearer
 
   nearer_to : (n k : ℕ) → Fewer n → Nearer n k
   nearer_to n zero fewer = λ names l from lines within near. absurd (omega arith)

@@ -83,23 +83,23 @@ unfolding flat_definitions
 definition_one a c x e f = record { definitions = e; names = f ∙ ap (λ l. a.names.items ++ l) (sym (append-nil (definition_bytes x))) }
 
 -- Some of all definitions are appended, and these are the others.
-pub record AreUnderWay (a b : NamedDefinitions) (others all : List LinkEntry) : Type 0 where
+pub record IsPartlyWritten (a b : NamedDefinitions) (others all : List LinkEntry) : Type 0 where
   pub so_far : List LinkEntry
   pub appended : AppendsDefinitions a b so_far
   pub together : so_far ++ others ≡ all
 
-pub none_so_far : (a : NamedDefinitions) (all others : List LinkEntry) → others ≡ all → AreUnderWay a a others all
+pub none_so_far : (a : NamedDefinitions) (all others : List LinkEntry) → others ≡ all → IsPartlyWritten a a others all
 none_so_far a all others e = record { so_far = []; appended = definitions_none a; together = e }
 
 pub one_more : (a b c : NamedDefinitions) (x : LinkEntry) (others rest all : List LinkEntry) → rest ≡ x ∷ others → AppendsDefinitions b c (x ∷ [])
-    → AreUnderWay a b rest all → AreUnderWay a c others all
+    → IsPartlyWritten a b rest all → IsPartlyWritten a c others all
 one_more a b c x others rest all e h w = record {
   so_far = w.so_far ++ x ∷ [];
   appended = definitions_more a b c w.so_far (x ∷ []) w.appended h;
   together = append_assoc w.so_far (x ∷ []) others ∙ ap (λ l. w.so_far ++ l) (sym e) ∙ w.together;
 }
 
-pub all_appended : (a b : NamedDefinitions) (others all : List LinkEntry) → others ≡ [] → AreUnderWay a b others all → AppendsDefinitions a b all
+pub all_appended : (a b : NamedDefinitions) (others all : List LinkEntry) → others ≡ [] → IsPartlyWritten a b others all → AppendsDefinitions a b all
 all_appended a b others all e w =
     subst (AppendsDefinitions a b) (sym (append-nil w.so_far) ∙ ap (λ l. w.so_far ++ l) (sym e) ∙ w.together) w.appended
 

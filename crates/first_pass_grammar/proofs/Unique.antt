@@ -37,9 +37,10 @@ use Rattle.first_pass_grammar.specs.Skeleton.{OpensBeyond, OpensRun, From, Line,
 use Rattle.first_pass_grammar.specs.Skeleton.{OpensLeaf, OpensNode, OpensText, OpensExtent, OpensAs, OpensBlockAt, next_is_blank}
 use Rattle.first_pass_grammar.specs.Skeleton.{task_alone, after_tag}
 use Rattle.first_pass_grammar.specs.Openers.{task_by, task_after, tag_after}
-use Rattle.first_pass_grammar.specs.Skeleton.{Opens, OpensAt, may_define, Level, level, level_in, level_after_leaf, level_after, Left, Lines, InLine, Going}
+use Rattle.first_pass_grammar.specs.Skeleton.{Opens, OpensAt, may_define, Level, level, level_in, level_after_leaf, level_after, Left, Lines, InLine}
+use Rattle.first_pass_grammar.specs.Skeleton.{NextBlock}
 use Rattle.first_pass_grammar.specs.Skeleton.{Begins, Ends}
-use Rattle.first_pass_grammar.specs.Skeleton.{going, onward, after_first, end_before, IsFirst, IsSequence}
+use Rattle.first_pass_grammar.specs.Skeleton.{next_block, onward, after_first, end_before, IsFirst, IsSequence}
 use Rattle.first_pass_grammar.specs.Derivation.{Tables, no_tables, node_of, Derives, IsOnlyDerived}
 use Rattle.first_pass_grammar.proofs.NoIndex.{HasNoIndex, read_alone}
 use Rattle.first_pass_grammar.specs.RawLines.{range_text, range_html}
@@ -343,27 +344,27 @@ opens_at d n l (At q (MarkAlone marker blanks)) p lines o o' h e f =
     )
 
 -- a block begins at one place, and none begins where a sequence ends
-begins_once : (p q : Place) (a b : List Place) (g : Going) → g ≡ Begins p a → g ≡ Begins q b → (p ≡ q) × (a ≡ b)
+begins_once : (p q : Place) (a b : List Place) (g : NextBlock) → g ≡ Begins p a → g ≡ Begins q b → (p ≡ q) × (a ≡ b)
 begins_once p q a b g e f = let s : Begins p a ≡ Begins q b = sym e ∙ f in (cc, cc)
 
-ends_not_begins : (left : Left) (p : Place) (a : List Place) (g : Going) → g ≡ Ends left → g ≡ Begins p a → ⊥
+ends_not_begins : (left : Left) (p : Place) (a : List Place) (g : NextBlock) → g ≡ Ends left → g ≡ Begins p a → ⊥
 ends_not_begins left p a g e f = let s : Ends left ≡ Begins p a = sym e ∙ f in cc
 
 -- a first block opens in one way
 first_once : (d : Document) (n : Names) (l : Level) (from : From) (lines : List Place) (o o' : Opening) → HoldsNoIndex from
     → IsFirst d l from lines o → IsFirst (with_names d n) l from lines o' → AlikeOpening d.names n o o'
 first_once d n l from lines o o' h f g =
-    let w = begins_once f.place g.place f.following g.following (going d.options l from lines) f.begins g.begins in
+    let w = begins_once f.place g.place f.following g.following (next_block d.options l from lines) f.begins g.begins in
     opens_at d n l from g.place g.following o o' h
     (subst (λ z. OpensAt d l from g.place z o) w.1 (subst (λ z. OpensAt d l from z f.following o) w.0 f.opens)) g.opens
 
-first_ends : (d : Document) (l : Level) (from : From) (lines : List Place) (left : Left) (o : Opening) → going d.options l from lines ≡ Ends left
+first_ends : (d : Document) (l : Level) (from : From) (lines : List Place) (left : Left) (o : Opening) → next_block d.options l from lines ≡ Ends left
     → IsFirst d l from lines o → ⊥
-first_ends d l from lines left o e f = ends_not_begins left f.place f.following (going d.options l from lines) e f.begins
+first_ends d l from lines left o e f = ends_not_begins left f.place f.following (next_block d.options l from lines) e f.begins
 
 -- a sequence has no block where it ends
 pub ends_at_once : (d : Document) (s : Skeleton) (l : Level) (from : From) (lines : List Place) (stop left : Left)
-    → going d.options l from lines ≡ Ends stop → IsSequence d s l from lines left → (s ≡ Nil) × (left ≡ stop)
+    → next_block d.options l from lines ≡ Ends stop → IsSequence d s l from lines left → (s ≡ Nil) × (left ≡ stop)
 unfolding IsSequence
 ends_at_once d Nil l from lines stop left e f = (refl, same_left left stop (sym f ∙ e))
 ends_at_once d (Then leaf next) l from lines stop left e (there, mid, first, seq) = absurd (first_ends d l from lines stop (OpensLeaf leaf there mid) e first)

@@ -62,13 +62,13 @@ abbrev pub taken : List Container → Place → Option Place
 taken path line = option_map (at_rest line) (after path line.rest)
 
 -- the line that begins at a place continues the whole path
-abbrev pub goes_on : List Container → Place → Bool
-goes_on path line = is_some (after path line.rest)
+abbrev pub continues : List Container → Place → Bool
+continues path line = is_some (after path line.rest)
 
 -- there is a next line, and it continues the whole path
 abbrev pub next_goes_on : List Container → List Place → Bool
 next_goes_on path [] = false
-next_goes_on path (line ∷ lines) = goes_on path line
+next_goes_on path (line ∷ lines) = continues path line
 
 -- a container is a block quote
 abbrev pub is_quote : Container → Bool

@@ -245,9 +245,9 @@ pub data Left : Type 0 where
 
 -- The next block of a sequence begins at a place, with the lines after it; or the sequence ends, with what it leaves
 -- (this project).
-pub data Going : Type 0 where
-  Begins : Place → List Place → Going
-  Ends : Left → Going
+pub data NextBlock : Type 0 where
+  Begins : Place → List Place → NextBlock
+  Ends : Left → NextBlock
 
 -- A footnote definition in the old form ends at the first line after a counting blank line if no list is open in it,
 -- so that it is innermost (this project).
@@ -256,33 +256,33 @@ ends_old_footnote l = in_old_footnote l.path && (l.before.counted && not (list_i
 
 -- at a place in a line, after the prefixes of the path: a footnote definition ends there, or a block begins (this
 -- project)
-abbrev pub going_at : Context → Place → List Place → Going
-going_at around p lines = if ends_footnote around p then Ends (InLine p lines) else Begins p lines
+abbrev pub next_block_at : Context → Place → List Place → NextBlock
+next_block_at around p lines = if ends_footnote around p then Ends (InLine p lines) else Begins p lines
 
 -- the same at the next line: the place after the prefixes of the path, or `None` if the line does not continue the
 -- path (CommonMark 5)
-abbrev pub going_in : Options → Level → Option Place → List Place → Going
-going_in options l None lines = Ends (Lines lines)
-going_in options l (Some q) lines = if ends_old_footnote l then Ends (Lines lines) else going_at (context options l.path) q (drop 1 lines)
+abbrev pub next_block_in : Options → Level → Option Place → List Place → NextBlock
+next_block_in options l None lines = Ends (Lines lines)
+next_block_in options l (Some q) lines = if ends_old_footnote l then Ends (Lines lines) else next_block_at (context options l.path) q (drop 1 lines)
 
 -- the same in an item that takes only blank lines (CommonMark 5.2)
-abbrev pub going_blank : Option Place → List Place → Going
-going_blank None lines = Ends (Lines lines)
-going_blank (Some q) lines = if is_blank_rest q.rest then Begins q (drop 1 lines) else Ends (Lines lines)
+abbrev pub next_block_blank : Option Place → List Place → NextBlock
+next_block_blank None lines = Ends (Lines lines)
+next_block_blank (Some q) lines = if is_blank_rest q.rest then Begins q (drop 1 lines) else Ends (Lines lines)
 
 -- Whether a sequence of blocks continues, and where: at a place inside a line, or at the next line after the prefixes
 -- of the path. It ends with the text, or before a line that does not continue its path. In an item that takes only
 -- blank lines it also ends before a line that is not blank; in a footnote definition it also ends where that
 -- definition does (CommonMark 5, and this project).
-unfoldable pub going : Options → Level → From → List Place → Going
-going options l (At p Anything) lines = going_at (context options l.path) p lines
-going options l (At p ALeafAlone) lines = Begins p lines
-going options l (At p (TextOf marker)) lines = Begins p lines
-going options l (At p (MarkAlone marker blanks)) lines = Begins p lines
-going options l Line [] = Ends (Lines [])
-going options l Line (line ∷ lines) = going_in options l (taken l.path line) (line ∷ lines)
-going options l (Blanks e) [] = Ends (Lines [])
-going options l (Blanks e) (line ∷ lines) = going_blank (taken l.path line) (line ∷ lines)
+unfoldable pub next_block : Options → Level → From → List Place → NextBlock
+next_block options l (At p Anything) lines = next_block_at (context options l.path) p lines
+next_block options l (At p ALeafAlone) lines = Begins p lines
+next_block options l (At p (TextOf marker)) lines = Begins p lines
+next_block options l (At p (MarkAlone marker blanks)) lines = Begins p lines
+next_block options l Line [] = Ends (Lines [])
+next_block options l Line (line ∷ lines) = next_block_in options l (taken l.path line) (line ∷ lines)
+next_block options l (Blanks e) [] = Ends (Lines [])
+next_block options l (Blanks e) (line ∷ lines) = next_block_blank (taken l.path line) (line ∷ lines)
 
 -- where blocks continue around a container that leaves this, and the lines after that (this project)
 abbrev pub onward : Left → From × List Place
@@ -326,12 +326,12 @@ end_before n path from left = end_of_left n path (blanks_alone from) left
 pub record IsFirst (d : Document) (l : Level) (from : From) (lines : List Place) (opening : Opening) : Type 0 where
   pub place : Place
   pub following : List Place
-  pub begins : going d.options l from lines ≡ Begins place following
+  pub begins : next_block d.options l from lines ≡ Begins place following
   pub opens : OpensAt d l from place following opening
 
 -- These blocks are a sequence at this level, from here up to what they leave.
 unfoldable pub IsSequence : Document → Skeleton → Level → From → List Place → Left → Type 0
-IsSequence d Nil l from lines left = going d.options l from lines ≡ Ends left
+IsSequence d Nil l from lines left = next_block d.options l from lines ≡ Ends left
 IsSequence d (Then leaf next) l from lines left =
     (there : From) × (mid : List Place) × IsFirst d l from lines (OpensLeaf leaf there mid)
     × IsSequence d next (level_after_leaf l leaf) (after_first from there) mid left

@@ -4,12 +4,12 @@ use Rattle.std.proofs.Common.{append_assoc, append-nil}
 use Rattle.std.proofs.KnownBytes.{Appends-nil, Appends-trans}
 use Rattle.std.specs.Io.KnownBytes.{Appends}
 use Rattle.first_pass_host.specs.declared.fault.BlocksFault.{BlocksFault}
-use Rattle.first_pass_host.specs.Held.{AreUnderWay}
+use Rattle.first_pass_host.specs.Held.{IsPartlyWritten}
 use Rattle.first_pass_host.specs.Streams.{Stream, stream_between, AppendsFront, WritesText}
 
 -- before the first line: all lines remain
 pub none_written : (lines held left : List ℕ) (known : Option (List ℕ)) → held ≡ [] → left ≡ lines
-    → AreUnderWay lines held left (stream_between known known)
+    → IsPartlyWritten lines held left (stream_between known known)
 none_written lines held left known empty is = record {
   written = [];
   split = ap (λ l. l ++ left) empty ∙ is;
@@ -18,7 +18,7 @@ none_written lines held left known empty is = record {
 
 -- after the next line is held back
 pub next_held : (lines held left next more rest : List ℕ) (output : Stream) → left ≡ next ++ rest → more ≡ held ++ next
-    → AreUnderWay lines held left output → AreUnderWay lines more rest output
+    → IsPartlyWritten lines held left output → IsPartlyWritten lines more rest output
 next_held lines held left next more rest output left_is more_is u = record {
   written = u.written;
   split = ap (λ l. (u.written ++ l) ++ rest) more_is ∙ ap (λ l. l ++ rest) (sym (append_assoc u.written held next))
@@ -27,8 +27,8 @@ next_held lines held left next more rest output left_is more_is u = record {
 }
 
 -- after a beginning of the held bytes is written
-pub piece_written : (lines held kept left : List ℕ) (old mid new : Option (List ℕ)) → AreUnderWay held kept [] (stream_between mid new)
-    → AreUnderWay lines held left (stream_between old mid) → AreUnderWay lines kept left (stream_between old new)
+pub piece_written : (lines held kept left : List ℕ) (old mid new : Option (List ℕ)) → IsPartlyWritten held kept [] (stream_between mid new)
+    → IsPartlyWritten lines held left (stream_between old mid) → IsPartlyWritten lines kept left (stream_between old new)
 piece_written lines held kept left old mid new piece u = record {
   written = u.written ++ piece.written;
   split = ap (λ l. l ++ left) (append_assoc u.written piece.written kept
@@ -37,14 +37,14 @@ piece_written lines held kept left old mid new piece u = record {
 }
 
 -- after all held bytes are written and no line remains
-pub all_written : (lines held left : List ℕ) (old mid new : Option (List ℕ)) → left ≡ [] → AreUnderWay lines held left (stream_between old mid)
+pub all_written : (lines held left : List ℕ) (old mid new : Option (List ℕ)) → left ≡ [] → IsPartlyWritten lines held left (stream_between old mid)
     → Appends mid new held → Appends old new lines
 all_written lines held left old mid new none u appended =
     subst (Appends old new) (sym (append-nil (u.written ++ held)) ∙ ap (λ l. (u.written ++ held) ++ l) (sym none) ∙ u.split)
     (Appends-trans old mid new u.written held u.appended appended)
 
 -- the written lines and a beginning of the held bytes are a beginning of all lines
-pub front_written : (lines held left : List ℕ) (old mid new : Option (List ℕ)) → AreUnderWay lines held left (stream_between old mid)
+pub front_written : (lines held left : List ℕ) (old mid new : Option (List ℕ)) → IsPartlyWritten lines held left (stream_between old mid)
     → AppendsFront mid new held → AppendsFront old new lines
 front_written lines held left old mid new u front = record {
   written = u.written ++ front.written;
@@ -55,7 +55,7 @@ front_written lines held left old mid new u front = record {
 }
 
 -- the written lines are a beginning of all lines
-pub front_so_far : (lines held left : List ℕ) (old new : Option (List ℕ)) → AreUnderWay lines held left (stream_between old new)
+pub front_so_far : (lines held left : List ℕ) (old new : Option (List ℕ)) → IsPartlyWritten lines held left (stream_between old new)
     → AppendsFront old new lines
 front_so_far lines held left old new u =
     front_written lines held left old new new u record { written = []; left = held; split = refl; appended = Appends-nil new }

@@ -7,7 +7,7 @@ use Rattle.std.specs.Io.KnownBytes.{Appends}
 use Rattle.first_pass_host.specs.Streams.{Stream}
 
 -- lines in three parts: the first is written to an output, the next is held back, and the rest remains
-pub record AreUnderWay (lines held left : List ℕ) (output : Stream) : Type 0 where
+pub record IsPartlyWritten (lines held left : List ℕ) (output : Stream) : Type 0 where
   pub written : List ℕ
   pub split : (written ++ held) ++ left ≡ lines
   pub appended : Appends output.old output.new written

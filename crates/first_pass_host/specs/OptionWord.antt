@@ -7,11 +7,11 @@ abbrev pub known_bits : ℕ
 known_bits = 65534
 
 -- a word that denotes options with these bits: one or more ASCII digits, whose decimal value has only bits of options
-abbrev pub StandsFor : List ℕ → ℕ → Type 0
-StandsFor word bits = IsNumeral 10 word × (digits_value 10 word ≡ bits) × (bit_and bits known_bits ≡ bits)
+abbrev pub WordMeans : List ℕ → ℕ → Type 0
+WordMeans word bits = IsNumeral 10 word × (digits_value 10 word ≡ bits) × (bit_and bits known_bits ≡ bits)
 
 -- words that denote options with these bits: no word for no options, or one word
-abbrev pub StandFor : {A : Type 0} → List (String A) → ℕ → Type 0
-StandFor [] bits = bits ≡ 0
-StandFor (word ∷ []) bits = StandsFor (string_bytes word) bits
-StandFor (word ∷ other ∷ more) bits = ⊥
+abbrev pub WordsMean : {A : Type 0} → List (String A) → ℕ → Type 0
+WordsMean [] bits = bits ≡ 0
+WordsMean (word ∷ []) bits = WordMeans (string_bytes word) bits
+WordsMean (word ∷ other ∷ more) bits = ⊥

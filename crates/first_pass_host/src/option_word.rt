@@ -2,7 +2,7 @@
 
 ghost use Rattle.std.specs.Prelude.{◌≡◌, ◌==◌, ℕ, IfSome, IsNone, slice_index};
 ghost use Rattle.first_pass_items.specs.Bytes.{plus_sign};
-ghost use Rattle.first_pass_host.specs.OptionWord.{StandFor, StandsFor};
+ghost use Rattle.first_pass_host.specs.OptionWord.{WordsMean, WordMeans};
 
 use bitflags::Flags;
 use first_pass_items::option_set::Options;
@@ -11,8 +11,8 @@ use first_pass_items::option_set::Options;
 /// or more ASCII digits denotes the options whose bits are its decimal value. Returns `None` if there are more words,
 /// or if the word has another byte, or a value with bits of no option. Allocates nothing.
 pub fn parse_options(words: &[String]) -> Option<Options>
-    ensures some { IfSome result (λ options. StandFor words.now options.0) }
-    ensures none { IsNone result → (bits : ℕ) → ¬ StandFor words.now bits }
+    ensures some { IfSome result (λ options. WordsMean words.now options.0) }
+    ensures none { IsNone result → (bits : ℕ) → ¬ WordsMean words.now bits }
 {
     match words {
         [] => Some(Options::empty()),
@@ -23,8 +23,8 @@ pub fn parse_options(words: &[String]) -> Option<Options>
 
 /// The options that a word denotes: those whose bits are its decimal value, in one or more ASCII digits.
 fn options_of(word: &str) -> Option<Options>
-    ensures some { IfSome result (λ options. StandsFor word.now options.0) }
-    ensures none { IsNone result → (bits : ℕ) → ¬ StandsFor word.now bits }
+    ensures some { IfSome result (λ options. WordMeans word.now options.0) }
+    ensures none { IsNone result → (bits : ℕ) → ¬ WordMeans word.now bits }
 {
     if begins_with_plus(word) {
         return None;

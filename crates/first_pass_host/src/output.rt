@@ -4,7 +4,7 @@ ghost use Rattle.std.specs.Iterator.{IsFinite};
 ghost use Rattle.std.specs.Prelude.{◌≡◌, ◌<◌, ℕ, List, [], length, IfErr, OnErr, OnOk};
 ghost use Rattle.std.specs.Io.KnownBytes.{Appends};
 ghost use Rattle.first_pass_host.specs.declared.fault.BlocksFault.TheVariants.{WriteFailed};
-ghost use Rattle.first_pass_host.specs.Held.{AreLines, AreUnderWay};
+ghost use Rattle.first_pass_host.specs.Held.{AreLines, IsPartlyWritten};
 ghost use Rattle.first_pass_host.specs.Streams.{AppendsFront, WritesText, stream_between};
 
 use crate::fault::BlocksFault;
@@ -36,7 +36,7 @@ pub fn write_whole<W: Write>(output: &mut W, bytes: &[u8]) -> Result<(), BlocksF
 /// bytes are those of `write_whole`. To write lines in pieces, append each to `held` and then call this function;
 /// after the last line, write the rest with `write_whole`.
 pub fn write_piece<W: Write>(output: &mut W, held: &mut Vec<u8>) -> Result<(), BlocksFault>
-    ensures ok { OnOk result (AreUnderWay held.old.items held.new.items []
+    ensures ok { OnOk result (IsPartlyWritten held.old.items held.new.items []
         (stream_between (W.contents output.old) (W.contents output.new))) }
     ensures less { OnOk result (length held.new.items < 8192) }
     ensures front { OnErr result (AppendsFront (W.contents output.old) (W.contents output.new) held.old.items) }

@@ -152,9 +152,11 @@ closing_end : (bs front following : List ℕ) (n : ℕ) → bs ≡ front ++ foll
 unfolding closing_name
 closing_end bs front following n parts tag h =
     let r = closing_name bs front following parts tag in
-    let same : n ≡ length tag.name = name_same bs following n r h in
-    (same, ap closing_end_len (rest_after n bs tag.name ((tag.blanks ++ 62 ∷ []) ++ following) r.parts same)
-    ∙ closing_end_is tag.blanks following tag.is_blanks)
+    let same : n ≡ length tag.name = name_same bs following n r h in (
+      same,
+      ap closing_end_len (rest_after n bs tag.name ((tag.blanks ++ 62 ∷ []) ++ following) r.parts same)
+          ∙ closing_end_is tag.blanks following tag.is_blanks,
+    )
 
 pub closing_needs_end : (bs : List ℕ) (n : ℕ) → tag_name_len bs ≡ Some n → closing_end_len (drop n bs) ≡ None → HasNoFront IsAfterClosing bs
 closing_needs_end bs n h none front following parts tag = let some = (closing_end bs front following n parts tag h).1 in cc

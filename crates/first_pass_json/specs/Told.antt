@@ -9,7 +9,7 @@ use Rattle.first_pass_json.specs.JsonLines.{json_lines}
 
 -- the whole output for a text under options: the lines of the nodes, the link definitions and the footnotes that the
 -- grammar derives
-pub record IsTold (options : Options) (text output : List ℕ) : Type 0 where
+pub record IsOutput (options : Options) (text output : List ℕ) : Type 0 where
   pub names : Names
   pub nodes : List (ℕ × Item)
   pub tables : Tables

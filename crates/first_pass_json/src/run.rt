@@ -2,7 +2,7 @@
 
 ghost use Rattle.first_pass_host.specs.Streams.{stream_between};
 ghost use Rattle.first_pass_run.specs.Runs.{Runs};
-ghost use Rattle.first_pass_json.specs.Told.{IsTold};
+ghost use Rattle.first_pass_json.specs.Told.{IsOutput};
 
 use crate::written::write_json;
 use first_pass_blocks::pass::run_first_pass;
@@ -16,7 +16,7 @@ use std::io::{Read, Write};
 pub struct JsonTree;
 
 impl Report for JsonTree {
-    ghost says = { λ _ options text output. IsTold options text output };
+    ghost says = { λ _ options text output. IsOutput options text output };
 
     fn write_report<W: Write>(
         &self,
@@ -44,7 +44,7 @@ pub fn tree_run<R: Read, W: Write>(
     input: &mut R,
     output: &mut W,
 ) -> Result<(), BlocksFault>
-    ensures { Runs IsTold words.now (stream_between (R.remaining input.old) (R.remaining input.new))
+    ensures { Runs IsOutput words.now (stream_between (R.remaining input.old) (R.remaining input.new))
         (stream_between (W.contents output.old) (W.contents output.new)) result }
 {
     run_report(&JsonTree, alloc, words, input, output)

@@ -258,7 +258,7 @@ pub fn scan_next_line(
     ensures err { OnErr result (line_may_head (context_of source.now.options tree.now)
         (line_rest (drop start source.now.text.now)) ≡ true) }
 {
-    source.is_short();
+    source.recall_length();
     let bytes = rest_of(source.text.as_bytes(), start);
     // No container prefix and no mark begins with a letter or a character past ASCII. Such a line is one more of the
     // paragraph text, and no walk over the open containers is needed.

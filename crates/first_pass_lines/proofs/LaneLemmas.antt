@@ -45,8 +45,8 @@ module _ (q : ℕ → Bool) (d : List ℕ) (i n r : ℕ) (z : List ℕ) (room : 
       ap (λ l. mask_l l % 2 ^ 64) (ap (map (top 7)) lanes ∙ map-map (top 7) f v) ∙ mask_l-mod (map stops v) 64 (omega (arith, length-map v stops, long)) in
       found ∙ ap (λ m. first_set m n) mask ∙ run_is stops v n long few
 
-  goes_on : (k : ℕ) → i ≤ k → k < i + r → stops (get_or d k 0) ≡ false
-  goes_on k from to =
+  continues : (k : ℕ) → i ≤ k → k < i + r → stops (get_or d k 0) ≡ false
+  continues k from to =
       let back : i + (k - i) ≡ k = omega arith in
       let bound = prefix_len-le-length (λ x. not (stops x)) (chunk i n d) in
       let at = get_or-chunk i n d (k - i) 0 (omega (arith, counted, long)) ∙ ap (λ j. get_or d j 0) back in
@@ -56,7 +56,7 @@ module _ (q : ℕ → Bool) (d : List ℕ) (i n r : ℕ) (z : List ℕ) (room : 
   pub run_in : agree_below stops (λ x. not (q x)) 256 ≡ true → IsRunIn q d i n r
   run_in all = (
     omega (arith, counted, long, prefix_len-le-length (λ x. not (stops x)) (chunk i n d)),
-    λ k from to. not-false _ (sym (agree_below_at stops (λ x. not (q x)) 256 (get_or d k 0) all (fits k).fits) ∙ goes_on k from to),
+    λ k from to. not-false _ (sym (agree_below_at stops (λ x. not (q x)) 256 (get_or d k 0) all (fits k).fits) ∙ continues k from to),
     λ short.
         let at = ap (λ j. get_or (chunk i n d) j 0) (sym counted) ∙ get_or-chunk i n d r 0 short in
         let set = subst (λ x. stops x ≡ true) at (not-false _ (prefix_len_stops (λ x. not (stops x)) (chunk i n d) 0 (omega (arith, counted, long)))) in

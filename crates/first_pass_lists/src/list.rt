@@ -81,7 +81,7 @@ impl Reading {
         requires { IsSome (slice_get self.old.tree.spine 0) }
         ensures { self.new ≡ popped_at ix self.old self.old.tree.spine }
     {
-        self.tree.is_forest();
+        self.tree.recall_forest();
         let cur_ix = close_block(&mut self.tree, ix);
         match self.tree[cur_ix].body {
             ItemBody::List(flags, _, _) | ItemBody::DefinitionList(flags) => {
@@ -98,7 +98,7 @@ impl Reading {
         ensures within { IfSome result (λ title. title.0 < length self.now.tree.nodes) }
     {
         let ix = self.tree.cur()?;
-        self.tree.is_forest();
+        self.tree.recall_forest();
         if matches!(self.tree[ix].body, ItemBody::MaybeDefinitionListTitle)
             && self.is_in_definitions()
         {
@@ -127,7 +127,7 @@ impl Reading {
         let Some(ix) = self.tree.peek_up() else {
             return 0;
         };
-        self.tree.is_forest();
+        self.tree.recall_forest();
         self.tree[ix].end
     }
 
@@ -137,7 +137,7 @@ impl Reading {
         requires { IsSome (slice_get self.old.tree.spine 0) }
         ensures { self.new ≡ definitions_closed end self.old }
     {
-        self.tree.is_forest();
+        self.tree.recall_forest();
         let last = self.tree.cur();
         self.close_innermost(end, last);
         if let Some(ix) = last {
@@ -154,7 +154,7 @@ impl Reading {
         ensures { self.new ≡ definitions_left end self.old }
     {
         self.close_definitions(end);
-        self.note_gap();
+        self.mark_gap();
     }
 
     /// Makes the current node, a paragraph right after a definition that ends at the offset `end`, a possible title: a
@@ -163,12 +163,12 @@ impl Reading {
     pub fn keep_possible_title(&mut self, end: usize)
         ensures { self.new ≡ title_kept end self.old }
     {
-        self.tree.is_forest();
+        self.tree.recall_forest();
         if let Some(title) = self.tree.cur() {
             self.tree
                 .set_body(title, ItemBody::MaybeDefinitionListTitle);
         }
-        self.tree.is_forest();
+        self.tree.recall_forest();
         if let Some(list_ix) = self.tree.peek_up() {
             self.tree.set_end(list_ix, end);
         }
@@ -183,7 +183,7 @@ impl Reading {
         let Some(ix) = self.tree.cur() else {
             return false;
         };
-        self.tree.is_forest();
+        self.tree.recall_forest();
         match self.tree[ix].body {
             ItemBody::Paragraph => !self.is_in_list(),
             ItemBody::MaybeDefinitionListTitle => self.is_in_definitions(),
@@ -208,7 +208,7 @@ impl Reading {
         let Some(ix) = self.tree.peek_up() else {
             return false;
         };
-        self.tree.is_forest();
+        self.tree.recall_forest();
         matches!(self.tree[ix].body, ItemBody::DefinitionList(_))
     }
 
@@ -220,7 +220,7 @@ impl Reading {
         let Some(ix) = self.tree.peek_up() else {
             return false;
         };
-        self.tree.is_forest();
+        self.tree.recall_forest();
         matches!(
             self.tree[ix].body,
             ItemBody::List(_, _, _) | ItemBody::DefinitionList(_)
@@ -253,7 +253,7 @@ impl Reading {
         let Some(ix) = self.tree.cur() else {
             return Ok(());
         };
-        self.tree.is_forest();
+        self.tree.recall_forest();
         let Item { start, end, body } = self.tree[ix];
         match body {
             ItemBody::MaybeDefinitionListTitle => {
@@ -297,7 +297,7 @@ impl Reading {
         let Some(ix) = self.tree.peek_up() else {
             return false;
         };
-        self.tree.is_forest();
+        self.tree.recall_forest();
         matches!(
             self.tree[ix].body,
             ItemBody::ListItem(_) | ItemBody::DefinitionListDefinition(_)
@@ -314,7 +314,7 @@ impl Reading {
     {
         self.finish_empty_list_item();
         self.leave_list(ix);
-        self.note_gap();
+        self.mark_gap();
     }
 
     // Closes the innermost open node, if it is a list, at the offset `ix`.
@@ -343,7 +343,7 @@ impl Reading {
     fn leave_footnote(&mut self, ix: usize)
         ensures { self.new ≡ footnote_left ix self.old }
     {
-        self.tree.is_forest();
+        self.tree.recall_forest();
         if let Some(footnote_ix) = self.tree.peek_up() {
             if matches!(self.tree[footnote_ix].body, ItemBody::FootnoteDefinition(_)) {
                 self.pop(ix);
@@ -353,11 +353,11 @@ impl Reading {
 
     // Makes the list whose item contains the next block loose, if a blank line is before that block.
     #[tactic(auto, using(crate::proofs::WithinLemmas::second_within))]
-    fn note_gap(&mut self)
+    fn mark_gap(&mut self)
         ensures { self.new ≡ gap_noted self.old }
     {
         if self.blank {
-            self.tree.is_forest();
+            self.tree.recall_forest();
             if let Some(list_ix) = self.tree.peek_grandparent() {
                 loosen(&mut self.tree, list_ix);
             }
@@ -371,7 +371,7 @@ impl Reading {
     pub fn read_blank_line(&mut self)
         ensures { self.new ≡ blank_read self.old }
     {
-        self.tree.is_forest();
+        self.tree.recall_forest();
         if let Some(ix) = self.tree.peek_up() {
             match self.tree[ix].body {
                 ItemBody::BlockQuote(_) => return,
@@ -403,7 +403,7 @@ impl Reading {
         let Some(ix) = self.tree.peek_up() else {
             return true;
         };
-        self.tree.is_forest();
+        self.tree.recall_forest();
         match self.tree[ix].body {
             ItemBody::ListItem(columns) => columns == 0,
             ItemBody::DefinitionListDefinition(columns) => columns == 0,
@@ -419,7 +419,7 @@ impl Reading {
         let Some(ix) = self.tree.peek_up() else {
             return false;
         };
-        self.tree.is_forest();
+        self.tree.recall_forest();
         matches!(self.tree[ix].body, ItemBody::FootnoteDefinition(_))
     }
 
@@ -452,7 +452,7 @@ impl Reading {
         let Some(ix) = self.tree.peek_up() else {
             return false;
         };
-        self.tree.is_forest();
+        self.tree.recall_forest();
         if let ItemBody::List(_, byte, _) = self.tree[ix].body {
             return byte == ch;
         }
@@ -465,7 +465,7 @@ impl Reading {
         ensures { self.new ≡ list_kept self.old }
     {
         if self.blank {
-            self.tree.is_forest();
+            self.tree.recall_forest();
             if let Some(list_ix) = self.tree.peek_up() {
                 loosen(&mut self.tree, list_ix);
             }
@@ -507,7 +507,7 @@ impl Reading {
         self.finish_empty_list_item();
         self.leave_list(start);
         self.leave_footnote(start);
-        self.note_gap();
+        self.mark_gap();
         open_block(&mut self.tree, start, ItemBody::FootnoteDefinition(label))?;
         Ok(())
     }

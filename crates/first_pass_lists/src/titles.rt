@@ -17,7 +17,7 @@ pub fn fixup_end_of_definition_list(tree: &mut Tree<Item>, list_ix: TreeIndex)
     requires { tree.old.current ≡ Some list_ix }
     ensures { tree.new ≡ fixed_up tree.old list_ix }
 {
-    tree.is_forest();
+    tree.recall_forest();
     let depth = tree.walk_spine().len() + 2;
     let other = first_other(tree.nodes(), depth, list_ix.0 + 1);
     if other >= tree.node_count() {
@@ -79,7 +79,7 @@ fn leave_untitled(tree: &mut Tree<Item>, place: usize)
     requires { place < length tree.old.nodes }
     ensures { tree.new ≡ left_untitled tree.old place }
 {
-    tree.is_forest();
+    tree.recall_forest();
     if matches!(
         tree[TreeIndex(place)].body,
         ItemBody::MaybeDefinitionListTitle

@@ -72,7 +72,7 @@ pub fn scan_containers<'a>(
         → after (path_in options tree.now.nodes (outer m tree.now.spine)) line_start.old ≡ None }
     ensures front { line_start.new ≡ front (path_of options tree.now) line_start.old }
 {
-    tree.is_forest();
+    tree.recall_forest();
     let spine = tree.walk_spine();
     for (i, ix) in spine.iter().enumerate() {
         if !takes_prefix(tree[*ix].body, line_start, options) {
@@ -98,7 +98,7 @@ const MANY_OPEN: usize = 16;
 pub fn quotes_end(tree: &Tree<Item>) -> usize
     ensures { (options : OptionSet) → has_quote_after options tree.now result ≡ false }
 {
-    tree.is_forest();
+    tree.recall_forest();
     let spine = tree.walk_spine();
     let mut end = spine.len();
     if end < MANY_OPEN {
@@ -125,7 +125,7 @@ pub fn continued_rest<'b>(
     requires { has_quote_after options tree.now quotes_end ≡ false }
     ensures { result ≡ after (path_of options tree.now) (line_rest bytes.now) }
 {
-    tree.is_forest();
+    tree.recall_forest();
     let mut rest = LineStart::new(bytes);
     for (i, ix) in tree.walk_spine().iter().enumerate() {
         if quotes_end <= i && rest.remaining_space() == 0 && rest.is_at_eol() {

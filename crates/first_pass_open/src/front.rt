@@ -126,7 +126,7 @@ pub fn scan_continued_past<'a>(
 pub fn is_definition_after(tree: &Tree<Item>, kept: usize) -> bool
     ensures { (options : Options) → result ≡ definition_after options tree.now kept }
 {
-    tree.is_forest();
+    tree.recall_forest();
     match tree.walk_spine().get(kept) {
         None => false,
         Some(ix) => matches!(tree[*ix].body, ItemBody::DefinitionListDefinition(_)),

@@ -41,7 +41,7 @@ pub fn close_block(tree: &mut Tree<Item>, end: usize) -> TreeIndex
     ensures tree { tree.new ≡ closed_by tree.old end tree.old.spine }
     ensures index { slice_get tree.old.spine 0 ≡ Some result }
 {
-    tree.is_forest();
+    tree.recall_forest();
     let ix = tree.pop().unwrap();
     tree.set_end(ix, end);
     ix

@@ -37,7 +37,7 @@ impl<'a> Source<'a> {
 
     /// Gives the caller the fact that the text has fewer than 2^63 bytes, so two offsets into it can be added. Does
     /// nothing at run time.
-    pub fn is_short(&self)
+    pub fn recall_length(&self)
         ensures { length self.now.text.now < 2 ^ 63 }
     {
         let _ = self.text.len();

@@ -103,8 +103,10 @@ fits_apart text w from to (Node y more before) x kids plain (inl (between, insid
     record {
       mid = r.mid;
       front = inl (
-          record { following = between.following; order = between.order; before = room; starts = between.starts; ends = between.ends },
-          inside, r.front);
+        record { following = between.following; order = between.order; before = room; starts = between.starts; ends = between.ends },
+        inside,
+        r.front,
+      );
       between = r.between;
       stands = r.stands;
       which = inr (beyond_twice w r.stands r.which);

@@ -40,7 +40,7 @@ use Rattle.first_pass_names.proofs.NameLemmas.{extends_both}
 pub record LinesSoFar (range : Ranges) (text : List ℕ) (options : Options) (names : Names) (whole rest : Extent) (old now : Forest Item) : Type 0 where
   pub chain : List Item
   pub tree_is : now ≡ chained old chain
-  pub goes_on : (more : Names) (last : List Item) → Extends more names → AreRawLines range (document text options more) chain rest.places last
+  pub continues : (more : Names) (last : List Item) → Extends more names → AreRawLines range (document text options more) chain rest.places last
       → AreRawLines range (document text options more) [] whole.places last
   pub end_is : whole.«end» ≡ rest.«end»
   pub left_is : whole.left ≡ rest.left
@@ -48,7 +48,7 @@ pub record LinesSoFar (range : Ranges) (text : List ℕ) (options : Options) (na
 -- before the first line
 pub lines_start : (range : Ranges) (text : List ℕ) (options : Options) (names : Names) (whole : Extent) (old : Forest Item)
     → LinesSoFar range text options names whole whole old old
-lines_start range text options names whole old = record { chain = []; tree_is = refl; goes_on = λ more last e lines. lines; end_is = refl; left_is = refl }
+lines_start range text options names whole old = record { chain = []; tree_is = refl; continues = λ more last e lines. lines; end_is = refl; left_is = refl }
 
 lines_after : (range : Ranges) (text : List ℕ) (options : Options) (names named : Names) (whole rest further : Extent) (p : Place) (chain line : List Item)
     → rest ≡ with_line p further
@@ -58,8 +58,8 @@ lines_after : (range : Ranges) (text : List ℕ) (options : Options) (names name
     → (more : Names) (last : List Item) → Extends more named → AreRawLines range (document text options more) (add_tokens chain line) further.places last
     → AreRawLines range (document text options more) [] whole.places last
 unfolding AreRawLines
-lines_after range text options names named whole rest further p chain line is goes_on e are more last f lines =
-    goes_on more last (extends_both more named names f e)
+lines_after range text options names named whole rest further p chain line is continues e are more last f lines =
+    continues more last (extends_both more named names f e)
     (subst (λ (x : Extent). AreRawLines range (document text options more) chain x.places last) (sym is) (line, are more f, lines))
 
 -- after a line
@@ -72,7 +72,7 @@ lines_more range text options names named whole rest further p old now new owed 
     record {
       chain = add_tokens s.chain line.items;
       tree_is = line.tree_is ∙ ap (λ f. with_tokens f line.items) s.tree_is ∙ with_tokens-chained old s.chain line.items apart;
-      goes_on = lines_after range text options names named whole rest further p s.chain line.items is s.goes_on e (λ more f.
+      continues = lines_after range text options names named whole rest further p s.chain line.items is s.continues e (λ more f.
           subst (λ k. IsRawLine range (document text options more) p.rest.owed (offset p) k line.items) to_is
           (subst (λ k. IsRawLine range (document text options more) p.rest.owed k to line.items) from_is
           (subst (λ k. IsRawLine range (document text options more) k from to line.items) owed_is (line.are options more f))));
@@ -85,8 +85,8 @@ lines_last : (range : Ranges) (text : List ℕ) (options : Options) (names : Nam
     → AreRawLines range (document text options more) [] whole.places last)
     → (more : Names) → Extends more names → AreRawLines range (document text options more) [] whole.places chain
 unfolding AreRawLines
-lines_last range text options names whole rest chain none goes_on more e =
-    goes_on more chain e (subst (λ ps. AreRawLines range (document text options more) chain ps chain) (sym none) refl)
+lines_last range text options names whole rest chain none continues more e =
+    continues more chain e (subst (λ ps. AreRawLines range (document text options more) chain ps chain) (sym none) refl)
 
 -- after the last line
 pub lines_end : (range : Ranges) (text : List ℕ) (options : Options) (names : Names) (whole rest : Extent) (old now : Forest Item) (e next : ℕ)
@@ -96,7 +96,7 @@ lines_end range text options names whole rest old now e next s is =
     record {
       chain = s.chain;
       tree_is = s.tree_is;
-      lines = lines_last range text options names whole rest s.chain (ap (λ (x : Extent). x.places) is) s.goes_on;
+      lines = lines_last range text options names whole rest s.chain (ap (λ (x : Extent). x.places) is) s.continues;
       end_is = sym (s.end_is ∙ ap (λ (x : Extent). x.«end») is);
       left_is = sym (s.left_is ∙ ap (λ (x : Extent). x.left) is);
     }

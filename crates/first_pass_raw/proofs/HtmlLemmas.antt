@@ -195,7 +195,7 @@ module _ (text : List ℕ) (options : Options) (named : Names) (start columns ne
         record {
           chain = s.chain ++ lines.chain;
           tree_is = lines.tree_is ∙ ap (λ f. chained f lines.chain) s.tree_is ∙ chained-append opened s.chain lines.chain;
-          lines = λ more f. s.goes_on more (s.chain ++ lines.chain) (extends_both more names named f extends)
+          lines = λ more f. s.continues more (s.chain ++ lines.chain) (extends_both more names named f extends)
               (subst (λ c. AreRawLines range_html (document text options more) c further.places (s.chain ++ lines.chain)) (append-nil s.chain)
               (html_after (document text options more) s.chain [] further.places lines.chain (lines.lines more f)));
           end_is = lines.end_is ∙ sym s.end_is;

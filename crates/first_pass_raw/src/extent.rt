@@ -74,7 +74,7 @@ pub fn read_lines<'a, J: JudgesLines>(
     ensures boundary { IfOk result (λ lines. (start ≤ lines.next) × IsCharBoundary source.now.text.now lines.next) }
     ensures more { OnOk result (NamesMore allocs.old allocs.new) }
 {
-    tree.is_forest();
+    tree.recall_forest();
     let kind = judge.kind();
     let quotes_end = quotes_end(tree);
     let mut ix = start;

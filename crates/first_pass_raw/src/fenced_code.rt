@@ -56,7 +56,7 @@ pub fn parse_fenced_code_block<'a>(
     ensures more { OnOk result (NamesMore allocs.old allocs.new) }
     ensures utf8 { IsUtf8 source.now.text.now }
 {
-    tree.is_forest();
+    tree.recall_forest();
     let bytes = source.text.as_bytes();
     let info = unescape(
         source.alloc,

@@ -113,9 +113,9 @@ fn open_html_block<'a>(
     ensures more { OnOk result (NamesMore allocs.old allocs.new) }
     ensures utf8 { IsUtf8 text.now }
 {
-    tree.is_forest();
+    tree.recall_forest();
     open_block(tree, start.at, ItemBody::HtmlBlock)?;
-    tree.is_forest();
+    tree.recall_forest();
     let next = next_line(text.as_bytes(), start.at);
     let line = RawLine {
         kind: RawKind::Html,

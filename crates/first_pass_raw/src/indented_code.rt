@@ -48,10 +48,10 @@ pub fn parse_indented_code_block<'a>(
     ensures more { OnOk result (NamesMore allocs.old allocs.new) }
     ensures utf8 { IsUtf8 source.now.text.now }
 {
-    tree.is_forest();
+    tree.recall_forest();
     let text = source.text;
     open_block(tree, start_ix, ItemBody::IndentCodeBlock)?;
-    tree.is_forest();
+    tree.recall_forest();
     let quotes_end = quotes_end(tree);
     let mut next = append_line(tree, allocs, text, start_ix, remaining_space)?;
     let mut kept = Kept {

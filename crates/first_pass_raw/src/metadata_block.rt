@@ -51,7 +51,7 @@ pub fn parse_metadata_block<'a>(
     ensures more { OnOk result (NamesMore allocs.old allocs.new) }
     ensures utf8 { IsUtf8 source.now.text.now }
 {
-    tree.is_forest();
+    tree.recall_forest();
     let first = next_line(source.text.as_bytes(), start_ix);
     open_block(
         tree,

@@ -110,26 +110,26 @@ old_by options (Some b) n run is h = cc
 list_stays : (a run : Bool) → (a && (run && false)) ≡ false
 list_stays a run = ap (λ (t : Bool). a && t) (and_no run) ∙ and_no a
 
-goes_on_in : (options : Options) (nodes : List (ℕ × Item)) (s : List TreeIndex) (frames : List Frame) (closed : Closed) (run : Bool)
+continues_in : (options : Options) (nodes : List (ℕ × Item)) (s : List TreeIndex) (frames : List Frame) (closed : Closed) (run : Bool)
     → AreOpen options nodes s frames → HasDefined frames closed
     → (is_footnote (top_in nodes s) && (run && not (gfm_footnotes options))) ≡ false
     → ends_old_footnote (lvl frames (tail closed run)) ≡ false
-goes_on_in options nodes [] [] closed run o has h = refl
-goes_on_in options nodes [] (frame ∷ frames) closed run o has h = absurd o
-goes_on_in options nodes (ix ∷ s) [] closed run o has h = absurd o
-goes_on_in options nodes (ix ∷ s) (InContainer (BlockQuote kind) ∷ frames) closed run o has h = refl
-goes_on_in options nodes (ix ∷ s) (InContainer (ListItem n) ∷ frames) closed run o has h = refl
-goes_on_in options nodes (ix ∷ s) (InContainer (Definition n) ∷ frames) closed run o has h = refl
-goes_on_in options nodes (ix ∷ s) (InContainer (FootnoteDefinition n) ∷ frames) closed run o has h =
+continues_in options nodes [] [] closed run o has h = refl
+continues_in options nodes [] (frame ∷ frames) closed run o has h = absurd o
+continues_in options nodes (ix ∷ s) [] closed run o has h = absurd o
+continues_in options nodes (ix ∷ s) (InContainer (BlockQuote kind) ∷ frames) closed run o has h = refl
+continues_in options nodes (ix ∷ s) (InContainer (ListItem n) ∷ frames) closed run o has h = refl
+continues_in options nodes (ix ∷ s) (InContainer (Definition n) ∷ frames) closed run o has h = refl
+continues_in options nodes (ix ∷ s) (InContainer (FootnoteDefinition n) ∷ frames) closed run o has h =
     ap (λ (t : Bool). (n == 0) && (run && not t)) (plain_not_open closed) ∙ old_by options (body_at nodes ix.0) n run o.0 h
-goes_on_in options nodes (ix ∷ s) (InList byte loose ∷ frames) closed run o has h = list_stays (in_old_footnote (containers_of frames)) run
-goes_on_in options nodes (ix ∷ s) (InDefinitions loose ∷ frames) closed run o has h =
+continues_in options nodes (ix ∷ s) (InList byte loose ∷ frames) closed run o has h = list_stays (in_old_footnote (containers_of frames)) run
+continues_in options nodes (ix ∷ s) (InDefinitions loose ∷ frames) closed run o has h =
     ap (λ (t : Bool). in_old_footnote (containers_of frames) && (run && not t)) (defined_open closed has)
     ∙ list_stays (in_old_footnote (containers_of frames)) run
 
 pub goes_on_at : (options : Options) (f : Forest Item) (frames : List Frame) (run : Bool) → AreOpen options f.nodes f.spine frames
     → ends_here options f run ≡ false → ends_old_footnote (lvl frames (tail (closed_in f) run)) ≡ false
-goes_on_at options f frames run o h = goes_on_in options f.nodes f.spine frames (closed_in f) run o (open_defined options f frames o) h
+goes_on_at options f frames run o h = continues_in options f.nodes f.spine frames (closed_in f) run o (open_defined options f frames o) h
 
 -- the innermost open node at a line
 ended_by : (options : Options) (e : ℕ) (r : Reading) (g b t : Bool) → gfm_footnotes options ≡ g → r.blank ≡ b → is_footnote (top_body r.tree) ≡ t

@@ -19,7 +19,7 @@ use Rattle.first_pass_grammar.specs.Kinds.{unindented}
 use Rattle.first_pass_grammar.specs.Footnotes.{footnote_head_at, ends_footnote}
 use Rattle.first_pass_grammar.specs.Leaves.{Document, around}
 use Rattle.first_pass_grammar.specs.Containers.{next_goes_on, in_footnote}
-use Rattle.first_pass_grammar.specs.Skeleton.{From, Line, Inside, level, Lines, Ends, going, end_before, Opening, Opens}
+use Rattle.first_pass_grammar.specs.Skeleton.{From, Line, Inside, level, Lines, Ends, next_block, end_before, Opening, Opens}
 use Rattle.first_pass_grammar.specs.Derivation.{Tables, list_flags}
 use Rattle.first_pass_grammar.specs.Rows.{ItemsOf, DefinitionsTo}
 use Rattle.first_pass_grammar.specs.WholeTables.{SilentClosed}
@@ -69,7 +69,7 @@ pub record PlainAfter (d : Document) (defined : Tables) (f : Forest Item) (run :
 -- or not
 abbrev pub EndsBefore : Options → Closed → Bool → List Container → From → List Place → Type 0
 EndsBefore options closed run path from lines =
-    going options (level path (record { last = last_plain closed; counted = run })) from lines ≡ Ends (Lines lines)
+    next_block options (level path (record { last = last_plain closed; counted = run })) from lines ≡ Ends (Lines lines)
 
 -- the open nodes that remain after a container directly in them is closed
 pub record LeftOpen (d : Document) (defined : Tables) (f : Forest Item) (run : Bool) (lines : List Place) (c : Container) : Type 0 where

@@ -5,7 +5,7 @@ use Rattle.std.specs.Io.KnownBytes.{Appends}
 use Rattle.first_pass_items.specs.declared.option_set.Options.{Options}
 use Rattle.first_pass_host.specs.declared.fault.BlocksFault.{BlocksFault}
 use Rattle.first_pass_host.specs.declared.fault.BlocksFault.TheVariants.{OutOfMemory, NotUtf8, BadOptions, ReadFailed, WriteFailed}
-use Rattle.first_pass_host.specs.OptionWord.{StandFor}
+use Rattle.first_pass_host.specs.OptionWord.{WordsMean}
 use Rattle.first_pass_host.specs.Streams.{Stream, IsUntouched, AppendsFront, ReadsWhole}
 
 -- the whole output for a text is written
@@ -35,7 +35,7 @@ LeavesBytes Says fault options bytes output = IsUtf8 bytes × LeavesReport Says 
 -- the whole output of a run with these words, over a reader and a writer, is written
 pub record WritesWhole {A : Type 0} (Says : Options → List ℕ → List ℕ → Type 0) (words : List (String A)) (input output : Stream) : Type 0 where
   pub options : Options
-  pub stand_for : StandFor words options.0
+  pub stand_for : WordsMean words options.0
   pub text : List ℕ
   pub read : ReadsWhole input.old input.new text
   pub utf8 : IsUtf8 text
@@ -45,7 +45,7 @@ pub record WritesWhole {A : Type 0} (Says : Options → List ℕ → List ℕ �
 pub record LeavesRead {A : Type 0} (Says : Options → List ℕ → List ℕ → Type 0) (fault : BlocksFault) (words : List (String A)) (input output : Stream)
     : Type 0 where
   pub options : Options
-  pub stand_for : StandFor words options.0
+  pub stand_for : WordsMean words options.0
   pub text : List ℕ
   pub read : ReadsWhole input.old input.new text
   pub leaves : LeavesBytes Says fault options text output
@@ -53,10 +53,10 @@ pub record LeavesRead {A : Type 0} (Says : Options → List ℕ → List ℕ →
 -- The effect of a fault on a reader and a writer. Nothing is read if the words denote no options. Nothing is written
 -- before the whole text is read.
 abbrev pub Leaves : {A : Type 0} → (Options → List ℕ → List ℕ → Type 0) → BlocksFault → List (String A) → Stream → Stream → Type 0
-Leaves Says BadOptions words input output = ((bits : ℕ) → StandFor words bits → ⊥) × IsUntouched input × IsUntouched output
-Leaves Says ReadFailed words input output = ((bits : ℕ) × StandFor words bits) × IsUntouched output
+Leaves Says BadOptions words input output = ((bits : ℕ) → WordsMean words bits → ⊥) × IsUntouched input × IsUntouched output
+Leaves Says ReadFailed words input output = ((bits : ℕ) × WordsMean words bits) × IsUntouched output
 Leaves Says OutOfMemory words input output =
-    (((bits : ℕ) × StandFor words bits) × IsUntouched output) ⊎ LeavesRead Says OutOfMemory words input output
+    (((bits : ℕ) × WordsMean words bits) × IsUntouched output) ⊎ LeavesRead Says OutOfMemory words input output
 Leaves Says NotUtf8 words input output = LeavesRead Says NotUtf8 words input output
 Leaves Says WriteFailed words input output = LeavesRead Says WriteFailed words input output
 
@@ -65,5 +65,5 @@ pub record Runs {A : Type 0} (Says : Options → List ℕ → List ℕ → Type 
     (result : Result (Unit {0}) BlocksFault) : Type 0 where
   pub ok : OnOk result (WritesWhole Says words input output)
   pub fault : IfErr result (λ fault. Leaves Says fault words input output)
-  pub bad_options : ((bits : ℕ) → StandFor words bits → ⊥) → result ≡ Err BadOptions
-  pub options : (bits : ℕ) → StandFor words bits → result ≡ Err BadOptions → ⊥
+  pub bad_options : ((bits : ℕ) → WordsMean words bits → ⊥) → result ≡ Err BadOptions
+  pub options : (bits : ℕ) → WordsMean words bits → result ≡ Err BadOptions → ⊥

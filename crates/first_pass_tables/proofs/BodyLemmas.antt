@@ -111,7 +111,7 @@ body_none d columns start old some boundary = record {
   some = some;
   later = omega arith;
   boundary = boundary;
-  goes_on = λ later e t rows. rows;
+  continues = λ later e t rows. rows;
 }
 
 -- the rows are read under names that extend those of the first rows
@@ -155,13 +155,13 @@ module _ (d : Document) (before : Names) (columns start : ℕ) (old now new : Op
           some = λ e. absurd (let z : Some (record { 0 = length now.tree.nodes }) ≡ None = sym (ap (λ (f : Forest Item). f.current) new_is) ∙ e in cc);
           later = omega arith;
           boundary = subst (IsCharBoundary d.text) (sym next_is) (line_end_boundary d.text at utf8 s.boundary within);
-          goes_on = λ later e t rows.
+          continues = λ later e t rows.
               let all : Document = document d.text d.options later in
               let still : HasCells all (path_of d.options old.tree) (line_place at (drop at d.text)) now.braces row =
               record { begins = here; are_cells = cells_more d.text d.options d.names later (spot begin now.braces) r.cells (spot next new.braces) e are } in
               subst (λ items. AreRows all (path_of d.options old.tree) (so_far columns old) (lines_from d.text start) (taking items t.left))
               (sym (append_assoc s.body block t.items))
-              (s.goes_on later (extends_both later d.names before e grown) (taking (block ++ t.items) t.left)
+              (s.continues later (extends_both later d.names before e grown) (taking (block ++ t.items) t.left)
               (row_more all (path_of d.options old.tree) (so_far columns now) at row t within next_is still is
               (subst (λ most. AreRows all (path_of d.options old.tree) (table_so_far columns most new.braces) (lines_from d.text next) t) left rows)));
         },
@@ -182,7 +182,7 @@ module _ (d : Document) (before : Names) (columns start : ℕ) (old now new : Op
     body = s.body;
     are_rows = subst (λ items. AreRows d (path_of d.options old.tree) (so_far columns old) (lines_from d.text start) (taking items (lines_from d.text at)))
         (append-nil s.body)
-        (s.goes_on d.names grown (taking [] (lines_from d.text at)) rows);
+        (s.continues d.names grown (taking [] (lines_from d.text at)) rows);
     nodes = ap (λ (f : Forest Item). f.nodes) same ∙ s.nodes;
     spine = ap (λ (f : Forest Item). f.spine) same ∙ s.spine;
     later = s.later;

@@ -27,7 +27,7 @@ pub record BodySoFar (d : Document) (columns start : ℕ) (old now : OpenTable) 
   pub some : now.tree.current ≡ None → ⊥
   pub later : start ≤ at
   pub boundary : IsCharBoundary d.text at
-  pub goes_on : (later : Names) → Extends later d.names → (t : Taken)
+  pub continues : (later : Names) → Extends later d.names → (t : Taken)
       → AreRows (document d.text d.options later) (path_of d.options old.tree) (so_far columns now) (lines_from d.text at) t
       → AreRows (document d.text d.options later) (path_of d.options old.tree) (so_far columns old) (lines_from d.text start)
       (taking (body ++ t.items) t.left)

@@ -59,7 +59,7 @@ pub fn append_table_cell(
     ensures more { OnOk result (NamesMore allocs.old allocs.new) }
     ensures texts { OnOk result (AddsTexts (names_of allocs.new) (names_of allocs.old)) }
 {
-    tree.is_forest();
+    tree.recall_forest();
     open_block(tree, cell.at, ItemBody::TableCell)?;
     let content = Content {
         options: source.options,

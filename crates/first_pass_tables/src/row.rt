@@ -115,12 +115,12 @@ fn append_cells(
     ensures texts { OnOk result (AddsTexts (names_of allocs.new) (names_of allocs.old)) }
     ensures utf8 { OnOk result (IsUtf8 source.now.text.now) }
 {
-    source.is_short();
+    source.recall_length();
     let kept = append_some_cells(source, tree, allocs, braces, wanted)?;
     if kept.ended {
         return Ok((kept.at, kept.count));
     }
-    tree.is_forest();
+    tree.recall_forest();
     let last = tree.cur();
     let others = CellsWanted {
         start: kept.at,
@@ -194,7 +194,7 @@ pub fn parse_table_row_inner(
         → from ≤ wanted.start
         → IfSome row (λ r. AddsBetween source.now.text.now from r.0 tree.old tree.new)) }
 {
-    tree.is_forest();
+    tree.recall_forest();
     let before = tree.cur();
     open_block(tree, wanted.start, ItemBody::TableRow)?;
     let (end, count) = append_cells(source, tree, allocs, &mut table.braces, wanted)?;

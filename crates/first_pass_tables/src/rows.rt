@@ -46,7 +46,7 @@ fn scan_row_text(source: &Source<'_>, tree: &Tree<Item>, start: usize) -> Option
     ensures place { IfSome result (λ n. IsCharBoundary source.now.text.now n) }
     ensures utf8 { IsUtf8 source.now.text.now }
 {
-    source.is_short();
+    source.recall_length();
     let Some(rest) = scan_continued(source, tree, start) else {
         return None;
     };
@@ -112,7 +112,7 @@ fn append_body(
     ensures texts { OnOk result (AddsTexts (names_of allocs.new) (names_of allocs.old)) }
     ensures utf8 { OnOk result (IsUtf8 source.now.text.now) }
 {
-    tree.is_forest();
+    tree.recall_forest();
     let mut ix = wanted.start;
     'rows: loop {
         let row = CellsWanted {
@@ -167,7 +167,7 @@ pub fn parse_table(
         AddsWholeRows (document source.now.text.now source.now.options (names_of allocs.new)) rows.columns
         rows.head_start tree.old tree.new next) }
 {
-    tree.is_forest();
+    tree.recall_forest();
     let mut table = TableSoFar {
         missing_empty_cells: 0,
         braces: BraceContexts::new(),

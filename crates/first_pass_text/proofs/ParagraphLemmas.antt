@@ -191,7 +191,7 @@ closed_past m (Some x) chain plain = closed_if (is_backslash_break x.body) m x.s
 
 -- before the first line
 pub so_far_start : (d : Document) (start : ℕ) (old : Forest Item) → IsCharBoundary d.text start → LinesSoFar d start old old (spot start no_braces)
-so_far_start d start old boundary = record { chain = []; tree_is = refl; boundary = boundary; from = inl refl; goes_on = λ more e t p. p }
+so_far_start d start old boundary = record { chain = []; tree_is = refl; boundary = boundary; from = inl refl; continues = λ more e t p. p }
 
 -- A line ends at a character boundary.
 pub next_boundary : (d : Document) (ix n : ℕ) (b : MathBraces) (line_break : Option Item)
@@ -235,9 +235,9 @@ so_far_more path d names after start ix n at old now read new line_break path_is
           | inl same ↦ (let e = ap (line_end_at d.text) same in let p : n ≡ line_end_at d.text ix.at = ends.place in omega arith)
           | inr past ↦ omega arith
         ]);
-        goes_on = λ more e t p.
+        continues = λ more e t p.
             let later : Document = document d.text d.options more in
-            s.goes_on more (extends_both more names d.names e grown) t
+            s.continues more (extends_both more names d.names e grown) t
             (subst (λ c. AreTextLines later c ix s.chain (lines_from d.text (line_end_at d.text ix.at)) t) path_is
             (lines_more path later ix n after s.chain line.tokens line_break t (line_more (e.more_texts, e.texts) line.line) ends.place goes u b
             (subst (λ z. AreTextLines later path (spot z after) (add_break line_break chain) (lines_from d.text (line_end_at d.text z)) t) at_is
@@ -261,7 +261,7 @@ so_far_end path d names after start ix n old now read line_break underline path_
       chain = chain;
       are = λ more e.
           let later : Document = document d.text d.options more in
-          s.goes_on more (extends_both more names d.names e grown) given
+          s.continues more (extends_both more names d.names e grown) given
           (subst (λ c. AreTextLines later c ix s.chain (lines_from d.text (line_end_at d.text ix.at)) given) path_is
           (lines_last path later ix n after s.chain line.tokens line_break (line_more (e.more_texts, e.texts) line.line) ends.place stops));
       tree_is = tree;

@@ -18,6 +18,6 @@ pub record LinesSoFar (d : Document) (start : ℕ) (old now : Forest Item) (to :
   pub tree_is : now ≡ chained old chain
   pub boundary : IsCharBoundary d.text to.at
   pub from : (to.at ≡ start) ⊎ (line_end_at d.text start ≤ to.at)
-  pub goes_on : (more : Names) → Extends more d.names → (t : TextLines)
+  pub continues : (more : Names) → Extends more d.names → (t : TextLines)
       → AreTextLines (document d.text d.options more) (path_of d.options old) to chain (lines_from d.text (line_end_at d.text to.at)) t
       → AreTextLines (document d.text d.options more) (path_of d.options old) (spot start no_braces) [] (lines_from d.text (line_end_at d.text start)) t

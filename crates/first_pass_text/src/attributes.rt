@@ -87,7 +87,7 @@ fn chain_end(tree: &Tree<Item>, start: usize) -> usize
     ensures { (f : Forest Item) → (chain : List Item) → IsBare f → tree.now ≡ chained f chain
         → result ≡ chain_end_of start chain }
 {
-    tree.is_forest();
+    tree.recall_forest();
     match tree.cur() {
         None => start,
         Some(last) => tree[last].end,
@@ -171,10 +171,10 @@ pub fn make_heading<'a>(
         tree.old tree.new) }
     ensures few { OnOk result (length tree.new.nodes ≤ length tree.old.nodes) }
 {
-    tree.is_forest();
+    tree.recall_forest();
     let start = tree[node_ix].start;
     let index = cut_attributes(source, tree, allocs, start, underlined.broken)?;
-    tree.is_forest();
+    tree.recall_forest();
     tree.set_body(node_ix, ItemBody::Heading(underlined.level, index));
     Ok(())
 }

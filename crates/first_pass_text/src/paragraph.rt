@@ -99,7 +99,7 @@ pub fn parse_paragraph<'a>(
         → StandsBefore source.now.text.now from start_ix tasklist_marker
         → AddsBetween source.now.text.now from next tree.old tree.new) }
 {
-    tree.is_forest();
+    tree.recall_forest();
     let node_ix = open_block(tree, start_ix, ItemBody::Paragraph)?;
     append_item(tree, tasklist_marker)?;
     let end = append_text_lines(source, tree, allocs, start_ix)?;
@@ -135,8 +135,8 @@ fn append_text_lines<'a>(
         AppendsLines (document source.now.text.now source.now.options (names_of allocs.new)) start
         tree.old tree.new end) }
 {
-    source.is_short();
-    tree.is_forest();
+    source.recall_length();
+    tree.recall_forest();
     let mut braces = BraceContexts::new();
     let mut ix = start;
     'lines: loop {

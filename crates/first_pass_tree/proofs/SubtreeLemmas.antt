@@ -167,8 +167,11 @@ subtrees-kept : (ds es : List ℕ) (n : ℕ) (xs : List Subtree) → ((k : ℕ) 
 subtrees-kept ds es n [] s h = tt
 subtrees-kept ds es n (e ∷ xs) s h = (
   h.0,
-  record { following = h.1.following; deeper = λ k a b.
-      (let w = h.0 in let i = h.1.following in rw (s e.place (omega arith), s k (omega arith)) (h.1.deeper k a b)) },
+  record {
+    following = h.1.following;
+    deeper = λ k a b.
+        (let w = h.0 in let i = h.1.following in rw (s e.place (omega arith), s k (omega arith)) (h.1.deeper k a b));
+  },
   subtrees-kept ds es e.past xs (λ k a. let w = h.0 in s k (omega arith)) h.2,
 )
 

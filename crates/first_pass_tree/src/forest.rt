@@ -69,7 +69,7 @@ impl Tree<Item> {
 
     /// Does nothing; its contract states the invariant of a tree. The depths are those of a tree in reading
     /// order, the open nodes are a path, and the current node is the last child of the innermost open node.
-    pub fn is_forest(&self)
+    pub fn recall_forest(&self)
         ensures { IsForest self.now }
     {
         let _ = &self.nodes;

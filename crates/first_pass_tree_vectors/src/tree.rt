@@ -66,7 +66,7 @@ fn grows_at_its_end(rt: HostRuntime) -> Result<(), Fail> {
         (3, item(6, 9, text(true))),
     ];
     check(&rt, &tree, &nodes, "append_text");
-    tree.is_forest();
+    tree.recall_forest();
     assert!(rt; tree.cur() == Some(TreeIndex(4)) && tree.peek_up() == Some(TreeIndex(2)));
     assert!(rt; tree.peek_grandparent() == Some(TreeIndex(1)) && tree.spine_len() == 2);
     assert!(rt; tree.walk_spine() == [TreeIndex(1), TreeIndex(2)].as_slice());

@@ -23,14 +23,14 @@ loop-reading-preserved c =
     let i = c.loop-reading.invariant in
     let n = c.spine_len.ensures in
     let more = c.loop-reading-test.true in
-    let one = closed_one _ _ _ c.args.kept c.args.ix c.is_forest.ensures c.pop.ensures (omega arith) i.closed in
+    let one = closed_one _ _ _ c.args.kept c.args.ix c.recall_forest.ensures c.pop.ensures (omega arith) i.closed in
     record {
       closed = one.0;
       order = λ text within boundary ordered. subst (λ (q : Reading). IsReadTo text q c.args.ix) (sym c.pop.ensures)
           (read_popped text _ c.args.ix c.args.ix (omega arith) within boundary (i.order text within boundary ordered));
       none_added = subst (λ (q : Reading). count q ≤ count c.args.reading.now) (sym c.pop.ensures) (popped_count c.args.ix _ _ i.none_added);
       named = λ names h. subst (AreReadNamed names) (sym c.pop.ensures) (popped_named names c.args.ix _ (i.named names h));
-      whole = λ names h. subst (IsReadWhole names) (sym c.pop.ensures) (popped_whole names c.args.ix _ c.is_forest.ensures (i.whole names h));
+      whole = λ names h. subst (IsReadWhole names) (sym c.pop.ensures) (popped_whole names c.args.ix _ c.recall_forest.ensures (i.whole names h));
       all_kept = λ all. (let none = ap (λ (q : Reading). length q.tree.spine) (i.all_kept all) in absurd (omega arith));
     }
 
@@ -38,7 +38,7 @@ pub loop-reading-smaller : goal.loop-reading-smaller
 loop-reading-smaller c =
     let n = c.spine_len.ensures in
     let more = c.loop-reading-test.true in
-    (closed_one _ _ _ c.args.kept c.args.ix c.is_forest.ensures c.pop.ensures (omega arith) c.loop-reading.invariant.closed).1
+    (closed_one _ _ _ c.args.kept c.args.ix c.recall_forest.ensures c.pop.ensures (omega arith) c.loop-reading.invariant.closed).1
 
 pub returns-clause-kept : goal.returns-clause-kept
 returns-clause-kept c =

@@ -8,7 +8,7 @@ offset-requires c =
     let p = c.args.place.now in
     let i = all_keep c.args.source.now.text.now p.line p.rest c.requires.utf8 c.requires.place in
     let e = read_to all_taken _ p _ c.scan_indentation.new.line_start refl c.scan_indentation.ensures.rest (c.next.view_is ∙ c.copy-next.ensures) in
-    let short = c.is_short.ensures in
+    let short = c.recall_length.ensures in
     omega (arith, i.within, e)
 
 pub returns-clause-boundary : goal.returns-clause-boundary

@@ -9,6 +9,6 @@ offset-requires c =
     c.scan_task_list_marker.ensures in
     let k = task_keeps c.args.source.now.text.now c.place.inside.line c.place.inside.rest
     (c.in_ok-checked.checked, c.scan_task_list_marker.new.self) c.requires.utf8 task (same_place _ _ _ c.place.view_is c.requires.place) in
-    let short = c.is_short.ensures in
+    let short = c.recall_length.ensures in
     let i = k.0 in
     omega (arith, i.within)

@@ -13,15 +13,15 @@ use Rattle.first_pass_open.proofs.PlaceLemmas.{item_keeps, quote_absent}
 use Rattle.first_pass_blocks.specs.declared.openers.Opener.TheVariants.{Quote, Item as ItemOpener, Definition as DefinitionOpener}
 use Rattle.first_pass_grammar.specs.declared.kind.AfterMarker.{AfterMarker}
 use Rattle.first_pass_blocks.specs.declared.openers.Start.{Start}
-use Rattle.first_pass_blocks.specs.Starts.{item_after, TellsStart}
+use Rattle.first_pass_blocks.specs.Starts.{item_after, StartMatches}
 use Rattle.first_pass_blocks.proofs.OpenerLemmas.{item_found, item_absent}
 use Rattle.first_pass_blocks.proofs.StartFound.{definition_found, IsUntaken, untaken_then, untaken_else, same_place, matches, matches_none, quote_here}
 use Rattle.first_pass_blocks.proofs.openers.start_at.Goals as goal
 use Rattle.first_pass_blocks.proofs.openers.start_at.Goals.{In-Some, then-may_define+in_default-scan_definition, else-may_define}
 
 -- a start in terms of the pass
-tells : (s : ContainerStart) (r : Option Start) (t : Start) → r ≡ Some t → TellsStart s t → IsSomeAnd r (TellsStart s)
-tells s r t is h = subst (λ (f : Option Start). IsSomeAnd f (TellsStart s)) (sym is) h
+tells : (s : ContainerStart) (r : Option Start) (t : Start) → r ≡ Some t → StartMatches s t → IsSomeAnd r (StartMatches s)
+tells s r t is h = subst (λ (f : Option Start). IsSomeAnd f (StartMatches s)) (sym is) h
 
 -- the item that begins there
 taken : (c : In-Some)

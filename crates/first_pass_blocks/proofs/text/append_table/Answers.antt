@@ -57,7 +57,7 @@ returns-clause-block c = λ marker.
     (subst (λ n. AppendsRows (document text c.args.source.now.options names) n c.args.start (c.args.start + c.args.table.head_len)
     c.open_block.new.tree c.parse_table.new.tree
     c.in_ok-next.next) (c.len.ensures ∙ c.args.table.alignments.ok.0) c.in_ok-next.ensures.rows) in
-    let there = open_are_in old.nodes old.spine c.is_forest.ensures.opened in
+    let there = open_are_in old.nodes old.spine c.recall_forest.ensures.opened in
     table_text text c.args.source.now.options names c.args.start (c.args.start + c.args.table.head_len) c.in_ok-next.next ix alignments old
     c.parse_table.new.tree rows there
     (named_yet c) body_is c.requires.headed marker
@@ -78,7 +78,7 @@ returns-clause-fits c = λ from low.
     (subst (λ n. AppendsRows (document text c.args.source.now.options names) n c.args.start (c.args.start + c.args.table.head_len)
     c.open_block.new.tree c.parse_table.new.tree
     c.in_ok-next.next) (c.len.ensures ∙ c.args.table.alignments.ok.0) c.in_ok-next.ensures.rows) in
-    let there = open_are_in old.nodes old.spine c.is_forest.ensures.opened in
+    let there = open_are_in old.nodes old.spine c.recall_forest.ensures.opened in
     table_between text c.args.source.now.options names c.args.start (c.args.start + c.args.table.head_len) c.in_ok-next.next ix alignments old
     c.parse_table.new.tree rows
     there

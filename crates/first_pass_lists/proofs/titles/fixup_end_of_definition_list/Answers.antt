@@ -107,7 +107,7 @@ index-requires c =
 
 pub set_end-requires : goal.set_end-requires
 set_end-requires c =
-    let w = current-within c.args.tree.now c.args.list_ix c.requires c.is_forest.ensures in
+    let w = current-within c.args.tree.now c.args.list_ix c.requires c.recall_forest.ensures in
     omega (arith, w, like_length c.args.tree.now _ (untitled c.args.tree.now _ _ c.leave_untitled.ensures))
 
 pub move_out-requires : goal.move_out-requires

@@ -18,7 +18,7 @@ returns-then-is_at_eol c =
 
 pub index-requires : goal.index-requires
 index-requires c =
-    place_within c.args.tree.now.nodes c.args.tree.now.spine _ c.loop-i.i c.is_forest.ensures.opened c.walk_spine-ix-items.ensures c.loop-i-test.true
+    place_within c.args.tree.now.nodes c.args.tree.now.spine _ c.loop-i.i c.recall_forest.ensures.opened c.walk_spine-ix-items.ensures c.loop-i-test.true
 
 pub returns-then-not-takes_prefix : goal.returns-then-not-takes_prefix
 returns-then-not-takes_prefix c =

@@ -11,7 +11,7 @@ loop-i-init c = taken_none c.args.options c.args.tree.now.nodes c.args.tree.now.
 
 pub index-requires : goal.index-requires
 index-requires c =
-    place_within c.args.tree.now.nodes c.args.tree.now.spine _ c.loop-i.i c.is_forest.ensures.opened c.walk_spine-spine.ensures c.loop-i-test.true
+    place_within c.args.tree.now.nodes c.args.tree.now.spine _ c.loop-i.i c.recall_forest.ensures.opened c.walk_spine-spine.ensures c.loop-i-test.true
 
 none_longer : (c : Then-not-takes_prefix) → (m : ℕ) → c.loop-i.i < m → m ≤ length c.args.tree.now.spine
     → after (path_in c.args.options c.args.tree.now.nodes (outer m c.args.tree.now.spine)) c.args.line_start.now ≡ None

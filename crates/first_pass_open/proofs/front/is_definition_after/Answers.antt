@@ -7,4 +7,4 @@ pub index-requires : goal.index-requires
 index-requires c =
     let node = c.in-Some.ensures.lookup.3 in
     subst (λ (ix : TreeIndex). ix.0 < length c.args.tree.now.nodes) (sym (node.1 root))
-    (place_within c.args.tree.now.nodes c.args.tree.now.spine _ c.args.kept c.is_forest.ensures.opened c.walk_spine.ensures node.0)
+    (place_within c.args.tree.now.nodes c.args.tree.now.spine _ c.args.kept c.recall_forest.ensures.opened c.walk_spine.ensures node.0)

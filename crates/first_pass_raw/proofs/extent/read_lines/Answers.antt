@@ -23,7 +23,7 @@ pub returns-in_default-clause-lines : goal.returns-in_default-clause-lines
 returns-in_default-clause-lines g c =
     read_left (range_of (g.J.JudgesLines.kinds c.args.judge.now)) c.args.source.now.text.now c.args.source.now.options (names_of c.loop-ix.allocs)
     (g.J.JudgesLines.judges c.args.judge.now) c.args.start c.loop-ix.ix c.args.tree.now c.loop-ix.tree c.loop-ix.invariant.read _
-    (open_are_in c.args.tree.now.nodes c.args.tree.now.spine c.is_forest.ensures.opened)
+    (open_are_in c.args.tree.now.nodes c.args.tree.now.spine c.recall_forest.ensures.opened)
     (line_read c.args.source.now.text.now c.args.source.now.text.now c.loop-ix.ix _ c.scan_continued_past.ensures.utf8 c.loop-ix.invariant.boundary
     c.loop-ix-test.true refl refl)
     c.scan_continued_past.result c.in_default.is c.scan_continued_past.ensures.value
@@ -31,7 +31,7 @@ returns-in_default-clause-lines g c =
 pub scan_continued_past-requires-clause-quotes : goal.scan_continued_past-requires-clause-quotes
 scan_continued_past-requires-clause-quotes g c =
     lines_quotes _ _ _ _ _ _ c.args.tree.now c.loop-ix.tree _ c.loop-ix.invariant.read
-    (open_are_in c.args.tree.now.nodes c.args.tree.now.spine c.is_forest.ensures.opened) (c.quotes_end-quotes_end.ensures c.args.source.now.options)
+    (open_are_in c.args.tree.now.nodes c.args.tree.now.spine c.recall_forest.ensures.opened) (c.quotes_end-quotes_end.ensures c.args.source.now.options)
 
 pub judge-verdict-requires-clause-next : goal.judge-verdict-requires-clause-next
 judge-verdict-requires-clause-next g c =
@@ -51,7 +51,7 @@ pub returns-in-Stops-clause-lines : goal.returns-in-Stops-clause-lines
 returns-in-Stops-clause-lines g c =
     read_stops (range_of (g.J.JudgesLines.kinds c.args.judge.now)) c.args.source.now.text.now c.args.source.now.options (names_of c.loop-ix.allocs)
     (g.J.JudgesLines.judges c.args.judge.now) c.args.start c.loop-ix.ix c.args.tree.now c.loop-ix.tree c.loop-ix.invariant.read c.next_line-next.result
-    (open_are_in c.args.tree.now.nodes c.args.tree.now.spine c.is_forest.ensures.opened)
+    (open_are_in c.args.tree.now.nodes c.args.tree.now.spine c.recall_forest.ensures.opened)
     (line_read c.args.source.now.text.now c.as_bytes.result.now c.loop-ix.ix _
     c.scan_continued_past.ensures.utf8 c.loop-ix.invariant.boundary c.loop-ix-test.true c.as_bytes.ensures.value c.next_line-next.ensures.value)
     c.in-Some.line_start c.judge-verdict.new.line_start c.in-Some.ensures.value c.judge-verdict.result c.judge-verdict.ensures.verdict c.in-Stops.end
@@ -65,7 +65,7 @@ returns-in-Closes g c =
     record {
       lines = read_closes (range_of (g.J.JudgesLines.kinds c.args.judge.now)) c.args.source.now.text.now c.args.source.now.options (names_of c.loop-ix.allocs)
           (g.J.JudgesLines.judges c.args.judge.now) c.args.start c.loop-ix.ix c.args.tree.now c.loop-ix.tree c.loop-ix.invariant.read c.next_line-next.result
-          (open_are_in c.args.tree.now.nodes c.args.tree.now.spine c.is_forest.ensures.opened) line
+          (open_are_in c.args.tree.now.nodes c.args.tree.now.spine c.recall_forest.ensures.opened) line
           c.in-Some.line_start c.judge-verdict.new.line_start c.in-Some.ensures.value c.judge-verdict.result c.judge-verdict.ensures.verdict c.in-Closes.end
           c.in-Closes.is;
       boundary = (omega (arith, c.loop-ix.invariant.later, line.later), line.boundary);
@@ -84,7 +84,7 @@ returns-in-IsLast g c =
     record {
       lines = read_last (range_of (g.J.JudgesLines.kinds c.args.judge.now)) c.args.source.now.text.now c.args.source.now.options (names_of c.loop-ix.allocs)
           (g.J.JudgesLines.judges c.args.judge.now) c.args.start c.loop-ix.ix c.args.tree.now c.loop-ix.tree c.loop-ix.invariant.read c.next_line-next.result
-          (open_are_in c.args.tree.now.nodes c.args.tree.now.spine c.is_forest.ensures.opened) line
+          (open_are_in c.args.tree.now.nodes c.args.tree.now.spine c.recall_forest.ensures.opened) line
           c.in-Some.line_start c.judge-verdict.new.line_start c.in-Some.ensures.value c.judge-verdict.result c.judge-verdict.ensures.verdict
           (names_of c.append_raw_line.new.allocs) _ _ c.append_raw_line.new.tree c.requires.apart c.in_ok-append_raw_line.ensures.more.names
           (line_as c.args.source.now.text.now (names_of c.append_raw_line.new.allocs) c.kind-kind.result
@@ -110,7 +110,7 @@ loop-ix-preserved g c =
       same_entries = c.in_ok-append_raw_line.ensures.more.entries ∙ c.loop-ix.invariant.same_entries;
       read = read_more (range_of (g.J.JudgesLines.kinds c.args.judge.now)) c.args.source.now.text.now c.args.source.now.options (names_of c.loop-ix.allocs)
           (g.J.JudgesLines.judges c.args.judge.now) c.args.start c.loop-ix.ix c.args.tree.now c.loop-ix.tree c.loop-ix.invariant.read c.next_line-next.result
-          (open_are_in c.args.tree.now.nodes c.args.tree.now.spine c.is_forest.ensures.opened) line
+          (open_are_in c.args.tree.now.nodes c.args.tree.now.spine c.recall_forest.ensures.opened) line
           c.in-Some.line_start c.judge-verdict.new.line_start c.in-Some.ensures.value c.judge-verdict.result c.judge-verdict.ensures.verdict
           (names_of c.append_raw_line.new.allocs) _ _ c.append_raw_line.new.tree c.requires.apart c.in_ok-append_raw_line.ensures.more.names
           (line_as c.args.source.now.text.now (names_of c.append_raw_line.new.allocs) c.kind-kind.result

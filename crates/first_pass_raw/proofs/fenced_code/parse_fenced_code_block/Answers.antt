@@ -42,7 +42,7 @@ returns-clause-block c =
     (names_of c.read_lines.new.allocs) c.args.tree.now c.open_block.new.tree c.read_lines.new.tree c.close_block.new.tree
     c.args.start_ix c.args.fence.indent c.args.fence.byte c.args.fence.count c.next_line-first.result c.in_ok-lines.lines.«end» c.in_ok-lines.lines.next
     c.in_ok-info_ix.info_ix
-    (open_are_in c.args.tree.now.nodes c.args.tree.now.spine c.is_forest.ensures.opened) c.in_ok-open_block.ensures.tree
+    (open_are_in c.args.tree.now.nodes c.args.tree.now.spine c.recall_forest.ensures.opened) c.in_ok-open_block.ensures.tree
     (first_read c.args.source.now.text.now c.as_bytes-bytes.result.now c.args.start_ix _
     (subst IsUtf8 c.as_bytes-bytes.ensures.value c.as_bytes-bytes.ensures.utf8) c.requires.boundary c.as_bytes-bytes.ensures.value
     c.next_line-first.ensures.value).0

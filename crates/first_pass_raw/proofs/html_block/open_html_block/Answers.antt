@@ -36,10 +36,10 @@ returns-clause-path c = λ options.
     first_read c.args.text.now c.as_bytes.result.now c.args.start.at _ c.utf8.text c.requires.boundary c.as_bytes.ensures.value
     c.next_line-next.ensures.value in
     let opened : Forest Item = opened_block c.args.tree.now c.args.start.at HtmlBlock in
-    let forest = subst (IsForest {T = Item}) c.in_ok-open_block.ensures.tree c.is_forest-2.ensures in
+    let forest = subst (IsForest {T = Item}) c.in_ok-open_block.ensures.tree c.recall_forest-2.ensures in
     first_path c.args.text.now options _ c.args.start.at c.args.start.columns c.next_line-next.result c.args.tree.now c.append_raw_line.new.tree (line c)
     next.0
-    (open_are_in c.args.tree.now.nodes c.args.tree.now.spine c.is_forest.ensures.opened) (open_are_in opened.nodes opened.spine forest.opened)
+    (open_are_in c.args.tree.now.nodes c.args.tree.now.spine c.recall_forest.ensures.opened) (open_are_in opened.nodes opened.spine forest.opened)
 
 pub returns-clause-apart : goal.returns-clause-apart
 returns-clause-apart c =

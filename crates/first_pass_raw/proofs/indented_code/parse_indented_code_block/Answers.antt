@@ -38,7 +38,7 @@ pub indented_line-requires-clause-quotes : goal.indented_line-requires-clause-qu
 indented_line-requires-clause-quotes c =
     let text = c.args.source.now.text.now in
     let opened : Forest Item = opened_block c.args.tree.now c.args.start_ix IndentCodeBlock in
-    let forest = subst (IsForest {T = Item}) c.in_ok-open_block.ensures.tree c.is_forest-2.ensures in
+    let forest = subst (IsForest {T = Item}) c.in_ok-open_block.ensures.tree c.recall_forest-2.ensures in
     let first = c.lines.invariant.read (first_at text c.args.start_ix c.args.remaining_space) (first_is text c.args.start_ix c.args.remaining_space) refl in
     next_quotes _ _ _ _ _ _ _ _ _ _ first forest
     (subst (λ (f : Forest Item). has_quote_after c.args.source.now.options f c.quotes_end-quotes_end.result ≡ false) c.in_ok-open_block.ensures.tree
@@ -49,7 +49,7 @@ lines-preserved c =
     let i = c.lines.invariant in
     let text = c.args.source.now.text.now in
     let opened : Forest Item = opened_block c.args.tree.now c.args.start_ix IndentCodeBlock in
-    let forest = subst (IsForest {T = Item}) c.in_ok-open_block.ensures.tree c.is_forest-2.ensures in
+    let forest = subst (IsForest {T = Item}) c.in_ok-open_block.ensures.tree c.recall_forest-2.ensures in
     let first = i.read (first_at text c.args.start_ix c.args.remaining_space) (first_is text c.args.start_ix c.args.remaining_space) refl in
     let goes = sym (next_rest _ _ _ _ _ _ _ _ _ c.indented_line.result first forest c.indented_line.ensures.value) ∙ c.in-Some.is in
     let read = next_read text (path_of c.args.source.now.options opened) c.lines.next _ c.in_ok-next-2.next c.in-Some.line_start c.append_line.ensures.utf8
@@ -76,7 +76,7 @@ lines-smaller c =
     let i = c.lines.invariant in
     let text = c.args.source.now.text.now in
     let opened : Forest Item = opened_block c.args.tree.now c.args.start_ix IndentCodeBlock in
-    let forest = subst (IsForest {T = Item}) c.in_ok-open_block.ensures.tree c.is_forest-2.ensures in
+    let forest = subst (IsForest {T = Item}) c.in_ok-open_block.ensures.tree c.recall_forest-2.ensures in
     let first = i.read (first_at text c.args.start_ix c.args.remaining_space) (first_is text c.args.start_ix c.args.remaining_space) refl in
     let goes = sym (next_rest _ _ _ _ _ _ _ _ _ c.indented_line.result first forest c.indented_line.ensures.value) ∙ c.in-Some.is in
     let read = next_read text (path_of c.args.source.now.options opened) c.lines.next _ c.in_ok-next-2.next c.in-Some.line_start c.append_line.ensures.utf8
@@ -97,7 +97,7 @@ pub close_block-requires : goal.close_block-requires
 close_block-requires c =
     let text = c.args.source.now.text.now in
     let opened : Forest Item = opened_block c.args.tree.now c.args.start_ix IndentCodeBlock in
-    let forest = subst (IsForest {T = Item}) c.in_ok-open_block.ensures.tree c.is_forest-2.ensures in
+    let forest = subst (IsForest {T = Item}) c.in_ok-open_block.ensures.tree c.recall_forest-2.ensures in
     let first = c.lines.invariant.read (first_at text c.args.start_ix c.args.remaining_space) (first_is text c.args.start_ix c.args.remaining_space) refl in
     let stops = sym (next_rest _ _ _ _ _ _ _ _ _ c.indented_line.result first forest c.indented_line.ensures.value) ∙ c.in_default.is in
     let all = so_far_stop _ _ _ _ _ _ _ _ _
@@ -107,10 +107,10 @@ close_block-requires c =
 pub returns-clause-block : goal.returns-clause-block
 returns-clause-block c p at o =
     let opened : Forest Item = opened_block c.args.tree.now c.args.start_ix IndentCodeBlock in
-    let forest = subst (IsForest {T = Item}) c.in_ok-open_block.ensures.tree c.is_forest-2.ensures in
+    let forest = subst (IsForest {T = Item}) c.in_ok-open_block.ensures.tree c.recall_forest-2.ensures in
     let s = c.lines.invariant.read p at o in
     let stops = sym (next_rest _ _ _ _ _ _ _ _ _ c.indented_line.result s forest c.indented_line.ensures.value) ∙ c.in_default.is in
     let all = so_far_stop _ _ _ _ _ _ _ _ _
     (opened_last opened (just_opened c.args.tree.now opened c.args.start_ix refl)) s c.cut_after.new.tree stops c.cut_after.ensures in
-    code_added _ _ _ p c.args.tree.now opened c.cut_after.new.tree c.args.start_ix _ _ _ refl all c.close_block.new.tree c.is_forest.ensures at.offset_is
+    code_added _ _ _ p c.args.tree.now opened c.cut_after.new.tree c.args.start_ix _ _ _ refl all c.close_block.new.tree c.recall_forest.ensures at.offset_is
     c.close_block.ensures.tree

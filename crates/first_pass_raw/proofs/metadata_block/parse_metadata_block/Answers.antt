@@ -29,7 +29,7 @@ returns-clause-block c =
     c.read_lines.new.tree
     c.close_block.new.tree c.args.start_ix c.args.metadata_block_ch c.next_line-first.result
     c.in_ok-lines.lines.«end» c.in_ok-lines.lines.next c.metadata_kind.result
-    (open_are_in c.args.tree.now.nodes c.args.tree.now.spine c.is_forest.ensures.opened) c.in_ok-open_block.ensures.tree c.metadata_kind.ensures
+    (open_are_in c.args.tree.now.nodes c.args.tree.now.spine c.recall_forest.ensures.opened) c.in_ok-open_block.ensures.tree c.metadata_kind.ensures
     (first_read c.args.source.now.text.now c.as_bytes.result.now c.args.start_ix _ (subst IsUtf8 c.as_bytes.ensures.value c.as_bytes.ensures.utf8)
     c.requires.boundary c.as_bytes.ensures.value
     c.next_line-first.ensures.value).0 c.in_ok-lines.ensures.lines c.close_block.ensures.tree

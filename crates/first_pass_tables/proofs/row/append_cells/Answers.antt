@@ -16,12 +16,12 @@ drop_beyond-requires c =
     let d = document c.args.source.now.text.now c.args.source.now.options (names_of c.append_some_cells-2.new.allocs) in
     let tree = c.append_some_cells.new.tree in
     let over = c.append_some_cells-2.new.tree in
-    let short = c.is_short.ensures in
+    let short = c.recall_length.ensures in
     let some = c.if-excess-gt0.true in
     let mid : Spot = spot c.in_ok-kept.kept.at c.append_some_cells.new.braces in
     let all = ended_within d _ mid tree over c.in_ok-excess.excess c.append_some_cells-2.new.braces (omega arith) c.in_ok-excess.ensures.cells in
     subst (λ (o : Option TreeIndex). IfSome o (λ ix. IsChild over ix)) (sym c.cur-last.ensures)
-    (current_is_child tree over c.is_forest.ensures (has_more d mid (spot c.in_ok-excess.excess.at c.append_some_cells-2.new.braces)
+    (current_is_child tree over c.recall_forest.ensures (has_more d mid (spot c.in_ok-excess.excess.at c.append_some_cells-2.new.braces)
     c.in_ok-excess.excess.count tree over (omega arith) all))
 
 pub returns-clause-cells : goal.returns-clause-cells
@@ -34,7 +34,7 @@ returns-clause-cells c =
     let new = c.if-excess-gt0.tree in
     let kept = c.in_ok-kept.kept in
     let excess = c.in_ok-excess.excess in
-    let short = c.is_short.ensures in
+    let short = c.recall_length.ensures in
     let far = c.in_ok-kept.ensures.cells.first c.if-kept.false in
     let start : Spot = spot c.args.wanted.start c.args.braces.now in
     let mid : Spot = spot kept.at c.append_some_cells.new.braces in
@@ -45,7 +45,7 @@ returns-clause-cells c =
     elim c.if-excess-gt0.branch [
       | then-excess-gt0 w ↦
           let some = w.if-excess-gt0.true in
-          same_dropped tree over new c.is_forest.ensures node (has_more d mid stop excess.count tree over (omega arith) all)
+          same_dropped tree over new c.recall_forest.ensures node (has_more d mid stop excess.count tree over (omega arith) all)
           (w.tree-is ∙ w.drop_beyond.ensures ∙ ap (without_after over) c.cur-last.ensures)
       | else-excess-gt0 w ↦
           let none = w.if-excess-gt0.false in

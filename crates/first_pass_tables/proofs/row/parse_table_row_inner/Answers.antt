@@ -38,7 +38,7 @@ drop_beyond-requires c =
     back
     (spot c.in_ok-end.end c.append_cells.new.braces, c.in_ok-end.count) c.pop.result
     c.in_ok-open_block.ensures.tree c.in_ok-end.ensures.cells c.pop.ensures in
-    subst (λ (o : Option TreeIndex). IfSome o (λ ix. IsChild back ix)) (sym c.cur-before.ensures) (current_is_child old back c.is_forest.ensures more)
+    subst (λ (o : Option TreeIndex). IfSome o (λ ix. IsChild back ix)) (sym c.cur-before.ensures) (current_is_child old back c.recall_forest.ensures more)
 
 pub returns-then-not-is_kept-clause-row : goal.returns-then-not-is_kept-clause-row
 returns-then-not-is_kept-clause-row c =
@@ -64,7 +64,7 @@ returns-then-not-is_kept-clause-row c =
       adds = (
         ap (λ (t : Bool). keeps_row t c.args.wanted.most most adds.cells) (sym following) ∙ sym test ∙ sym kept ∙ c.if-not-is_kept.true,
         ap (λ (f : Forest Item). open_table f c.args.table.now.missing_empty_cells c.append_cells.new.braces)
-            (c.drop_beyond.ensures ∙ ap (without_after back) c.cur-before.ensures ∙ dropped old back c.is_forest.ensures c.requires.open more),
+            (c.drop_beyond.ensures ∙ ap (without_after back) c.cur-before.ensures ∙ dropped old back c.recall_forest.ensures c.requires.open more),
       );
     }
 

@@ -28,7 +28,7 @@ one_read c =
     let old = open_table c.args.tree.now c.args.table.now.missing_empty_cells c.args.table.now.braces in
     let now = open_table c.rows.tree c.rows.table.missing_empty_cells c.rows.table.braces in
     let new = open_table c.parse_table_row.new.tree c.parse_table_row.new.table.missing_empty_cells c.parse_table_row.new.table.braces in
-    let there = open_are_in c.args.tree.now.nodes c.args.tree.now.spine c.is_forest.ensures.opened in
+    let there = open_are_in c.args.tree.now.nodes c.args.tree.now.spine c.recall_forest.ensures.opened in
     body_more d (names_of c.rows.allocs) c.args.wanted.most c.args.wanted.start old now new c.rows.ix c.in_ok-next.ensures.utf8 there
     c.in_ok-next.ensures.more.names
     c.rows.invariant.read c.in-Some.next c.in-Some.field-0-1
@@ -55,7 +55,7 @@ returns-in-None-clause-body c =
     let old = open_table c.args.tree.now c.args.table.now.missing_empty_cells c.args.table.now.braces in
     let now = open_table c.rows.tree c.rows.table.missing_empty_cells c.rows.table.braces in
     let new = open_table c.parse_table_row.new.tree c.parse_table_row.new.table.missing_empty_cells c.parse_table_row.new.table.braces in
-    let there = open_are_in c.args.tree.now.nodes c.args.tree.now.spine c.is_forest.ensures.opened in
+    let there = open_are_in c.args.tree.now.nodes c.args.tree.now.spine c.recall_forest.ensures.opened in
     body_over d (names_of c.rows.allocs) c.args.wanted.most c.args.wanted.start old now new c.rows.ix c.in_ok-next.ensures.utf8 there
     c.in_ok-next.ensures.more.names
     c.rows.invariant.read (subst (ReadsRowLine d c.args.wanted.most c.rows.ix now new) c.in-None.is c.in_ok-next.ensures.row)

@@ -16,7 +16,8 @@ returns-clause-rows c =
     c.args.rows.columns c.args.rows.head_start c.args.rows.body_start c.in_ok-next.next
     c.args.tree.now (open_table c.append_head_row.new.tree c.append_head_row.new.table.missing_empty_cells c.append_head_row.new.table.braces)
     c.append_body.new.tree
-    c.close_block.new.tree c.in_ok-next.ensures.more.names c.requires.open (open_are_in c.args.tree.now.nodes c.args.tree.now.spine c.is_forest.ensures.opened)
+    c.close_block.new.tree c.in_ok-next.ensures.more.names c.requires.open
+    (open_are_in c.args.tree.now.nodes c.args.tree.now.spine c.recall_forest.ensures.opened)
     (subst (λ b. AddsHead (document c.args.source.now.text.now c.args.source.now.options (names_of c.append_head_row.new.allocs)) c.args.rows.columns
     (spot c.args.rows.head_start b) c.args.tree.now
     (open_table c.append_head_row.new.tree c.append_head_row.new.table.missing_empty_cells c.append_head_row.new.table.braces)) c.new.ensures

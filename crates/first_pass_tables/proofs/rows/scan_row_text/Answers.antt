@@ -12,7 +12,7 @@ overflow_add-result c =
     let w = i.within in
     let e = ap (λ (r : Rest). c.args.start + r.taken) c.scan_all_space.ensures in
     let f = c.bytes_scanned.ensures in
-    let s = c.is_short.ensures in
+    let s = c.recall_length.ensures in
     omega arith
 
 pub returns-then-interrupts_rows-clause-value : goal.returns-then-interrupts_rows-clause-value

@@ -10,11 +10,11 @@ use Rattle.first_pass_text.proofs.attributes.make_heading.Goals as goal
 use Rattle.first_pass_tokens.proofs.BytesLemmas.{length-modify}
 
 pub index-requires : goal.index-requires
-index-requires c = open_node_in c.args.tree.now c.args.node_ix c.is_forest.ensures c.requires.open
+index-requires c = open_node_in c.args.tree.now c.args.node_ix c.recall_forest.ensures c.requires.open
 
 pub set_body-requires : goal.set_body-requires
 set_body-requires c =
-    open_node_in c.cut_attributes.new.tree c.args.node_ix c.is_forest-2.ensures (ap (λ s. slice_get s 0) c.in_ok-index.ensures.open ∙ c.requires.open)
+    open_node_in c.cut_attributes.new.tree c.args.node_ix c.recall_forest-2.ensures (ap (λ s. slice_get s 0) c.in_ok-index.ensures.open ∙ c.requires.open)
 
 pub returns-clause-heading : goal.returns-clause-heading
 returns-clause-heading c =

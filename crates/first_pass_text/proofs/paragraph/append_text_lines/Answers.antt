@@ -44,7 +44,8 @@ lines-smaller c =
     c.args.source.now.text.now
     c.args.source.now.text.now c.args.source.now.options c.args.source.now.options c.args.start (spot c.lines.ix c.lines.braces) c.in_ok-next.next c.in-More.at
     c.args.tree.now c.lines.tree c.append_line.new.tree c.append_item.new.tree c.in_ok-next.line_break _ _ refl refl refl refl
-    (open_are_in c.args.tree.now.nodes c.args.tree.now.spine c.is_forest.ensures.opened) c.scan_next_line.ensures.utf8 c.lines.invariant.read c.requires.apart
+    (open_are_in c.args.tree.now.nodes c.args.tree.now.spine c.recall_forest.ensures.opened)
+    c.scan_next_line.ensures.utf8 c.lines.invariant.read c.requires.apart
     c.in_ok-next.ensures.names c.in_ok-next.ensures.line c.in_ok-next.ensures.ends c.in_ok-at.ensures.value c.in-More.is c.in_ok-at.ensures.place
     (c.in_ok-append_item-in-More.ensures ∙ ap (with_child c.append_line.new.tree) (c.break_item.ensures ∙ c.held_break-held.ensures)) in
     let within : c.in-More.at ≤ length c.args.source.now.text.now = more.0.boundary.0 in
@@ -58,7 +59,8 @@ lines-preserved c = record {
       c.args.source.now.text.now c.args.source.now.options c.args.source.now.options c.args.start (spot c.lines.ix c.lines.braces) c.in_ok-next.next
       c.in-More.at
       c.args.tree.now c.lines.tree c.append_line.new.tree c.append_item.new.tree c.in_ok-next.line_break _ _ refl refl refl refl
-      (open_are_in c.args.tree.now.nodes c.args.tree.now.spine c.is_forest.ensures.opened) c.scan_next_line.ensures.utf8 c.lines.invariant.read c.requires.apart
+      (open_are_in c.args.tree.now.nodes c.args.tree.now.spine c.recall_forest.ensures.opened)
+      c.scan_next_line.ensures.utf8 c.lines.invariant.read c.requires.apart
       c.in_ok-next.ensures.names c.in_ok-next.ensures.line c.in_ok-next.ensures.ends c.in_ok-at.ensures.value c.in-More.is c.in_ok-at.ensures.place
       (c.in_ok-append_item-in-More.ensures ∙ ap (with_child c.append_line.new.tree) (c.break_item.ensures ∙ c.held_break-held.ensures))).0;
   grown =
@@ -72,8 +74,9 @@ returns-in-Underline-clause-lines c =
     (so_far_stop (names_of c.lines.allocs) (names_of c.append_line.new.self) c.append_line.new.braces c.args.source.now.text.now
     c.args.source.now.text.now c.args.source.now.text.now c.args.source.now.options c.args.source.now.options c.args.start
     (spot c.lines.ix c.lines.braces) c.in_ok-next.next c.args.tree.now c.lines.tree c.append_line.new.tree c.in_ok-next.line_break _ _ refl refl refl refl
-    (open_are_in c.args.tree.now.nodes c.args.tree.now.spine c.is_forest.ensures.opened) c.scan_next_line.ensures.utf8 c.lines.invariant.read c.requires.apart
-    c.in_ok-next.ensures.names c.in_ok-next.ensures.line c.in_ok-next.ensures.ends (omega (arith, c.is_short.ensures))
+    (open_are_in c.args.tree.now.nodes c.args.tree.now.spine c.recall_forest.ensures.opened)
+    c.scan_next_line.ensures.utf8 c.lines.invariant.read c.requires.apart
+    c.in_ok-next.ensures.names c.in_ok-next.ensures.line c.in_ok-next.ensures.ends (omega (arith, c.recall_length.ensures))
     (underlined_by _ _ _ _ _ c.in_ok-at.ensures.value c.in-Underline.is) (subst (λ t. IsCharBoundary t c.in_ok-next.next) refl
     (next_boundary (document c.args.source.now.text.now c.args.source.now.options no_names) c.lines.ix c.in_ok-next.next c.lines.braces c.in_ok-next.line_break
     c.in_ok-next.ensures.utf8 c.lines.invariant.read.boundary
@@ -86,8 +89,9 @@ returns-in-Other-clause-lines c =
     (so_far_stop (names_of c.lines.allocs) (names_of c.append_line.new.self) c.append_line.new.braces c.args.source.now.text.now
     c.args.source.now.text.now c.args.source.now.text.now c.args.source.now.options c.args.source.now.options c.args.start
     (spot c.lines.ix c.lines.braces) c.in_ok-next.next c.args.tree.now c.lines.tree c.append_line.new.tree c.in_ok-next.line_break _ _ refl refl refl refl
-    (open_are_in c.args.tree.now.nodes c.args.tree.now.spine c.is_forest.ensures.opened) c.scan_next_line.ensures.utf8 c.lines.invariant.read c.requires.apart
-    c.in_ok-next.ensures.names c.in_ok-next.ensures.line c.in_ok-next.ensures.ends (omega (arith, c.is_short.ensures))
+    (open_are_in c.args.tree.now.nodes c.args.tree.now.spine c.recall_forest.ensures.opened)
+    c.scan_next_line.ensures.utf8 c.lines.invariant.read c.requires.apart
+    c.in_ok-next.ensures.names c.in_ok-next.ensures.line c.in_ok-next.ensures.ends (omega (arith, c.recall_length.ensures))
     (stops_by _ _ _ _ c.in_ok-at.ensures.value c.in-Other.is) (subst (λ t. IsCharBoundary t c.in_ok-next.next) refl
     (next_boundary (document c.args.source.now.text.now c.args.source.now.options no_names) c.lines.ix c.in_ok-next.next c.lines.braces c.in_ok-next.line_break
     c.in_ok-next.ensures.utf8 c.lines.invariant.read.boundary

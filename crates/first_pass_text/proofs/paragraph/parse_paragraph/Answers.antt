@@ -11,7 +11,7 @@ pub close_block-requires : goal.close_block-requires
 close_block-requires c =
     let t = stands_open c.args.source.now.text.now c.args.source.now.options
     (names_of c.append_text_lines.new.allocs) c.args.start_ix c.args.tasklist_marker c.args.tree.now c.open_block.new.tree c.append_item.new.tree
-    c.append_text_lines.new.tree c.in_ok-node_ix.node_ix c.in_ok-end.end c.is_forest.ensures c.in_ok-node_ix.ensures.index c.in_ok-node_ix.ensures.tree
+    c.append_text_lines.new.tree c.in_ok-node_ix.node_ix c.in_ok-end.end c.recall_forest.ensures c.in_ok-node_ix.ensures.index c.in_ok-node_ix.ensures.tree
     c.in_ok-append_item.ensures c.requires.marker c.in_ok-end.ensures.lines in
     text_open t c.append_last_backslash.new.tree c.in_ok-append_last_backslash.ensures
 
@@ -22,7 +22,7 @@ pub returns-in_default-clause-block : goal.returns-in_default-clause-block
 returns-in_default-clause-block c =
     let t = stands_open c.args.source.now.text.now c.args.source.now.options
     (names_of c.append_text_lines.new.allocs) c.args.start_ix c.args.tasklist_marker c.args.tree.now c.open_block.new.tree c.append_item.new.tree
-    c.append_text_lines.new.tree c.in_ok-node_ix.node_ix c.in_ok-end.end c.is_forest.ensures c.in_ok-node_ix.ensures.index c.in_ok-node_ix.ensures.tree
+    c.append_text_lines.new.tree c.in_ok-node_ix.node_ix c.in_ok-end.end c.recall_forest.ensures c.in_ok-node_ix.ensures.index c.in_ok-node_ix.ensures.tree
     c.in_ok-append_item.ensures c.requires.marker c.in_ok-end.ensures.lines in
     closed_paragraph t c.append_last_backslash.new.tree c.close_block.new.tree c.in_ok-append_last_backslash.ensures (sym c.in_default.is)
     c.close_block.ensures.tree
@@ -37,14 +37,14 @@ pub make_heading-requires-clause-open : goal.make_heading-requires-clause-open
 make_heading-requires-clause-open c =
     innermost (stands_open c.args.source.now.text.now c.args.source.now.options
     (names_of c.append_text_lines.new.allocs) c.args.start_ix c.args.tasklist_marker c.args.tree.now c.open_block.new.tree c.append_item.new.tree
-    c.append_text_lines.new.tree c.in_ok-node_ix.node_ix c.in_ok-end.end c.is_forest.ensures c.in_ok-node_ix.ensures.index c.in_ok-node_ix.ensures.tree
+    c.append_text_lines.new.tree c.in_ok-node_ix.node_ix c.in_ok-end.end c.recall_forest.ensures c.in_ok-node_ix.ensures.index c.in_ok-node_ix.ensures.tree
     c.in_ok-append_item.ensures c.requires.marker c.in_ok-end.ensures.lines)
 
 pub make_heading-requires-clause-start : goal.make_heading-requires-clause-start
 make_heading-requires-clause-start c =
     let t = stands_open c.args.source.now.text.now c.args.source.now.options
     (names_of c.append_text_lines.new.allocs) c.args.start_ix c.args.tasklist_marker c.args.tree.now c.open_block.new.tree c.append_item.new.tree
-    c.append_text_lines.new.tree c.in_ok-node_ix.node_ix c.in_ok-end.end c.is_forest.ensures c.in_ok-node_ix.ensures.index c.in_ok-node_ix.ensures.tree
+    c.append_text_lines.new.tree c.in_ok-node_ix.node_ix c.in_ok-end.end c.recall_forest.ensures c.in_ok-node_ix.ensures.index c.in_ok-node_ix.ensures.tree
     c.in_ok-append_item.ensures c.requires.marker c.in_ok-end.ensures.lines in
     subst (λ (o : Option Item). IfSome o (λ x. x.start ≤ length c.args.source.now.text.now)) (sym (its_item t)) c.requires.boundary.0
 
@@ -52,7 +52,7 @@ pub close_block-requires-2 : goal.close_block-requires-2
 close_block-requires-2 c =
     let t = stands_open c.args.source.now.text.now c.args.source.now.options
     (names_of c.append_text_lines.new.allocs) c.args.start_ix c.args.tasklist_marker c.args.tree.now c.open_block.new.tree c.append_item.new.tree
-    c.append_text_lines.new.tree c.in_ok-node_ix.node_ix c.in_ok-end.end c.is_forest.ensures c.in_ok-node_ix.ensures.index c.in_ok-node_ix.ensures.tree
+    c.append_text_lines.new.tree c.in_ok-node_ix.node_ix c.in_ok-end.end c.recall_forest.ensures c.in_ok-node_ix.ensures.index c.in_ok-node_ix.ensures.tree
     c.in_ok-append_item.ensures c.requires.marker c.in_ok-end.ensures.lines in
     heading_open t (names_of c.make_heading.new.allocs) c.in_ok-make_heading.ensures.more.names c.in-Some.level c.is_by_backslash.result
     c.make_heading.new.tree c.append_last_backslash-2.new.tree
@@ -62,7 +62,7 @@ pub returns-clause-block : goal.returns-clause-block
 returns-clause-block c =
     let t = stands_open c.args.source.now.text.now c.args.source.now.options
     (names_of c.append_text_lines.new.allocs) c.args.start_ix c.args.tasklist_marker c.args.tree.now c.open_block.new.tree c.append_item.new.tree
-    c.append_text_lines.new.tree c.in_ok-node_ix.node_ix c.in_ok-end.end c.is_forest.ensures c.in_ok-node_ix.ensures.index c.in_ok-node_ix.ensures.tree
+    c.append_text_lines.new.tree c.in_ok-node_ix.node_ix c.in_ok-end.end c.recall_forest.ensures c.in_ok-node_ix.ensures.index c.in_ok-node_ix.ensures.tree
     c.in_ok-append_item.ensures c.requires.marker c.in_ok-end.ensures.lines in
     let next = c.in_ok-end.end.next in
     closed_heading t (names_of c.make_heading.new.allocs) c.in_ok-make_heading.ensures.more.names c.in-Some.level c.is_by_backslash.result

@@ -40,7 +40,7 @@ returns-clause-tokens c =
           let k : ℕ = reached old.empty_item at in
           let low' : k ≤ at = before in
           let to = ordered_cell text options self.braces c.args.start c.args.end old.tree new.tree stop k e.utf8
-          (both_ends text c.args.start c.args.end c.requires.end ends) boundary c.is_forest.ensures e.cell (omega arith) o.ordered in
+          (both_ends text c.args.start c.args.end c.requires.end ends) boundary c.recall_forest.ensures e.cell (omega arith) o.ordered in
           ordered_none text new stop refl to.within to;
       few = few_of_cell e.cell;
     }

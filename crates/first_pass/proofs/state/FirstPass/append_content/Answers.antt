@@ -43,7 +43,7 @@ returns-clause-tokens c =
           let k : ℕ = reached old.empty_item at in
           let low' : k ≤ at = before in
           let to = ordered_line (document text options no_names) self.braces c.args.start c.args.end old.tree new.tree answer.0 answer.1 k e.utf8
-          (both_ends text c.args.start c.args.end c.requires.end ends) boundary c.is_forest.ensures e.line (omega arith) o.ordered in
+          (both_ends text c.args.start c.args.end c.requires.end ends) boundary c.recall_forest.ensures e.line (omega arith) o.ordered in
           ordered_none text new answer.0 refl to.within to;
       few = few_of_line e.line;
     }

@@ -42,6 +42,6 @@ returns-clause-bytes c =
       };
       reading = refl;
       order = λ at low begins ends o.
-          tokens_ordered text old new at from to e.line.items c.is_forest.ensures o low
+          tokens_ordered text old new at from to e.line.items c.recall_forest.ensures o low
           (line_in_order c.args.kind d c.args.remaining_space from to e.line.items c.requires.order begins ends are) ends.0 e.line.tree_is refl;
     }

@@ -35,7 +35,7 @@ returns-clause-leaf c =
     to_blank_between text options names old.tree new.tree c.args.start_ix c.in_ok-next.next e.utf8 c.requires.boundary e.boundary.1.0
     c.max.result p i (e.block p i) from low in
     let path : path_of options new.tree ≡ path_of options old.tree =
-    ap (path_of options) block.tree_is ∙ path_added options old.tree block.items c.is_forest.ensures in
+    ap (path_of options) block.tree_is ∙ path_added options old.tree block.items c.recall_forest.ensures in
     let ends = to_blank_ends text options names old.tree new.tree c.args.start_ix c.in_ok-next.next e.utf8 c.requires.boundary e.boundary.1.0 p i in
     record {
       kept = adds_kept self _ old.blank block.items

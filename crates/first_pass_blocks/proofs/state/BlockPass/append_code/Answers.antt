@@ -18,7 +18,7 @@ pub offset-requires : goal.offset-requires
 offset-requires c =
     let i = columns_keep c.args.self.now.source.text.now 4 c.args.place c.requires.2.utf8 c.requires.2.place in
     let e = read_to (after_columns 4) _ c.args.place _ c.scan_space_upto.new.self refl c.scan_space_upto.ensures.rest c.place.view_is in
-    let short = c.is_short.ensures in
+    let short = c.recall_length.ensures in
     omega (arith, i.within, e)
 
 pub parse_indented_code_block-requires-clause-boundary : goal.parse_indented_code_block-requires-clause-boundary

@@ -16,7 +16,7 @@ parse_hrule-requires c =
     let f = c.requires.2 in
     let ends = rule_end p c.args.at c.args.size (found_says _ _ (ThematicBreak c.args.size) _ _ f.found) f.found.at_is in
     let w = (place_end c.args.self.now.source.text.now p f.utf8 f.place).0 in
-    let short = c.is_short.ensures in
+    let short = c.recall_length.ensures in
     omega arith
 
 pub returns : goal.returns

@@ -25,7 +25,7 @@ read c =
 pub overflow_add-start : goal.overflow_add-start
 overflow_add-start c =
     let r = read c in
-    let short = c.is_short.ensures in
+    let short = c.recall_length.ensures in
     let within = r.1.0 in
     omega arith
 
@@ -52,5 +52,6 @@ returns-in-Some-2 c =
     let r = read (goal.at.returns-in-Some-2 c).In-Some-2 in
     let source = c.parse_footnote.ensures.source in
     let following = subst (λ (z : Source). IsAfterHead z (c.in-Some.start + c.in-Some-2.size) c.place_after_head.result) source c.place_after_head.ensures in
-    note_opened self new c.args.place.now c.place_after_head.result c.in-Some.start c.in-Some-2.size f.0 c.requires.utf8 c.requires.place c.is_forest.ensures
+    note_opened self new c.args.place.now c.place_after_head.result c.in-Some.start c.in-Some-2.size f.0
+    c.requires.utf8 c.requires.place c.recall_forest.ensures
     c.requires.no_empty source (sym c.footnote_mark.ensures.value ∙ c.in-Some.is) f.1 f.2.0 f.2.1 r.0 following

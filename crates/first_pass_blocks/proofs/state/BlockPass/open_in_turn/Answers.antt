@@ -16,7 +16,7 @@ use Rattle.first_pass_blocks.specs.declared.state.BlockPass.{BlockPass}
 use Rattle.first_pass_blocks.specs.FootnoteHeads.{StaysSame, TriesFootnote}
 use Rattle.first_pass_blocks.specs.Positions.{Position, InLine, LeafAt, IsFrom, ReadsTo, may_define}
 use Rattle.first_pass_blocks.specs.Progress.{PassesTo}
-use Rattle.first_pass_blocks.specs.Starts.{TellsStart, start_opened, after_at, last_at, IsAfter, OpensNone}
+use Rattle.first_pass_blocks.specs.Starts.{StartMatches, start_opened, after_at, last_at, IsAfter, OpensNone}
 use Rattle.first_pass_blocks.specs.Views.{allocs_of, reading_of, source_of, tree_of}
 use Rattle.first_pass_blocks.proofs.BlockRead.{passes_reading, passes_both}
 use Rattle.first_pass_blocks.proofs.NoContainer.{leaf_alone}
@@ -109,7 +109,7 @@ may_in over pass = may_define over.options (tree_of pass)
 
 -- no further container begins
 absent : (over : Source) (now : BlockPass) (may : Bool) (p new : Place) (r : Option Start) → source_of now ≡ over → may ≡ may_in (source_of now) now → r ≡ None
-    → MatchOption (start_at (source_of now).options may p) ((r ≡ None) × (new ≡ p)) (λ s. IsSomeAnd r (TellsStart s) × (new ≡ at_rest p s.rest))
+    → MatchOption (start_at (source_of now).options may p) ((r ≡ None) × (new ≡ p)) (λ s. IsSomeAnd r (StartMatches s) × (new ≡ at_rest p s.rest))
     → (start_at over.options (may_in over now) p ≡ None) × (new ≡ p)
 absent over now may p new r same told is says =
     let missing = start_missing _ r p new is says in (
@@ -138,18 +138,18 @@ returns-in_default-clause-opened c =
     let a = absent over c.open_footnote.new.self c.may_define-may_define.result p c.start_at.new.place c.start_at.result i.opened.source
     c.may_define-may_define.ensures
     c.in_default.is c.start_at.ensures in
-    ended_here over first c.args.self.now c.open_footnote.new.self _ p _ c.requires.utf8 c.is_forest.ensures i a.0 a.1 refl refl refl
+    ended_here over first c.args.self.now c.open_footnote.new.self _ p _ c.requires.utf8 c.recall_forest.ensures i a.0 a.1 refl refl refl
 
 -- a container begins
 record Found (over : Source) (now : BlockPass) (p new : Place) (told : Start) : Type 0 where
   start : ContainerStart
   begins : start_at over.options (may_in over now) p ≡ Some start
-  told_is : TellsStart start told
+  told_is : StartMatches start told
   new_is : new ≡ at_rest p start.rest
 
 found : (over : Source) (now : BlockPass) (may : Bool) (p new : Place) (r : Option Start) (told : Start) → source_of now ≡ over
     → may ≡ may_in (source_of now) now → r ≡ Some told
-    → MatchOption (start_at (source_of now).options may p) ((r ≡ None) × (new ≡ p)) (λ s. IsSomeAnd r (TellsStart s) × (new ≡ at_rest p s.rest))
+    → MatchOption (start_at (source_of now).options may p) ((r ≡ None) × (new ≡ p)) (λ s. IsSomeAnd r (StartMatches s) × (new ≡ at_rest p s.rest))
     → Found over now p new told
 found over now may p new r told same may_is is says =
     let f = start_found _ r told p new is says in
@@ -170,7 +170,7 @@ open_start-requires c =
     let i = at_place (goal.at.open_start-requires c).Then-not-branch in
     let f = found over c.open_footnote.new.self c.may_define-may_define.result p new c.start_at.result c.in-Some.start i.opened.source
     c.may_define-may_define.ensures c.in-Some.is c.start_at.ensures in
-    let opens = start_opens over c.open_footnote.new.self.reading p c.requires.utf8 i.here.0 c.is_forest.ensures i.no_empty first.line i.here.1 i.bare
+    let opens = start_opens over c.open_footnote.new.self.reading p c.requires.utf8 i.here.0 c.recall_forest.ensures i.no_empty first.line i.here.1 i.bare
     f.start f.begins in
     subst (λ (z : Source). IsPlaceOf z.text.now new) (sym i.opened.source)
     (subst (λ (q : Place). IsPlaceOf over.text.now q) (sym f.new_is) opens.2.0)
@@ -184,7 +184,7 @@ record IsBegun (over : Source) (first : Place) (mid : BlockPass) (p new : Place)
 
 begun : (over : Source) (first : Place) (old mid : BlockPass) (p new : Place) (may : Bool) (r : Option Start) (told : Start) (q : Reading)
     → IsUtf8 over.text.now → IsForest (tree_of mid) → IsTried over first old mid p → source_of mid ≡ over → may ≡ may_in (source_of mid) mid → r ≡ Some told
-    → MatchOption (start_at (source_of mid).options may p) ((r ≡ None) × (new ≡ p)) (λ s. IsSomeAnd r (TellsStart s) × (new ≡ at_rest p s.rest))
+    → MatchOption (start_at (source_of mid).options may p) ((r ≡ None) × (new ≡ p)) (λ s. IsSomeAnd r (StartMatches s) × (new ≡ at_rest p s.rest))
     → q ≡ start_opened new.line told (line_end new) (reading_of mid) → IsBegun over first mid p new told.after q
 begun over first old mid p new may r told q utf8 forest i same may_is is says opened =
     let f = found over mid may p new r told same may_is is says in
@@ -219,7 +219,7 @@ returns-in_default-after c =
     let new : Place = c.start_at.new.place in
     let i = at_place (goal.at.returns-in_default-after c).Then-not-branch in
     let s = begun over first c.args.self.now c.open_footnote.new.self p new c.may_define-may_define.result c.start_at.result c.in-Some.start
-    c.open_start.new.reading c.requires.utf8 c.is_forest.ensures i i.opened.source c.may_define-may_define.ensures c.in-Some.is
+    c.open_start.new.reading c.requires.utf8 c.recall_forest.ensures i i.opened.source c.may_define-may_define.ensures c.in-Some.is
     c.start_at.ensures c.in_ok-open_start.ensures in
     let there : Position = last_at new (line_end new) c.in-Some.start.after in
     let opens = subst (λ (t : Position). ReadsTo over first.line c.open_footnote.new.self.reading c.open_start.new.reading (InLine p) t)
@@ -250,7 +250,7 @@ nested c =
           let no = subst (TriesFootnote now mid here p) w.if-not-branch.true tries in
           let i = tried over first old now mid here p _ w.if-not-branch.true l.here l.no_empty l.opened.source l.opened tries in
           let s = begun over first old mid p new w.may_define-may_define.result w.start_at.result w.in-Some.start w.open_start.new.reading c.requires.utf8
-          w.is_forest.ensures i i.opened.source w.may_define-may_define.ensures w.in-Some.is w.start_at.ensures w.in_ok-open_start.ensures in
+          w.recall_forest.ensures i i.opened.source w.may_define-may_define.ensures w.in-Some.is w.start_at.ensures w.in_ok-open_start.ensures in
           let opens = subst (λ (a : AfterMarker). ReadsTo over first.line mid.reading w.open_start.new.reading (InLine p) (after_at new (line_end new) a))
           w.in-OnLine.is s.reads in
           rw (w.self-is, w.place-is) (record {

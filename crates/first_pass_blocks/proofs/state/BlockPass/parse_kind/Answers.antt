@@ -90,8 +90,8 @@ returns-in_ok-next-in-HtmlToBlank c =
     let f : Reading = c.finish_list.new.self in
     let rem : f ≡ q = c.finish_list.ensures ∙ ap (λ (z : Place). list_finished z.line old) c.place-in-HtmlToBlank.view_is in
     let e = c.in_ok-next-in-HtmlToBlank.ensures in
-    html_read self _ p c.args.at c.args.columns c.in_ok-next-in-HtmlToBlank.next c.requires.utf8 c.requires.place c.requires.no_empty c.is_forest.ensures
-    (subst (λ (z : Reading). IsForest z.tree) rem c.is_forest-in-HtmlToBlank.ensures)
+    html_read self _ p c.args.at c.args.columns c.in_ok-next-in-HtmlToBlank.next c.requires.utf8 c.requires.place c.requires.no_empty c.recall_forest.ensures
+    (subst (λ (z : Reading). IsForest z.tree) rem c.recall_forest-in-HtmlToBlank.ensures)
     (subst (IsKind self.source.options p.rest) (ap kind_of c.in-HtmlToBlank.is) c.requires.found.kind) c.requires.found.columns_are c.requires.found.at_is
     refl e.more (ap (λ (z : Reading). z.empty_item) rem) (ap (λ (z : Reading). z.blank) rem) e.boundary
     (subst (λ (z : Reading). AddsHtml self.source.text.now self.source.options (names_of c.parse_html_block_type_6_or_7.new.allocs) c.args.at c.args.columns
@@ -135,6 +135,6 @@ returns-in_ok-next-in-Marked c =
       boundary = e.boundary;
       fits = e.fits;
     } in
-    leaf_read self new p (marked_kind leaf) next c.requires.place c.requires.no_empty c.is_forest.ensures
+    leaf_read self new p (marked_kind leaf) next c.requires.place c.requires.no_empty c.recall_forest.ensures
     (subst (IsKind options p.rest) (ap kind_of c.in-Marked.is) c.requires.found.kind) (marked_some leaf) (marked_other leaf) (marked_no_run leaf)
     (subst (λ (r : Reading). AddsLeaf (record self { reading = r }) new p (marked_kind leaf) next) rem adds)

@@ -9,5 +9,5 @@ offset-requires c =
     let p = c.args.place in
     let i = all_keep c.args.self.now.source.text.now p.line p.rest c.requires.utf8 c.requires.place in
     let e = ap offset (c.kind_at-columns.ensures.place ∙ ap unindented c.copy-following.ensures) in
-    let short = c.is_short.ensures in
+    let short = c.recall_length.ensures in
     omega (arith, i.within, e)

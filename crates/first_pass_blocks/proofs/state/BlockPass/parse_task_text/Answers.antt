@@ -24,7 +24,7 @@ pub offset-requires : goal.offset-requires
 offset-requires c =
     let i = all_keep c.args.self.now.source.text.now c.args.place.line c.args.place.rest c.requires.utf8 c.requires.place in
     let e = read_to all_taken _ c.args.place _ c.scan_indentation.new.line_start refl c.scan_indentation.ensures.rest c.place.view_is in
-    let short = c.is_short.ensures in
+    let short = c.recall_length.ensures in
     omega (arith, i.within, e)
 
 pub parse_paragraph-requires-clause-boundary : goal.parse_paragraph-requires-clause-boundary

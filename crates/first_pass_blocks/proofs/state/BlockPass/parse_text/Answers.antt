@@ -33,7 +33,7 @@ returns-in-NextLine c =
     let nested = in_table r.tree.nodes r.tree.spine in
     let run = subst (ReadsRun text (context_in self) nested (unindented p) (tables_of self.allocs) (tables_of mid.allocs)) c.in-NextLine.is
     (e.run (unindented p) (ap (λ (q : Place). q.line) (sym c.place.view_is)) (sym c.requires.at) i) in
-    run_line self mid _ p nested c.in-NextLine.line c.in-NextLine.next c.requires.utf8 c.requires.place c.requires.no_empty c.is_forest.ensures
+    run_line self mid _ p nested c.in-NextLine.line c.in-NextLine.next c.requires.utf8 c.requires.place c.requires.no_empty c.recall_forest.ensures
     c.requires.kind refl e.kept.source e.kept.names e.kept.written run refl refl (c.finish_list.ensures ∙ ap (list_finished c.in-NextLine.line) e.kept.reading)
 
 pub parse_possible_title-requires-clause-boundary : goal.parse_possible_title-requires-clause-boundary
@@ -60,7 +60,8 @@ returns-then-is_after_definition c =
     let nested = in_table r.tree.nodes r.tree.spine in
     let run = subst (ReadsRun text (context_in self) nested (unindented p) (tables_of self.allocs) (tables_of mid.allocs)) c.in-Paragraph.is
     (e.run (unindented p) (ap (λ (q : Place). q.line) (sym c.place.view_is)) (sym c.requires.at) i) in
-    run_title self mid _ p nested c.in-Paragraph.text c.in_ok-next-in-Paragraph.next c.requires.utf8 c.requires.place c.requires.no_empty c.is_forest.ensures
+    run_title self mid _ p nested c.in-Paragraph.text c.in_ok-next-in-Paragraph.next
+    c.requires.utf8 c.requires.place c.requires.no_empty c.recall_forest.ensures
     c.requires.kind refl e.kept.source e.kept.reading e.kept.names e.kept.written run (sym c.is_after_definition.ensures ∙ c.if-is_after_definition.true)
     c.in_ok-next-in-Paragraph.ensures
 
@@ -107,4 +108,4 @@ returns c =
     let after = ap (λ (z : Reading). is_after_definition z.tree) (sym e.kept.reading) ∙ sym c.is_after_definition.ensures ∙ c.if-is_after_definition.false in
     run_text self mid _ p nested at next c.requires.utf8 c.requires.place c.requires.kind refl e.kept.source e.kept.names e.kept.written run refl f.more
     block.later block.boundary
-    (plain_text self _ p at next c.requires.no_empty c.is_forest.ensures c.requires.kind after none blank block fits)
+    (plain_text self _ p at next c.requires.no_empty c.recall_forest.ensures c.requires.kind after none blank block fits)
