@@ -169,7 +169,7 @@ struct first_pass_attribute {
 };
 
 /**
- * A link reference definition, or the label of a footnote: 72 bytes. Of a footnote's label only `label` and
+ * A link reference definition, or the label of a footnote: 104 bytes. Of a footnote's label only `label` and
  * `label_length` have a meaning. Only the first definition of a label is there. A label has each run of white space as
  * one space.
  */
@@ -183,6 +183,10 @@ struct first_pass_definition {
     uint64_t title;              /**< the offset of the title in the names */
     uint64_t title_length;       /**< its length */
     uint64_t has_title;          /**< whether there is a title, which may be empty */
+    uint64_t label_end;          /**< the offset in the text of the `]` after the label */
+    uint64_t destination_start;  /**< the range in the text of the destination, with its angle brackets */
+    uint64_t destination_end;    /**< and the byte after it */
+    uint64_t title_start;        /**< the offset in the text of what begins the title; without one, `end` */
 };
 
 /** How many records a tree takes: 40 bytes. */

@@ -241,6 +241,13 @@ static void test_find(void) {
     CHECK(is_definition(tree, find(tree, "two\x0b\x0c\r lines"), "two lines", "/lines", NULL));
     CHECK(is_definition(tree, find(tree, "SS"), "\xc3\x9f", "/sharp", NULL));
     CHECK(is_definition(tree, find(tree, "\xe1\xba\x9e"), "\xc3\x9f", "/sharp", NULL));
+    found = find(tree, "label");
+    CHECK(memcmp(sample + found->start, "[Label]: ", 9) == 0 && found->label_end == found->start + 6);
+    CHECK(memcmp(sample + found->destination_start, "/url \"title\"", 12) == 0);
+    CHECK(found->destination_end == found->destination_start + 4);
+    CHECK(found->title_start == found->destination_end + 1 && found->end == found->title_start + 7);
+    found = find(tree, "ss");
+    CHECK(found->title_start == found->end && found->destination_end == found->end);
     CHECK(find(tree, "") == NULL && find(tree, " label") == NULL && find(tree, "label ") == NULL);
     CHECK(find(tree, "labe") == NULL && find(tree, "labels") == NULL && find(tree, "note") == NULL);
     CHECK(find(tree, "zzz") == NULL && find(tree, "\xf0\x9f\x98\x80") == NULL);

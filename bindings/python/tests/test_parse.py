@@ -153,7 +153,7 @@ class MemoryTest(unittest.TestCase):
         exact = [
             len(document),
             len(document.attribute_records) // 40,
-            len(document.definition_records) // 72,
+            len(document.definition_records) // 104,
             len(document.names),
         ]
         self.assertEqual(_scratch.Scratch(*exact).read(source, Options.ALL), 0)

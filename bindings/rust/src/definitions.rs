@@ -91,6 +91,12 @@ pub struct Definition<'d> {
     pub title: Option<&'d str>,
     /// Where the definition stands in the text.
     pub range: Range<usize>,
+    /// Where its label stands in the text, between its brackets.
+    pub label_range: Range<usize>,
+    /// Where its destination stands in the text, with its angle brackets if it has them.
+    pub destination_range: Range<usize>,
+    /// Where its title stands in the text, with what begins and ends it.
+    pub title_range: Option<Range<usize>>,
 }
 
 impl<'d> Definition<'d> {
@@ -101,6 +107,9 @@ impl<'d> Definition<'d> {
             destination: records.name(record.destination, record.destination_length),
             title: (record.has_title != 0).then_some(title),
             range: record.range(),
+            label_range: record.start + 1..record.label_end,
+            destination_range: record.destination_start..record.destination_end,
+            title_range: (record.has_title != 0).then_some(record.title_start..record.end),
         }
     }
 }

@@ -8,7 +8,7 @@ const _: () = {
     assert!(size_of::<usize>() == 8, "only machines of 64 bits are supported");
     assert!(size_of::<NodeRecord>() == 32 && offset_of!(NodeRecord, third) == 31);
     assert!(size_of::<AttributeRecord>() == 40 && offset_of!(AttributeRecord, kind) == 36);
-    assert!(size_of::<DefinitionRecord>() == 72 && size_of::<Counts>() == 40);
+    assert!(size_of::<DefinitionRecord>() == 104 && size_of::<Counts>() == 40);
 };
 
 /// A node.
@@ -46,7 +46,7 @@ pub(crate) struct AttributeRecord {
     pub kind: u32,
 }
 
-/// A link definition, or the label of a footnote. Each range but the first is in the names.
+/// A link definition, or the label of a footnote. A range with a length is in the names, each other offset in the text.
 #[repr(C)]
 #[derive(Clone, Copy)]
 pub(crate) struct DefinitionRecord {
@@ -59,6 +59,12 @@ pub(crate) struct DefinitionRecord {
     pub title: usize,
     pub title_length: usize,
     pub has_title: usize,
+    /// The offset of the `]` after the label.
+    pub label_end: usize,
+    pub destination_start: usize,
+    pub destination_end: usize,
+    /// The offset of what begins the title, or without one the end of the definition.
+    pub title_start: usize,
 }
 
 /// How many records there are of each sort, and how many bytes of names. Of the definitions the first `links` are link

@@ -18,6 +18,18 @@ fn definitions_with_and_without_title() -> Result<(), Error> {
 }
 
 #[test]
+fn parts_of_definitions() -> Result<(), Error> {
+    let text = "> [a\n> b]: <c>\n> 'd\n> e'\n\n[&ouml;]: \\&ouml;\n";
+    let document = parse(text, Options::empty())?;
+    let parts: Vec<_> = (document.tree().definitions().iter())
+        .map(|it| (&text[it.label_range], &text[it.destination_range], it.title_range))
+        .collect();
+    assert_eq!(parts, [("&ouml;", "\\&ouml;", None), ("a\n> b", "<c>", Some(17..24))]);
+    assert_eq!(&text[17..24], "'d\n> e'");
+    Ok(())
+}
+
+#[test]
 fn look_up_as_references_match() -> Result<(), Error> {
     let text = "[One two]: 1\n[ẞ]: 2\n[ a]: 3\n[\\]]: 4\n[é]: 5\n[one\n two]: 6\n";
     let document = parse(text, Options::empty())?;

@@ -10,7 +10,7 @@ ghost use Rattle.first_pass_entities.specs.Texts.{Borrows};
 ghost use Rattle.first_pass_tree.specs.Forest.{in_table};
 ghost use Rattle.first_pass_grammar.specs.Definitions.{prefix_crossed, space_at, title_at, target_at, reference_at};
 ghost use Rattle.first_pass_kinds.specs.Rests.{IsRestOf};
-ghost use Rattle.first_pass_definitions.specs.Found.{IsTarget, IsReference, BorrowsLabel};
+ghost use Rattle.first_pass_definitions.specs.Found.{AreInOrder, HasParts, IsTarget, IsReference, BorrowsLabel};
 ghost use Rattle.first_pass_definitions.specs.Memory.{LabelAsks, TargetAsks, ReferenceAsks, space_asks, title_asks};
 ghost use Rattle.first_pass.specs.Views.{context_in, source_text, tree_of};
 
@@ -43,6 +43,8 @@ impl<'a> FirstPass<'a> {
         ensures borrowed { IfOk result (λ answer. IfSome answer (λ found.
             BorrowsLabel (context_in self.old) (in_table (tree_of self.old).nodes (tree_of self.old).spine)
             (drop (start + 1) (source_text self.old)) found.1)) }
+        ensures places { IfOk result (λ answer. IfSome answer (λ found.
+            HasParts (source_text self.old) found.2)) }
         ensures err { OnErr result (ReferenceAsks (in_table (tree_of self.old).nodes (tree_of self.old).spine)
             (context_in self.old) (drop start (source_text self.old))) }
     {
@@ -78,10 +80,10 @@ impl<'a> FirstPass<'a> {
 
     /// Reads the part of a definition after its colon, which is directly before the offset `start`: white space, a
     /// destination, and optionally white space and a title. Returns its number of bytes from `start` on, and the
-    /// definition, whose destination and title are unescaped and whose span begins at `span_start`. Returns `None` if
-    /// there is no destination. Fails only if an allocation fails. That can happen only in three cases: the unescaped
-    /// destination or title differs from its bytes; a title has a line ending; or a line after a line ending may be
-    /// the header row of a table (CommonMark 4.7).
+    /// definition, whose destination and title are unescaped. Its span begins at `span_start`, and its label ends two
+    /// bytes before `start`. Returns `None` if there is no destination. Fails only if an allocation fails. That can
+    /// happen only in three cases: the unescaped destination or title differs from its bytes; a title has a line
+    /// ending; or a line after a line ending may be the header row of a table (CommonMark 4.7).
     pub fn scan_refdef(
         &self,
         span_start: usize,
@@ -95,6 +97,8 @@ impl<'a> FirstPass<'a> {
             (IsTarget (in_table (tree_of self.now).nodes (tree_of self.now).spine) span_start start target))) }
         ensures fits { IfOk result (λ answer. IfSome answer (λ found.
             IsCharBoundary (source_text self.now) (start + found.0))) }
+        ensures places { IfOk result (λ answer. IfSome answer (λ found.
+            AreInOrder (source_text self.now) start found.1)) }
         ensures err { OnErr result (TargetAsks (in_table (tree_of self.now).nodes (tree_of self.now).spine)
             (context_in self.now) (drop start (source_text self.now))) }
     {

@@ -58,6 +58,7 @@ entry_is at x found h =
     let title = title_is x.target.title found.2.title d.title in
     let start = d.start_is in
     let stop = d.end_is in
+    let places = d.places_are in
     cc
 
 pub after_boundary : (text : List ℕ) (e : ℕ) → IsUtf8 text → IsCharBoundary text e → IsCharBoundary text (e + line_len (drop e text))

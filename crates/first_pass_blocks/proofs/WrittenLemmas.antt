@@ -6,6 +6,7 @@ use Rattle.first_pass_labels.specs.declared.label_table.LinkDef.{LinkDef}
 use Rattle.first_pass_tree.specs.Forest.{in_table}
 use Rattle.first_pass_grammar.specs.Containers.{Context}
 use Rattle.first_pass_grammar.specs.Definitions.{LinkReference, reference_at}
+use Rattle.first_pass_grammar.specs.LinkRuns.{reference_places}
 use Rattle.first_pass_grammar.specs.Derivation.{Tables, no_tables}
 use Rattle.first_pass_names.specs.declared.items.Allocations.{Allocations}
 use Rattle.first_pass_names.specs.TableEntries.{Entries, entries, with_definition, TellsFootnote, tables_of, link_entry, footnote_label, refdefs_of}
@@ -15,7 +16,7 @@ use Rattle.first_pass_items.specs.CowText.{text_of}
 use Rattle.first_pass_labels.specs.declared.label_table.FootnoteDef.{FootnoteDef}
 use Rattle.first_pass_grammar.specs.Footnotes.{footnote_at, label_bytes}
 use Rattle.first_pass_names.proofs.LinkLemmas.{each_first}
-use Rattle.first_pass_definitions.specs.Found.{IsReference, BorrowsLabel, IsWritten, AreWritten}
+use Rattle.first_pass_definitions.specs.Found.{IsReference, BorrowsLabel, HasParts, IsWritten, AreWritten}
 use Rattle.first_pass_blocks.specs.Written.{IsFootnoteWritten, AreFootnotesWritten, TablesAreWritten}
 use Rattle.first_pass_blocks.specs.declared.state.BlockPass.{BlockPass}
 use Rattle.first_pass_blocks.specs.Views.{context_in, source_text, tree_of}
@@ -72,8 +73,8 @@ footnote_written text old new around nested start head label here is borrowed te
 -- what was found at an offset
 written_at : (text : List ℕ) (around : Context) (nested : Bool) (at : ℕ) (x : LinkReference) (found : ℕ × CowStr × LinkDef)
     → reference_at nested around (drop at text) ≡ Some x → IsReference nested at x found
-    → BorrowsLabel around nested (drop (at + 1) text) found.1 → IsWritten text (found.1, found.2)
-written_at text around nested at x found here h borrowed =
+    → BorrowsLabel around nested (drop (at + 1) text) found.1 → HasParts text found.2 → IsWritten text (found.1, found.2)
+written_at text around nested at x found here h borrowed parts =
     let d = h.definition in
     let back = sym d.start_is in
     record {
@@ -84,17 +85,25 @@ written_at text around nested at x found here h borrowed =
       says = record {
         size = refl;
         label = h.label;
-        definition = record { dest = d.dest; title = d.title; start_is = refl; end_is = d.end_is ∙ ap (λ n. n + x.size) back };
+        definition = record {
+          dest = d.dest;
+          title = d.title;
+          start_is = refl;
+          end_is = d.end_is ∙ ap (λ n. n + x.size) back;
+          places_are = d.places_are ∙ ap (λ n. reference_places n x) back;
+        };
       };
       borrowed = subst (λ n. BorrowsLabel around nested (drop (n + 1) text) found.1) back borrowed;
+      parts = parts;
     }
 
 pub written_here : (pass : BlockPass) (at : ℕ) (answer : Option (ℕ × CowStr × LinkDef)) (found : ℕ × CowStr × LinkDef) → Answers pass at answer
     → IfSome answer (λ f. BorrowsLabel (context_in pass) (in_table (tree_of pass).nodes (tree_of pass).spine) (drop (at + 1) (source_text pass)) f.1)
-    → answer ≡ Some found
+    → IfSome answer (λ f. HasParts (source_text pass) f.2) → answer ≡ Some found
     → IsWritten (source_text pass) (found.1, found.2)
-written_here pass at answer found said borrowed is =
+written_here pass at answer found said borrowed parts is =
     let nested = in_table (tree_of pass).nodes (tree_of pass).spine in
     let w = found_by _ answer found (IsReference nested at) said is in
     written_at (source_text pass) (context_in pass) nested at w.0 found w.1 w.2
     (subst (λ z. IfSome z (λ f. BorrowsLabel (context_in pass) nested (drop (at + 1) (source_text pass)) f.1)) is borrowed)
+    (subst (λ z. IfSome z (λ f. HasParts (source_text pass) f.2)) is parts)

@@ -254,9 +254,10 @@ impl<'a> BlockPass<'a> {
 /// Nothing is open in the tree, and no paragraph in it may still become a title. It has at most four nodes for each
 /// byte, not counting its root and its filled cells, which start at their row's end. Each row has as many cells as its
 /// table has columns. Each cell starts after the one before it or is a filled cell, and a table has at most 262,144
-/// filled cells. Each link definition in the tables is the one at its range. Its label, its destination and a title of
-/// one line, and the label of each footnote, are borrowed from the text if nothing in them changes. No use of a
-/// footnote is counted. Fails only if an allocation fails.
+/// filled cells. Each link definition in the tables is the one at its range, with the places of its label, its
+/// destination and its title there, in this order. Its label, its destination and a title of one line, and the label of
+/// each footnote, are borrowed from the text if nothing in them changes. No use of a footnote is counted. Fails only if
+/// an allocation fails.
 pub fn run_first_pass<'a>(
     alloc: Global,
     text: &'a str,

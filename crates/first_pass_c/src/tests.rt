@@ -39,6 +39,10 @@ const DEFINITION: FlatDefinition = FlatDefinition {
     title: 0,
     title_length: 0,
     has_title: 0,
+    label_end: 0,
+    destination_start: 0,
+    destination_end: 0,
+    title_start: 0,
 };
 
 const COUNTS: FlatCounts = FlatCounts {

@@ -18,6 +18,7 @@ use Rattle.first_pass_grammar.specs.Definitions.{title_prefix, title_at, title_a
 use Rattle.first_pass_grammar.specs.Definitions.{deepest_nesting, prefix_crossed, LinkReference, reference_at}
 use Rattle.first_pass_kinds.specs.Memory.{line_may_head}
 use Rattle.first_pass_labels.specs.declared.label_table.LinkDef.{LinkDef}
+use Rattle.first_pass_labels.specs.declared.label_table.LinkPlaces.{LinkPlaces}
 use Rattle.first_pass_definitions.specs.Reading.{stops_title, goes_on_at}
 use Rattle.first_pass_items.specs.declared.cow_str.CowStr.{CowStr}
 use Rattle.first_pass_definitions.proofs.Targets.{shifted, IsLabelAnswer, IsReferenceAnswer, label_found, IsTitleRead, read_to, IsDest, space_found}
@@ -128,10 +129,10 @@ dest_asks around text start at lines n b h k a =
       asks = ap (after_asks around) (drop-drop (s.0.0 + d.0.0) start text ∙ ap (λ m. drop m text) (sym sum)) ∙ a;
     }
 
-pub parts_ask : (around : Context) (text : List ℕ) (start e : ℕ) (b : Bor (List ℕ)) (title : Option CowStr) (t u : Bool)
-    → t ≡ u → (f : TargetFound around text start e b title) → PartsAsk t f.target
+pub parts_ask : (around : Context) (text : List ℕ) (start : ℕ) (to : ℕ × LinkPlaces) (b : Bor (List ℕ)) (title : Option CowStr) (t u : Bool)
+    → t ≡ u → (f : TargetFound around text start to b title) → PartsAsk t f.target
     → IsSomeAnd (target_at around (drop start text)) (λ target. PartsAsk u target.1)
-parts_ask around text start e b title t u k f p = rw f.is (subst (λ x. PartsAsk x f.target) k p)
+parts_ask around text start to b title t u k f p = rw f.is (subst (λ x. PartsAsk x f.target) k p)
 
 alone_none : (bs : List ℕ) (n len : ℕ) (title : CowStr) (o : Option (ℕ × List ℕ))
     → IsTitleRead o (read_to len title) → is_some (blank_len (drop (n + len) bs)) ≡ false → option_and_then (alone_after n bs) o ≡ None

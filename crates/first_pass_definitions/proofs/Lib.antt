@@ -4,3 +4,4 @@ pub mod Places
 pub mod Targets
 pub mod Asks
 pub mod ReferenceFacts
+pub mod Parts

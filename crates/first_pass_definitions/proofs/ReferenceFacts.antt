@@ -1,6 +1,6 @@
 -- The ends of definitions.
-use Rattle.std.proofs.Common.{◌≡◌, ◌⊎◌, inl, inr, ℕ, zero, suc, ◌+◌, ◌-◌, ◌<◌, ◌==◌, nat_lt, Bool, true, false, List, [], ◌∷◌, take, drop, slice_index}
-use Rattle.std.proofs.Common.{Option}
+use Rattle.std.proofs.Common.{◌≡◌, ◌⊎◌, inl, inr, ℕ, zero, suc, ◌+◌, ◌-◌, ◌<◌, ◌==◌, ◌&&◌, nat_lt, Bool, true, false, List, [], ◌∷◌, take, drop}
+use Rattle.std.proofs.Common.{slice_index, Option}
 use Rattle.std.proofs.Common.{Some, None, is_some, refl, sym, ap, subst, ◌∙◌, arith, if◌then◌else◌}
 use Rattle.std.specs.Bool.{⊤}
 use Rattle.std.specs.Char.{is_ascii_punctuation}
@@ -15,7 +15,7 @@ use Rattle.first_pass_links.specs.Destinations.{run_len}
 use Rattle.first_pass_links.specs.Destinations.{unbracketed, destination_at}
 use Rattle.first_pass_links.specs.Escapes.{begins_escape}
 use Rattle.first_pass_links.proofs.Destinations.{first_byte}
-use Rattle.first_pass_links.specs.Labels.{joined, bytes_of, offsets_of, label_at}
+use Rattle.first_pass_links.specs.Labels.{joined, bytes_of, offsets_of, label_len, is_label, shown, label_at}
 use Rattle.first_pass_grammar.specs.Containers.{Context}
 use Rattle.first_pass_grammar.specs.Definitions.{prefix_crossed, space_at, with_line_feeds, ends_title, title_end, title_text, title_prefix, title_at}
 use Rattle.first_pass_grammar.specs.Definitions.{alone_after, title_beyond, title_after, after_destination, deepest_nesting, Target, target_of}
@@ -68,17 +68,17 @@ unfolding target_at
 target_blank around bs t h =
     let s = and_some (target_beyond around bs) (space_at around bs) t h in
     let d = and_some (target_from around s.0.0 (drop s.0.0 bs)) (destination_at deepest_nesting (drop s.0.0 bs)) t s.2 in
-    let f = map_some (target_of s.0.0 d.0) (after_destination around (drop d.0.0 (drop s.0.0 bs))) t d.2 in
+    let f = map_some (target_of around (drop d.0.0 (drop s.0.0 bs)) s.0.0 d.0) (after_destination around (drop d.0.0 (drop s.0.0 bs))) t d.2 in
     let b = further_blank around (drop d.0.0 (drop s.0.0 bs)) f.0 f.1 in
     ap (λ (q : ℕ × Target). is_some (blank_len (drop q.0 bs))) (sym f.2)
     ∙ ap (λ xs. is_some (blank_len xs)) (sym (drop-drop f.0.0 (s.0.0 + d.0.0) bs) ∙ ap (drop f.0.0) (sym (drop-drop d.0.0 s.0.0 bs))) ∙ b
 
 following_by : (t : Bool) (around : Context) (bs : List ℕ) (l : ℕ × List ℕ) (r : LinkReference)
-    → (if t then option_map (reference_of (l.0 + 2) l.1) (target_at around (drop (l.0 + 1) bs)) else None) ≡ Some r → (cs : List ℕ) → bs ≡ drop 1 cs
+    → (if t then option_map (reference_of l) (target_at around (drop (l.0 + 1) bs)) else None) ≡ Some r → (cs : List ℕ) → bs ≡ drop 1 cs
     → BlankAt cs r.size
 following_by false around bs l r h cs e = cc
 following_by true around bs l r h cs e =
-    let t = map_some (reference_of (l.0 + 2) l.1) (target_at around (drop (l.0 + 1) bs)) r h in
+    let t = map_some (reference_of l) (target_at around (drop (l.0 + 1) bs)) r h in
     let b = target_blank around (drop (l.0 + 1) bs) t.0 t.1 in
     let i : 1 + (l.0 + 1 + t.0.0) ≡ l.0 + 2 + t.0.0 = omega arith in
     let d : drop t.0.0 (drop (l.0 + 1) bs) ≡ drop (l.0 + 2 + t.0.0) cs = drop-drop t.0.0 (l.0 + 1) bs ∙ ap (drop (l.0 + 1 + t.0.0)) e ∙ drop-drop
@@ -336,7 +336,7 @@ unfolding target_at
 target_last around bs t h =
     let s = and_some (target_beyond around bs) (space_at around bs) t h in
     let d = and_some (target_from around s.0.0 (drop s.0.0 bs)) (destination_at deepest_nesting (drop s.0.0 bs)) t s.2 in
-    let f = map_some (target_of s.0.0 d.0) (after_destination around (drop d.0.0 (drop s.0.0 bs))) t d.2 in
+    let f = map_some (target_of around (drop d.0.0 (drop s.0.0 bs)) s.0.0 d.0) (after_destination around (drop d.0.0 (drop s.0.0 bs))) t d.2 in
     let e : s.0.0 + d.0.0 + f.0.0 ≡ t.0 = ap (λ (q : ℕ × Target). q.0) f.2 in
     let l = dest_last deepest_nesting (drop s.0.0 bs) d.0 d.1 in
     let some = l.0 in (
@@ -352,11 +352,11 @@ target_last around bs t h =
     )
 
 after_last_by : (t : Bool) (around : Context) (bs : List ℕ) (l : ℕ × List ℕ) (r : LinkReference)
-    → (if t then option_map (reference_of (l.0 + 2) l.1) (target_at around (drop (l.0 + 1) bs)) else None) ≡ Some r → (cs : List ℕ)
+    → (if t then option_map (reference_of l) (target_at around (drop (l.0 + 1) bs)) else None) ≡ Some r → (cs : List ℕ)
     → bs ≡ drop 1 cs → (0 < r.size) × Plain cs (r.size - 1)
 after_last_by false around bs l r h cs e = cc
 after_last_by true around bs l r h cs e =
-    let t = map_some (reference_of (l.0 + 2) l.1) (target_at around (drop (l.0 + 1) bs)) r h in
+    let t = map_some (reference_of l) (target_at around (drop (l.0 + 1) bs)) r h in
     let s : l.0 + 2 + t.0.0 ≡ r.size = ap (λ (q : LinkReference). q.size) t.2 in
     let i : 1 + (l.0 + 1) ≡ l.0 + 2 = omega arith in
     let d : drop (l.0 + 1) bs ≡ drop (l.0 + 2) cs = ap (drop (l.0 + 1)) e ∙ drop-drop (l.0 + 1) 1 cs ∙ ap (λ n. drop n cs) i in
@@ -376,3 +376,24 @@ pub reference_last : (in_table : Bool) (around : Context) (bs : List ℕ) (r : L
     → (0 < r.size) × (is_line_end (slice_index bs (r.size - 1)) ≡ false)
 unfolding reference_at
 reference_last in_table around bs r h = reference_last_by (begins 91 bs) in_table around bs r h
+
+-- the byte that ends a label
+bracket_at : (text : List ℕ) (close : ℕ) (cs : List (ℕ × ℕ)) (n : ℕ) → EachOf (StandsAt text) cs → begins close (drop n (bytes_of cs)) ≡ true
+    → slice_index text (slice_index (offsets_of cs) n) ≡ close
+bracket_at text close [] zero e h = cc
+bracket_at text close [] (suc n) e h = cc
+bracket_at text close (c ∷ cs) zero e h = e.0 ∙ eqb-true c.1 close h
+bracket_at text close (c ∷ cs) (suc n) e h = bracket_at text close cs n e.1 h
+
+pub label_last : (prefix : List ℕ → Option ℕ) (in_table : Bool) (bs : List ℕ) (l : ℕ × List ℕ) → label_at prefix in_table bs ≡ Some l
+    → (0 < l.0) × (slice_index bs (l.0 - 1) ≡ 93)
+unfolding label_at
+label_last prefix in_table bs l h =
+    let whole = joined prefix 0 0 bs in
+    let n = label_len (bytes_of whole) in
+    let label = take n (bytes_of whole) in
+    let p = cond_some (begins 93 (drop n (bytes_of whole)) && is_label label) (slice_index (offsets_of whole) n + 1, shown in_table label) l h in
+    let b = and_parts _ _ p.0 in
+    let e : slice_index (offsets_of whole) n + 1 ≡ l.0 = ap (λ (q : ℕ × List ℕ). q.0) p.1 in
+    let i : slice_index (offsets_of whole) n ≡ l.0 - 1 = omega arith in
+    (omega arith, ap (slice_index bs) (sym i) ∙ bracket_at bs 93 whole n (joined_stands prefix bs 0 0 bs refl) b.0)

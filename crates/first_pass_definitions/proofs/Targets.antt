@@ -10,6 +10,7 @@ use Rattle.std.proofs.lemmas.Str.{IsCharBoundary-after_ascii}
 use Rattle.first_pass_items.specs.declared.cow_str.CowStr.{CowStr}
 use Rattle.first_pass_items.specs.CowText.{text_of}
 use Rattle.first_pass_labels.specs.declared.label_table.LinkDef.{LinkDef}
+use Rattle.first_pass_labels.specs.declared.label_table.LinkPlaces.{LinkPlaces}
 use Rattle.first_pass_lines.specs.Lines.{is_line_end, begins, blank_len}
 use Rattle.first_pass_links.specs.Destinations.{destination_at}
 use Rattle.first_pass_links.specs.Labels.{label_at}
@@ -18,16 +19,26 @@ use Rattle.first_pass_links.proofs.Destinations.{first_byte}
 use Rattle.first_pass_grammar.specs.Containers.{Context}
 use Rattle.first_pass_grammar.specs.Definitions.{prefix_crossed, space_at, title_at, alone_after, title_beyond, title_after, after_destination}
 use Rattle.first_pass_grammar.specs.Definitions.{deepest_nesting, Target, target_of, target_from, target_at, LinkReference, reference_of, reference_after}
-use Rattle.first_pass_grammar.specs.Definitions.{reference_at}
+use Rattle.first_pass_grammar.specs.Definitions.{reference_at, title_distance}
+use Rattle.first_pass_grammar.specs.LinkRuns.{places_of}
 use Rattle.first_pass_definitions.specs.Reading.{IsReadText, IsReadTitle}
 use Rattle.first_pass_definitions.specs.Found.{IsUnescaped, HasTitle, IsDefinition, IsTarget, IsReference}
 
 -- results for the text after a destination
-abbrev pub IsTitleAfter : ℕ → Option (ℕ × List ℕ) → Option (ℕ × CowStr) → Type 0
-IsTitleAfter at o answer = MatchOption o (answer ≡ None) (λ title. IsSomeAnd answer (λ found. (found.0 ≡ at + title.0) × IsReadText title.1 found.1))
+abbrev pub IsTitleAfter : ℕ → ℕ → Option (ℕ × List ℕ) → Option (ℕ × ℕ × CowStr) → Type 0
+IsTitleAfter at distance o answer =
+    MatchOption o (answer ≡ None)
+    (λ title. IsSomeAnd answer (λ found. (found.1 ≡ at + title.0) × IsReadText title.1 found.2 × (found.0 ≡ at + distance)))
 
-abbrev pub IsFurther : ℕ → Option (ℕ × Option (List ℕ)) → Option (ℕ × Option CowStr) → Type 0
-IsFurther at o answer = MatchOption o (answer ≡ None) (λ further. IsSomeAnd answer (λ found. (found.0 ≡ at + further.0) × IsReadTitle further.1 found.1))
+abbrev pub IsFurther : Context → List ℕ → ℕ → Option (ℕ × Option (List ℕ)) → Option (ℕ × ℕ × Option CowStr) → Type 0
+IsFurther around bs at o answer =
+    MatchOption o (answer ≡ None)
+    (λ further. IsSomeAnd answer
+    (λ found. (found.1 ≡ at + further.0) × IsReadTitle further.1 found.2 × (found.0 ≡ at + title_distance around bs further.1)))
+
+-- how many bytes white space has
+abbrev white_len : Option (ℕ × ℕ) → ℕ
+white_len o = option_map_or (λ (space : ℕ × ℕ). space.0) o 0
 
 -- results for the title at a place
 abbrev pub IsTitleRead : Option (ℕ × List ℕ) → Option (ℕ × CowStr) → Type 0
@@ -50,13 +61,13 @@ space_is start k at m n h = ap (λ (o : Option (ℕ × ℕ)). option_map_or (λ 
 
 read_by : (bs : List ℕ) (at n len : ℕ) (title : CowStr) (o : Option (ℕ × List ℕ)) → IsTitleRead o (read_to len title)
     → (list_any is_line_end (text_of title) ≡ false → Borrows (text_of title) title) → is_some (blank_len (drop (n + len) bs)) ≡ true
-    → IsTitleAfter at (option_and_then (alone_after n bs) o) (Some (at + n + len, title))
+    → IsTitleAfter at n (option_and_then (alone_after n bs) o) (Some (at + n, at + n + len, title))
 read_by bs at n len title None h borrows blank = absurd (no_title len title h)
 read_by bs at n len title (Some t) h borrows blank =
     let same : n + len ≡ n + t.0 = ap (λ k. n + k) h.0 in
     let alone : is_some (blank_len (drop (n + t.0) bs)) ≡ true = subst (λ k. is_some (blank_len (drop k bs)) ≡ true) same blank in
     let far : at + n + len ≡ at + (n + t.0) = (let e : len ≡ t.0 = h.0 in omega arith) in
-    rw alone (far, record { value = h.1; borrowed = subst (λ xs. list_any is_line_end xs ≡ false → Borrows xs title) h.1 borrows })
+    rw alone (far, record { value = h.1; borrowed = subst (λ xs. list_any is_line_end xs ≡ false → Borrows xs title) h.1 borrows }, refl)
 
 none_at : (m start at : ℕ) → start ≡ at + m → (start ≡ at → ⊥) → (m == 0) ≡ false
 none_at zero start at there apart = absurd (apart (omega arith))
@@ -65,7 +76,7 @@ none_at (suc m) start at there apart = grind (arith, nat_tests)
 space_read_by : (around : Context) (text : List ℕ) (at start k len : ℕ) (title : CowStr) (o : Option (ℕ × ℕ))
     → space_to start k ≡ option_map (λ s. (at + s.0, s.1)) o → (start ≡ at → ⊥) → IsTitleRead (title_at around (drop start text)) (read_to len title)
     → (list_any is_line_end (text_of title) ≡ false → Borrows (text_of title) title) → is_some (blank_len (drop (start + len) text)) ≡ true
-    → IsTitleAfter at (option_and_then (title_beyond around (drop at text)) o) (Some (start + len, title))
+    → IsTitleAfter at (white_len o) (option_and_then (title_beyond around (drop at text)) o) (Some (start, start + len, title))
 space_read_by around text at start k len title None is apart read borrows blank = absurd (no_space_to start k is)
 space_read_by around text at start k len title (Some s) is apart read borrows blank =
     let there : start ≡ at + s.0 = space_is start k at s.0 s.1 is in
@@ -74,8 +85,8 @@ space_read_by around text at start k len title (Some s) is apart read borrows bl
     subst (λ bs. IsTitleRead (title_at around bs) (read_to len title)) (ap (λ n. drop n text) there ∙ sym (drop-drop s.0 at text)) read in
     let rest : is_some (blank_len (drop (s.0 + len) (drop at text))) ≡ true =
     subst (λ bs. is_some (blank_len bs) ≡ true) (ap (λ n. drop n text) (let e = there in omega arith) ∙ sym (drop-drop (s.0 + len) at text)) blank in
-    let far : at + s.0 + len ≡ start + len = omega arith in
-    rw some (subst (λ e. IsTitleAfter at (option_and_then (alone_after s.0 (drop at text)) (title_at around (drop s.0 (drop at text)))) (Some (e, title))) far
+    rw some (subst (λ e. IsTitleAfter at s.0 (option_and_then (alone_after s.0 (drop at text)) (title_at around (drop s.0 (drop at text))))
+    (Some (e, e + len, title))) (sym there)
     (read_by (drop at text) at s.0 len title (title_at around (drop s.0 (drop at text))) following borrows rest))
 
 -- the title after a destination and white space, with a blank rest of its line after it
@@ -83,41 +94,47 @@ pub title_read : (around : Context) (text : List ℕ) (at start k len : ℕ) (ti
     → space_to start k ≡ option_map (λ s. (at + s.0, s.1)) (space_at around (drop at text)) → (start ≡ at → ⊥)
     → IsTitleRead (title_at around (drop start text)) (read_to len title)
     → (list_any is_line_end (text_of title) ≡ false → Borrows (text_of title) title) → is_some (blank_len (drop (start + len) text)) ≡ true
-    → IsTitleAfter at (title_after around (drop at text)) (Some (start + len, title))
+    → IsTitleAfter at (white_len (space_at around (drop at text))) (title_after around (drop at text)) (Some (start, start + len, title))
 title_read around text at start k len title is = space_read_by around text at start k len title (space_at around (drop at text)) is
 
-titled_by : (o : Option (ℕ × List ℕ)) (d : Option (ℕ × Option (List ℕ))) (at e : ℕ) (title : CowStr) → IsTitleAfter at o (Some (e, title))
-    → IsFurther at (option_map_or (λ (t : ℕ × List ℕ). Some (t.0, Some t.1)) o d) (Some (e, Some title))
-titled_by None d at e title h = cc
-titled_by (Some t) d at e title h = h
+abbrev distance_after : Context → List ℕ → ℕ
+distance_after around bs = white_len (space_at around bs)
 
-pub titled : (around : Context) (bs : List ℕ) (at e : ℕ) (title : CowStr) → IsTitleAfter at (title_after around bs) (Some (e, title))
-    → IsFurther at (after_destination around bs) (Some (e, Some title))
+titled_by : (around : Context) (bs : List ℕ) (o : Option (ℕ × List ℕ)) (d : Option (ℕ × Option (List ℕ))) (at start e : ℕ) (title : CowStr)
+    → IsTitleAfter at (distance_after around bs) o (Some (start, e, title))
+    → IsFurther around bs at (option_map_or (λ (t : ℕ × List ℕ). Some (t.0, Some t.1)) o d) (Some (start, e, Some title))
+titled_by around bs None d at start e title h = cc
+titled_by around bs (Some t) d at start e title h = h
+
+pub titled : (around : Context) (bs : List ℕ) (at start e : ℕ) (title : CowStr)
+    → IsTitleAfter at (distance_after around bs) (title_after around bs) (Some (start, e, title))
+    → IsFurther around bs at (after_destination around bs) (Some (start, e, Some title))
 unfolding after_destination
-titled around bs at e title h = titled_by (title_after around bs) _ at e title h
+titled around bs at start e title h = titled_by around bs (title_after around bs) _ at start e title h
 
-untitled_by : (o : Option (ℕ × List ℕ)) (at : ℕ) → IsTitleAfter at o None → o ≡ None
-untitled_by None at h = refl
-untitled_by (Some t) at h = absurd h
+untitled_by : (o : Option (ℕ × List ℕ)) (at distance : ℕ) → IsTitleAfter at distance o None → o ≡ None
+untitled_by None at distance h = refl
+untitled_by (Some t) at distance h = absurd h
 
-pub alone : (around : Context) (bs : List ℕ) (at : ℕ) → IsTitleAfter at (title_after around bs) None → is_some (blank_len bs) ≡ true
-    → IsFurther at (after_destination around bs) (Some (at, None))
+pub alone : (around : Context) (bs : List ℕ) (at : ℕ) → IsTitleAfter at (distance_after around bs) (title_after around bs) None
+    → is_some (blank_len bs) ≡ true → IsFurther around bs at (after_destination around bs) (Some (at, at, None))
 unfolding after_destination
-alone around bs at h k = rw (untitled_by (title_after around bs) at h) (rw k (omega arith, tt))
+alone around bs at h k = rw (untitled_by (title_after around bs) at (distance_after around bs) h) (rw k (omega arith, tt, omega arith))
 
-pub not_alone : (around : Context) (bs : List ℕ) (at : ℕ) → IsTitleAfter at (title_after around bs) None → is_some (blank_len bs) ≡ false
-    → IsFurther at (after_destination around bs) None
+pub not_alone : (around : Context) (bs : List ℕ) (at : ℕ) → IsTitleAfter at (distance_after around bs) (title_after around bs) None
+    → is_some (blank_len bs) ≡ false → IsFurther around bs at (after_destination around bs) None
 unfolding after_destination
-not_alone around bs at h k = rw (untitled_by (title_after around bs) at h) (rw k refl)
+not_alone around bs at h k = rw (untitled_by (title_after around bs) at (distance_after around bs) h) (rw k refl)
 
-further_found : (o : Option (ℕ × Option (List ℕ))) (at e : ℕ) (title : Option CowStr) → IsFurther at o (Some (e, title))
-    → (f : ℕ × Option (List ℕ)) × (o ≡ Some f) × (e ≡ at + f.0) × IsReadTitle f.1 title
-further_found None at e title h = cc
-further_found (Some f) at e title h = (f, refl, h.0, h.1)
+further_found : (around : Context) (bs : List ℕ) (o : Option (ℕ × Option (List ℕ))) (at start e : ℕ) (title : Option CowStr)
+    → IsFurther around bs at o (Some (start, e, title))
+    → (f : ℕ × Option (List ℕ)) × (o ≡ Some f) × (e ≡ at + f.0) × IsReadTitle f.1 title × (start ≡ at + title_distance around bs f.1)
+further_found around bs None at start e title h = cc
+further_found around bs (Some f) at start e title h = (f, refl, h.0, h.1, h.2)
 
-further_none : (o : Option (ℕ × Option (List ℕ))) (at : ℕ) → IsFurther at o None → o ≡ None
-further_none None at h = refl
-further_none (Some f) at h = absurd h
+further_none : (around : Context) (bs : List ℕ) (o : Option (ℕ × Option (List ℕ))) (at : ℕ) → IsFurther around bs at o None → o ≡ None
+further_none around bs None at h = refl
+further_none around bs (Some f) at h = absurd h
 
 -- results for destinations
 abbrev pub IsDest : Option (ℕ × List ℕ) → Option (ℕ × Bor (List ℕ)) → Type 0
@@ -165,45 +182,70 @@ no_dest around text start at lines h k =
 
 after_dest : (around : Context) (text : List ℕ) (start at n : ℕ) (s : ℕ × ℕ) (d : ℕ × List ℕ) → space_at around (drop start text) ≡ Some s
     → at ≡ start + s.0 → destination_at deepest_nesting (drop at text) ≡ Some d → n ≡ d.0
-    → target_at around (drop start text) ≡ option_map (target_of s.0 d) (after_destination around (drop (at + n) text))
+    → target_at around (drop start text) ≡ option_map (target_of around (drop (at + n) text) s.0 d) (after_destination around (drop (at + n) text))
 after_dest around text start at n s d e h k l =
     at_dest around text start at s e h ∙ ap (option_and_then (target_from around s.0 (drop at text))) k
-    ∙ ap (λ xs. option_map (target_of s.0 d) (after_destination around xs)) (drop-drop d.0 at text ∙ ap (λ m. drop (at + m) text) (sym l))
+    ∙ ap (λ xs. option_map (target_of around xs s.0 d) (after_destination around xs)) (drop-drop d.0 at text ∙ ap (λ m. drop (at + m) text) (sym l))
 
 pub no_further : (around : Context) (text : List ℕ) (start at lines n : ℕ) (b : Bor (List ℕ))
     → Some (at, lines) ≡ shifted start (space_at around (drop start text)) → IsDest (destination_at deepest_nesting (drop at text)) (Some (n, b))
-    → IsFurther (at + n) (after_destination around (drop (at + n) text)) None → target_at around (drop start text) ≡ None
+    → IsFurther around (drop (at + n) text) (at + n) (after_destination around (drop (at + n) text)) None → target_at around (drop start text) ≡ None
 no_further around text start at lines n b h k f =
     let s = space_found (space_at around (drop start text)) start at lines h in
     let d = dest_found (destination_at deepest_nesting (drop at text)) n b k in
     after_dest around text start at n s.0 d.0 s.1 s.2 d.1 d.2
-    ∙ ap (option_map (target_of s.0.0 d.0)) (further_none (after_destination around (drop (at + n) text)) (at + n) f)
+    ∙ ap (option_map (target_of around (drop (at + n) text) s.0.0 d.0))
+    (further_none around (drop (at + n) text) (after_destination around (drop (at + n) text)) (at + n) f)
 
--- a target that is found
-pub record TargetFound (around : Context) (text : List ℕ) (start e : ℕ) (b : Bor (List ℕ)) (title : Option CowStr) : Type 0 where
+-- places by the offsets of the destination and the title
+abbrev pub placed : ℕ → ℕ → ℕ → ℕ → LinkPlaces
+placed start at following title = record { label_end = start - 2; dest_start = at; dest_end = following; title_start = title }
+
+pub placed_by : (start at following title n : ℕ) → n ≡ start - 2
+    → ◌≡◌ {A = LinkPlaces} (record { label_end = n; dest_start = at; dest_end = following; title_start = title }) (placed start at following title)
+placed_by start at following title n h = cc
+
+placed_same : (start at at' following following' title title' : ℕ) → at ≡ at' → following ≡ following' → title ≡ title'
+    → placed start at following title ≡ placed start at' following' title'
+placed_same start at at' following following' title title' h k l = cc
+
+-- a target that is found, where it ends and the places of its parts
+pub record TargetFound (around : Context) (text : List ℕ) (start : ℕ) (to : ℕ × LinkPlaces) (b : Bor (List ℕ)) (title : Option CowStr) : Type 0 where
   pub size : ℕ
   pub target : Target
   pub is : target_at around (drop start text) ≡ Some (size, target)
-  pub end_is : e ≡ start + size
+  pub end_is : to.0 ≡ start + size
+  pub places_are : to.1 ≡ places_of (start - 2) start target
   pub dest_is : b.now ≡ target.dest
   pub title_is : IsReadTitle target.title title
 
-pub target_found : (around : Context) (text : List ℕ) (start at lines n e : ℕ) (b : Bor (List ℕ)) (title : Option CowStr)
+pub target_found : (around : Context) (text : List ℕ) (start at lines n from e : ℕ) (b : Bor (List ℕ)) (title : Option CowStr)
     → Some (at, lines) ≡ shifted start (space_at around (drop start text))
     → IsDest (destination_at deepest_nesting (drop at text)) (Some (n, b))
-    → IsFurther (at + n) (after_destination around (drop (at + n) text)) (Some (e, title)) → TargetFound around text start e b title
-target_found around text start at lines n e b title h k f =
+    → IsFurther around (drop (at + n) text) (at + n) (after_destination around (drop (at + n) text)) (Some (from, e, title))
+    → TargetFound around text start (e, placed start at (at + n) from) b title
+target_found around text start at lines n from e b title h k f =
     let s = space_found (space_at around (drop start text)) start at lines h in
     let d = dest_found (destination_at deepest_nesting (drop at text)) n b k in
-    let r = further_found (after_destination around (drop (at + n) text)) (at + n) e title f in
+    let following = drop (at + n) text in
+    let r = further_found around following (after_destination around following) (at + n) from e title f in
     let i = s.2 in
     let j = d.2 in
     let l = r.2 in
+    let m = r.4 in
+    let far : ℕ = title_distance around following r.0.1 in
     record {
       size = s.0.0 + d.0.0 + r.0.0;
-      target = record { dest = d.0.1; title = r.0.1 };
-      is = after_dest around text start at n s.0 d.0 s.1 s.2 d.1 d.2 ∙ ap (option_map (target_of s.0.0 d.0)) r.1;
+      target = record {
+        dest = d.0.1;
+        title = r.0.1;
+        dest_start = s.0.0;
+        dest_end = s.0.0 + d.0.0;
+        title_start = s.0.0 + d.0.0 + far;
+      };
+      is = after_dest around text start at n s.0 d.0 s.1 s.2 d.1 d.2 ∙ ap (option_map (target_of around following s.0.0 d.0)) r.1;
       end_is = omega arith;
+      places_are = placed_same start at (start + s.0.0) (at + n) (start + (s.0.0 + d.0.0)) from (start + (s.0.0 + d.0.0 + far)) i (omega arith) (omega arith);
       dest_is = d.3;
       title_is = r.3;
     }
@@ -211,11 +253,13 @@ target_found around text start at lines n e b title h k f =
 abbrev pub IsTargetAnswer : Bool → ℕ → ℕ → Option (ℕ × Target) → Option (ℕ × LinkDef) → Type 0
 IsTargetAnswer in_table from start o answer = MatchOption o (answer ≡ None) (λ target. IsSomeAnd answer (IsTarget in_table from start target))
 
-pub is_target : (around : Context) (text : List ℕ) (start e from : ℕ) (b : Bor (List ℕ)) (title : Option CowStr) (in_table : Bool) (found : LinkDef)
-    → TargetFound around text start e b title → IsUnescaped in_table b.now found.dest
-    → ((t : Option (List ℕ)) → IsReadTitle t title → HasTitle in_table t found.title) → found.span.start ≡ from → found.span.«end» ≡ e
-    → IsTargetAnswer in_table from start (target_at around (drop start text)) (Some (e - start, found))
-is_target around text start e from b title in_table found t dest read h k =
+pub is_target : (around : Context) (text : List ℕ) (start from : ℕ) (to : ℕ × LinkPlaces) (b : Bor (List ℕ)) (title : Option CowStr) (in_table : Bool)
+    (found : LinkDef)
+    → TargetFound around text start to b title → IsUnescaped in_table b.now found.dest
+    → ((t : Option (List ℕ)) → IsReadTitle t title → HasTitle in_table t found.title) → found.span.start ≡ from → found.span.«end» ≡ to.0
+    → found.places ≡ to.1
+    → IsTargetAnswer in_table from start (target_at around (drop start text)) (Some (to.0 - start, found))
+is_target around text start from to b title in_table found t dest read h k l =
     let i = t.end_is in
     rw t.is (record {
       size = omega arith;
@@ -224,6 +268,7 @@ is_target around text start e from b title in_table found t dest read h k =
         title = read t.target.title t.title_is;
         start_is = h;
         end_is = k ∙ t.end_is;
+        places_are = l ∙ t.places_are;
       };
     })
 
@@ -262,7 +307,7 @@ no_label in_table around text start h k =
 colon_by : (t : Bool) (in_table : Bool) (around : Context) (text : List ℕ) (start n : ℕ) (l : ℕ × List ℕ) → begins 91 (drop start text) ≡ true
     → label_at (prefix_crossed true around) in_table (drop (start + 1) text) ≡ Some l → n ≡ l.0
     → begins 58 (drop (start + 1 + n) text) ≡ t
-    → reference_at in_table around (drop start text) ≡ (if t then option_map (reference_of (l.0 + 2) l.1) (target_at around (drop (start + 1 + n + 1) text))
+    → reference_at in_table around (drop start text) ≡ (if t then option_map (reference_of l) (target_at around (drop (start + 1 + n + 1) text))
     else None)
 colon_by t in_table around text start n l h k e f =
     let a : drop l.0 (drop (start + 1) text) ≡ drop (start + 1 + n) text = drop-drop l.0 (start + 1) text ∙ ap (λ m. drop (start + 1 + m) text) (sym e) in
@@ -289,22 +334,26 @@ pub no_target : (in_table : Bool) (around : Context) (text : List ℕ) (start n 
 no_target in_table around text start n label h k f t =
     let l = label_found (label_at (prefix_crossed true around) in_table (drop (start + 1) text)) n label k in
     colon_by true in_table around text start n l.0 h l.1 l.2 f
-    ∙ ap (option_map (reference_of (l.0.0 + 2) l.0.1)) (target_none in_table start (start + 1 + n + 1) (target_at around (drop (start + 1 + n + 1) text)) t)
+    ∙ ap (option_map (reference_of l.0)) (target_none in_table start (start + 1 + n + 1) (target_at around (drop (start + 1 + n + 1) text)) t)
 
 abbrev pub IsReferenceAnswer : Bool → ℕ → Option LinkReference → Option (ℕ × CowStr × LinkDef) → Type 0
 IsReferenceAnswer in_table start o answer = MatchOption o (answer ≡ None) (λ reference. IsSomeAnd answer (IsReference in_table start reference))
 
 reference_by : (in_table : Bool) (start n m : ℕ) (l : ℕ × List ℕ) (label : CowStr) (definition : LinkDef) (o : Option (ℕ × Target)) → n ≡ l.0
     → text_of label ≡ l.1 → IsTargetAnswer in_table start (start + 1 + n + 1) o (Some (m, definition))
-    → IsReferenceAnswer in_table start (option_map (reference_of (l.0 + 2) l.1) o) (Some (n + 2 + m, label, definition))
+    → IsReferenceAnswer in_table start (option_map (reference_of l) o) (Some (n + 2 + m, label, definition))
 reference_by in_table start n m l label definition None e h t = cc
 reference_by in_table start n m l label definition (Some t) e h found =
     let s = found.size in
     let i : start + 1 + n + 1 + t.0 ≡ start + (l.0 + 2 + t.0) = omega arith in
+    let at : start + 1 + n + 1 ≡ start + l.0 + 2 = omega arith in
+    let closes : start + 1 + n + 1 - 2 ≡ start + l.0 = omega arith in
+    let there = ap (λ k. places_of (start + 1 + n + 1 - 2) k t.1) at ∙ ap (λ k. places_of k (start + l.0 + 2) t.1) closes in
     record {
       size = omega arith;
       label = h;
-      definition = subst (λ to. IsDefinition in_table t.1 start to definition) i found.definition;
+      definition = subst (λ to. IsDefinition in_table t.1 (places_of (start + l.0) (start + l.0 + 2) t.1) start to definition) i
+          (subst (λ places. IsDefinition in_table t.1 places start (start + 1 + n + 1 + t.0) definition) there found.definition);
     }
 
 pub is_reference : (in_table : Bool) (around : Context) (text : List ℕ) (start n m : ℕ) (label : CowStr) (definition : LinkDef)

@@ -6,7 +6,7 @@ ghost use Rattle.first_pass_lines.specs.Lines.{begins};
 ghost use Rattle.first_pass_tree.specs.Forest.{in_table};
 ghost use Rattle.first_pass_grammar.specs.Definitions.{reference_at};
 ghost use Rattle.first_pass_open.specs.Path.{context_of};
-ghost use Rattle.first_pass_definitions.specs.Found.{BorrowsLabel, IsReference};
+ghost use Rattle.first_pass_definitions.specs.Found.{BorrowsLabel, HasParts, IsReference};
 ghost use Rattle.first_pass_definitions.specs.Memory.{ReferenceAsks};
 
 use crate::label::parse_refdef_label;
@@ -44,6 +44,7 @@ pub fn parse_refdef_total<'a>(
     ensures borrowed { IfOk result (λ answer. IfSome answer (λ found.
         BorrowsLabel (context_of source.now.options tree.now) (in_table tree.now.nodes tree.now.spine)
         (drop (start + 1) source.now.text.now) found.1)) }
+    ensures places { IfOk result (λ answer. IfSome answer (λ found. HasParts source.now.text.now found.2)) }
     ensures err { OnErr result (ReferenceAsks (in_table tree.now.nodes tree.now.spine)
         (context_of source.now.options tree.now) (drop start source.now.text.now)) }
 {
@@ -70,6 +71,7 @@ fn parse_after_bracket<'a>(
     ensures borrowed { IfOk result (λ answer. IfSome answer (λ found.
         BorrowsLabel (context_of source.now.options tree.now) (in_table tree.now.nodes tree.now.spine)
         (drop (start + 1) source.now.text.now) found.1)) }
+    ensures places { IfOk result (λ answer. IfSome answer (λ found. HasParts source.now.text.now found.2)) }
     ensures err { OnErr result (ReferenceAsks (in_table tree.now.nodes tree.now.spine)
         (context_of source.now.options tree.now) (drop start source.now.text.now)) }
 {

@@ -4,10 +4,10 @@ ghost use Rattle.std.specs.Prelude.{◌≡◌, ℕ, ◌+◌, ◌≤◌, List, Op
 ghost use Rattle.std.specs.Box.{boxed_str_bytes};
 ghost use Rattle.first_pass_items.specs.CowText.{text_of};
 ghost use Rattle.first_pass_tree.specs.Forest.{in_table};
-ghost use Rattle.first_pass_grammar.specs.Definitions.{target_at, after_destination, title_after};
+ghost use Rattle.first_pass_grammar.specs.Definitions.{target_at, after_destination, title_after, title_distance};
 ghost use Rattle.first_pass_links.specs.Escapes.{unescaped};
 ghost use Rattle.first_pass_open.specs.Path.{context_of};
-ghost use Rattle.first_pass_definitions.specs.Found.{HasTitle, IsTarget};
+ghost use Rattle.first_pass_definitions.specs.Found.{AreInOrder, HasTitle, IsTarget};
 ghost use Rattle.std.specs.List.{list_any};
 ghost use Rattle.first_pass_lines.specs.Lines.{is_line_end};
 ghost use Rattle.first_pass_definitions.specs.Memory.{IsEscaped, TargetAsks, after_asks};
@@ -17,7 +17,7 @@ use crate::space::scan_refdef_space;
 use crate::title::scan_refdef_title;
 use first_pass_items::cow_str::CowStr;
 use first_pass_items::item::Item;
-use first_pass_labels::label_table::LinkDef;
+use first_pass_labels::label_table::{LinkDef, LinkPlaces};
 use first_pass_lines::lines::scan_blank_line;
 use first_pass_lines::places::rest_of;
 use first_pass_links::destination::scan_link_dest;
@@ -32,7 +32,7 @@ const DEEPEST_NESTING: usize = 32;
 
 /// What a definition has after its colon, before the offset `start` into the text: white space, a destination, and
 /// white space and a title or none. Returns how many bytes it has from `start` on, and the definition with its
-/// destination and title unescaped, whose span begins at `span_start`.
+/// destination and title unescaped. Its span begins at `span_start`, and its label ends two bytes before `start`.
 ///
 /// `None` where there is no destination, where something touches it, or where after it neither a title nor a blank
 /// rest of its line stands. The error is want of memory, where the destination or the title is read otherwise than it
@@ -52,6 +52,8 @@ pub fn scan_refdef<'a>(
         (IsTarget (in_table tree.now.nodes tree.now.spine) span_start start target))) }
     ensures fits { IfOk result (λ answer. IfSome answer (λ found.
         IsCharBoundary source.now.text.now (start + found.0))) }
+    ensures places { IfOk result (λ answer. IfSome answer (λ found.
+        AreInOrder source.now.text.now start found.1)) }
     ensures err { OnErr result (TargetAsks (in_table tree.now.nodes tree.now.spine)
         (context_of source.now.options tree.now) (drop start source.now.text.now)) }
 {
@@ -63,7 +65,7 @@ pub fn scan_refdef<'a>(
         return Ok(None);
     };
     let dest_end = dest_start + dest_len;
-    let Some((end, title)) = scan_after_destination(source, tree, dest_end)? else {
+    let Some((title_start, end, title)) = scan_after_destination(source, tree, dest_end)? else {
         return Ok(None);
     };
     let in_table = tree.is_in_table();
@@ -71,49 +73,60 @@ pub fn scan_refdef<'a>(
         dest: unescape(source.alloc, dest, in_table)?,
         title: unescape_title(source.alloc, title, in_table)?,
         span: span_start..end,
+        places: LinkPlaces {
+            label_end: start.saturating_sub(2),
+            dest_start,
+            dest_end,
+            title_start,
+        },
     };
     Ok(Some((end - start, definition)))
 }
 
-// What ends a definition after its destination, at the offset `at`: the offset at which it ends, and its title.
+// What ends a definition after its destination, at the offset `at`: the offsets at which its title begins, or
+// without one the definition ends, and at which the definition ends, and its title.
 fn scan_after_destination<'a>(
     source: &Source<'a>,
     tree: &Tree<Item>,
     at: usize,
-) -> Result<Option<(usize, Option<CowStr<'a>>)>, AllocError>
+) -> Result<Option<(usize, usize, Option<CowStr<'a>>)>, AllocError>
     requires { IsCharBoundary source.now.text.now at }
     ensures value { IfOk result (λ answer. MatchOption
         (after_destination (context_of source.now.options tree.now) (drop at source.now.text.now))
         (answer ≡ None)
-        (λ further. IsSomeAnd answer (λ found. (found.0 ≡ at + further.0) × IsReadTitle further.1 found.1))) }
-    ensures fits { IfOk result (λ answer. IfSome answer (λ found.
-        (at ≤ found.0) × IsCharBoundary source.now.text.now found.0)) }
+        (λ further. IsSomeAnd answer (λ found. (found.1 ≡ at + further.0) × IsReadTitle further.1 found.2
+        × (found.0 ≡ at + title_distance (context_of source.now.options tree.now)
+        (drop at source.now.text.now) further.1)))) }
+    ensures fits { IfOk result (λ answer. IfSome answer (λ found. (at ≤ found.0) × (found.0 ≤ found.1)
+        × IsCharBoundary source.now.text.now found.0 × IsCharBoundary source.now.text.now found.1)) }
     ensures err { OnErr result (after_asks (context_of source.now.options tree.now)
         (drop at source.now.text.now) ≡ true) }
 {
-    if let Some((end, title)) = scan_title_after(source, tree, at)? {
-        return Ok(Some((end, Some(title))));
+    if let Some((start, end, title)) = scan_title_after(source, tree, at)? {
+        return Ok(Some((start, end, Some(title))));
     }
     if scan_blank_line(rest_of(source.text.as_bytes(), at)).is_some() {
-        return Ok(Some((at, None)));
+        return Ok(Some((at, at, None)));
     }
     Ok(None)
 }
 
 // The title after a destination that ends at the offset `at`, which white space parts from it and after which the
-// rest of its line is blank: the offset after it, and its text.
+// rest of its line is blank: the offsets at which it begins and ends, and its text.
 fn scan_title_after<'a>(
     source: &Source<'a>,
     tree: &Tree<Item>,
     at: usize,
-) -> Result<Option<(usize, CowStr<'a>)>, AllocError>
+) -> Result<Option<(usize, usize, CowStr<'a>)>, AllocError>
     requires { IsCharBoundary source.now.text.now at }
     ensures value { IfOk result (λ answer. MatchOption
         (title_after (context_of source.now.options tree.now) (drop at source.now.text.now))
         (answer ≡ None)
-        (λ title. IsSomeAnd answer (λ found. (found.0 ≡ at + title.0) × IsReadText title.1 found.1))) }
-    ensures fits { IfOk result (λ answer. IfSome answer (λ found.
-        (at ≤ found.0) × IsCharBoundary source.now.text.now found.0)) }
+        (λ title. IsSomeAnd answer (λ found. (found.1 ≡ at + title.0) × IsReadText title.1 found.2
+        × (found.0 ≡ at + title_distance (context_of source.now.options tree.now)
+        (drop at source.now.text.now) (Some title.1))))) }
+    ensures fits { IfOk result (λ answer. IfSome answer (λ found. (at ≤ found.0) × (found.0 ≤ found.1)
+        × IsCharBoundary source.now.text.now found.0 × IsCharBoundary source.now.text.now found.1)) }
     ensures err { OnErr result (after_asks (context_of source.now.options tree.now)
         (drop at source.now.text.now) ≡ true) }
 {
@@ -131,7 +144,7 @@ fn scan_title_after<'a>(
     if scan_blank_line(rest_of(source.text.as_bytes(), end)).is_none() {
         return Ok(None);
     }
-    Ok(Some((end, title)))
+    Ok(Some((start, end, title)))
 }
 
 // A title without its escapes and references.

@@ -142,6 +142,10 @@ pub definition_record : (a b c l d t : List ℕ) (e : LinkEntry) (s sl p pl q ql
       title = q;
       title_length = ql;
       has_title = has;
+      label_end = e.places.label_end;
+      destination_start = e.places.dest_start;
+      destination_end = e.places.dest_end;
+      title_start = e.places.title_start;
     })
     (flat_definition (length a) e)
 definition_record a b c l d t e s sl p pl q ql has s_is sl_is l_is b_is p_is pl_is d_is c_is q_is ql_is t_is has_is =

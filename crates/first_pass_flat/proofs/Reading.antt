@@ -7,6 +7,7 @@ use Rattle.std.proofs.Math.Seq.{take-append_seam, drop-append_seam}
 use Rattle.first_pass_items.specs.declared.item.Item.{Item}
 use Rattle.first_pass_items.specs.declared.item.ItemBody.{ItemBody}
 use Rattle.first_pass_grammar.specs.Names.{Names, Named, AreNamed, read_nodes}
+use Rattle.first_pass_labels.specs.declared.label_table.LinkPlaces.{LinkPlaces}
 use Rattle.first_pass_grammar.specs.LinkTables.{LinkEntry}
 use Rattle.first_pass_grammar.specs.Derivation.{Tables}
 use Rattle.first_pass_flat.specs.Kinds.{flag}
@@ -171,6 +172,7 @@ definition_from r bytes = record {
   title = text_from r.has_title (take r.title_length (drop r.destination_length (drop r.label_length bytes)));
   start = r.start;
   «end» = r.«end»;
+  places = record { label_end = r.label_end; dest_start = r.destination_start; dest_end = r.destination_end; title_start = r.title_start };
 }
 
 pub definitions_read : List FlatDefinition → List ℕ → List LinkEntry
@@ -178,10 +180,11 @@ definitions_read [] bytes = []
 definitions_read (r ∷ rs) bytes =
     definition_from r bytes ∷ definitions_read rs (drop r.title_length (drop r.destination_length (drop r.label_length bytes)))
 
-definition_by : (label label' dest dest' : List ℕ) (title title' : Option (List ℕ)) (start e : ℕ) → label ≡ label' → dest ≡ dest' → title ≡ title'
-    → ◌≡◌ {A = LinkEntry} (record { label = label; dest = dest; title = title; start = start; «end» = e })
-    (record { label = label'; dest = dest'; title = title'; start = start; «end» = e })
-definition_by label label' dest dest' title title' start e f g h = cc
+definition_by : (label label' dest dest' : List ℕ) (title title' : Option (List ℕ)) (start e : ℕ) (places : LinkPlaces)
+    → label ≡ label' → dest ≡ dest' → title ≡ title'
+    → ◌≡◌ {A = LinkEntry} (record { label = label; dest = dest; title = title; start = start; «end» = e; places = places })
+    (record { label = label'; dest = dest'; title = title'; start = start; «end» = e; places = places })
+definition_by label label' dest dest' title title' start e places f g h = cc
 
 -- bytes in four parts
 four : (a b c d e : List ℕ) → (((a ++ b) ++ c) ++ d) ++ e ≡ ((a ++ b) ++ (c ++ d)) ++ e
@@ -210,7 +213,7 @@ definitions_back at (x ∷ es) bytes =
     let t = unwrap_or x.title [] in
     let more = flat_map definition_bytes es in
     cons_by _ _ _ _
-    (definition_by _ _ _ _ _ _ x.start x.«end» (label_part x.label x.dest t more bytes) (destination_part x.label x.dest t more bytes)
+    (definition_by _ _ _ _ _ _ x.start x.«end» x.places (label_part x.label x.dest t more bytes) (destination_part x.label x.dest t more bytes)
     (ap (text_from (flag (is_some x.title))) (title_part x.label x.dest t more bytes) ∙ text_kept x.title))
     (ap (definitions_read (flat_definitions (at + length (definition_bytes x)) es)) (beyond_title x.label x.dest t more bytes)
     ∙ definitions_back (at + length (definition_bytes x)) es bytes)

@@ -71,6 +71,10 @@ impl NamedDefinitions {
                 title: title.start,
                 title_length: title.length,
                 has_title: number_given(&definition.title),
+                label_end: definition.places.label_end,
+                destination_start: definition.places.dest_start,
+                destination_end: definition.places.dest_end,
+                title_start: definition.places.title_start,
             },
         )?;
         Ok(())
@@ -94,6 +98,10 @@ impl NamedDefinitions {
                 title: following,
                 title_length: 0,
                 has_title: 0,
+                label_end: 0,
+                destination_start: 0,
+                destination_end: 0,
+                title_start: 0,
             },
         )?;
         Ok(())

@@ -47,11 +47,12 @@ pub struct FlatAttribute {
     pub kind: u32,
 }
 
-/// A link reference definition, or the label of a footnote. All ranges except the first are in the names.
+/// A link reference definition, or the label of a footnote. A range with a length is in the names. Each other offset is
+/// in the text, and 0 for the label of a footnote.
 #[repr(C)]
 #[derive(Clone, Copy)]
 pub struct FlatDefinition {
-    /// The range of a link definition in the text; 0 and 0 for a footnote's label.
+    /// The range of a link definition.
     pub start: usize,
     pub end: usize,
     pub label: usize,
@@ -62,4 +63,11 @@ pub struct FlatDefinition {
     pub title_length: usize,
     /// 1 for a definition with a title, which may be empty. Otherwise 0.
     pub has_title: usize,
+    /// The offset of the `]` after the label.
+    pub label_end: usize,
+    /// The range of the destination, with its angle brackets if it has them.
+    pub destination_start: usize,
+    pub destination_end: usize,
+    /// The offset of what begins the title. Without a title, the end of the definition.
+    pub title_start: usize,
 }

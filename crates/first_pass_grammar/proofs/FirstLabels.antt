@@ -9,12 +9,16 @@ use Rattle.std.specs.List.Sorted.{IsStrictlySortedBy}
 use Rattle.std.specs.Ordering.{match_ordering}
 use Rattle.std.specs.Prelude.{nat_eq}
 use Rattle.first_pass_labels.specs.Foldings.{folded}
+use Rattle.first_pass_labels.specs.declared.label_table.LinkPlaces.{LinkPlaces}
 use Rattle.first_pass_grammar.specs.LinkTables.{LinkEntry, folded_cmp, with_link, with_links, link_under, with_label, with_labels, label_under}
 use Rattle.first_pass_grammar.proofs.FirstLinks.{first_under, order_of_links}
 
+nowhere : LinkPlaces
+nowhere = record { label_end = 0; dest_start = 0; dest_end = 0; title_start = 0 }
+
 -- a link reference definition with only this label
 abbrev link_of : List ℕ → LinkEntry
-link_of label = record { label = label; dest = []; title = None; start = 0; «end» = 0 }
+link_of label = record { label = label; dest = []; title = None; start = 0; «end» = 0; places = nowhere }
 
 abbrev links_of : List (List ℕ) → List LinkEntry
 links_of labels = map link_of labels

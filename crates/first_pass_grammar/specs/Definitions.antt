@@ -103,17 +103,35 @@ after_destination around bs =
 abbrev pub deepest_nesting : ℕ
 deepest_nesting = 32
 
--- a link's destination and its title, as they stand in the text, its lines joined (CommonMark 4.7)
+-- how many bytes the white space has that parts a title from the destination; without a title, 0 (CommonMark 4.7)
+abbrev pub title_distance : Context → List ℕ → Option (List ℕ) → ℕ
+title_distance around bs None = 0
+title_distance around bs (Some title) = option_map_or (λ (space : ℕ × ℕ). space.0) (space_at around bs) 0
+
+-- A link's destination and its title, as they stand in the text, its lines joined; and how many bytes after the colon the destination begins and ends, and
+-- the title begins, or without a title the target ends (CommonMark 4.7).
 pub record Target : Type 0 where
   pub dest : List ℕ
   pub title : Option (List ℕ)
+  pub dest_start : ℕ
+  pub dest_end : ℕ
+  pub title_start : ℕ
 
--- What a definition has after the colon: white space, a destination, and a title or none; how many bytes these have (CommonMark 4.7).
-abbrev pub target_of : ℕ → ℕ × List ℕ → ℕ × Option (List ℕ) → ℕ × Target
-target_of n dest further = (n + dest.0 + further.0, record { dest = dest.1; title = further.1 })
+-- What a definition has after the colon: white space, a destination before these bytes, and a title or none; how many bytes these have (CommonMark 4.7).
+abbrev pub target_of : Context → List ℕ → ℕ → ℕ × List ℕ → ℕ × Option (List ℕ) → ℕ × Target
+target_of around bs n dest further = (
+  n + dest.0 + further.0,
+  record {
+    dest = dest.1;
+    title = further.1;
+    dest_start = n;
+    dest_end = n + dest.0;
+    title_start = n + dest.0 + title_distance around bs further.1;
+  },
+)
 
 abbrev pub target_from : Context → ℕ → List ℕ → ℕ × List ℕ → Option (ℕ × Target)
-target_from around n bs dest = option_map (target_of n dest) (after_destination around (drop dest.0 bs))
+target_from around n bs dest = let following = drop dest.0 bs in option_map (target_of around following n dest) (after_destination around following)
 
 abbrev pub target_beyond : Context → List ℕ → ℕ × ℕ → Option (ℕ × Target)
 target_beyond around bs space = option_and_then (target_from around space.0 (drop space.0 bs)) (destination_at deepest_nesting (drop space.0 bs))
@@ -121,20 +139,21 @@ target_beyond around bs space = option_and_then (target_from around space.0 (dro
 unfoldable pub target_at : Context → List ℕ → Option (ℕ × Target)
 target_at around bs = option_and_then (target_beyond around bs) (space_at around bs)
 
--- a link reference definition: how many bytes it has, its label as it is read, and its target (CommonMark 4.7)
+-- a link reference definition: how many bytes it has, its label as it is read and how many bytes before the `]` it has, and its target (CommonMark 4.7)
 pub record LinkReference : Type 0 where
   pub size : ℕ
   pub label : List ℕ
+  pub label_end : ℕ
   pub target : Target
 
-abbrev pub reference_of : ℕ → List ℕ → ℕ × Target → LinkReference
-reference_of n label target = record { size = n + target.0; label = label; target = target.1 }
+abbrev pub reference_of : ℕ × List ℕ → ℕ × Target → LinkReference
+reference_of label target = record { size = label.0 + 2 + target.0; label = label.1; label_end = label.0; target = target.1 }
 
 -- The definition of which the label after the `[` is read: a colon is directly after the label.
 abbrev pub reference_after : Context → List ℕ → ℕ × List ℕ → Option LinkReference
 reference_after around bs label =
     if begins colon (drop label.0 bs)
-    then option_map (reference_of (label.0 + 2) label.1) (target_at around (drop (label.0 + 1) bs))
+    then option_map (reference_of label) (target_at around (drop (label.0 + 1) bs))
     else None
 
 -- The definition that begins here: a label in square brackets, a colon, and a target (CommonMark 4.7); in a table, backslashes before pipes are no part of

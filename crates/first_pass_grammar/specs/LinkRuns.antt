@@ -3,15 +3,35 @@ use Rattle.std.specs.Prelude.{◌≡◌, ◌⊎◌, ℕ, ◌+◌, ◌||◌, Bool
 use Rattle.std.specs.Option.{option_map}
 use Rattle.first_pass_lines.specs.Places.{Place, offset}
 use Rattle.first_pass_links.specs.Escapes.{unescaped}
+use Rattle.first_pass_labels.specs.declared.label_table.LinkPlaces.{LinkPlaces}
 use Rattle.first_pass_grammar.specs.Containers.{Context, at_rest, front}
 use Rattle.first_pass_grammar.specs.Kinds.{Kind, LinkDefinitions, Paragraph, all_taken, unindented, is_blank_rest, ends_tag}
-use Rattle.first_pass_grammar.specs.Definitions.{LinkReference, reference_at}
+use Rattle.first_pass_grammar.specs.Definitions.{Target, LinkReference, reference_at}
 use Rattle.first_pass_grammar.specs.LinkTables.{LinkEntry}
+
+-- the places of a definition whose label ends at one offset, and whose target begins at another (CommonMark 4.7)
+abbrev pub places_of : ℕ → ℕ → Target → LinkPlaces
+places_of label_end at target = record {
+  label_end = label_end;
+  dest_start = at + target.dest_start;
+  dest_end = at + target.dest_end;
+  title_start = at + target.title_start;
+}
+
+-- the same of a definition that begins at an offset: the `]` and the colon are between its label and its target (CommonMark 4.7)
+abbrev pub reference_places : ℕ → LinkReference → LinkPlaces
+reference_places at x = places_of (at + x.label_end) (at + x.label_end + 2) x.target
 
 -- what a definition says that begins at an offset: its destination and its title without their escapes and references (CommonMark 4.7)
 abbrev pub entry_of : ℕ → LinkReference → LinkEntry
-entry_of at x =
-    record { label = x.label; dest = unescaped false x.target.dest; title = option_map (unescaped false) x.target.title; start = at; «end» = at + x.size }
+entry_of at x = record {
+  label = x.label;
+  dest = unescaped false x.target.dest;
+  title = option_map (unescaped false) x.target.title;
+  start = at;
+  «end» = at + x.size;
+  places = reference_places at x;
+}
 
 -- the definition that begins at a place
 abbrev pub definition_at : Context → Place → Option LinkEntry

@@ -6,14 +6,16 @@ use Rattle.std.specs.Ordering.{nat_cmp, match_ordering}
 use Rattle.std.specs.Cmp.Lexicographic.{pointwise, slice_cmp}
 use Rattle.std.specs.List.Sorted.{IsStrictlySortedBy}
 use Rattle.first_pass_labels.specs.Foldings.{folded}
+use Rattle.first_pass_labels.specs.declared.label_table.LinkPlaces.{LinkPlaces}
 
--- A link reference definition: its label, destination and title as bytes, and its range (CommonMark 4.7).
+-- A link reference definition: its label, destination and title as bytes, its range, and the places of its parts (CommonMark 4.7).
 pub record LinkEntry : Type 0 where
   pub label : List ℕ
   pub dest : List ℕ
   pub title : Option (List ℕ)
   pub start : ℕ
   pub «end» : ℕ
+  pub places : LinkPlaces
 
 -- labels are ordered by the bytes of their foldings, and are the same where these are
 abbrev pub folded_cmp : List ℕ → List ℕ → Ordering

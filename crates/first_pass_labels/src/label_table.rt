@@ -1,6 +1,6 @@
 //! What a text defines by label: tables in the order of the labels' foldings.
 
-ghost use Rattle.std.specs.Prelude.{◌≡◌, ◌^◌, ◌<◌, [], length, IfOk, OnOk, OnErr};
+ghost use Rattle.std.specs.Prelude.{◌≡◌, ◌^◌, ◌<◌, ◌+◌, [], length, is_some, IfOk, IfSome, OnOk, OnErr};
 ghost use Rattle.std.specs.Option.{option_copied};
 ghost use Rattle.std.specs.Map.Iter.{ShowsInOrder, deref_pair};
 ghost use Rattle.first_pass_labels.specs.Foldings.{folded};
@@ -17,12 +17,61 @@ use std::marker::Model;
 use std::ops::Range;
 
 /// What a link reference definition says: where the link leads, its title, and where in the text the
-/// definition stands (CommonMark 4.7).
+/// definition and its parts stand (CommonMark 4.7).
 #[derive(Drop)]
 pub struct LinkDef<'a> {
     pub dest: CowStr<'a>,
     pub title: Option<CowStr<'a>>,
     pub span: Range<usize>,
+    pub places: LinkPlaces,
+}
+
+/// Where the parts of a link reference definition stand in the text, as byte offsets. Its label begins after the `[`
+/// at the start of its span, and its title ends with its span.
+#[derive(Clone, Copy)]
+pub struct LinkPlaces {
+    /// The offset of the `]` that ends the label.
+    pub label_end: usize,
+    /// The range of the destination, with its angle brackets if it has them.
+    pub dest_start: usize,
+    pub dest_end: usize,
+    /// The offset of what begins the title: `"`, `'` or `(`. Without a title, the end of the definition.
+    pub title_start: usize,
+}
+
+impl<'a> LinkDef<'a> {
+    /// The range of the label in the text, between its brackets.
+    pub fn label_range(&self) -> Range<usize>
+        ensures start { self.now.span.start < self.now.places.label_end → result.start ≡ self.now.span.start + 1 }
+        ensures end { result.«end» ≡ self.now.places.label_end }
+    {
+        let end = self.places.label_end;
+        if self.span.start < end {
+            self.span.start + 1..end
+        } else {
+            end..end
+        }
+    }
+
+    /// The range of the destination in the text, with its angle brackets if it has them.
+    pub fn dest_range(&self) -> Range<usize>
+        ensures start { result.start ≡ self.now.places.dest_start }
+        ensures end { result.«end» ≡ self.now.places.dest_end }
+    {
+        self.places.dest_start..self.places.dest_end
+    }
+
+    /// The range of the title in the text, with what begins and ends it, and `None` exactly without a title.
+    pub fn title_range(&self) -> Option<Range<usize>>
+        ensures some { is_some result ≡ is_some self.now.title }
+        ensures range { IfSome result (λ range. (range.start ≡ self.now.places.title_start)
+            × (range.«end» ≡ self.now.span.«end»)) }
+    {
+        match &self.title {
+            Some(_) => Some(self.places.title_start..self.span.end),
+            None => None,
+        }
+    }
 }
 
 /// What is known of a footnote: how often it is used.

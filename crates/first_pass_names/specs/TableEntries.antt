@@ -17,7 +17,14 @@ use Rattle.first_pass_names.specs.declared.items.Allocations.{Allocations}
 
 -- a link definition with its label
 abbrev pub link_entry : CowStr × LinkDef → LinkEntry
-link_entry e = record { label = text_of e.0; dest = text_of e.1.dest; title = option_map text_of e.1.title; start = e.1.span.start; «end» = e.1.span.«end» }
+link_entry e = record {
+  label = text_of e.0;
+  dest = text_of e.1.dest;
+  title = option_map text_of e.1.title;
+  start = e.1.span.start;
+  «end» = e.1.span.«end»;
+  places = e.1.places;
+}
 
 -- the label of a footnote, as its entry spells it (this project)
 abbrev pub footnote_label : CowStr × FootnoteDef → List ℕ

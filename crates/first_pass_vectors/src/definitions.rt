@@ -2,7 +2,7 @@
 
 use first_pass_items::cow_str::CowStr;
 use first_pass_labels::label_key::LabelKey;
-use first_pass_labels::label_table::{FootDefs, FootnoteDef, LinkDef, RefDefs};
+use first_pass_labels::label_table::{FootDefs, FootnoteDef, LinkDef, LinkPlaces, RefDefs};
 use std::alloc::{AllocError, Global};
 use std::ops::DerefStr;
 use std::test::Fail;
@@ -16,6 +16,12 @@ fn link<'a>(dest: &'a str) -> LinkDef<'a> {
         dest: CowStr::Borrowed(dest),
         title: None,
         span: 0..0,
+        places: LinkPlaces {
+            label_end: 0,
+            dest_start: 0,
+            dest_end: 0,
+            title_start: 0,
+        },
     }
 }
 

@@ -4,7 +4,7 @@ use crate::outcome::Outcome;
 use first_pass_items::cow_str::CowStr;
 use first_pass_items::item::{Alignment, AlignmentIndex, CowIndex, HeadingIndex};
 use first_pass_labels::label_key::LabelKey;
-use first_pass_labels::label_table::LinkDef;
+use first_pass_labels::label_table::{LinkDef, LinkPlaces};
 use first_pass_names::items::{Allocations, HeadingAttributes};
 use std::alloc::{AllocError, Global};
 use std::ops::DerefStr;
@@ -210,6 +210,12 @@ fn link<'a>(dest: &'a str) -> LinkDef<'a> {
         dest: CowStr::Borrowed(dest),
         title: None,
         span: 0..0,
+        places: LinkPlaces {
+            label_end: 0,
+            dest_start: 0,
+            dest_end: 0,
+            title_start: 0,
+        },
     }
 }
 

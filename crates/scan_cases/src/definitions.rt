@@ -22,6 +22,7 @@ pub fn answer_definitions(
 ) -> Result<bool, AllocError> {
     match call {
         "parse_refdef_total" => append_reference(alloc, text, given, answer)?,
+        "definition_places" => append_places(alloc, text, given, answer)?,
         "scan_footnote" => append_footnote(alloc, text, given, answer)?,
         _ => return Ok(false),
     }
@@ -61,6 +62,32 @@ fn append_definition(definition: &LinkDef<'_>, answer: &mut Answer) -> Result<()
     }
     answer.number(definition.span.start)?;
     answer.number(definition.span.end)
+}
+
+/// The offsets at which the label ends, the destination begins and ends, and the title begins, of the definition at the
+/// place that is given second. The first value is the path of the open containers (see `open_path`).
+fn append_places(
+    alloc: Global,
+    text: &str,
+    given: &Given,
+    answer: &mut Answer,
+) -> Result<(), AllocError> {
+    let start = given.number(1);
+    if !text.is_char_boundary(start) {
+        return answer.none();
+    }
+    let source = Source::new(alloc, text, Options::empty());
+    let tree = open_path(alloc, given.number(0))?;
+    match parse_refdef_total(&source, &tree, start)? {
+        Some((_, _, definition)) => {
+            let places = definition.places;
+            answer.number(places.label_end)?;
+            answer.number(places.dest_start)?;
+            answer.number(places.dest_end)?;
+            answer.number(places.title_start)
+        }
+        None => answer.none(),
+    }
 }
 
 /// How many bytes the head of a footnote definition has, and its label, at the place that is given third, under the

@@ -61,7 +61,7 @@ class Document(Sequence[Node]):
 
     @property
     def definition_records(self) -> bytes:
-        """The records of link definitions, and after them of footnotes' labels, 72 bytes each:
+        """The records of link definitions, and after them of footnotes' labels, 104 bytes each:
         ``struct first_pass_definition``."""
         return self._definitions
 
@@ -254,7 +254,7 @@ class Definitions(Mapping[str, Definition]):
 
     def _definition(self, place: int) -> Definition:
         record = DEFINITION.unpack_from(self._records, place * DEFINITION.size)
-        start, end, label, label_length, destination, destination_length, title, title_length, has_title = record
+        start, end, label, label_length, destination, destination_length, title, title_length, has_title, *_ = record
         return Definition(
             self._named(label, label_length),
             self._named(destination, destination_length),

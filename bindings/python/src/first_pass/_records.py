@@ -9,8 +9,9 @@ import struct
 NODE = struct.Struct("=7I4B")
 # name, name_length, value, value_length; has_value, kind
 ATTRIBUTE = struct.Struct("=4Q2I")
-# start, end, label, label_length, destination, destination_length, title, title_length, has_title
-DEFINITION = struct.Struct("=9Q")
+# start, end, label, label_length, destination, destination_length, title, title_length, has_title; label_end,
+# destination_start, destination_end, title_start
+DEFINITION = struct.Struct("=13Q")
 # nodes, attributes, definitions, links, names
 COUNTS = struct.Struct("=5Q")
 

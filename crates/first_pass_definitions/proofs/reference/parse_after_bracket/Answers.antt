@@ -2,6 +2,7 @@ use Rattle.std.proofs.Common.{◌≡◌, ◌+◌, drop, IsUtf8, refl, sym, ap, s
 use Rattle.first_pass_lines.specs.Lines.{begins}
 use Rattle.first_pass_open.specs.Path.{context_of}
 use Rattle.first_pass_definitions.proofs.Targets.{no_label, no_colon, no_target, is_reference, after_byte}
+use Rattle.first_pass_definitions.proofs.Parts.{has_parts}
 use Rattle.first_pass_definitions.proofs.Asks.{on_err, ask_label, ask_target, ask_key}
 use Rattle.first_pass_definitions.proofs.reference.parse_after_bracket.Goals as goal
 use Rattle.first_pass_definitions.proofs.reference.parse_after_bracket.Goals.{After-begins}
@@ -79,3 +80,9 @@ returns-in_err-new-clause-err c =
     c.in-Some-2.definition c.requires.bracket
     (rw c.in-Some.is at c.in_ok-label_len.ensures.value) (colon_is (goal.at.returns-in_err-new-clause-err c).After-begins ∙ c.if-not-begins.false)
     (rw c.in-Some-2.is at c.in_ok-len.ensures.value)))
+
+pub returns-clause-places : goal.returns-clause-places
+returns-clause-places c =
+    has_parts _ _ c.args.source.now.text.now c.args.start c.in-Some.label_len c.in-Some-2.len c.in-Some.label c.in-Some-2.definition _
+    (rw c.in-Some.is at c.in_ok-label_len.ensures.value) (colon_is (goal.at.returns-clause-places c).After-begins ∙ c.if-not-begins.false)
+    (rw c.in-Some-2.is at c.in_ok-len.ensures.value) (rw c.in-Some-2.is at c.in_ok-len.ensures.places)

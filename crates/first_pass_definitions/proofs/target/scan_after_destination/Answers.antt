@@ -7,8 +7,9 @@ use Rattle.first_pass_definitions.proofs.target.scan_after_destination.Goals.{Af
 
 pub returns-in-Some-clause-value : goal.returns-in-Some-clause-value
 returns-in-Some-clause-value c =
-    titled (context_of c.args.source.now.options c.args.tree.now) (drop c.args.at c.args.source.now.text.now) c.args.at c.in-Some.end c.in-Some.title
-    (rw c.in-Some.is at c.in_ok-end.ensures.value)
+    titled (context_of c.args.source.now.options c.args.tree.now)
+    (drop c.args.at c.args.source.now.text.now) c.args.at c.in-Some.start c.in-Some.end c.in-Some.title
+    (rw c.in-Some.is at c.in_ok-start.ensures.value)
 
 blank_is : (c : After-is_some) → is_some (blank_len (drop c.args.at c.args.source.now.text.now)) ≡ c.is_some.result
 blank_is c =
@@ -18,11 +19,11 @@ blank_is c =
 pub returns-then-is_some-clause-value : goal.returns-then-is_some-clause-value
 returns-then-is_some-clause-value c =
     alone (context_of c.args.source.now.options c.args.tree.now) (drop c.args.at c.args.source.now.text.now) c.args.at
-    (rw c.in_default.is at c.in_ok-end.ensures.value)
+    (rw c.in_default.is at c.in_ok-start.ensures.value)
     (blank_is (goal.at.returns-then-is_some-clause-value c).After-is_some ∙ c.if-is_some.true)
 
 pub returns-clause-value : goal.returns-clause-value
 returns-clause-value c =
     not_alone (context_of c.args.source.now.options c.args.tree.now) (drop c.args.at c.args.source.now.text.now) c.args.at
-    (rw c.in_default.is at c.in_ok-end.ensures.value)
+    (rw c.in_default.is at c.in_ok-start.ensures.value)
     (blank_is (goal.at.returns-clause-value c).After-is_some ∙ c.if-is_some.false)

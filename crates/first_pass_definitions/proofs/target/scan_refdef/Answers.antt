@@ -1,7 +1,8 @@
-use Rattle.std.proofs.Common.{◌≡◌, inl, inr, refl, sym, subst, ◌∙◌}
+use Rattle.std.proofs.Common.{◌≡◌, ◌+◌, inl, inr, drop, refl, sym, subst, ◌∙◌, arith}
+use Rattle.first_pass_grammar.specs.Definitions.{space_at}
 use Rattle.first_pass_open.specs.Path.{context_of}
 use Rattle.first_pass_definitions.specs.Found.{IsUnescaped, HasTitle}
-use Rattle.first_pass_definitions.proofs.Targets.{no_space, no_dest, no_further, target_found, is_target}
+use Rattle.first_pass_definitions.proofs.Targets.{no_space, no_dest, no_further, space_found, target_found, placed_by, is_target}
 use Rattle.first_pass_links.specs.Escapes.{unescaped}
 use Rattle.first_pass_definitions.proofs.Asks.{on_err, dest_asks, parts_ask}
 use Rattle.first_pass_definitions.proofs.target.scan_refdef.Goals as goal
@@ -23,38 +24,38 @@ pub returns-in_default-2-clause-value : goal.returns-in_default-2-clause-value
 returns-in_default-2-clause-value c =
     let e = no_further (context_of c.args.source.now.options c.args.tree.now) c.args.source.now.text.now c.args.start c.in-Some.dest_start c.in-Some.field-0-1
     c.in-Some-scan_link_dest.dest_len c.in-Some-scan_link_dest.dest
-    (sym c.in-Some.is ∙ c.in_ok-dest_start.ensures.value) c.in-Some-scan_link_dest.ensures.value (rw c.in_default-2.is at c.in_ok-end.ensures.value) in
+    (sym c.in-Some.is ∙ c.in_ok-dest_start.ensures.value) c.in-Some-scan_link_dest.ensures.value (rw c.in_default-2.is at c.in_ok-title_start.ensures.value) in
     rw e refl
 
 pub returns-clause-value : goal.returns-clause-value
 returns-clause-value c =
     let t = target_found (context_of c.args.source.now.options c.args.tree.now) c.args.source.now.text.now c.args.start c.in-Some.dest_start c.in-Some.field-0-1
-    c.in-Some-scan_link_dest.dest_len c.in-Some-2.end c.in-Some-scan_link_dest.dest c.in-Some-2.title
-    (sym c.in-Some.is ∙ c.in_ok-dest_start.ensures.value) c.in-Some-scan_link_dest.ensures.value (rw c.in-Some-2.is at c.in_ok-end.ensures.value) in
-    is_target (context_of c.args.source.now.options c.args.tree.now) c.args.source.now.text.now c.args.start c.in-Some-2.end c.args.span_start
+    c.in-Some-scan_link_dest.dest_len c.in-Some-2.title_start c.in-Some-2.end c.in-Some-scan_link_dest.dest c.in-Some-2.title
+    (sym c.in-Some.is ∙ c.in_ok-dest_start.ensures.value) c.in-Some-scan_link_dest.ensures.value (rw c.in-Some-2.is at c.in_ok-title_start.ensures.value) in
+    is_target (context_of c.args.source.now.options c.args.tree.now) c.args.source.now.text.now c.args.start c.args.span_start _
     c.in-Some-scan_link_dest.dest
     c.in-Some-2.title _ _ t
     (subst (λ nested. IsUnescaped nested c.in-Some-scan_link_dest.dest.now c.in_ok-unescape.field-0) c.is_in_table-in_table.ensures
     (record { value = c.in_ok-unescape.ensures.value; borrowed = c.in_ok-unescape.ensures.borrowed }))
     (λ text read. subst (λ nested. HasTitle nested text c.in_ok-unescape_title.field-0) c.is_in_table-in_table.ensures
     (c.in_ok-unescape_title.ensures.value text read))
-    refl refl
+    refl refl (placed_by _ _ _ _ _ c.saturating_sub.ensures)
 
-pub returns-in_err-end-clause-err : goal.returns-in_err-end-clause-err
-returns-in_err-end-clause-err c =
-    on_err c.from_residual-in_err-end.result
+pub returns-in_err-title_start-clause-err : goal.returns-in_err-title_start-clause-err
+returns-in_err-title_start-clause-err c =
+    on_err c.from_residual-in_err-title_start.result
     (inr (inl (dest_asks (context_of c.args.source.now.options c.args.tree.now) c.args.source.now.text.now c.args.start c.in-Some.dest_start c.in-Some.field-0-1
     c.in-Some-scan_link_dest.dest_len c.in-Some-scan_link_dest.dest
-    (sym c.in-Some.is ∙ c.in_ok-dest_start.ensures.value) c.in-Some-scan_link_dest.ensures.value c.in_err-end.ensures.err)))
+    (sym c.in-Some.is ∙ c.in_ok-dest_start.ensures.value) c.in-Some-scan_link_dest.ensures.value c.in_err-title_start.ensures.err)))
 
 pub returns-in_err-unescape-clause-err : goal.returns-in_err-unescape-clause-err
 returns-in_err-unescape-clause-err c =
     let around = context_of c.args.source.now.options c.args.tree.now in
     let t = target_found around c.args.source.now.text.now c.args.start c.in-Some.dest_start c.in-Some.field-0-1
-    c.in-Some-scan_link_dest.dest_len c.in-Some-2.end c.in-Some-scan_link_dest.dest c.in-Some-2.title
-    (sym c.in-Some.is ∙ c.in_ok-dest_start.ensures.value) c.in-Some-scan_link_dest.ensures.value (rw c.in-Some-2.is at c.in_ok-end.ensures.value) in
+    c.in-Some-scan_link_dest.dest_len c.in-Some-2.title_start c.in-Some-2.end c.in-Some-scan_link_dest.dest c.in-Some-2.title
+    (sym c.in-Some.is ∙ c.in_ok-dest_start.ensures.value) c.in-Some-scan_link_dest.ensures.value (rw c.in-Some-2.is at c.in_ok-title_start.ensures.value) in
     on_err c.from_residual-in_err-unescape.result
-    (inr (inr (parts_ask around c.args.source.now.text.now c.args.start c.in-Some-2.end c.in-Some-scan_link_dest.dest c.in-Some-2.title _ _
+    (inr (inr (parts_ask around c.args.source.now.text.now c.args.start _ c.in-Some-scan_link_dest.dest c.in-Some-2.title _ _
     c.is_in_table-in_table.ensures t
     (inl (λ z. c.in_err-unescape.ensures.borrowed (subst (λ xs. unescaped c.is_in_table-in_table.result xs ≡ xs) (sym t.dest_is) z))))))
 
@@ -62,8 +63,25 @@ pub returns-in_err-unescape_title-clause-err : goal.returns-in_err-unescape_titl
 returns-in_err-unescape_title-clause-err c =
     let around = context_of c.args.source.now.options c.args.tree.now in
     let t = target_found around c.args.source.now.text.now c.args.start c.in-Some.dest_start c.in-Some.field-0-1
-    c.in-Some-scan_link_dest.dest_len c.in-Some-2.end c.in-Some-scan_link_dest.dest c.in-Some-2.title
-    (sym c.in-Some.is ∙ c.in_ok-dest_start.ensures.value) c.in-Some-scan_link_dest.ensures.value (rw c.in-Some-2.is at c.in_ok-end.ensures.value) in
+    c.in-Some-scan_link_dest.dest_len c.in-Some-2.title_start c.in-Some-2.end c.in-Some-scan_link_dest.dest c.in-Some-2.title
+    (sym c.in-Some.is ∙ c.in_ok-dest_start.ensures.value) c.in-Some-scan_link_dest.ensures.value (rw c.in-Some-2.is at c.in_ok-title_start.ensures.value) in
     on_err c.from_residual-in_err-unescape_title.result
-    (inr (inr (parts_ask around c.args.source.now.text.now c.args.start c.in-Some-2.end c.in-Some-scan_link_dest.dest c.in-Some-2.title _ _
+    (inr (inr (parts_ask around c.args.source.now.text.now c.args.start _ c.in-Some-scan_link_dest.dest c.in-Some-2.title _ _
     c.is_in_table-in_table.ensures t (inr (c.in_err-unescape_title.ensures.err t.target.title t.title_is)))))
+
+pub returns-clause-places : goal.returns-clause-places
+returns-clause-places c =
+    let text = c.args.source.now.text.now in
+    let space = space_found (space_at (context_of c.args.source.now.options c.args.tree.now) (drop c.args.start text)) c.args.start c.in-Some.dest_start
+    c.in-Some.field-0-1 (sym c.in-Some.is ∙ c.in_ok-dest_start.ensures.value) in
+    let there = space.2 in
+    let fits = rw c.in-Some-2.is at c.in_ok-title_start.ensures.fits in
+    record {
+      dest = omega arith;
+      following = omega arith;
+      title = fits.0;
+      within = fits.1;
+      dest_boundary = rw c.in-Some.is at c.in_ok-dest_start.ensures.place;
+      after_boundary = c.in-Some-scan_link_dest.ensures.following;
+      title_boundary = fits.2;
+    }

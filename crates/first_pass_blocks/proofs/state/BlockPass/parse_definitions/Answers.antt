@@ -64,7 +64,7 @@ one_more_written c h =
     let inv = c.loop-size.invariant in
     let e = c.in_ok-size.ensures in
     let one = subst (λ (z : Source). IsWritten z.text.now (label, definition)) inv.same_source
-    (written_here now c.loop-size.at c.in_ok-size.field-0 found e.value e.borrowed c.in-Some.is) in
+    (written_here now c.loop-size.at c.in_ok-size.field-0 found e.value e.borrowed e.places c.in-Some.is) in
     one_written text now.allocs c.define_link.new.self label definition c.in_ok-define_link.ensures.entries one (inv.written h)
 
 pub returns-in_default-rest-clause-kept : goal.returns-in_default-rest-clause-kept

@@ -1,0 +1,55 @@
+-- The places of the parts of a definition.
+use Rattle.std.proofs.Common.{◌≡◌, ℕ, ◌+◌, ◌-◌, ◌<◌, ◌≤◌, Bool, true, List, length, drop, slice_index, Option, Some, None, IsCharBoundary, refl, sym, ap}
+use Rattle.std.proofs.Common.{subst}
+use Rattle.std.proofs.Common.{◌∙◌, arith}
+use Rattle.std.proofs.lemmas.List.{get_or-drop}
+use Rattle.std.proofs.lemmas.Str.{IsCharBoundary-before_ascii}
+use Rattle.first_pass_items.specs.declared.cow_str.CowStr.{CowStr}
+use Rattle.first_pass_labels.specs.declared.label_table.LinkDef.{LinkDef}
+use Rattle.first_pass_lines.specs.Lines.{begins}
+use Rattle.first_pass_links.specs.Labels.{label_at}
+use Rattle.first_pass_links.proofs.Destinations.{first_byte}
+use Rattle.first_pass_grammar.specs.Definitions.{Target}
+use Rattle.first_pass_definitions.specs.Found.{AreInOrder, HasParts}
+use Rattle.first_pass_definitions.proofs.ReferenceFacts.{label_last}
+use Rattle.first_pass_definitions.proofs.Targets.{IsLabelAnswer, IsTargetAnswer, label_found}
+
+-- A label is not empty, and its `]` is a character.
+label_ends : (prefix : List ℕ → Option ℕ) (in_table : Bool) (text : List ℕ) (start n : ℕ) (label : CowStr)
+    → IsLabelAnswer (label_at prefix in_table (drop (start + 1) text)) (Some (n, label)) → begins 58 (drop (start + 1 + n) text) ≡ true
+    → (0 < n) × IsCharBoundary text (start + n)
+label_ends prefix in_table text start n label h colon =
+    let l = label_found (label_at prefix in_table (drop (start + 1) text)) n label h in
+    let last = label_last prefix in_table (drop (start + 1) text) l.0 l.1 in
+    let same = l.2 in
+    let some = last.0 in
+    let there = (first_byte 58 text (start + 1 + n) colon).0 in
+    let i : start + 1 + (l.0.0 - 1) ≡ start + n = omega arith in
+    let byte : slice_index text (start + n) ≡ 93 = ap (slice_index text) (sym i) ∙ sym (get_or-drop (start + 1) text (l.0.0 - 1) 0) ∙ last.1 in
+    (omega arith, IsCharBoundary-before_ascii text (start + n) (omega arith) (omega (arith, byte)))
+
+-- where a target is said to begin
+target_from : (in_table : Bool) (from start m : ℕ) (o : Option (ℕ × Target)) (definition : LinkDef)
+    → IsTargetAnswer in_table from start o (Some (m, definition))
+    → (definition.span.start ≡ from) × (definition.places.label_end ≡ start - 2)
+target_from in_table from start m None definition h = cc
+target_from in_table from start m (Some t) definition h =
+    (h.definition.start_is, ap (λ places. places.label_end) h.definition.places_are)
+
+-- All parts have their places where those of the target have.
+pub has_parts : (prefix : List ℕ → Option ℕ) (in_table : Bool) (text : List ℕ) (start n m : ℕ) (label : CowStr) (definition : LinkDef) (o : Option (ℕ × Target))
+    → IsLabelAnswer (label_at prefix in_table (drop (start + 1) text)) (Some (n, label)) → begins 58 (drop (start + 1 + n) text) ≡ true
+    → IsTargetAnswer in_table start (start + 1 + n + 1) o (Some (m, definition)) → AreInOrder text (start + 1 + n + 1) definition → HasParts text definition
+has_parts prefix in_table text start n m label definition o h colon target order =
+    let ends = label_ends prefix in_table text start n label h colon in
+    let some = ends.0 in
+    let from = target_from in_table start (start + 1 + n + 1) m o definition target in
+    let begin = from.0 in
+    let closes = from.1 in
+    let end_is : start + n ≡ definition.places.label_end = omega arith in
+    let past_is : start + 1 + n + 1 ≡ definition.places.label_end + 2 = omega arith in
+    record {
+      label = omega arith;
+      boundary = subst (IsCharBoundary text) end_is ends.1;
+      target = subst (λ k. AreInOrder text k definition) past_is order;
+    }
