@@ -20,14 +20,13 @@ use first_pass_open::source::Source;
 use first_pass_tree::forest::Tree;
 use std::alloc::AllocError;
 
-/// The link reference definition that begins at the offset `start` into the text: how many bytes it has, up to
-/// after its destination or title, its label, and what it says, with a span from `start` on. The tree is that of
-/// the open blocks: its containers have prefixes in the lines that the definition crosses, and in a table
-/// backslashes before pipes are dropped.
+/// Returns the link reference definition that begins at the offset `start` into the text: its number of bytes, up to
+/// the end of its destination or title, its label, and the definition, whose span begins at `start`. `tree` has the
+/// open blocks: the lines of the definition may have the prefixes of its containers, and in a table backslashes before
+/// pipes are dropped.
 ///
-/// `None` where none begins. The error is want of memory, where its label or what is after its colon asks for it as
-/// `parse_refdef_label` and `scan_refdef` say, or where a definition stands here: its label is folded (CommonMark
-/// 4.7).
+/// Returns `None` if none begins there. Fails only if an allocation fails. That can happen only as in
+/// `parse_refdef_label` and `scan_refdef`, or if there is a definition, whose label is folded (CommonMark 4.7).
 #[inline(always)]
 pub fn parse_refdef_total<'a>(
     source: &Source<'a>,
@@ -54,7 +53,7 @@ pub fn parse_refdef_total<'a>(
     parse_after_bracket(source, tree, start)
 }
 
-// The definition whose `[` stands at an offset.
+// Returns the definition whose `[` is at an offset.
 fn parse_after_bracket<'a>(
     source: &Source<'a>,
     tree: &Tree<Item>,

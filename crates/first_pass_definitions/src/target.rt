@@ -1,4 +1,4 @@
-//! What a link reference definition has after its colon.
+//! The part of a link reference definition after its colon.
 
 ghost use Rattle.std.specs.Prelude.{◌≡◌, ℕ, ◌+◌, ◌≤◌, List, Option, drop, None, Some, IfOk, IfSome, OnErr, true, ◌⊎◌, IsSomeAnd, MatchOption, IsCharBoundary};
 ghost use Rattle.std.specs.Box.{boxed_str_bytes};
@@ -27,17 +27,18 @@ use first_pass_tree::forest::Tree;
 use std::alloc::{AllocError, Global};
 use std::boxed::BoxedStr;
 
-// How deep parentheses are nested in a destination at most.
+// The deepest nesting of parentheses in a destination.
 const DEEPEST_NESTING: usize = 32;
 
-/// What a definition has after its colon, before the offset `start` into the text: white space, a destination, and
-/// white space and a title or none. Returns how many bytes it has from `start` on, and the definition with its
-/// destination and title unescaped. Its span begins at `span_start`, and its label ends two bytes before `start`.
+/// Reads the part of a definition after its colon, which is directly before the offset `start` into the text: white
+/// space, a destination, and optionally white space and a title. Returns its number of bytes from `start` on, and the
+/// definition, whose destination and title are unescaped. Its span begins at `span_start`, and its label ends two bytes
+/// before `start`.
 ///
-/// `None` where there is no destination, where something touches it, or where after it neither a title nor a blank
-/// rest of its line stands. The error is want of memory, where the destination or the title is read otherwise than it
-/// stands, where a title has a line end, or where after a line end a line begins that may head a table (CommonMark
-/// 4.7).
+/// Returns `None` if there is no destination, if something touches it, or if neither a title nor a blank rest of its
+/// line follows it. Fails only if an allocation fails. That can happen only in three cases: the unescaped destination
+/// or title differs from its bytes; a title has a line ending; or a line after a line ending may be the header row of a
+/// table (CommonMark 4.7).
 pub fn scan_refdef<'a>(
     source: &Source<'a>,
     tree: &Tree<Item>,
@@ -83,8 +84,8 @@ pub fn scan_refdef<'a>(
     Ok(Some((end - start, definition)))
 }
 
-// What ends a definition after its destination, at the offset `at`: the offsets at which its title begins, or
-// without one the definition ends, and at which the definition ends, and its title.
+// Reads the end of a definition after its destination, which ends at the offset `at`. Returns the start of the title,
+// or of the end if there is none, the end of the definition, and the title.
 fn scan_after_destination<'a>(
     source: &Source<'a>,
     tree: &Tree<Item>,
@@ -111,8 +112,8 @@ fn scan_after_destination<'a>(
     Ok(None)
 }
 
-// The title after a destination that ends at the offset `at`, which white space parts from it and after which the
-// rest of its line is blank: the offsets at which it begins and ends, and its text.
+// Returns the title after a destination that ends at the offset `at`: its start, its end, and its text. White space
+// separates the two, and the rest of the line after the title is blank.
 fn scan_title_after<'a>(
     source: &Source<'a>,
     tree: &Tree<Item>,
@@ -147,7 +148,7 @@ fn scan_title_after<'a>(
     Ok(Some((start, end, title)))
 }
 
-// A title without its escapes and references.
+// Unescapes a title.
 fn unescape_title<'a>(
     alloc: Global,
     title: Option<CowStr<'a>>,
@@ -169,7 +170,7 @@ fn unescape_title<'a>(
     }
 }
 
-// A text of its own without its escapes and references: itself where nothing changes.
+// Unescapes an owned string. Returns the string itself if nothing changes.
 fn unescape_owned<'a>(
     alloc: Global,
     text: BoxedStr,

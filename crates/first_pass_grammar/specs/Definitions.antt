@@ -99,17 +99,18 @@ unfoldable pub after_destination : Context → List ℕ → Option (ℕ × Optio
 after_destination around bs =
     option_map_or (λ (t : ℕ × List ℕ). Some (t.0, Some t.1)) (title_after around bs) (if is_some (blank_len bs) then Some (0, None) else None)
 
--- how deep parentheses may be nested in a destination (CommonMark 6.3 asks for three levels at least)
+-- the deepest nesting of parentheses in a destination (CommonMark 6.3 requires at least three levels)
 abbrev pub deepest_nesting : ℕ
 deepest_nesting = 32
 
--- how many bytes the white space has that parts a title from the destination; without a title, 0 (CommonMark 4.7)
+-- the length of the white space between a destination and its title, 0 if there is no title (CommonMark 4.7)
 abbrev pub title_distance : Context → List ℕ → Option (List ℕ) → ℕ
 title_distance around bs None = 0
 title_distance around bs (Some title) = option_map_or (λ (space : ℕ × ℕ). space.0) (space_at around bs) 0
 
--- A link's destination and its title, as they stand in the text, its lines joined; and how many bytes after the colon the destination begins and ends, and
--- the title begins, or without a title the target ends (CommonMark 4.7).
+-- The target of a link: its destination and its title as they are written, with lines joined. The numbers are distances
+-- from the colon in bytes: of the start and the end of the destination, and of the start of the title. Without a title,
+-- the last is that of the end of the target (CommonMark 4.7).
 pub record Target : Type 0 where
   pub dest : List ℕ
   pub title : Option (List ℕ)
@@ -117,7 +118,8 @@ pub record Target : Type 0 where
   pub dest_end : ℕ
   pub title_start : ℕ
 
--- What a definition has after the colon: white space, a destination before these bytes, and a title or none; how many bytes these have (CommonMark 4.7).
+-- The part of a definition after the colon, and its length in bytes: white space, a destination before these bytes, and
+-- a title, if any (CommonMark 4.7).
 abbrev pub target_of : Context → List ℕ → ℕ → ℕ × List ℕ → ℕ × Option (List ℕ) → ℕ × Target
 target_of around bs n dest further = (
   n + dest.0 + further.0,
@@ -139,7 +141,8 @@ target_beyond around bs space = option_and_then (target_from around space.0 (dro
 unfoldable pub target_at : Context → List ℕ → Option (ℕ × Target)
 target_at around bs = option_and_then (target_beyond around bs) (space_at around bs)
 
--- a link reference definition: how many bytes it has, its label as it is read and how many bytes before the `]` it has, and its target (CommonMark 4.7)
+-- a link reference definition: its length in bytes, its label, the number of bytes before the label's `]`, and its
+-- target (CommonMark 4.7)
 pub record LinkReference : Type 0 where
   pub size : ℕ
   pub label : List ℕ
@@ -149,15 +152,15 @@ pub record LinkReference : Type 0 where
 abbrev pub reference_of : ℕ × List ℕ → ℕ × Target → LinkReference
 reference_of label target = record { size = label.0 + 2 + target.0; label = label.1; label_end = label.0; target = target.1 }
 
--- The definition of which the label after the `[` is read: a colon is directly after the label.
+-- the definition with this label after its `[`: a colon is directly after the label (CommonMark 4.7)
 abbrev pub reference_after : Context → List ℕ → ℕ × List ℕ → Option LinkReference
 reference_after around bs label =
     if begins colon (drop label.0 bs)
     then option_map (reference_of label) (target_at around (drop (label.0 + 1) bs))
     else None
 
--- The definition that begins here: a label in square brackets, a colon, and a target (CommonMark 4.7); in a table, backslashes before pipes are no part of
--- its label (GFM 4.10).
+-- The definition that begins here: a label in square brackets, a colon, and a target (CommonMark 4.7). In a table,
+-- backslashes before pipes are no part of the label (GFM 4.10).
 unfoldable pub reference_at : Bool → Context → List ℕ → Option LinkReference
 reference_at in_table around bs =
     if begins left_bracket bs

@@ -9,7 +9,7 @@ use Rattle.first_pass_grammar.specs.Kinds.{Kind, LinkDefinitions, Paragraph, all
 use Rattle.first_pass_grammar.specs.Definitions.{Target, LinkReference, reference_at}
 use Rattle.first_pass_grammar.specs.LinkTables.{LinkEntry}
 
--- the places of a definition whose label ends at one offset, and whose target begins at another (CommonMark 4.7)
+-- the places of the parts of a definition, from the end of its label and the start of its target (CommonMark 4.7)
 abbrev pub places_of : ℕ → ℕ → Target → LinkPlaces
 places_of label_end at target = record {
   label_end = label_end;
@@ -18,11 +18,12 @@ places_of label_end at target = record {
   title_start = at + target.title_start;
 }
 
--- the same of a definition that begins at an offset: the `]` and the colon are between its label and its target (CommonMark 4.7)
+-- the same for a definition that begins at an offset: `]` and a colon are between its label and its target
+-- (CommonMark 4.7)
 abbrev pub reference_places : ℕ → LinkReference → LinkPlaces
 reference_places at x = places_of (at + x.label_end) (at + x.label_end + 2) x.target
 
--- what a definition says that begins at an offset: its destination and its title without their escapes and references (CommonMark 4.7)
+-- the entry of a definition that begins at an offset: its destination and its title are unescaped (CommonMark 4.7)
 abbrev pub entry_of : ℕ → LinkReference → LinkEntry
 entry_of at x = record {
   label = x.label;

@@ -8,7 +8,8 @@ use Rattle.std.specs.List.Sorted.{IsStrictlySortedBy}
 use Rattle.first_pass_labels.specs.Foldings.{folded}
 use Rattle.first_pass_labels.specs.declared.label_table.LinkPlaces.{LinkPlaces}
 
--- A link reference definition: its label, destination and title as bytes, its range, and the places of its parts (CommonMark 4.7).
+-- a link reference definition: its label, destination and title as bytes, its range, and the places of its parts
+-- (CommonMark 4.7)
 pub record LinkEntry : Type 0 where
   pub label : List ℕ
   pub dest : List ℕ
@@ -17,7 +18,7 @@ pub record LinkEntry : Type 0 where
   pub «end» : ℕ
   pub places : LinkPlaces
 
--- labels are ordered by the bytes of their foldings, and are the same where these are
+-- Labels are ordered by the bytes of their foldings; two labels match if their foldings are equal (CommonMark 6.3).
 abbrev pub folded_cmp : List ℕ → List ℕ → Ordering
 folded_cmp x y = slice_cmp nat_cmp (folded x) (folded y)
 

@@ -16,8 +16,8 @@ use std::collections::btree_map::Iter;
 use std::marker::Model;
 use std::ops::Range;
 
-/// What a link reference definition says: where the link leads, its title, and where in the text the
-/// definition and its parts stand (CommonMark 4.7).
+/// A link reference definition: the destination and the title of the link, unescaped, the range of the definition in
+/// the text, and the places of its parts (CommonMark 4.7).
 #[derive(Drop)]
 pub struct LinkDef<'a> {
     pub dest: CowStr<'a>,
@@ -26,21 +26,22 @@ pub struct LinkDef<'a> {
     pub places: LinkPlaces,
 }
 
-/// Where the parts of a link reference definition stand in the text, as byte offsets. Its label begins after the `[`
-/// at the start of its span, and its title ends with its span.
+/// The places of the parts of a link reference definition, as byte offsets into the text. The label begins after the
+/// `[` at the start of the span, and the title ends at the end of the span.
 #[derive(Clone, Copy)]
 pub struct LinkPlaces {
     /// The offset of the `]` that ends the label.
     pub label_end: usize,
-    /// The range of the destination, with its angle brackets if it has them.
+    /// The start of the destination, with its angle brackets if it has them.
     pub dest_start: usize,
+    /// The end of the destination.
     pub dest_end: usize,
-    /// The offset of what begins the title: `"`, `'` or `(`. Without a title, the end of the definition.
+    /// The offset of the `"`, `'` or `(` that begins the title. Without a title, the end of the definition.
     pub title_start: usize,
 }
 
 impl<'a> LinkDef<'a> {
-    /// The range of the label in the text, between its brackets.
+    /// Returns the range of the label in the text, without its brackets.
     pub fn label_range(&self) -> Range<usize>
         ensures start { self.now.span.start < self.now.places.label_end → result.start ≡ self.now.span.start + 1 }
         ensures end { result.«end» ≡ self.now.places.label_end }
@@ -53,7 +54,7 @@ impl<'a> LinkDef<'a> {
         }
     }
 
-    /// The range of the destination in the text, with its angle brackets if it has them.
+    /// Returns the range of the destination in the text, with its angle brackets if it has them.
     pub fn dest_range(&self) -> Range<usize>
         ensures start { result.start ≡ self.now.places.dest_start }
         ensures end { result.«end» ≡ self.now.places.dest_end }
@@ -61,7 +62,7 @@ impl<'a> LinkDef<'a> {
         self.places.dest_start..self.places.dest_end
     }
 
-    /// The range of the title in the text, with what begins and ends it, and `None` exactly without a title.
+    /// Returns the range of the title in the text, with its delimiters. Returns `None` if there is no title.
     pub fn title_range(&self) -> Option<Range<usize>>
         ensures some { is_some result ≡ is_some self.now.title }
         ensures range { IfSome result (λ range. (range.start ≡ self.now.places.title_start)
@@ -74,7 +75,7 @@ impl<'a> LinkDef<'a> {
     }
 }
 
-/// What is known of a footnote: how often it is used.
+/// A footnote: the number of its uses.
 #[derive(Drop)]
 pub struct FootnoteDef {
     pub use_count: usize,
@@ -103,7 +104,7 @@ impl<'a, T> Model for LabelTable<'a, T> {
 }
 
 impl<'a, T> LabelTable<'a, T> {
-    /// A table with no entry, which takes no memory.
+    /// Returns a table without entries. Allocates nothing.
     pub fn new(alloc: Global) -> LabelTable<'a, T>
         ensures { result ≡ [] }
     {

@@ -1,4 +1,4 @@
--- What a contract sees of the tables beside a tree.
+-- The tables beside a tree, in contracts.
 use Rattle.std.specs.Prelude.{◌≡◌, ℕ, false, List, [], ◌++◌, map, Option, Some}
 use Rattle.std.specs.Option.{option_map, option_and_then}
 use Rattle.first_pass_items.specs.declared.cow_str.CowStr.{CowStr}
@@ -26,11 +26,11 @@ link_entry e = record {
   places = e.1.places;
 }
 
--- the label of a footnote, as its entry spells it (this project)
+-- the label of a footnote, in the spelling of its entry (this project)
 abbrev pub footnote_label : CowStr × FootnoteDef → List ℕ
 footnote_label e = text_of e.0
 
--- The entries of the tables as they stand: each text with where it stands too (this project).
+-- the entries of the tables, with the origin of each string (this project)
 pub record Entries : Type 0 where
   pub links : List (CowStr × LinkDef)
   pub footnotes : List (CowStr × FootnoteDef)
@@ -39,48 +39,48 @@ pub record Entries : Type 0 where
 abbrev pub entries : Allocations → Entries
 entries a = record { links = a.refdefs; footnotes = a.footdefs }
 
--- these with a link definition more, where none of its label stands there (CommonMark 4.7)
+-- these with one more link definition, unless its label has an entry (CommonMark 4.7)
 abbrev pub with_definition : Entries → CowStr → LinkDef → Entries
 with_definition es label definition = record { links = with_first es.links label definition; footnotes = es.footnotes }
 
--- these with a footnote definition more, where none of its label stands there; no use of it is counted yet (this project)
+-- these with one more footnote definition, unless its label has an entry; no use of it is counted yet (this project)
 abbrev pub with_footnote : Entries → CowStr → Entries
 with_footnote es label = record { links = es.links; footnotes = with_first es.footnotes label (record { use_count = 0 }) }
 
--- the same text once more, which is borrowed where that is (this project)
+-- a copy of a string, which is borrowed if the string is (this project)
 pub record IsCopy (text copy : CowStr) : Type 0 where
   pub same : text_of copy ≡ text_of text
   pub borrowed : (bytes : List ℕ) → Borrows bytes text → Borrows bytes copy
 
--- a footnote definition is told with a copy of its label (this project)
+-- a footnote definition is added with a copy of its label (this project)
 pub record TellsFootnote (old new : Entries) (label : CowStr) : Type 0 where
   pub copy : CowStr
   pub is_copy : IsCopy label copy
   pub told : new ≡ with_footnote old copy
 
--- what entries define, as bytes alone (CommonMark 4.7)
+-- the definitions of the entries, as bytes (CommonMark 4.7)
 abbrev pub told_by : Entries → Tables
 told_by es = record { links = map link_entry es.links; footnotes = map footnote_label es.footnotes }
 
--- what the tables define
+-- the definitions of the tables, as bytes
 abbrev pub tables_of : Allocations → Tables
 tables_of a = told_by (entries a)
 
--- the definitions in these tables (CommonMark 4.7, and this project)
+-- the entries of each table (CommonMark 4.7, and this project)
 abbrev pub refdefs_of : Allocations → List (CowStr × LinkDef)
 refdefs_of a = a.refdefs
 
 abbrev pub footdefs_of : Allocations → List (CowStr × FootnoteDef)
 footdefs_of a = a.footdefs
 
--- The link definition that a label names which stands at the start of these bytes, those after a `[`, and how many bytes that label has with its `]`; no line
--- of it has a prefix (CommonMark 4.7, 6.3).
+-- The link definition with the label at the start of these bytes, which are after a `[`, and the length of that label
+-- with its `]`. No line of the label has a prefix (CommonMark 4.7, 6.3).
 unfoldable pub link_at : List (CowStr × LinkDef) → List ℕ → Option (ℕ × LinkDef)
 link_at links bs =
     option_and_then (λ (label : ℕ × List ℕ). option_map (λ (link : LinkDef). (label.0, link)) (defined_under (folded label.1) links))
     (label_at (λ further. Some 0) false bs)
 
--- the texts, the alignments of tables' columns, and the attributes of headings, that nodes name by an index
+-- the strings, the alignments of table columns, and the attributes of headings that nodes name by an index
 abbrev pub names_of : Allocations → Names
 names_of a = record {
   texts = a.texts.items;
@@ -88,18 +88,19 @@ names_of a = record {
   headings = map attributes_in a.headings.items;
 }
 
--- none
+-- no names
 abbrev pub no_names : Names
 no_names = record { texts = []; alignments = []; headings = [] }
 
--- more texts stand after the old ones, so that each index names what it named, and no alignments or attributes are named more (this project)
+-- Strings are added after the old ones, so that each index names what it named before. No alignments or attributes are
+-- added (this project).
 pub record AddsTexts (new old : Names) : Type 0 where
   pub more : List CowStr
   pub texts : new.texts ≡ old.texts ++ more
   pub alignments : new.alignments ≡ old.alignments
   pub headings : new.headings ≡ old.headings
 
--- what was named keeps its name, and no entry of a table changed
+-- each index names what it named before, and no entry of a table changed
 pub record NamesMore (old new : Allocations) : Type 0 where
   pub names : Extends (names_of new) (names_of old)
   pub entries : entries new ≡ entries old
