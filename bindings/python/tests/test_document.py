@@ -5,7 +5,7 @@ import struct
 import unittest
 
 import first_pass
-from first_pass import Attribute, Definition, Heading, Kind, Options, _library, parse
+from first_pass import Attribute, Definition, Heading, Kind, Options, Span, _library, parse
 
 try:
     import numpy
@@ -274,14 +274,15 @@ class DefinitionsTest(unittest.TestCase):
 
     def test_values(self):
         expected = [
-            Definition("a c", "", "t\nu", 8, 27),
-            Definition("B", "/b", None, 0, 7),
-            Definition("\u00df", "/s", "", 28, 39),
+            Definition("a c", "", "t\nu", 8, 27, Span(9, 15), Span(18, 20), Span(21, 27)),
+            Definition("B", "/b", None, 0, 7, Span(1, 2), Span(5, 7), None),
+            Definition("\u00df", "/s", "", 28, 39, Span(29, 31), Span(34, 36), Span(37, 39)),
         ]
         self.assertEqual(list(self.definitions.values()), expected)
         self.assertEqual(list(self.definitions), ["a c", "B", "\u00df"])
         self.assertEqual(len(self.definitions), 3)
         self.assertEqual(self.document.slice(expected[1]), "[B]: /b")
+        self.assertEqual(self.document.slice(expected[0].label_range), "a  \n c")
 
     def test_labels_match_as_those_of_references(self):
         for label in ("b", "B"):
@@ -301,7 +302,8 @@ class DefinitionsTest(unittest.TestCase):
     def test_long_labels(self):
         label = "\u0390" * 333
         definition = parse(f"[{label}]: /x\n").definitions[label.upper()]
-        self.assertEqual(definition, Definition(label, "/x", None, 0, 2 * 333 + 6))
+        expected = Definition(label, "/x", None, 0, 2 * 333 + 6, Span(1, 667), Span(670, 672), None)
+        self.assertEqual(definition, expected)
 
     def test_a_folding_that_is_longer_than_its_memory(self):
         self.assertEqual(_library._folded("\u1e9e\u00c4".encode(), 1), "ss\u00e4".encode())

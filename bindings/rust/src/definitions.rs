@@ -91,11 +91,11 @@ pub struct Definition<'d> {
     pub title: Option<&'d str>,
     /// Where the definition stands in the text.
     pub range: Range<usize>,
-    /// Where its label stands in the text, between its brackets.
+    /// The range of its label in the text, without its brackets.
     pub label_range: Range<usize>,
-    /// Where its destination stands in the text, with its angle brackets if it has them.
+    /// The range of its destination in the text, with its angle brackets if it has them.
     pub destination_range: Range<usize>,
-    /// Where its title stands in the text, with what begins and ends it.
+    /// The range of its title in the text, with its delimiters.
     pub title_range: Option<Range<usize>>,
 }
 

@@ -6,8 +6,9 @@
     [Heading(level=1, start=0, end=15, id='first', title='One')]
     >>> [(node.kind, node.start, node.end) for node in document[:5]]
     [('Root', 0, 44), ('Heading', 0, 15), ('Text', 2, 5), ('BlockQuote', 16, 29), ('Paragraph', 18, 29)]
-    >>> document.definitions["TWO"]
-    Definition(label='two', destination='/2', title='b', start=30, end=43)
+    >>> two = document.definitions["TWO"]
+    >>> two.destination, two.title, document.slice(two.title_range)
+    ('/2', 'b', "'b'")
     >>> document[1].members()["id"]
     'first'
 
@@ -22,7 +23,7 @@ from ._many import parse_many
 from ._options import Options
 from ._parse import Text, outline, parse
 from ._records import Kind
-from ._values import Attribute, Definition, Heading, Node
+from ._values import Attribute, Definition, Heading, Node, Span
 
 __all__ = [
     "Attribute",
@@ -34,6 +35,7 @@ __all__ = [
     "MarkdownError",
     "Node",
     "Options",
+    "Span",
     "Text",
     "__version__",
     "json_lines",

@@ -8,12 +8,12 @@ from typing import TYPE_CHECKING, Any, Union, overload
 
 from ._library import COMPATIBLE, fold_label
 from ._records import ATTRIBUTE, BYTE_COLUMNS, DEFINITION, KIND_NAMES, NODE, WORD_BYTES, WORD_COLUMNS, Kind
-from ._values import Attribute, Definition, Heading, Node, id_of
+from ._values import Attribute, Definition, Heading, Node, Span, id_of
 
 if TYPE_CHECKING:
     from numpy.typing import NDArray
 
-Ranged = Union[Node, Heading, Definition]
+Ranged = Union[Node, Heading, Definition, Span]
 
 _ATTRIBUTE_KINDS = ("id", "class", "key")
 _BREAKS = (Kind.SoftBreak, Kind.HardBreak)
@@ -254,13 +254,17 @@ class Definitions(Mapping[str, Definition]):
 
     def _definition(self, place: int) -> Definition:
         record = DEFINITION.unpack_from(self._records, place * DEFINITION.size)
-        start, end, label, label_length, destination, destination_length, title, title_length, has_title, *_ = record
+        start, end, label, label_length, destination, destination_length, title, title_length, has_title = record[:9]
+        label_end, destination_start, destination_end, title_start = record[9:]
         return Definition(
             self._named(label, label_length),
             self._named(destination, destination_length),
             self._named(title, title_length) if has_title else None,
             start,
             end,
+            Span(start + 1, label_end),
+            Span(destination_start, destination_end),
+            Span(title_start, end) if has_title else None,
         )
 
 

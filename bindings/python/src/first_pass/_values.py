@@ -28,8 +28,15 @@ class Heading(NamedTuple):
     """Its Markdown, with a space for each line ending."""
 
 
+class Span(NamedTuple):
+    """A range of bytes in the source, which `Document.slice` takes."""
+
+    start: int
+    end: int
+
+
 class Definition(NamedTuple):
-    """A link reference definition: the first one of its label."""
+    """A link reference definition: the first one of its label. Its ranges are those of its parts in the source."""
 
     label: str
     """The label as it is spelled, each run of white space as one space."""
@@ -37,6 +44,12 @@ class Definition(NamedTuple):
     title: str | None
     start: int
     end: int
+    label_range: Span
+    """The range of the label, without its brackets."""
+    destination_range: Span
+    """The range of the destination, with its angle brackets if it has them."""
+    title_range: Span | None
+    """The range of the title, with its delimiters."""
 
 
 class Node(NamedTuple):
