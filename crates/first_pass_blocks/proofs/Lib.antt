@@ -21,6 +21,7 @@ pub mod RawFits
 pub mod ReadyCompleted
 pub mod ReadyWhole
 pub mod RuleLemmas
+pub mod RunSoFar
 pub mod RunLemmas
 pub mod StartFound
 pub mod StartLemmas

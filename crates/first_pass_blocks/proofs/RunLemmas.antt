@@ -21,7 +21,8 @@ use Rattle.first_pass_grammar.specs.Derivation.{Tables, told}
 use Rattle.first_pass_grammar.specs.Completion.{lines_from}
 use Rattle.first_pass_completion.proofs.Extending.{told-append}
 use Rattle.first_pass_blocks.specs.declared.definition.RunEnd.TheVariants.{NextLine, Paragraph}
-use Rattle.first_pass_blocks.specs.Runs.{RunSoFar, ReadsRun}
+use Rattle.first_pass_blocks.specs.Runs.{ReadsRun}
+use Rattle.first_pass_blocks.proofs.RunSoFar.{RunSoFar}
 use Rattle.first_pass_blocks.proofs.LeafLemmas.{told_none}
 
 -- the last byte of a line before another line is its line ending

@@ -17,17 +17,6 @@ use Rattle.first_pass_blocks.specs.Views.{allocs_of, reading_of, source_of, sour
 abbrev pub IsLater : List ℕ → Place → Place → Type 0
 IsLater text p q = ((q.line ≡ p.line) × (offset p ≤ offset q)) ⊎ ((line_end p ≤ q.line) × IsCharBoundary text q.line)
 
--- The definitions from one place to another are read, and the tables have what they define. Together with them, every
--- run from the second place on is a run from the first. This holds if no table is open.
-pub record RunSoFar (text : List ℕ) (around : Context) (nested : Bool) (p q : Place) (before now : Tables) : Type 0 where
-  pub stands : IsPlaceOf text q
-  pub later : IsLater text p q
-  pub ends : line_end p ≤ line_end q
-  pub definitions : List LinkEntry
-  pub defined : nested ≡ false → now ≡ told before definitions
-  pub continues : nested ≡ false → (more : List LinkEntry) (beyond : Beyond)
-      → IsRun around q (lines_from text (line_end q)) more beyond → IsRun around p (lines_from text (line_end p)) (definitions ++ more) beyond
-
 -- what follows the definitions, given the place of the last of them or of the paragraph text after them
 abbrev pub beyond_of : List ℕ → Place → RunEnd → Beyond
 beyond_of text q (NextLine line next) = Ended q (lines_from text next)

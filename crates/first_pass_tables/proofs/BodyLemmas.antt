@@ -33,7 +33,8 @@ use Rattle.first_pass_open.specs.Path.{path_of, path_in}
 use Rattle.first_pass_open.proofs.PathLemmas.{AreIn, path_in-append}
 use Rattle.first_pass_open.proofs.PlaceLemmas.{line_start_end}
 use Rattle.first_pass_tables.specs.Appends.{with_below, AddsHead, keeps_row, OpenTable, open_table, so_far, ReadsRow, ReadsRowLine, AppendsRows}
-use Rattle.first_pass_tables.specs.RowsRead.{AppendsBody, BodySoFar}
+use Rattle.first_pass_tables.specs.RowsRead.{AppendsBody}
+use Rattle.first_pass_tables.proofs.BodySoFar.{BodySoFar}
 use Rattle.first_pass_tables.proofs.RowPlaces.{begins_row, row_within}
 use Rattle.first_pass_items.specs.declared.option_set.Options.{Options}
 

@@ -2,6 +2,7 @@
 pub mod CellsFit
 pub mod DropLemmas
 pub mod RowPlaces
+pub mod BodySoFar
 pub mod BodyLemmas
 pub mod RowsFit
 pub mod RowsAdded

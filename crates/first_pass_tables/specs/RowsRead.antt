@@ -1,11 +1,10 @@
 -- How far the rows of a table are read (only private functions cite this).
-use Rattle.std.specs.Prelude.{◌≡◌, ℕ, ◌+◌, ◌≤◌, List, ◌++◌, length, None, IsCharBoundary}
+use Rattle.std.specs.Prelude.{◌≡◌, ℕ, ◌+◌, ◌≤◌, List, ◌++◌, length, IsCharBoundary}
 use Rattle.first_pass_items.specs.declared.item.Item.{Item}
 use Rattle.first_pass_tree.specs.Forest.{Forest, at_depth}
-use Rattle.first_pass_grammar.specs.Names.{Names, Extends}
-use Rattle.first_pass_grammar.specs.Leaves.{Document, document}
+use Rattle.first_pass_grammar.specs.Leaves.{Document}
 use Rattle.first_pass_grammar.specs.Completion.{lines_from}
-use Rattle.first_pass_grammar.specs.Tables.{Taken, taking, AreRows}
+use Rattle.first_pass_grammar.specs.Tables.{taking, AreRows}
 use Rattle.first_pass_open.specs.Path.{path_of}
 use Rattle.first_pass_tables.specs.Appends.{OpenTable, so_far}
 
@@ -17,17 +16,3 @@ pub record AppendsBody (d : Document) (columns start : ℕ) (old : OpenTable) (n
   pub spine : new.spine ≡ old.tree.spine
   pub later : start ≤ next
   pub boundary : IsCharBoundary d.text next
-
--- Rows are read up to an offset, with the brace contexts of the table there. Under any further names, these rows
--- followed by the rows from the offset on are the rows from the first on.
-pub record BodySoFar (d : Document) (columns start : ℕ) (old now : OpenTable) (at : ℕ) : Type 0 where
-  pub body : List (ℕ × Item)
-  pub nodes : now.tree.nodes ≡ old.tree.nodes ++ at_depth (length old.tree.spine + 1) body
-  pub spine : now.tree.spine ≡ old.tree.spine
-  pub some : now.tree.current ≡ None → ⊥
-  pub later : start ≤ at
-  pub boundary : IsCharBoundary d.text at
-  pub continues : (later : Names) → Extends later d.names → (t : Taken)
-      → AreRows (document d.text d.options later) (path_of d.options old.tree) (so_far columns now) (lines_from d.text at) t
-      → AreRows (document d.text d.options later) (path_of d.options old.tree) (so_far columns old) (lines_from d.text start)
-      (taking (body ++ t.items) t.left)

@@ -3,7 +3,7 @@ use Rattle.first_pass_names.specs.TableEntries.{names_of}
 use Rattle.first_pass_grammar.specs.Leaves.{document}
 use Rattle.first_pass_open.proofs.PathLemmas.{open_are_in}
 use Rattle.first_pass_tables.specs.Appends.{open_table, ReadsRowLine}
-use Rattle.first_pass_tables.specs.RowsRead.{BodySoFar}
+use Rattle.first_pass_tables.proofs.BodySoFar.{BodySoFar}
 use Rattle.first_pass_names.proofs.NameLemmas.{extends_texts, texts_none, texts_both}
 use Rattle.first_pass_tables.proofs.BodyLemmas.{body_none, body_more, body_over}
 use Rattle.first_pass_tables.proofs.rows.append_body.Goals as goal

@@ -4,7 +4,7 @@ use Rattle.first_pass_tree.specs.Forest.{in_table}
 use Rattle.first_pass_names.specs.TableEntries.{tables_of, names_of}
 use Rattle.first_pass_blocks.specs.Written.{TablesAreWritten}
 use Rattle.first_pass_blocks.specs.Views.{context_in}
-use Rattle.first_pass_blocks.specs.Runs.{RunSoFar}
+use Rattle.first_pass_blocks.proofs.RunSoFar.{RunSoFar}
 use Rattle.first_pass_blocks.proofs.state.BlockPass.parse_definitions.Given as goal
 
 -- the definitions are read up to here
