@@ -286,8 +286,8 @@ pub fn scan_next_line(
 
 /// Returns the first line of `bytes` after its indentation, if it belongs to the innermost block quote, which has a
 /// tag. The line may continue any number of open containers. `bytes` is all the text from the line on. Returns `None`
-/// if the line would end a paragraph, and is read as any other. Fails only if an allocation fails, which can happen
-/// only if the line may head a table.
+/// if the line is read as any other: at fewer than four columns, it would end a paragraph. Fails only if an allocation
+/// fails, which can happen only if the line may head a table.
 #[tactic(auto, unfolding(first_pass_grammar::specs::Kinds::interrupts))]
 pub fn scan_line_after_tag<'b>(
     source: &Source<'_>,
@@ -363,8 +363,8 @@ fn scan_definition_end(
     if scan_paragraph_end(source, tree, &text, columns, front.kept)? {
         return Ok(true);
     }
-    let is_over = in_label & !front.whole;
-    if is_over {
+    let is_lazy_in_label = in_label & !front.whole;
+    if is_lazy_in_label {
         return Ok(false);
     }
     Ok(is_underline(text.left(), columns))

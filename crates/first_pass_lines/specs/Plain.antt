@@ -1,10 +1,10 @@
--- Bytes with which only a paragraph can begin.
+-- Bytes with which no block begins except a paragraph, or a table or setext heading that later lines make of one.
 use Rattle.std.specs.Prelude.{ℕ, ◌==◌, ◌||◌, not, nat_le, Bool, false, List, [], ◌∷◌}
 use Rattle.std.specs.Char.{is_ascii_alphabetic, is_ascii_digit}
 use Rattle.first_pass_items.specs.Bytes.{tab, space, asterisk, plus_sign, hyphen, greater_than, ascii_end}
 
--- an ASCII letter or a non-ASCII byte: it is no white space, and no block except a paragraph begins with it
--- (this project)
+-- an ASCII letter or a non-ASCII byte: it is no white space, and a block that begins with it is a paragraph, a table or
+-- a setext heading (this project)
 unfoldable pub is_plain : ℕ → Bool
 is_plain b = is_ascii_alphabetic b || nat_le ascii_end b
 

@@ -120,7 +120,8 @@ popped_after e r (Some title) = title_closed r title
 unfoldable pub popped : ℕ → Reading → Reading
 popped e r = popped_after e r (possible_title r.tree)
 
--- an item that began with two blank lines is closed at the end of its marker's line, and no item is empty
+-- an item that has only blank lines, of which the last counts, is closed at the end of its marker's line; then no item
+-- is empty
 abbrev pub item_finished_by : Reading → Option ℕ → Reading
 item_finished_by r None = r
 item_finished_by r (Some e) = record (if r.blank && is_item (top_body r.tree) then popped e r else r) { empty_item = None }
@@ -140,7 +141,7 @@ footnote_left e r = if is_footnote (top_body r.tree) then popped e r else r
 abbrev pub old_footnote_finished : ℕ → Reading → Reading
 old_footnote_finished e r = if r.blank then footnote_left e r else r
 
--- the list whose item contains a block becomes loose if a blank line is before the block
+-- the list whose item contains a block becomes loose if a counting blank line is before the block
 abbrev pub gap_tree : Forest Item → List TreeIndex → Forest Item
 gap_tree f [] = f
 gap_tree f (ix ∷ []) = f
@@ -150,7 +151,8 @@ abbrev pub gap_noted : Reading → Reading
 gap_noted r = if r.blank then record r { tree = gap_tree r.tree r.tree.spine; blank = false } else r
 
 -- The current node, right after a definition, turned out to be a heading or a table. The definition list is closed at
--- an offset without it. If a blank line is before it, the list whose item contains both becomes loose (this project).
+-- an offset without it. If a counting blank line is before it, the list whose item contains both becomes loose
+-- (this project).
 unfoldable pub definitions_left : ℕ → Reading → Reading
 definitions_left e r = gap_noted (definitions_closed e r)
 
@@ -177,7 +179,7 @@ with_current f body None = f
 with_current f body (Some c) = with_body_at f c body
 
 -- The current node, a paragraph right after a definition, is a possible title. The end of that definition, an offset,
--- is recorded in the innermost definition list. A blank line before the paragraph does not count (this project).
+-- is recorded in the innermost definition list. A blank line before the paragraph no longer counts (this project).
 unfoldable pub title_kept : ℕ → Reading → Reading
 title_kept e r = record r { tree = with_end (with_current r.tree MaybeDefinitionListTitle r.tree.current) e (slice_get r.tree.spine 0); blank = false }
 
@@ -215,8 +217,8 @@ abbrev pub definitions_opened : Forest Item → Option TreeIndex → Forest Item
 definitions_opened f None = f
 definitions_opened f (Some c) = definitions_at f c (item_at f c)
 
--- a definition with an indent is opened at an offset, in the open definition list or in a new one; a blank line
--- before it makes that list loose (this project)
+-- a definition with an indent is opened at an offset, in the open definition list or in a new one; a counting blank
+-- line before it makes that list loose (this project)
 unfoldable pub definition_begun : ℕ → ℕ → Reading → Reading
 definition_begun start indent r = begun start (DefinitionListDefinition indent) (list_kept (with_tree r (definitions_opened r.tree r.tree.current)))
 

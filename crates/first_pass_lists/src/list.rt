@@ -146,8 +146,8 @@ impl Reading {
     }
 
     /// Closes the innermost definition list at the offset `end`, where its last definition ends. The current node,
-    /// which was read as a paragraph after that, is a heading or a table, and comes after the list. If a blank line is
-    /// before it, the list whose item contains both becomes loose (this project).
+    /// which was read as a paragraph after that, is a heading or a table, and comes after the list. If a counting blank
+    /// line is before it, the list whose item contains both becomes loose (this project).
     #[tactic(auto, unfolding(crate::specs::Closing::definitions_left))]
     pub fn leave_definitions(&mut self, end: usize)
         requires { IsSome (slice_get self.old.tree.spine 0) }
@@ -158,7 +158,7 @@ impl Reading {
     }
 
     /// Makes the current node, a paragraph right after a definition that ends at the offset `end`, a possible title: a
-    /// `:` after it makes it a title. A blank line before it does not count (this project).
+    /// `:` after it makes it a title. A blank line before it no longer counts (this project).
     #[tactic(auto, using(first_pass_open::proofs::BlockLemmas::open_node_in), unfolding(crate::specs::Closing::title_kept))]
     pub fn keep_possible_title(&mut self, end: usize)
         ensures { self.new ≡ title_kept end self.old }
@@ -228,7 +228,7 @@ impl Reading {
     }
 
     /// Opens a definition with an indent at the offset `start`: in the open definition list, or in a new one whose
-    /// title is the current node, a paragraph. A blank line before the definition makes that list loose
+    /// title is the current node, a paragraph. A counting blank line before the definition makes that list loose
     /// (this project).
     #[tactic(auto, unfolding(crate::specs::Closing::definition_begun))]
     pub fn open_definition(&mut self, start: usize, indent: usize) -> Result<(), AllocError>
@@ -275,8 +275,8 @@ impl Reading {
         Ok(())
     }
 
-    /// Closes the innermost open node at the end of its marker's line, if it is an item or a definition that began
-    /// with two blank lines (CommonMark 5.2, and this project). No item is empty then.
+    /// Closes the innermost open node at the end of its marker's line, if it is an item or a definition that has only
+    /// blank lines, of which the last counts (CommonMark 5.2, and this project). No item is empty then.
     #[tactic(auto, using(crate::proofs::WithinLemmas::item_is_open), unfolding(crate::specs::Closing::item_finished))]
     pub fn finish_empty_list_item(&mut self)
         ensures { self.new ≡ item_finished self.old }
@@ -305,8 +305,8 @@ impl Reading {
     }
 
     /// Closes what a new block ends: an empty item, and then an innermost list at the offset `ix`. A definition list
-    /// whose last child is a possible title ends where its last definition does. If a blank line is before the block,
-    /// the list whose item contains it becomes loose.
+    /// whose last child is a possible title ends where its last definition does. If a counting blank line is before the
+    /// block, the list whose item contains it becomes loose.
     #[inline(always)]
     #[tactic(auto, unfolding(crate::specs::Closing::list_finished))]
     pub fn finish_list(&mut self, ix: usize)
@@ -351,7 +351,7 @@ impl Reading {
         }
     }
 
-    // Makes the list whose item contains the next block loose, if a blank line is before that block.
+    // Makes the list whose item contains the next block loose, if a counting blank line is before that block.
     #[tactic(auto, using(crate::proofs::WithinLemmas::second_within))]
     fn mark_gap(&mut self)
         ensures { self.new ≡ gap_noted self.old }
@@ -423,8 +423,8 @@ impl Reading {
         matches!(self.tree[ix].body, ItemBody::FootnoteDefinition(_))
     }
 
-    /// Continues the innermost list if its byte is `ch`; a blank line before makes it loose. Otherwise opens a list
-    /// with that byte and the number `index` at the offset `start`.
+    /// Continues the innermost list if its byte is `ch`; a counting blank line before makes it loose. Otherwise opens a
+    /// list with that byte and the number `index` at the offset `start`.
     #[tactic(auto, unfolding(crate::specs::Closing::list_continued))]
     pub fn continue_list(&mut self, start: usize, ch: u8, index: u64) -> Result<(), AllocError>
         ensures { OnOk result (self.new ≡ list_continued start ch index self.old) }
@@ -459,7 +459,7 @@ impl Reading {
         false
     }
 
-    // Continues the innermost open node, a list; a blank line before makes it loose.
+    // Continues the innermost open node, a list; a counting blank line before makes it loose.
     #[tactic(auto, using(first_pass_open::proofs::BlockLemmas::open_node_in))]
     fn keep_list(&mut self)
         ensures { self.new ≡ list_kept self.old }
@@ -499,7 +499,7 @@ impl Reading {
 
     /// Opens a footnote definition at the offset `start`, that of its `[`, with the label that an index names. An
     /// innermost list ends there, and then another footnote definition, so that none is directly in another. If a
-    /// blank line is before, the list whose item contains the new one becomes loose (this project).
+    /// counting blank line is before, the list whose item contains the new one becomes loose (this project).
     #[tactic(auto, unfolding(crate::specs::Closing::footnote_begun))]
     pub fn open_footnote(&mut self, start: usize, label: CowIndex) -> Result<(), AllocError>
         ensures { OnOk result (self.new ≡ footnote_begun start label self.old) }

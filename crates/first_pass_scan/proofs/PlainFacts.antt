@@ -1,5 +1,5 @@
--- With a plain byte no line ending, marker, thematic break, heading or fence begins; with an inert byte, no column and
--- no container.
+-- With a plain byte no line ending, marker, thematic break, ATX heading or code fence begins. With an inert byte no
+-- column, block quote or list item begins.
 use Rattle.std.proofs.Common.{◌≡◌, inl, inr, ℕ, zero, suc, if◌then◌else◌, ◌+◌, ◌==◌, ◌||◌, not, Bool, true, false, true≢false, List, [], ◌∷◌}
 use Rattle.std.proofs.Common.{None, refl, sym, ap, ◌∙◌, arith}
 use Rattle.std.proofs.lemmas.Bool.{cases_eq, ne_eqb}
@@ -105,7 +105,7 @@ plain_indent r o h = inert_indent r o (begins_both r.left h)
 pub plain_after : (k : ℕ) (r : Rest) → r.owed ≡ 0 → begins_plain r.left ≡ true → after_columns k r ≡ r
 plain_after k r o h = inert_after k r o (begins_both r.left h)
 
--- no container begins
+-- no block quote or list item begins
 inert_quote_byte : (r : Rest) (bs : List ℕ) → begins_inert bs ≡ true → past_quote_byte r bs ≡ None
 unfolding is_inert
 inert_quote_byte r [] h = refl

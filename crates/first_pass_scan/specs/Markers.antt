@@ -94,7 +94,7 @@ abbrev pub is_checked : ℕ → Bool
 is_checked b = (b == small_x) || (b == capital_x)
 
 -- the task list item marker here, and whether it is checked: `[`, then white space, `x` or `X`, then `]`, and white
--- space after it (GFM 5.3)
+-- space or a line ending after it (GFM 5.3)
 unfoldable pub task_box : List ℕ → Option Bool
 task_box bs =
     let mark = slice_index bs 1 in

@@ -113,8 +113,8 @@ impl<'a> LineStart<'a> {
         scan_eol(rest_of(self.bytes, self.at)).is_some()
     }
 
-    /// Whether no column is owed and the next byte is an ASCII letter or a non-ASCII byte. Then there is no
-    /// white space here, and no block except a paragraph begins.
+    /// Whether no column is owed and the next byte is an ASCII letter or a non-ASCII byte. Then there is no white space
+    /// here, and the line's block is a paragraph, or a table or setext heading that later lines make of one.
     #[inline(always)]
     pub fn is_at_plain(&self) -> bool
         ensures owed { result ≡ true → self.now.owed ≡ 0 }
@@ -372,8 +372,8 @@ impl<'a> LineStart<'a> {
         self.scan_content_indent(width + 1)
     }
 
-    // Takes `n` spaces and returns `true`, if they are next and no column is owed; otherwise takes nothing.
-    // Reads 16 bytes at once, without a loop whose end is hard to predict.
+    // Takes `n` spaces and returns `true`, if they are next, no column is owed, and at least 16 bytes are left; otherwise
+    // takes nothing. Reads 16 bytes at once, without a loop whose end is hard to predict.
     #[inline(always)]
     fn take_spaces(&mut self, n: usize) -> bool
         ensures yes { result ≡ true → (self.new ≡ after_columns n self.old) × (n ≤ indent self.old) }

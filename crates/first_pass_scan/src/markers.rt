@@ -72,7 +72,7 @@ pub(crate) fn scan_list_marker(bytes: &[u8]) -> Option<(usize, u8, u64)>
     }
 }
 
-// Whether the task list item marker at the start is checked. White space follows its `]`.
+// Whether the task list item marker at the start is checked. White space or a line ending follows its `]`.
 #[tactic(auto, unfolding(crate::specs::Markers::task_box))]
 pub(crate) fn scan_task_box(bytes: &[u8]) -> Option<bool>
     ensures value { result ≡ task_box bytes.now }

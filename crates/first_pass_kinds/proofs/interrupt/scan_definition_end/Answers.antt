@@ -63,14 +63,14 @@ returns-then-branch-clause-value c =
     (interrupts_at (context_of c.args.source.now.options c.args.tree.now) (continued_to c.args.source.now.options c.args.tree.now c.args.front.now.kept)
     c.args.front.now.rest _ _ columns left) c.if-branch.true
 
-pub returns-then-is_over-clause-value : goal.returns-then-is_over-clause-value
-returns-then-is_over-clause-value c =
+pub returns-then-is_lazy_in_label-clause-value : goal.returns-then-is_lazy_in_label-clause-value
+returns-then-is_lazy_in_label-clause-value c =
     let columns = columns_are _ _ _ c.scan_indentation-columns.ensures.columns c.copy-text.ensures in
     let left = left_is _ _ _ c.scan_indentation-columns.ensures.rest c.copy-text.ensures in
     lazy_by _ _ _ _ _ _ c.in_ok-scan_paragraph_end.ensures.value
     (interrupts_at (context_of c.args.source.now.options c.args.tree.now) (continued_to c.args.source.now.options c.args.tree.now c.args.front.now.kept)
     c.args.front.now.rest _ _ columns left)
-    c.if-branch.false c.if-is_over.true
+    c.if-branch.false c.if-is_lazy_in_label.true
 
 pub returns-clause-value : goal.returns-clause-value
 returns-clause-value c =
@@ -79,7 +79,7 @@ returns-clause-value c =
     whole_by _ _ _ _ _ _ _ c.in_ok-scan_paragraph_end.ensures.value
     (interrupts_at (context_of c.args.source.now.options c.args.tree.now) (continued_to c.args.source.now.options c.args.tree.now c.args.front.now.kept)
     c.args.front.now.rest _ _ columns left)
-    c.if-branch.false c.if-is_over.false
+    c.if-branch.false c.if-is_lazy_in_label.false
     (c.is_underline.ensures ∙ underline_at c.args.front.now.rest _ _ columns (c.left.ensures ∙ left))
 
 -- a fact in case of an error
