@@ -1,4 +1,4 @@
--- The definitions in a table are written in the text: each that is found is, and they stay so.
+-- Each definition in a table is written in the text: this holds for a definition that is found, and is kept.
 use Rattle.std.proofs.Common.{◌≡◌, ℕ, ◌+◌, Bool, List, [], ◌∷◌, map, drop, Option, Some, IfSome, refl, sym, ap, subst, ◌∙◌}
 use Rattle.std.proofs.lemmas.List.Elements.{All-nil}
 use Rattle.first_pass_items.specs.declared.cow_str.CowStr.{CowStr}
@@ -35,22 +35,22 @@ pub none_written : (text : List ℕ) (a : Allocations) → tables_of a ≡ no_ta
 none_written text a none =
     (none_of text (refdefs_of a) (ap (λ (t : Tables). t.links) none), no_footnotes text (footdefs_of a) (ap (λ (t : Tables). t.footnotes) none))
 
--- the same of entries as they stand
+-- the same for unchanged entries
 abbrev EntriesAreWritten : List ℕ → Entries → Type 0
 EntriesAreWritten text es = AreWritten text es.links × AreFootnotesWritten text es.footnotes
 
--- entries that stay
+-- entries are kept
 pub written_stay : (text : List ℕ) (old new : Allocations) → entries new ≡ entries old → TablesAreWritten text old → TablesAreWritten text new
 written_stay text old new same each = subst (EntriesAreWritten text) (sym same) each
 
--- one more
+-- one more link definition
 pub one_written : (text : List ℕ) (old new : Allocations) (label : CowStr) (definition : LinkDef)
     → entries new ≡ with_definition (entries old) label definition → IsWritten text (label, definition)
     → TablesAreWritten text old → TablesAreWritten text new
 one_written text old new label definition is one each =
     subst (EntriesAreWritten text) (sym is) (each_first (IsWritten text) label definition one (refdefs_of old) each.0, each.1)
 
--- one footnote more, whose label is a copy of that of a head
+-- one more footnote, whose label is a copy of that of a head
 pub footnote_written : (text : List ℕ) (old new : Allocations) (around : Context) (nested : Bool) (start : ℕ) (head : ℕ × List ℕ) (label : CowStr)
     → footnote_at nested around (drop start text) ≡ Some head → text_of label ≡ head.1
     → (text_of label ≡ label_bytes head.0 (drop start text) → Borrows (label_bytes head.0 (drop start text)) label)
@@ -70,7 +70,7 @@ footnote_written text old new around nested start head label here is borrowed te
     subst (EntriesAreWritten text) (sym tells.told)
     (each.0, each_first (IsFootnoteWritten text) tells.copy (record { use_count = 0 }) one (footdefs_of old) each.1)
 
--- what was found at an offset
+-- the definition that was found at an offset
 written_at : (text : List ℕ) (around : Context) (nested : Bool) (at : ℕ) (x : LinkReference) (found : ℕ × CowStr × LinkDef)
     → reference_at nested around (drop at text) ≡ Some x → IsReference nested at x found
     → BorrowsLabel around nested (drop (at + 1) text) found.1 → HasParts text found.2 → IsWritten text (found.1, found.2)

@@ -24,8 +24,7 @@ pub struct NamedDefinitions {
 }
 
 impl NamedDefinitions {
-    /// Appends the link definitions, in the order of their table, and their bytes. The one error is that a request for
-    /// memory was refused.
+    /// Appends the link definitions, in the order of their table, and their bytes. Fails only if an allocation fails.
     pub(crate) fn append_links(&mut self, links: &RefDefs<'_>) -> Result<(), AllocError>
         ensures { OnOk result (AppendsDefinitions self.old self.new (map link_entry links.now)) }
     {
@@ -35,8 +34,8 @@ impl NamedDefinitions {
         Ok(())
     }
 
-    /// Appends the labels of the footnotes, in the order of their table, and their bytes. The one error is that a
-    /// request for memory was refused.
+    /// Appends the labels of the footnotes, in the order of their table, and their bytes. Fails only if an allocation
+    /// fails.
     pub(crate) fn append_footnotes(&mut self, footnotes: &FootDefs<'_>) -> Result<(), AllocError>
         ensures { OnOk result (AppendsDefinitions self.old self.new
             (map label_entry (map footnote_label footnotes.now))) }
@@ -108,7 +107,7 @@ impl NamedDefinitions {
     }
 }
 
-// 1 for a title, 0 without one.
+// 1 if there is a title, and 0 if not.
 fn number_given(title: &Option<CowStr<'_>>) -> usize
     ensures { result ≡ flag (is_some (option_map text_of title.now)) }
 {
@@ -118,7 +117,7 @@ fn number_given(title: &Option<CowStr<'_>>) -> usize
     }
 }
 
-// The text of a title, empty without one.
+// The text of a title, or the empty text if there is none.
 fn title_text<'t>(title: &'t Option<CowStr<'_>>) -> &'t str
     ensures { result.now ≡ unwrap_or (option_map text_of title.now) [] }
 {

@@ -14,8 +14,8 @@ use std::str;
 // The most bytes of a folding that is stored in the value itself.
 const MOST_SHORT: usize = 22;
 
-/// The full default case folding of a text: the text itself, or another one, on the heap or (up to 22 bytes) in
-/// place.
+/// The full default case folding of a text: the text itself, or another one. That is stored on the heap, or in the
+/// value itself if it has at most 22 bytes.
 #[derive(Drop)]
 pub(crate) enum Folding {
     Itself,
@@ -55,7 +55,7 @@ impl Folding {
     }
 }
 
-// A folded text, in place if it is short.
+// A folded text, stored in the value itself if it is short.
 fn kept(folding: String) -> Folding
     ensures { (text : List ℕ) → kept_folding result text ≡ string_bytes folding }
 {
@@ -65,7 +65,7 @@ fn kept(folding: String) -> Folding
     }
 }
 
-// An ASCII text of at most 22 bytes, with small letters for capital ones.
+// An ASCII text of at most 22 bytes, in lower case.
 fn lower_cased(text: &str) -> Folding
     requires short { length text.now ≤ 22 }
     requires ascii { IsAscii text.now }

@@ -1,4 +1,4 @@
-//! What a text defines by label: tables in the order of the labels' foldings.
+//! Tables of what a text defines by label, in the byte order of the labels' foldings.
 
 ghost use Rattle.std.specs.Prelude.{◌≡◌, ◌^◌, ◌<◌, ◌+◌, [], length, is_some, IfOk, IfSome, OnOk, OnErr};
 ghost use Rattle.std.specs.Option.{option_copied};
@@ -114,8 +114,8 @@ impl<'a, T> LabelTable<'a, T> {
         }
     }
 
-    /// What is defined under the label whose folding is that of `label`, and `None` exactly where there is none.
-    /// The one error is that a request for memory was refused.
+    /// Returns the definition whose label has the same folding as `label`, and `None` exactly if there is none. Fails
+    /// only if an allocation fails (CommonMark 4.7).
     pub fn get(&self, label: &str) -> Result<Option<&T>, AllocError>
         ensures value { IfOk result (λ found. option_copied found ≡ defined_under (folded label.now) self.now) }
         ensures holds { IfOk result (λ found. HoldsUnder self.now (folded label.now) (option_copied found)) }
@@ -124,7 +124,7 @@ impl<'a, T> LabelTable<'a, T> {
         Ok(self.entries.get(&key))
     }
 
-    /// The labels with what is defined under them, in the byte order of their foldings, each folding once.
+    /// Returns the labels with their definitions, in the byte order of their foldings. No folding occurs twice.
     pub fn iter(&self) -> Iter<'_, LabelKey<'a>, T>
         ensures entries { result ≡ self.now }
         ensures order { IsInOrder self.now }
@@ -134,8 +134,8 @@ impl<'a, T> LabelTable<'a, T> {
         self.entries.iter()
     }
 
-    /// Puts a definition under a label, unless one stands under a label of the same folding: the first definition
-    /// of a label stays. The one error is that a request for memory was refused; then nothing changes.
+    /// Adds a definition under a label, unless the table has one under a label with the same folding: the first stays.
+    /// Fails only if an allocation fails; then nothing changes (CommonMark 4.7).
     #[tactic(auto, using(crate::proofs::TableLemmas::first_stays))]
     pub fn insert_first(&mut self, label: LabelKey<'a>, definition: T) -> Result<(), AllocError>
     where
@@ -149,8 +149,8 @@ impl<'a, T> LabelTable<'a, T> {
     }
 }
 
-// The key of a copy of this label, which takes memory of its own where it is longer than 22 bytes: keys of one table
-// have one lifetime, and this label may live shorter.
+// The key of a copy of this label. A label of more than 22 bytes is copied to the heap. The table's keys have one
+// lifetime, and this label may live shorter.
 fn key_of_copy<'a>(alloc: Global, label: &str) -> Result<LabelKey<'a>, AllocError>
     ensures { IfOk result (λ key. text_of key ≡ label.now) }
 {

@@ -1,4 +1,4 @@
-//! What is defined under labels that match by their case foldings.
+//! Definitions with labels that match after case folding.
 
 use first_pass_items::cow_str::CowStr;
 use first_pass_labels::label_key::LabelKey;
@@ -25,7 +25,7 @@ fn link<'a>(dest: &'a str) -> LinkDef<'a> {
     }
 }
 
-// CommonMark 4.7: the first of several matching definitions takes precedence, and labels match by case folding.
+// The first of several matching definitions counts, and labels match after case folding (CommonMark 4.7, 6.3).
 #[test]
 fn first_definitions_stay(rt: HostRuntime) -> Result<(), Fail> {
     let long = "A Label Of More Than Twenty-Two Bytes";

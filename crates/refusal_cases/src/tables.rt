@@ -1,4 +1,4 @@
-//! The calls of tables that ask for memory, each made many times.
+//! Calls of tables that allocate, each made many times.
 
 use crate::outcome::Outcome;
 use first_pass_items::cow_str::CowStr;
@@ -9,19 +9,20 @@ use first_pass_names::items::{Allocations, HeadingAttributes};
 use std::alloc::{AllocError, Global};
 use std::ops::DerefStr;
 
-/// What is put into the tables one after the other, in the order of labels: more than a table of labels has room for
-/// at its first request, so that it is refused another when it has entries.
+/// The words that are added to the tables one after another, in the order of labels. A table of labels has no room for
+/// all of them after its first allocation, so that a later one can fail while it has entries.
 const WORDS: [&str; 17] = [
     "a", "b", "c", "d", "e", "f", "g", "h", "i", "j", "k", "l", "m", "n", "o", "p", "q",
 ];
 
-/// How many texts, alignments and attributes are named.
+/// The number of texts, of alignments and of attributes that are added.
 const TIMES: usize = 12;
 
 /// The alignments of a table of one column.
 const COLUMNS: [Alignment; 1] = [Alignment::Center];
 
-/// Makes a call of this name; `None` where it is another one. An error where a request of the test was refused.
+/// Makes the call with this name. Returns `None` if no call here has it, and an error if an allocation of the test
+/// itself failed.
 pub fn call_tables(alloc: Global, call: &str) -> Option<Result<Outcome, AllocError>> {
     match call {
         "allocate_cow" => Some(allocate_cow(alloc)),
@@ -34,7 +35,7 @@ pub fn call_tables(alloc: Global, call: &str) -> Option<Result<Outcome, AllocErr
     }
 }
 
-/// How many entries there are in tables, made of the first words.
+/// The number of entries in tables, made of the first words.
 #[derive(Clone, Copy)]
 struct Counts {
     texts: usize,
@@ -44,7 +45,7 @@ struct Counts {
     footnotes: usize,
 }
 
-/// No entry.
+/// The counts of empty tables.
 const NONE: Counts = Counts {
     texts: 0,
     alignments: 0,
@@ -53,8 +54,8 @@ const NONE: Counts = Counts {
     footnotes: 0,
 };
 
-/// Whether tables have so many entries, made of the first words: texts, alignments of one column each, attributes with
-/// ids alone, definitions of links that lead there, and of footnotes.
+/// Whether tables have these numbers of entries, made of the first words: texts, alignments of one column, attributes
+/// with only an id, link definitions with that destination, and footnotes.
 fn has(allocs: &Allocations<'_>, counts: Counts) -> bool {
     for at in 0..WORDS.len() {
         let text = if at < counts.texts { WORDS[at] } else { "" };
@@ -73,7 +74,7 @@ fn has(allocs: &Allocations<'_>, counts: Counts) -> bool {
     has_links(allocs, counts.links) && has_footnotes(allocs, counts.footnotes)
 }
 
-/// Whether there are attributes at this place, a word as their id, if that is wanted, or else none.
+/// Whether the attributes at this index have this id, or there are none, as is expected.
 fn has_heading(allocs: &Allocations<'_>, at: usize, is_wanted: bool) -> bool {
     match allocs.attributes_at(HeadingIndex(at)) {
         Some(given) => {
@@ -219,7 +220,7 @@ fn link<'a>(dest: &'a str) -> LinkDef<'a> {
     }
 }
 
-// Defines a word as a link that leads there. The key of its label may be refused, too.
+// Adds a link definition whose label and destination are a word. Making the key of the label may fail too.
 fn define_word(
     alloc: Global,
     allocs: &mut Allocations<'_>,
@@ -277,7 +278,7 @@ fn define_footnote(alloc: Global) -> Result<Outcome, AllocError> {
     Ok(outcome)
 }
 
-// A label of more than 22 bytes is copied, and then folded.
+// A label of more than 22 bytes is copied to the heap, and then folded.
 fn finds(allocs: &Allocations<'_>) -> Result<bool, AllocError> {
     match allocs
         .refdefs()
@@ -289,7 +290,7 @@ fn finds(allocs: &Allocations<'_>) -> Result<bool, AllocError> {
     }
 }
 
-// Whether the one link is that of a label, and leads to `x`.
+// Whether the only link definition has this label and the destination `x`.
 fn has_only(allocs: &Allocations<'_>, wanted: &str) -> bool {
     let mut count: usize = 0;
     for (label, link) in allocs.refdefs().iter() {

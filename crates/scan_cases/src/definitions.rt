@@ -12,7 +12,8 @@ use first_pass_labels::label_table::LinkDef;
 use first_pass_open::source::Source;
 use std::alloc::{AllocError, Global};
 
-/// Returns a call for a definition or a footnote's head, or tells that it is another one.
+/// Makes a call for a definition or the head of a footnote definition. Returns `None` if the name is that of another
+/// call.
 pub fn answer_definitions(
     alloc: Global,
     call: &str,
@@ -29,8 +30,8 @@ pub fn answer_definitions(
     Ok(true)
 }
 
-/// How many bytes a definition has at the place that is given second, its label, destination and title. The first
-/// value is the path of the open containers (see `open_path`).
+/// The length in bytes of the definition at the place in the second value, with its label, destination and title. The
+/// first value is the path of the open containers (see `open_path`).
 fn append_reference(
     alloc: Global,
     text: &str,
@@ -53,7 +54,7 @@ fn append_reference(
     }
 }
 
-/// Where a definition leads, its title, and its span.
+/// The destination of a definition, its title, and its span.
 fn append_definition(definition: &LinkDef<'_>, answer: &mut Answer) -> Result<(), AllocError> {
     append_cow(&definition.dest, answer)?;
     match &definition.title {
@@ -64,8 +65,8 @@ fn append_definition(definition: &LinkDef<'_>, answer: &mut Answer) -> Result<()
     answer.number(definition.span.end)
 }
 
-/// The offsets at which the label ends, the destination begins and ends, and the title begins, of the definition at the
-/// place that is given second. The first value is the path of the open containers (see `open_path`).
+/// The offsets of the end of the label, of both ends of the destination, and of the start of the title, of the
+/// definition at the place in the second value. The first value is the path of the open containers (see `open_path`).
 fn append_places(
     alloc: Global,
     text: &str,
@@ -90,8 +91,8 @@ fn append_places(
     }
 }
 
-/// How many bytes the head of a footnote definition has, and its label, at the place that is given third, under the
-/// options that are given second. The first value is the path of the open containers (see `open_path`).
+/// The length in bytes of the head of the footnote definition at the place in the third value, with its label. The
+/// second value is the options, and the first the path of the open containers (see `open_path`).
 fn append_footnote(
     alloc: Global,
     text: &str,
